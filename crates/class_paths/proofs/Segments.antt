@@ -1,5 +1,6 @@
 -- Paths, octet by octet.
-use Rattle.std.proofs.Common.{◌≡◌, ℕ, suc, ◌+◌, ◌<◌, ◌≤◌, ◌==◌, nat_le, Bool, true, false, ◌&&◌, List, [], ◌∷◌, ◌++◌, length, drop, get_or, refl, ap, ◌∙◌, arith, inl, inr, length-append}
+use Rattle.std.proofs.Common.{◌≡◌, ℕ, suc, ◌+◌, ◌<◌, ◌≤◌, ◌==◌, nat_le, Bool, true, false, ◌&&◌, List, [], ◌∷◌, ◌++◌}
+use Rattle.std.proofs.Common.{length, drop, get_or, refl, ap, ◌∙◌, arith, inl, inr, length-append}
 use Rattle.std.proofs.lemmas.List.{drop_more}
 use Rattle.std.proofs.lemmas.List.Folds.{list_all-append}
 use Rattle.std.proofs.lemmas.Bool.{cases_Bool}
@@ -58,8 +59,15 @@ too_long now (c ∷ cs) h = elim (cases_Bool (c == 47)) [
   | inr other ↦ rw other (too_long (now ++ c ∷ []) cs (omega (arith, length-append now (c ∷ []))))
 ]
 
-pub next-slash : (p now : List ℕ) (i n run : ℕ) → i < length p → get_or p i 0 ≡ 47 → Begun now run → 1 ≤ run → run ≤ 40 → goes_on n now (drop i p) ≡ goes_on (n + 1) [] (drop (i + 1) p)
-next-slash p now i n run h c b low high = rw (drop_more p i 0 h, c, whole now run b low high) (ap (λ k. nat_le k 8 && list_all is_segment (segments_from [] (drop (i + 1) p))) (omega arith))
+pub next-slash : (p now : List ℕ) (i n run : ℕ) → i < length p → get_or p i 0 ≡ 47 → Begun now run → 1 ≤ run → run ≤ 40
+    → goes_on n now (drop i p) ≡ goes_on (n + 1) [] (drop (i + 1) p)
+next-slash p now i n run h c b low high =
+    rw (
+      drop_more p i 0 h,
+      c,
+      whole now run b low high,
+    ) (ap (λ k. nat_le k 8 && list_all is_segment (segments_from [] (drop (i + 1) p)))
+    (omega arith))
 
 pub next-empty : (p now : List ℕ) (i n : ℕ) → i < length p → get_or p i 0 ≡ 47 → Begun now 0 → goes_on n now (drop i p) ≡ false
 next-empty p now i n h c b = rw (drop_more p i 0 h, c, short now b.long) (and-false (nat_le (n + suc (length (segments_from [] (drop (i + 1) p)))) 8))
@@ -69,13 +77,23 @@ next-many p now i n h c b =
     let some = some_segment [] (drop (i + 1) p) in
     rw (drop_more p i 0 h, c) (grind (arith, nat_tests))
 
-pub next-mark : (p now : List ℕ) (i n : ℕ) → i < length p → (get_or p i 0 == 47) ≡ false → goes_on n now (drop i p) ≡ goes_on n (now ++ get_or p i 0 ∷ []) (drop (i + 1) p)
+pub next-mark : (p now : List ℕ) (i n : ℕ) → i < length p → (get_or p i 0 == 47) ≡ false
+    → goes_on n now (drop i p) ≡ goes_on n (now ++ get_or p i 0 ∷ []) (drop (i + 1) p)
 next-mark p now i n h c = rw (drop_more p i 0 h, c)
 
-pub next-other : (p now : List ℕ) (i n : ℕ) → i < length p → (get_or p i 0 == 47) ≡ false → is_mark (get_or p i 0) ≡ false → goes_on n now (drop i p) ≡ false
+pub next-other : (p now : List ℕ) (i n : ℕ) → i < length p → (get_or p i 0 == 47) ≡ false
+    → is_mark (get_or p i 0) ≡ false → goes_on n now (drop i p) ≡ false
 next-other p now i n h c m =
-    next-mark p now i n h c ∙ ap (λ b. nat_le (n + length (segments_from (now ++ get_or p i 0 ∷ []) (drop (i + 1) p))) 8 && b) (bad_marks (now ++ get_or p i 0 ∷ []) (drop (i + 1) p) (all_append now (get_or p i 0) ∙ rw m (and-false (list_all is_mark now)))) ∙ and-false (nat_le (n + length (segments_from (now ++ get_or p i 0 ∷ []) (drop (i + 1) p))) 8)
+    next-mark p now i n h c
+    ∙ ap (λ b. nat_le (n + length (segments_from (now ++ get_or p i 0 ∷ []) (drop (i + 1) p))) 8
+    && b) (bad_marks (now ++ get_or p i 0 ∷ []) (drop (i + 1) p) (all_append now (get_or p i 0)
+    ∙ rw m (and-false (list_all is_mark now))))
+    ∙ and-false (nat_le (n + length (segments_from (now ++ get_or p i 0 ∷ []) (drop (i + 1) p))) 8)
 
 pub next-long : (p now : List ℕ) (i n : ℕ) → i < length p → (get_or p i 0 == 47) ≡ false → 40 ≤ length now → goes_on n now (drop i p) ≡ false
 next-long p now i n h c m =
-    next-mark p now i n h c ∙ ap (λ b. nat_le (n + length (segments_from (now ++ get_or p i 0 ∷ []) (drop (i + 1) p))) 8 && b) (too_long (now ++ get_or p i 0 ∷ []) (drop (i + 1) p) (omega (arith, length-append now (get_or p i 0 ∷ [])))) ∙ and-false (nat_le (n + length (segments_from (now ++ get_or p i 0 ∷ []) (drop (i + 1) p))) 8)
+    next-mark p now i n h c
+    ∙ ap (λ b. nat_le (n + length (segments_from (now ++ get_or p i 0 ∷ []) (drop (i + 1) p))) 8
+    && b) (too_long (now
+    ++ get_or p i 0 ∷ []) (drop (i + 1) p) (omega (arith, length-append now (get_or p i 0 ∷ []))))
+    ∙ and-false (nat_le (n + length (segments_from (now ++ get_or p i 0 ∷ []) (drop (i + 1) p))) 8)

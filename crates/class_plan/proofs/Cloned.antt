@@ -9,7 +9,8 @@ same_items [] (y ∷ ys) h = absurd h
 same_items (x ∷ xs) [] h = absurd h
 same_items (x ∷ xs) (y ∷ ys) h = rw (h.0, same_items xs ys h.1)
 
-pub rows-clone : (R : MapEntry → MapEntry → Type 0) → ((e f : MapEntry) → R e f → row f ≡ row e) → (es fs : List MapEntry) → AllZip R es fs → rows fs ≡ rows es
+pub rows-clone : (R : MapEntry → MapEntry → Type 0) → ((e f : MapEntry) → R e f → row f ≡ row e)
+    → (es fs : List MapEntry) → AllZip R es fs → rows fs ≡ rows es
 rows-clone R same [] [] h = refl
 rows-clone R same [] (f ∷ fs) h = absurd h
 rows-clone R same (e ∷ es) [] h = absurd h

@@ -28,7 +28,8 @@ epoch_day-zero d y m e =
     rw (y, month, day) days_from_civil-zero
 
 -- adding a span of days, where the library has the day reached
-pub days-added : (a r : Date) (n : ℤ) (s : Span) → IsOnly Day n s → (CanAddToDate a s → epoch_day r ≡ date_add a s) → IsEpochDay (epoch_day a +ℤ n) → epoch_day r ≡ epoch_day a +ℤ n
+pub days-added : (a r : Date) (n : ℤ) (s : Span) → IsOnly Day n s → (CanAddToDate a s → epoch_day r ≡ date_add a s)
+    → IsEpochDay (epoch_day a +ℤ n) → epoch_day r ≡ epoch_day a +ℤ n
 days-added a r n s only fits in_range = fits ((can_add-days a n s only).1 in_range) ∙ date_add-days a n s only
 
 pub day_count-2200 : day_count (pos 2200) 1 1 ≡ 4_455_959

@@ -1,5 +1,6 @@
 -- Due dates: which day they are, and that they come after the capture day.
-use Rattle.std.proofs.Common.{◌≡◌, ℕ, ◌/◌, ◌<◌, ◌≤◌, ◌⊎◌, Bool, true, false, subst, inl, inr, pos, ◌+ℤ◌, ◌≤ℤ◌, ◌<ℤ◌, Option, Some, None, unsigned_abs, arith, refl, sym, ◌∙◌}
+use Rattle.std.proofs.Common.{◌≡◌, ℕ, ◌/◌, ◌<◌, ◌≤◌, ◌⊎◌, Bool, true, false, subst, inl, inr, pos, ◌+ℤ◌, ◌≤ℤ◌, ◌<ℤ◌}
+use Rattle.std.proofs.Common.{Option, Some, None, unsigned_abs, arith, refl, sym, ◌∙◌}
 use Rattle.jiff.specs.Words.{epoch_day}
 use Rattle.jiff_core.specs.declared.civil.date.Date.{Date}
 use Rattle.jiff_core.proofs.SignedLemmas.{signed_arith}
@@ -15,7 +16,8 @@ use Rattle.class_plan.specs.declared.schedules.Action.{Action}
 use Rattle.class_plan.specs.declared.schedules.Schedule.{Schedule}
 use Rattle.class_plan.specs.declared.schedules.Schedule.TheVariants.{Permanent, After}
 use Rattle.class_plan.specs.Schedules.{IsInRange}
-use Rattle.class_plan.specs.Dates.{IsCaptureDay, IsDue, IsEarlier, IsLater, IsSameDay, IsMonthsAfter, IsYearsAfter, IsPeriodAfter, IsYearEnd, IsYearEndAfter, months_of}
+use Rattle.class_plan.specs.Dates.{IsCaptureDay, IsDue, IsEarlier, IsLater, IsSameDay, IsMonthsAfter, IsYearsAfter}
+use Rattle.class_plan.specs.Dates.{IsPeriodAfter, IsYearEnd, IsYearEndAfter, months_of}
 use Rattle.class_plan.proofs.Days.{days_from_civil-zero, year_pos}
 
 -- a smaller day number is that of an earlier date
@@ -38,12 +40,14 @@ years_only d n a b h k =
     let month : a.month ≡ b.month = h.month ∙ sym k.month in
     (year, month, h.day ∙ rw (year, month) (sym k.day))
 
-period_only : (d : Date) (n : ℕ) (u : TimeUnit) (a b : Date) → IsPeriodAfter d n u a → IsPeriodAfter d n u b → (a.year ≡ b.year) × (a.month ≡ b.month) × (a.day ≡ b.day)
+period_only : (d : Date) (n : ℕ) (u : TimeUnit) (a b : Date) → IsPeriodAfter d n u a → IsPeriodAfter d n u b
+    → (a.year ≡ b.year) × (a.month ≡ b.month) × (a.day ≡ b.day)
 period_only d n Days a b h k = epoch_day_injective a b (h ∙ sym k)
 period_only d n Months a b h k = months_only d n a b h k
 period_only d n Years a b h k = years_only d n a b h k
 
-year_end_only : (d : Date) (n : ℕ) (u : TimeUnit) (a b : Date) → IsYearEndAfter d n u a → IsYearEndAfter d n u b → (a.year ≡ b.year) × (a.month ≡ b.month) × (a.day ≡ b.day)
+year_end_only : (d : Date) (n : ℕ) (u : TimeUnit) (a b : Date) → IsYearEndAfter d n u a → IsYearEndAfter d n u b
+    → (a.year ≡ b.year) × (a.month ≡ b.month) × (a.day ≡ b.day)
 year_end_only d n u a b h k =
     let same = period_only d n u h.date k.date h.period k.period in
     (h.year_end.year ∙ same.0 ∙ sym k.year_end.year, h.year_end.month ∙ sym k.year_end.month, h.year_end.day ∙ sym k.year_end.day)
@@ -101,7 +105,8 @@ pub period-later : (d : Date) (n : ℕ) (u : TimeUnit) (e : Date) → IsCaptureD
 period-later d n u e day some h = later_of d e day (period_earlier d n u e day some h)
 
 -- what comes before a date comes before the last day of its year
-in_same_year : (d e f : Date) → (d.month < e.month) ⊎ ((d.month ≡ e.month) × (d.day < e.day)) → IsYearEnd e f → (d.month < f.month) ⊎ ((d.month ≡ f.month) × (d.day < f.day))
+in_same_year : (d e f : Date) → (d.month < e.month) ⊎ ((d.month ≡ e.month) × (d.day < e.day)) → IsYearEnd e f
+    → (d.month < f.month) ⊎ ((d.month ≡ f.month) × (d.day < f.day))
 in_same_year d e f (inl less) h = inl (omega (arith, h.month, e.month_in))
 in_same_year d e f (inr (same, less)) h = elim (cases_order d.month 12) [
   | inl twelve ↦ inr (twelve ∙ sym h.month, omega (arith, h.day, e.day_in, days_in_month_bounds e.year e.month))
@@ -116,14 +121,17 @@ before_year_end d e f (inr (same, less)) h = inr (same ∙ sym h.year, in_same_y
 pub due-later : (d : Date) (s : Schedule) (e : Date) → IsCaptureDay d → IsInRange s → IsDue d s (Some e) → IsLater d e
 due-later d Permanent e day range h = absurd h
 due-later d (After n u x false) e day range h = period-later d n u e day range.0 h
-due-later d (After n u x true) e day range h = later_of d e day (before_year_end d h.date e (period_earlier d n u h.date day range.0 h.period) h.year_end)
+due-later d (After n u x true) e day range h =
+    later_of d e day (before_year_end d h.date e (period_earlier d n u h.date day range.0 h.period) h.year_end)
 
 -- the date a period later is the due date of a schedule without the year's end
-pub due-period : (d : Date) (s : Schedule) (n : ℕ) (u : TimeUnit) (x : Action) (y : Bool) (e f : Date) → s ≡ After n u x y → y ≡ false → IsPeriodAfter d n u e → f ≡ e → IsDue d s (Some f)
+pub due-period : (d : Date) (s : Schedule) (n : ℕ) (u : TimeUnit) (x : Action) (y : Bool) (e f : Date)
+    → s ≡ After n u x y → y ≡ false → IsPeriodAfter d n u e → f ≡ e → IsDue d s (Some f)
 due-period d s n u x true e f is off h same = absurd (cc)
 due-period d s n u x false e f is off h same = subst (λ z. IsDue d z (Some f)) (sym is) (subst (λ z. IsPeriodAfter d n u z) (sym same) h)
 
 -- 31 December of that date's year is the due date of a schedule with the year's end
-pub due-year_end : (d : Date) (s : Schedule) (n : ℕ) (u : TimeUnit) (x : Action) (y : Bool) (e f : Date) → s ≡ After n u x y → y ≡ true → IsPeriodAfter d n u e → IsYearEnd e f → IsDue d s (Some f)
+pub due-year_end : (d : Date) (s : Schedule) (n : ℕ) (u : TimeUnit) (x : Action) (y : Bool) (e f : Date)
+    → s ≡ After n u x y → y ≡ true → IsPeriodAfter d n u e → IsYearEnd e f → IsDue d s (Some f)
 due-year_end d s n u x true e f is on h end = subst (λ z. IsDue d z (Some f)) (sym is) (record { date = e; period = h; year_end = end })
 due-year_end d s n u x false e f is on h end = absurd (cc)

@@ -1,8 +1,10 @@
 -- The first fault that holds is the one with the smallest number.
-use Rattle.std.proofs.Common.{◌≡◌, ℕ, zero, suc, ◌+◌, ◌<◌, Bool, true, false, if◌then◌else◌, Option, Some, None, Ok, Err, refl, sym, ap, subst, ◌∙◌, arith, below_more}
+use Rattle.std.proofs.Common.{◌≡◌, ℕ, zero, suc, ◌+◌, ◌<◌, Bool, true, false, if◌then◌else◌, Option, Some, None, Ok}
+use Rattle.std.proofs.Common.{Err, refl, sym, ap, subst, ◌∙◌, arith, below_more}
 use borrow.Author.Count.{below_none}
 use Rattle.class_plan.specs.declared.faults.PlanFault.{PlanFault}
-use Rattle.class_plan.specs.declared.faults.PlanFault.TheVariants.{NotToml, BadShape, BadPath, ParentMissing, PathTwice, BadSchedule, TooManyClasses, PathDropped, NoMemory}
+use Rattle.class_plan.specs.declared.faults.PlanFault.TheVariants.{NotToml, BadShape, BadPath, ParentMissing, PathTwice}
+use Rattle.class_plan.specs.declared.faults.PlanFault.TheVariants.{BadSchedule, TooManyClasses, PathDropped, NoMemory}
 use Rattle.class_plan.specs.Faults.{number_of, first_fault, answer, verdict, IsSmallest, HoldsNone}
 
 -- the faults in the order of their numbers
@@ -67,7 +69,8 @@ abbrev pub Says : (PlanFault → Bool) → Option PlanFault → Type 0
 Says h None = HoldsNone h
 Says h (Some f) = IsSmallest h f
 
-step : (h : PlanFault → Bool) (n : ℕ) (b : Bool) (rest : Option PlanFault) → b ≡ h (at n) → number_of (at n) ≡ 50 + n → FreeBelow h n → (FreeBelow h (n + 1) → Says h rest) → Says h (if b then Some (at n) else rest)
+step : (h : PlanFault → Bool) (n : ℕ) (b : Bool) (rest : Option PlanFault) → b ≡ h (at n) → number_of (at n) ≡ 50 + n
+    → FreeBelow h n → (FreeBelow h (n + 1) → Says h rest) → Says h (if b then Some (at n) else rest)
 step h n true rest e is free more = smallest_at h n (at n) free is (sym e)
 step h n false rest e is free more = more (below_more (λ k. h (at k) ≡ false) n free (sym e))
 

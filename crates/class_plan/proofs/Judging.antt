@@ -4,7 +4,8 @@ use Rattle.std.proofs.lemmas.Bool.Decides.{nat_tests}
 use Rattle.std.specs.List.{list_any}
 use Rattle.class_paths.specs.Path.{is_path, has_parent_in, first_passes, ancestors}
 use Rattle.class_plan.specs.declared.faults.PlanFault.{PlanFault}
-use Rattle.class_plan.specs.declared.faults.PlanFault.TheVariants.{NotToml, BadShape, BadPath, ParentMissing, PathTwice, BadSchedule, TooManyClasses, PathDropped}
+use Rattle.class_plan.specs.declared.faults.PlanFault.TheVariants.{NotToml, BadShape, BadPath, ParentMissing, PathTwice}
+use Rattle.class_plan.specs.declared.faults.PlanFault.TheVariants.{BadSchedule, TooManyClasses, PathDropped}
 use Rattle.class_plan.specs.declared.entries.Listed.{Listed}
 use Rattle.class_plan.specs.Faults.{verdict}
 use Rattle.class_plan.specs.Plans.{Row, has}
@@ -31,10 +32,12 @@ pub test-schedule : (xs : List Listed) → list_any (λ c. is_faulty c.stated) x
 test-schedule xs = list_any-shown (λ e. is_faulty e.stated) xs
 
 pub test-parent : (xs : List Listed) (rs : List Row) → rs ≡ with_unfiled (rows_from [] (map entry_view xs))
-    → list_any (λ c. not (has_parent_in (has rs) c.path.now)) xs ≡ list_any (λ e. not (has_parent_in (is_known (map entry_view xs)) e.path)) (map entry_view xs)
+    → list_any (λ c. not (has_parent_in (has rs) c.path.now)) xs
+    ≡ list_any (λ e. not (has_parent_in (is_known (map entry_view xs)) e.path)) (map entry_view xs)
 test-parent xs rs is =
     list_any-shown (λ e. not (has_parent_in (has rs) e.path)) xs
-    ∙ list_any-same _ _ (λ e. ap not (first-same (has rs) (is_known (map entry_view xs)) (λ q. ap (λ r. has r q) is ∙ has-listing (map entry_view xs) q) (ancestors e.path))) (map entry_view xs)
+    ∙ list_any-same _ _ (λ e. ap not (first-same (has rs) (is_known (map entry_view xs)) (λ q. ap (λ r. has r q) is
+    ∙ has-listing (map entry_view xs) q) (ancestors e.path))) (map entry_view xs)
 
 above : (n : ℕ) → 4096 < n → nat_lt 4096 n ≡ true
 above n h = grind (arith, nat_tests)
@@ -42,10 +45,12 @@ above n h = grind (arith, nat_tests)
 within : (n : ℕ) → n ≤ 4096 → nat_lt 4096 n ≡ false
 within n h = grind (arith, nat_tests)
 
-pub test-many : (es : List Entry) (rs : List Row) → comes_again [] es ≡ false → rs ≡ with_unfiled (rows_from [] es) → 4096 < length rs → nat_lt 4096 (class_count_of es) ≡ true
+pub test-many : (es : List Entry) (rs : List Row) → comes_again [] es ≡ false → rs ≡ with_unfiled (rows_from [] es)
+    → 4096 < length rs → nat_lt 4096 (class_count_of es) ≡ true
 test-many es rs twice is h = let e = ap length is ∙ length-listing es twice in above (class_count_of es) (omega arith)
 
-pub test-few : (es : List Entry) (rs : List Row) → comes_again [] es ≡ false → rs ≡ with_unfiled (rows_from [] es) → length rs ≤ 4096 → nat_lt 4096 (class_count_of es) ≡ false
+pub test-few : (es : List Entry) (rs : List Row) → comes_again [] es ≡ false → rs ≡ with_unfiled (rows_from [] es)
+    → length rs ≤ 4096 → nat_lt 4096 (class_count_of es) ≡ false
 test-few es rs twice is h = let e = ap length is ∙ length-listing es twice in within (class_count_of es) (omega arith)
 
 -- the ends of a judgement after the text and its shape passed
@@ -62,8 +67,10 @@ module _ {A : Type 0} (h : PlanFault → Bool) (a : A) (toml : h NotToml ≡ fal
   pub end-schedule : h BadPath ≡ false → h ParentMissing ≡ false → h PathTwice ≡ false → h BadSchedule ≡ true → verdict h a ≡ Err BadSchedule
   end-schedule p q t s = rw (toml, shape, p, q, t, s)
 
-  pub end-many : h BadPath ≡ false → h ParentMissing ≡ false → h PathTwice ≡ false → h BadSchedule ≡ false → h TooManyClasses ≡ true → verdict h a ≡ Err TooManyClasses
+  pub end-many : h BadPath ≡ false → h ParentMissing ≡ false → h PathTwice ≡ false → h BadSchedule ≡ false
+      → h TooManyClasses ≡ true → verdict h a ≡ Err TooManyClasses
   end-many p q t s m = rw (toml, shape, p, q, t, s, m)
 
-  pub end-well : h BadPath ≡ false → h ParentMissing ≡ false → h PathTwice ≡ false → h BadSchedule ≡ false → h TooManyClasses ≡ false → h PathDropped ≡ false → verdict h a ≡ Ok a
+  pub end-well : h BadPath ≡ false → h ParentMissing ≡ false → h PathTwice ≡ false → h BadSchedule ≡ false
+      → h TooManyClasses ≡ false → h PathDropped ≡ false → verdict h a ≡ Ok a
   end-well p q t s m d = rw (toml, shape, p, q, t, s, m, d)

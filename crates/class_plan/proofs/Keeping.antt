@@ -15,7 +15,8 @@ use Rattle.class_plan.proofs.Put.{has-put, open-put, all-put, length-put}
 abbrev pub key_cmp : Vec ℕ Global → Vec ℕ Global → Ordering
 key_cmp x y = slice_cmp nat_cmp x.items y.items
 
-less_paths : (k : Vec ℕ Global) (es : List MapEntry) → AllByRecursion (λ y. key_cmp k y ≡ Less) (keys_of es) → AllByRecursion (λ q. slice_cmp nat_cmp k.items q ≡ Less) (paths_of (rows es))
+less_paths : (k : Vec ℕ Global) (es : List MapEntry) → AllByRecursion (λ y. key_cmp k y ≡ Less) (keys_of es)
+    → AllByRecursion (λ q. slice_cmp nat_cmp k.items q ≡ Less) (paths_of (rows es))
 less_paths k [] h = tt
 less_paths k (e ∷ es) h = (h.0, less_paths k es h.1)
 
@@ -25,7 +26,8 @@ unfolding IsStrictlySortedBy
 sorted-rows [] h = tt
 sorted-rows (e ∷ es) h = (less_paths e.0 es h.0, sorted-rows es h.1)
 
-pub passes-more : (f g : List ℕ → Bool) → ((q : List ℕ) → f q ≡ true → g q ≡ true) → (ps : List (List ℕ)) → first_passes f ps ≡ true → first_passes g ps ≡ true
+pub passes-more : (f g : List ℕ → Bool) → ((q : List ℕ) → f q ≡ true → g q ≡ true) → (ps : List (List ℕ))
+    → first_passes f ps ≡ true → first_passes g ps ≡ true
 passes-more f g h [] e = refl
 passes-more f g h (p ∷ ps) e = h p e
 
@@ -34,17 +36,32 @@ has-more r rs q h = has-put q r rs ∙ or_right (bytes_eq q r.path) (has rs q) h
 
 -- what holds of a class still holds after another is put
 pub class-more : (r : Row) (rs : List Row) (c : Row) → IsClass rs c → IsClass (with_row r rs) c
-class-more r rs c h = record { path = h.path; parent = passes-more (has rs) (has (with_row r rs)) (has-more r rs) (ancestors c.path) h.parent; range = h.range }
+class-more r rs c h =
+    record {
+      path = h.path;
+      parent =
+          passes-more (has rs) (has (with_row r rs)) (has-more r rs) (ancestors c.path) h.parent;
+      range = h.range;
+    }
 
 open_or : (b : Bool) (o : Bool) → o ≡ true → cond b true o ≡ true
 open_or true o e = refl
 open_or false o e = e
 
-pub added-plan : (p : Listing) (q : List ℕ) → IsPlan p → is_path q ≡ true → has_parent_in (has p.rows) q ≡ true → length p.rows < 4096 → IsStrictlySortedBy (slice_cmp nat_cmp) (paths_of (with_row (open_row q) p.rows))
+pub added-plan : (p : Listing) (q : List ℕ) → IsPlan p → is_path q ≡ true → has_parent_in (has p.rows) q ≡ true
+    → length p.rows < 4096 → IsStrictlySortedBy (slice_cmp nat_cmp) (paths_of (with_row (open_row q) p.rows))
     → IsPlan (record { root = p.root; rows = with_row (open_row q) p.rows })
 added-plan p q h path parent few order =
-    let more : AllByRecursion (IsClass (with_row (open_row q) p.rows)) p.rows = recursion_from_All _ p.rows (All-weaker _ _ (class-more (open_row q) p.rows) p.rows h.classes) in
-    let here : IsClass (with_row (open_row q) p.rows) (open_row q) = record { path = path; parent = passes-more (has p.rows) (has (with_row (open_row q) p.rows)) (has-more (open_row q) p.rows) (ancestors q) parent; range = tt } in
+    let more : AllByRecursion (IsClass (with_row (open_row q) p.rows)) p.rows =
+    recursion_from_All _ p.rows (All-weaker _ _ (class-more (open_row q) p.rows) p.rows h.classes) in
+    let here : IsClass (with_row (open_row q) p.rows) (open_row q) =
+    record {
+      path = path;
+      parent =
+          passes-more (has p.rows) (has (with_row (open_row q) p.rows)) (has-more (open_row q) p.rows) (ancestors q)
+          parent;
+      range = tt;
+    } in
     record {
       root = h.root;
       classes = All-from_recursion _ (with_row (open_row q) p.rows) (all-put (IsClass (with_row (open_row q) p.rows)) (open_row q) p.rows here more);

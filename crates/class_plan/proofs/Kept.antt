@@ -12,10 +12,12 @@ pub kept-rows : (new : List Row) (es : List MapEntry) → kept_keys new (keys_of
 kept-rows new [] = refl
 kept-rows new (e ∷ es) = ap (λ b. has new e.0.items && b) (kept-rows new es)
 
-pub kept-more : (new : List Row) (k : Vec ℕ Global) (all s t : List (Vec ℕ Global)) → s ≡ k ∷ t → kept_keys new all ≡ kept_keys new s → has new k.items ≡ true → kept_keys new all ≡ kept_keys new t
+pub kept-more : (new : List Row) (k : Vec ℕ Global) (all s t : List (Vec ℕ Global)) → s ≡ k ∷ t
+    → kept_keys new all ≡ kept_keys new s → has new k.items ≡ true → kept_keys new all ≡ kept_keys new t
 kept-more new k all s t is so e = so ∙ rw (is, e)
 
-pub kept-less : (new : List Row) (k : Vec ℕ Global) (all s t : List (Vec ℕ Global)) → s ≡ k ∷ t → kept_keys new all ≡ kept_keys new s → has new k.items ≡ false → kept_keys new all ≡ false
+pub kept-less : (new : List Row) (k : Vec ℕ Global) (all s t : List (Vec ℕ Global)) → s ≡ k ∷ t
+    → kept_keys new all ≡ kept_keys new s → has new k.items ≡ false → kept_keys new all ≡ false
 kept-less new k all s t is so e = so ∙ rw (is, e)
 
 pub kept-all : (new : List Row) (all s : List (Vec ℕ Global)) → s ≡ [] → kept_keys new all ≡ kept_keys new s → kept_keys new all ≡ true

@@ -1,5 +1,6 @@
 -- What a file lists has its schedules in range, and `unfiled` open.
-use Rattle.std.proofs.Common.{◌≡◌, ℕ, ◌≤◌, nat_le, Bool, true, false, not, ◌&&◌, if◌then◌else◌, List, [], ◌∷◌, codes, Option, Some, None, option_map, option_and_then, refl, sym, subst, ◌∙◌, arith}
+use Rattle.std.proofs.Common.{◌≡◌, ℕ, ◌≤◌, nat_le, Bool, true, false, not, ◌&&◌, if◌then◌else◌, List, [], ◌∷◌, codes}
+use Rattle.std.proofs.Common.{Option, Some, None, option_map, option_and_then, refl, sym, subst, ◌∙◌, arith}
 use Rattle.std.proofs.lemmas.Bool.Decides.{nat_tests}
 use Rattle.std.proofs.lemmas.List.Elements.{All-from_recursion}
 use Rattle.std.specs.Str.{bytes_eq}
@@ -15,9 +16,11 @@ use Rattle.class_plan.specs.declared.entries.Stated.TheVariants.{Nothing}
 use Rattle.class_plan.specs.Schedules.{most, IsInRange, IsInRangeIfAny}
 use Rattle.class_plan.specs.Texts.{count_of, unit_of, ending_of, period_of, schedule_of_bytes}
 use Rattle.class_plan.specs.Entries.{Entry, Contents, stated_if, own_of, IsListable, IsListableEntry}
-use Rattle.class_plan.specs.Document.{has_only, is_file_key, is_class_key, openness_of, statement_of, class_of, class_of_parts, entry_of, entries_of, listed_of, contents_of, contents_of_parts}
+use Rattle.class_plan.specs.Document.{has_only, is_file_key, is_class_key, openness_of, statement_of, class_of}
+use Rattle.class_plan.specs.Document.{class_of_parts, entry_of, entries_of, listed_of, contents_of, contents_of_parts}
 
-range_if : (b : Bool) (n : ℕ) (u : TimeUnit) (x : Action × Bool) (s : Schedule) → (b ≡ true → (1 ≤ n) × (n ≤ most u)) → Some s ≡ (if b then Some (After n u x.0 x.1) else None) → IsInRange s
+range_if : (b : Bool) (n : ℕ) (u : TimeUnit) (x : Action × Bool) (s : Schedule) → (b ≡ true → (1 ≤ n) × (n ≤ most u))
+    → Some s ≡ (if b then Some (After n u x.0 x.1) else None) → IsInRange s
 range_if true n u x s h e = let is : After n u x.0 x.1 ≡ s = cc in subst IsInRange is (h refl)
 range_if false n u x s h e = absurd (cc)
 
@@ -27,12 +30,14 @@ low_of n m e = grind (arith, nat_tests)
 high_of : (n m : ℕ) → (nat_le 1 n && nat_le n m) ≡ true → n ≤ m
 high_of n m e = grind (arith, nat_tests)
 
-period_range : (o : Option ℕ) (u : Option TimeUnit) (x : Option (Action × Bool)) (a b c : List ℕ) (s : Schedule) → o ≡ count_of a → u ≡ unit_of b → x ≡ ending_of c → Some s ≡ period_of a b c → IsInRange s
+period_range : (o : Option ℕ) (u : Option TimeUnit) (x : Option (Action × Bool)) (a b c : List ℕ) (s : Schedule)
+    → o ≡ count_of a → u ≡ unit_of b → x ≡ ending_of c → Some s ≡ period_of a b c → IsInRange s
 unfolding period_of
 period_range None u x a b c s d e f h = let k : Some s ≡ None = rw (← d) at h in absurd (cc)
 period_range (Some n) None x a b c s d e f h = let k : Some s ≡ None = rw (← d, ← e) at h in absurd (cc)
 period_range (Some n) (Some u) None a b c s d e f h = let k : Some s ≡ None = rw (← d, ← e, ← f) at h in absurd (cc)
-period_range (Some n) (Some u) (Some x) a b c s d e f h = range_if (nat_le 1 n && nat_le n (most u)) n u x s (λ t. (low_of n (most u) t, high_of n (most u) t)) (rw (← d, ← e, ← f) at h)
+period_range (Some n) (Some u) (Some x) a b c s d e f h = range_if (nat_le 1 n && nat_le n (most u)) n u x s (λ t.
+    (low_of n (most u) t, high_of n (most u) t)) (rw (← d, ← e, ← f) at h)
 
 text_range : (p : Bool) (t a b c : List ℕ) (s : Schedule) → Some s ≡ (if p then Some Permanent else period_of a b c) → IsInRange s
 text_range true t a b c s h = let is : Permanent ≡ s = cc in subst IsInRange is tt
@@ -52,19 +57,28 @@ own_range t (Some s) h = schedule-range t s h
 
 stated_range : (o : Option (List ℕ)) (s : Stated) → Some s ≡ option_map (λ t. stated_if (Some (schedule_of_bytes t))) o → IsInRangeIfAny (own_of s)
 stated_range None s h = absurd (cc)
-stated_range (Some t) s h = let k : stated_if (Some (schedule_of_bytes t)) ≡ s = cc in subst (λ x. IsInRangeIfAny (own_of x)) k (own_range t (schedule_of_bytes t) refl)
+stated_range (Some t) s h = let k : stated_if (Some (schedule_of_bytes t)) ≡ s = cc in
+    subst (λ x. IsInRangeIfAny (own_of x)) k (own_range t (schedule_of_bytes t) refl)
 
 statement_range : (o : Option Data) (s : Stated) → Some s ≡ statement_of o → IsInRangeIfAny (own_of s)
 statement_range None s h = let k : Nothing ≡ s = cc in subst (λ x. IsInRangeIfAny (own_of x)) k tt
 statement_range (Some d) s h = stated_range (as_str d) s h
 
-checked_if : (b o : Bool) (e f : Entry) → o ≡ e.is_open → b ≡ bytes_eq e.path unfiled → IsInRangeIfAny (own_of e.stated) → Some f ≡ (if b && not o then None else Some e) → IsListableEntry f
+checked_if : (b o : Bool) (e f : Entry) → o ≡ e.is_open → b ≡ bytes_eq e.path unfiled → IsInRangeIfAny (own_of e.stated)
+    → Some f ≡ (if b && not o then None else Some e) → IsListableEntry f
 checked_if true true e f is same range h = let k : e ≡ f = cc in subst IsListableEntry k (record { range = range; unfiled_open = λ _. sym is })
 checked_if true false e f is same range h = absurd (cc)
-checked_if false o e f is same range h = let k : e ≡ f = cc in subst IsListableEntry k (record { range = range; unfiled_open = λ t. absurd (let x : true ≡ false = sym t ∙ sym same in (cc)) })
+checked_if false o e f is same range h = let k : e ≡ f = cc in
+    subst IsListableEntry k (record {
+      range = range;
+      unfiled_open = λ t. absurd (let x : true ≡ false = sym t
+          ∙ sym same in (cc));
+    })
 
-class_parts : (b : Bool) (p : Option (List ℕ)) (o : Option Bool) (t : Option Stated) (e : Entry) → ((s : Stated) → Some s ≡ t → IsInRangeIfAny (own_of s)) → Some e ≡ class_of_parts b p o t → IsListableEntry e
-class_parts true (Some p) (Some o) (Some s) e range h = checked_if (bytes_eq p unfiled) o (record { path = p; is_open = o; stated = s }) e refl refl (range s refl) h
+class_parts : (b : Bool) (p : Option (List ℕ)) (o : Option Bool) (t : Option Stated) (e : Entry)
+    → ((s : Stated) → Some s ≡ t → IsInRangeIfAny (own_of s)) → Some e ≡ class_of_parts b p o t → IsListableEntry e
+class_parts true (Some p) (Some o) (Some s) e range h =
+    checked_if (bytes_eq p unfiled) o (record { path = p; is_open = o; stated = s }) e refl refl (range s refl) h
 class_parts false p o t e range h = absurd (cc)
 class_parts true None o t e range h = absurd (cc)
 class_parts true (Some p) None t e range h = absurd (cc)
@@ -73,7 +87,9 @@ class_parts true (Some p) (Some o) None e range h = absurd (cc)
 class_listable : (ms : Members) (e : Entry) → Some e ≡ class_of ms → IsListableEntry e
 unfolding class_of
 class_listable ms e h =
-    class_parts (has_only is_class_key ms) (option_and_then as_str (get_member (codes "path") ms)) (openness_of (get_member (codes "open") ms)) (statement_of (get_member (codes "schedule") ms)) e (statement_range (get_member (codes "schedule") ms)) h
+    class_parts (has_only is_class_key ms) (option_and_then as_str (get_member (codes "path") ms))
+    (openness_of (get_member (codes "open") ms)) (statement_of (get_member (codes "schedule") ms)) e
+    (statement_range (get_member (codes "schedule") ms)) h
 
 entry_table : (o : Option Members) (e : Entry) → Some e ≡ option_and_then class_of o → IsListableEntry e
 entry_table None e h = absurd (cc)
@@ -83,7 +99,9 @@ entry_listable : (d : Data) (e : Entry) → Some e ≡ entry_of d → IsListable
 unfolding entry_of
 entry_listable d e h = entry_table (as_table d) e h
 
-entries_both : (o : Option Entry) (p : Option (List Entry)) (es : List Entry) → ((e : Entry) → Some e ≡ o → IsListableEntry e) → ((xs : List Entry) → Some xs ≡ p → AllByRecursion IsListableEntry xs)
+entries_both : (o : Option Entry) (p : Option (List Entry)) (es : List Entry)
+    → ((e : Entry) → Some e ≡ o → IsListableEntry e)
+    → ((xs : List Entry) → Some xs ≡ p → AllByRecursion IsListableEntry xs)
     → Some es ≡ option_and_then (λ e. option_and_then (λ xs. Some (e ∷ xs)) p) o → AllByRecursion IsListableEntry es
 entries_both None p es f g h = absurd (cc)
 entries_both (Some e) None es f g h = absurd (cc)
@@ -103,7 +121,9 @@ unfolding listed_of
 listed_listable None es h = let k : [] ≡ es = cc in subst (AllByRecursion IsListableEntry) k tt
 listed_listable (Some d) es h = array_listable (as_array d) es h
 
-contents_parts : (b : Bool) (r : Option (List ℕ)) (o : Option (List Entry)) (f : Contents) → ((es : List Entry) → Some es ≡ o → AllByRecursion IsListableEntry es) → Some f ≡ contents_of_parts b r o → IsListable f
+contents_parts : (b : Bool) (r : Option (List ℕ)) (o : Option (List Entry)) (f : Contents)
+    → ((es : List Entry) → Some es ≡ o → AllByRecursion IsListableEntry es) → Some f ≡ contents_of_parts b r o
+    → IsListable f
 contents_parts true (Some r) (Some es) f g h =
     let k : record { root = schedule_of_bytes r; entries = es } ≡ f = cc in
     subst IsListable k (record { root = any_range r (schedule_of_bytes r) refl; entries = All-from_recursion IsListableEntry es (g es refl) })
@@ -115,4 +135,5 @@ contents_parts true (Some r) None f g h = absurd (cc)
 pub contents-listable : (ms : Members) (f : Contents) → Some f ≡ contents_of ms → IsListable f
 unfolding contents_of
 contents-listable ms f h =
-    contents_parts (has_only is_file_key ms) (option_and_then as_str (get_member (codes "root") ms)) (listed_of (get_member (codes "class") ms)) f (listed_listable (get_member (codes "class") ms)) h
+    contents_parts (has_only is_file_key ms) (option_and_then as_str (get_member (codes "root") ms))
+    (listed_of (get_member (codes "class") ms)) f (listed_listable (get_member (codes "class") ms)) h

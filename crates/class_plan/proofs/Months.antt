@@ -16,14 +16,17 @@ use Rattle.class_plan.specs.Dates.{IsCaptureDay, IsMonthsAfter, months_of}
 use Rattle.class_plan.proofs.Days.{months-below, year_pos}
 
 -- a span of calendar units alone has no days of clock time
-no_clock : (s : Span) → magnitude Hour s ≡ 0 → magnitude Minute s ≡ 0 → magnitude Second s ≡ 0 → magnitude Millisecond s ≡ 0 → magnitude Microsecond s ≡ 0 → magnitude Nanosecond s ≡ 0 → clock_days s ≡ pos 0
+no_clock : (s : Span) → magnitude Hour s ≡ 0 → magnitude Minute s ≡ 0 → magnitude Second s ≡ 0
+    → magnitude Millisecond s ≡ 0 → magnitude Microsecond s ≡ 0 → magnitude Nanosecond s ≡ 0 → clock_days s ≡ pos 0
 no_clock s a b c d e f = signed_zero s.negative _ (omega arith)
 
 date_add-months : (a : Date) (n : ℤ) (s : Span) → IsOnly Month n s → date_add a s ≡ add_months a n
 date_add-months a n s h =
     let m : span_months s ≡ n = omega (arith, signed_arith, h.months) in
     let d : span_days s ≡ pos 0 = omega (arith, signed_arith, h.days) in
-    let k : clock_days s ≡ pos 0 = no_clock s (h.others Hour (omega arith)) (h.others Minute (omega arith)) (h.others Second (omega arith)) (h.others Millisecond (omega arith)) (h.others Microsecond (omega arith)) (h.others Nanosecond (omega arith)) in
+    let k : clock_days s ≡ pos 0 =
+    no_clock s (h.others Hour (omega arith)) (h.others Minute (omega arith)) (h.others Second (omega arith))
+    (h.others Millisecond (omega arith)) (h.others Microsecond (omega arith)) (h.others Nanosecond (omega arith)) in
     rw (m, d, k) (omega (arith, signed_arith))
 
 -- the date a number of months later
@@ -32,16 +35,20 @@ shifted_date d k h =
     let civil = shifted_civil d k h in
     record { year = shifted_year d k; month = shifted_month d k; day = shifted_day d k; year_in = civil.0; month_in = civil.1; day_in = civil.2 }
 
-month_parts : (z : ℤ) (y m n : ℕ) → z ≡ pos y → (z *ℤ pos 12 +ℤ pos (m - 1)) +ℤ pos n ≡ pos ((y * 12 + (m - 1) + n) / 12) *ℤ pos 12 +ℤ pos ((y * 12 + (m - 1) + n) % 12 + 1 - 1)
+month_parts : (z : ℤ) (y m n : ℕ) → z ≡ pos y
+    → (z *ℤ pos 12 +ℤ pos (m - 1)) +ℤ pos n
+    ≡ pos ((y * 12 + (m - 1) + n) / 12) *ℤ pos 12 +ℤ pos ((y * 12 + (m - 1) + n) % 12 + 1 - 1)
 month_parts z y m n e = rw e (omega (arith, signed_arith))
 
 -- the year and month a number of months after a capture day
-shifted_parts : (d : Date) (n : ℕ) → IsCaptureDay d → (shifted_year d (pos n) ≡ pos (months_of d n / 12)) × (shifted_month d (pos n) ≡ months_of d n % 12 + 1)
+shifted_parts : (d : Date) (n : ℕ) → IsCaptureDay d → (shifted_year d (pos n) ≡ pos (months_of d n / 12))
+    × (shifted_month d (pos n) ≡ months_of d n % 12 + 1)
 shifted_parts d n day =
     let parts = month_parts d.year (unsigned_abs d.year) d.month n (year_pos d.year day.0) in
     shift_parts d (pos n) (pos (months_of d n / 12)) (months_of d n % 12 + 1) parts (omega arith) (omega arith)
 
-pub months-added : (d r : Date) (n : ℕ) (s : Span) → IsCaptureDay d → n ≤ 12000 → IsOnly Month (pos n) s → (CanAddToDate d s → epoch_day r ≡ date_add d s) → IsMonthsAfter d n r
+pub months-added : (d r : Date) (n : ℕ) (s : Span) → IsCaptureDay d → n ≤ 12000 → IsOnly Month (pos n) s
+    → (CanAddToDate d s → epoch_day r ≡ date_add d s) → IsMonthsAfter d n r
 unfolding shifted_date
 months-added d r n s day count only fits =
     let shifted = shifted_parts d n day in

@@ -1,5 +1,6 @@
 -- The schedule of a path is its own, or that of its nearest ancestor that has one, or the root's.
-use Rattle.std.proofs.Common.{◌≡◌, ◌≢◌, ℕ, zero, suc, ◌≤◌, ◌==◌, true, false, inl, inr, List, take, length, get_or, Option, Some, None, unwrap_or, refl, sym, subst, arith}
+use Rattle.std.proofs.Common.{◌≡◌, ◌≢◌, ℕ, zero, suc, ◌≤◌, ◌==◌, true, false, inl, inr, List, take, length, get_or}
+use Rattle.std.proofs.Common.{Option, Some, None, unwrap_or, refl, sym, subst, arith}
 use Rattle.std.proofs.lemmas.Bool.{cases_Bool, cases_order}
 use Rattle.std.proofs.lemmas.Bool.Decides.{nat_tests}
 use Rattle.class_paths.specs.Path.{ancestors, ancestors_below}
@@ -20,7 +21,9 @@ none_more p q k h here j low high slash = elim (cases_order k j) [
   | inr (inr gt) ↦ absurd (omega arith)
 ]
 
-at_slash : (p : Listing) (q : List ℕ) (k : ℕ) (o : Option Schedule) → o ≡ own_at p.rows (take k q) → suc k ≤ length q → get_or q k 0 ≡ 47 → HasNoneFrom p q (suc k) → (HasNoneFrom p q k → IsFromAbove p q (first_own p (ancestors_below q k)))
+at_slash : (p : Listing) (q : List ℕ) (k : ℕ) (o : Option Schedule) → o ≡ own_at p.rows (take k q) → suc k ≤ length q
+    → get_or q k 0 ≡ 47 → HasNoneFrom p q (suc k)
+    → (HasNoneFrom p q k → IsFromAbove p q (first_own p (ancestors_below q k)))
     → IsFromAbove p q (unwrap_or o (first_own p (ancestors_below q k)))
 at_slash p q k None e fits slash h ih = ih (none_more p q k h (λ _. sym e))
 at_slash p q k (Some s) e fits slash h ih = inl (record { place = k; within = omega arith; slash = slash; own = sym e; nearest = h })

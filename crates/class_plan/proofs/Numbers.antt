@@ -5,7 +5,8 @@ use Rattle.std.proofs.lemmas.Bool.{cases_Bool}
 use Rattle.std.proofs.Common.{inl, inr}
 use Rattle.class_plan.specs.Texts.{count_from, IsLargeOrNone}
 
-pub number-bad : (cs : List ℕ) (i n : ℕ) → i < length cs → (nat_le 48 (get_or cs i 0) && nat_le (get_or cs i 0) 57) ≡ false → count_from n (drop i cs) ≡ None
+pub number-bad : (cs : List ℕ) (i n : ℕ) → i < length cs → (nat_le 48 (get_or cs i 0) && nat_le (get_or cs i 0) 57)
+    ≡ false → count_from n (drop i cs) ≡ None
 number-bad cs i n h d = rw (drop_more cs i 0 h, d)
 
 pub number-large : (n : ℕ) (cs : List ℕ) → 366000 < n → IsLargeOrNone (count_from n cs)

@@ -27,7 +27,8 @@ unfolding IsStrictlySortedBy
 open_among [] q h = refl
 open_among (r ∷ rs) q h = go (bytes_eq q r.path) r.is_open refl refl (open_among rs q h.1)
   where
-    go : (b o : Bool) → bytes_eq q r.path ≡ b → r.is_open ≡ o → is_among (opened rs) q ≡ open_at rs q → is_among (opened (r ∷ rs)) q ≡ open_at (r ∷ rs) q
+    go : (b o : Bool) → bytes_eq q r.path ≡ b → r.is_open ≡ o → is_among (opened rs) q ≡ open_at rs q
+        → is_among (opened (r ∷ rs)) q ≡ open_at (r ∷ rs) q
     go true true e f rest = rw f (rw e refl)
     go true false e f rest =
         let same : q ≡ r.path = (bytes_eq-Decides q r.path).0 e in

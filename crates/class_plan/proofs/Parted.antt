@@ -1,5 +1,6 @@
 -- Parts that are judged: whether `unfiled` is closed, and schedules in range.
-use Rattle.std.proofs.Common.{◌≡◌, ◌≢◌, ℕ, ◌≤◌, nat_le, Bool, true, false, not, ◌&&◌, ◌||◌, if◌then◌else◌, List, [], ◌∷◌, map, Option, Some, None, option_map, Ok, Err, refl, ap, sym, arith}
+use Rattle.std.proofs.Common.{◌≡◌, ◌≢◌, ℕ, ◌≤◌, nat_le, Bool, true, false, not, ◌&&◌, ◌||◌, if◌then◌else◌, List, []}
+use Rattle.std.proofs.Common.{◌∷◌, map, Option, Some, None, option_map, Ok, Err, refl, ap, sym, arith}
 use Rattle.std.proofs.lemmas.Bool.Decides.{nat_tests}
 use Rattle.std.proofs.lemmas.List.Elements.{All-from_recursion}
 use Rattle.std.proofs.lemmas.Bool.{or_parts}
@@ -7,7 +8,8 @@ use Rattle.std.specs.Str.{bytes_eq}
 use Rattle.std.specs.List.{AllByRecursion, list_any}
 use Rattle.class_paths.specs.Path.{unfiled}
 use Rattle.class_plan.specs.declared.faults.PlanFault.{PlanFault}
-use Rattle.class_plan.specs.declared.faults.PlanFault.TheVariants.{NotToml, BadShape, BadPath, ParentMissing, PathTwice, BadSchedule, TooManyClasses, PathDropped, NoMemory}
+use Rattle.class_plan.specs.declared.faults.PlanFault.TheVariants.{NotToml, BadShape, BadPath, ParentMissing, PathTwice}
+use Rattle.class_plan.specs.declared.faults.PlanFault.TheVariants.{BadSchedule, TooManyClasses, PathDropped, NoMemory}
 use Rattle.class_plan.specs.declared.schedules.Schedule.{Schedule}
 use Rattle.class_plan.specs.declared.schedules.Schedule.TheVariants.{Permanent, After}
 use Rattle.class_plan.specs.declared.entries.Listed.{Listed}
@@ -63,12 +65,18 @@ open_of false false e h = absurd (let k : false ≡ true = h in (cc))
 
 entries_listable : (ps : List Part) → list_any is_closed_unfiled (map part_entry ps) ≡ false → AllByRecursion IsListableEntry (map part_entry ps)
 entries_listable [] h = tt
-entries_listable (p ∷ ps) h =
-    (record { range = own_range p.2; unfiled_open = open_of (bytes_eq p.0.items unfiled) p.1 (or_parts _ _ h).0 }, entries_listable ps (or_parts (is_closed_unfiled (part_entry p)) _ h).1)
+entries_listable (p ∷ ps) h = (
+  record { range = own_range p.2; unfiled_open = open_of (bytes_eq p.0.items unfiled) p.1 (or_parts _ _ h).0 },
+  entries_listable ps (or_parts (is_closed_unfiled (part_entry p)) _ h).1,
+)
 
 -- the contents of parts are fit to be judged where `unfiled` is not closed
 pub parts-listable : (root : Schedule) (ps : List Part) → list_any is_closed_unfiled (map part_entry ps) ≡ false → IsListable (parts_contents root ps)
-parts-listable root ps h = record { root = ranged_if root (in_range root) refl; entries = All-from_recursion IsListableEntry (map part_entry ps) (entries_listable ps h) }
+parts-listable root ps h = record {
+  root = ranged_if root (in_range root) refl;
+  entries =
+      All-from_recursion IsListableEntry (map part_entry ps) (entries_listable ps h);
+}
 
 -- a fault that cannot differ from `NoMemory` is `NoMemory`
 pub is-memory : (f : PlanFault) → ¬ (f ≢ NoMemory) → f ≡ NoMemory

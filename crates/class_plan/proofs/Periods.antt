@@ -15,7 +15,9 @@ pub text-permanent : (t : List ℕ) → bytes_eq t (codes "permanent") ≡ true 
 unfolding schedule_of_bytes
 text-permanent t e = rw e
 
-pub text-parts : (t a r b c : List ℕ) → bytes_eq t (codes "permanent") ≡ false → a ≡ before_first is_space t → r ≡ after_first is_space t → b ≡ before_first is_space r → c ≡ after_first is_space r → period_of a b c ≡ schedule_of_bytes t
+pub text-parts : (t a r b c : List ℕ) → bytes_eq t (codes "permanent") ≡ false → a ≡ before_first is_space t
+    → r ≡ after_first is_space t → b ≡ before_first is_space r → c ≡ after_first is_space r
+    → period_of a b c ≡ schedule_of_bytes t
 unfolding schedule_of_bytes
 text-parts t a r b c e p q x y = rw (e, p, x, y, q)
 
@@ -39,15 +41,18 @@ after_unit (Some u) (Some k) a b c e h n = rw (← n, ← h, ← e)
 pub period-no_ending : (a b c : List ℕ) → None ≡ ending_of c → None ≡ period_of a b c
 period-no_ending a b c e = after_unit (unit_of b) (count_of a) a b c e refl refl
 
-pub period-made : (a b c : List ℕ) (n : ℕ) (u : TimeUnit) (x : Action × Bool) → count_of a ≡ Some n → Some u ≡ unit_of b → Some x ≡ ending_of c → 1 ≤ n → n ≤ most u → Some (After n u x.0 x.1) ≡ period_of a b c
+pub period-made : (a b c : List ℕ) (n : ℕ) (u : TimeUnit) (x : Action × Bool) → count_of a ≡ Some n → Some u ≡ unit_of b
+    → Some x ≡ ending_of c → 1 ≤ n → n ≤ most u → Some (After n u x.0 x.1) ≡ period_of a b c
 unfolding period_of
 period-made a b c n u x d e f low high = rw (d, ← e, ← f) (grind (arith, nat_tests))
 
-pub period-below : (a b c : List ℕ) (n : ℕ) (u : TimeUnit) (x : Action × Bool) → count_of a ≡ Some n → Some u ≡ unit_of b → Some x ≡ ending_of c → n < 1 → None ≡ period_of a b c
+pub period-below : (a b c : List ℕ) (n : ℕ) (u : TimeUnit) (x : Action × Bool) → count_of a ≡ Some n
+    → Some u ≡ unit_of b → Some x ≡ ending_of c → n < 1 → None ≡ period_of a b c
 unfolding period_of
 period-below a b c n u x d e f low = rw (d, ← e, ← f) (grind (arith, nat_tests))
 
-pub period-above : (a b c : List ℕ) (n : ℕ) (u : TimeUnit) (x : Action × Bool) → count_of a ≡ Some n → Some u ≡ unit_of b → Some x ≡ ending_of c → most u < n → None ≡ period_of a b c
+pub period-above : (a b c : List ℕ) (n : ℕ) (u : TimeUnit) (x : Action × Bool) → count_of a ≡ Some n
+    → Some u ≡ unit_of b → Some x ≡ ending_of c → most u < n → None ≡ period_of a b c
 unfolding period_of
 period-above a b c n u x d e f high = rw (d, ← e, ← f) (grind (arith, nat_tests))
 
@@ -56,7 +61,8 @@ most-small Days = omega arith
 most-small Months = omega arith
 most-small Years = omega arith
 
-large : (o : Option ℕ) (u : Option TimeUnit) (x : Option (Action × Bool)) (a b c : List ℕ) → IsLargeOrNone o → o ≡ count_of a → u ≡ unit_of b → x ≡ ending_of c → None ≡ period_of a b c
+large : (o : Option ℕ) (u : Option TimeUnit) (x : Option (Action × Bool)) (a b c : List ℕ) → IsLargeOrNone o
+    → o ≡ count_of a → u ≡ unit_of b → x ≡ ending_of c → None ≡ period_of a b c
 unfolding period_of
 large None u x a b c h n d e = rw (← n)
 large (Some k) None x a b c h n d e = rw (← n, ← d)

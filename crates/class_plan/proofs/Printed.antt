@@ -1,5 +1,7 @@
 -- The text of a schedule in range reads back.
-use Rattle.std.proofs.Common.{◌≡◌, ℕ, ◌+◌, ◌-◌, ◌*◌, ◌/◌, ◌%◌, ◌^◌, ◌<◌, ◌≤◌, ◌==◌, nat_le, Bool, true, false, not, ◌&&◌, List, [], ◌∷◌, ◌++◌, take, drop, length, codes, Some, None, inl, inr, refl, ap, sym, ◌∙◌, arith, append_assoc, length-append}
+use Rattle.std.proofs.Common.{◌≡◌, ℕ, ◌+◌, ◌-◌, ◌*◌, ◌/◌, ◌%◌, ◌^◌, ◌<◌, ◌≤◌, ◌==◌, nat_le, Bool, true, false, not}
+use Rattle.std.proofs.Common.{◌&&◌, List, [], ◌∷◌, ◌++◌, take, drop, length, codes, Some, None, inl, inr, refl, ap, sym}
+use Rattle.std.proofs.Common.{◌∙◌, arith, append_assoc, length-append}
 use Rattle.std.proofs.lemmas.Bool.{cases_Bool}
 use Rattle.std.proofs.lemmas.Bool.Decides.{nat_tests}
 use Rattle.std.proofs.lemmas.Fmt.{decimal_by_steps}
@@ -14,7 +16,8 @@ use Rattle.class_plan.specs.declared.schedules.Action.TheVariants.{Review, Trans
 use Rattle.class_plan.specs.declared.schedules.Schedule.{Schedule}
 use Rattle.class_plan.specs.declared.schedules.Schedule.TheVariants.{Permanent, After}
 use Rattle.class_plan.specs.Schedules.{most, IsInRange}
-use Rattle.class_plan.specs.Texts.{count_from, count_of, unit_of, unit_word, action_word, year_end_text, text_of, ending_of, is_space, schedule_of_bytes}
+use Rattle.class_plan.specs.Texts.{count_from, count_of, unit_of, unit_word, action_word, year_end_text, text_of}
+use Rattle.class_plan.specs.Texts.{ending_of, is_space, schedule_of_bytes}
 use Rattle.class_plan.proofs.Periods.{text-permanent, text-parts, period-made}
 
 -- ---- counts
@@ -106,7 +109,9 @@ before_space ds r e = sym (ap (λ n. take n (ds ++ 32 ∷ r)) (space_place ds r 
 
 after_space : (ds r : List ℕ) → has_no_space ds ≡ true → r ≡ after_first is_space (ds ++ 32 ∷ r)
 after_space ds r e =
-    sym (ap (λ n. drop (n + 1) (ds ++ 32 ∷ r)) (space_place ds r e) ∙ ap (drop (length ds + 1)) (sym (append_assoc ds (32 ∷ []) r)) ∙ drop_at (ds ++ 32 ∷ []) r (length ds + 1) (length-append ds (32 ∷ [])))
+    sym (ap (λ n. drop (n + 1) (ds ++ 32 ∷ r)) (space_place ds r e)
+    ∙ ap (drop (length ds + 1)) (sym (append_assoc ds (32 ∷ []) r))
+    ∙ drop_at (ds ++ 32 ∷ []) r (length ds + 1) (length-append ds (32 ∷ [])))
 
 unit_reads : (u : TimeUnit) → Some u ≡ unit_of (unit_word u)
 unit_reads Days = refl
@@ -150,5 +155,10 @@ text-reads (After n u x y) h =
     let plain = digits_no_space (decimal n) count.digits in
     let ending = action_word x ++ year_end_text y in
     let r = unit_word u ++ 32 ∷ ending in
-    sym (period-made (decimal n) (unit_word u) ending n u (x, y) (count_headed n (decimal n) (count.head some) count.value) (unit_reads u) (ending_reads x y) h.0 h.1
-    ∙ text-parts (text_of (After n u x y)) (decimal n) r (unit_word u) ending (not_permanent (decimal n) (32 ∷ r) (count.head some) count.digits) (before_space (decimal n) r plain) (after_space (decimal n) r plain) (before_space (unit_word u) ending (unit_no_space u)) (after_space (unit_word u) ending (unit_no_space u)))
+    sym (period-made (decimal n) (unit_word u) ending n u (
+      x,
+      y,
+    ) (count_headed n (decimal n) (count.head some) count.value) (unit_reads u) (ending_reads x y) h.0 h.1
+    ∙ text-parts (text_of (After n u x y)) (decimal n) r (unit_word u) ending (not_permanent (decimal n) (32
+    ∷ r) (count.head some) count.digits) (before_space (decimal n) r plain) (after_space (decimal n) r plain)
+    (before_space (unit_word u) ending (unit_no_space u)) (after_space (unit_word u) ending (unit_no_space u)))

@@ -1,5 +1,7 @@
 -- A class that is put at its place: which paths and classes the rows then have.
-use Rattle.std.proofs.Common.{◌≡◌, ℕ, suc, ◌≤◌, Bool, true, false, ◌||◌, cond, List, [], ◌∷◌, length, Option, Some, None, is_some, option_map, unwrap_or, Ordering, Less, Equal, Greater, nat_cmp, is_eq, refl, ap, sym, ◌∙◌, arith}
+use Rattle.std.proofs.Common.{◌≡◌, ℕ, suc, ◌≤◌, Bool, true, false, ◌||◌, cond, List, [], ◌∷◌, length, Option, Some}
+use Rattle.std.proofs.Common.{None, is_some, option_map, unwrap_or, Ordering, Less, Equal, Greater, nat_cmp, is_eq}
+use Rattle.std.proofs.Common.{refl, ap, sym, ◌∙◌, arith}
 use Rattle.std.proofs.lemmas.Map.Text.{is_eq-slice_cmp}
 use Rattle.std.proofs.lemmas.Slice.Eq.{bytes_eq-Decides}
 use Rattle.std.specs.Str.{bytes_eq}
@@ -24,7 +26,8 @@ changed-is r x e = rw (same-path r.path x.path e)
 abbrev pub placed : Ordering → Row → Row → List Row → List Row
 placed o r x xs = match_ordering o (r ∷ x ∷ xs) (r ∷ xs) (x ∷ with_row r xs)
 
-put-placed : (r x : Row) (xs : List Row) (o : Ordering) → o ≡ slice_cmp nat_cmp r.path x.path → match_ordering o (r ∷ x ∷ xs) (changed r x ∷ xs) (x ∷ with_row r xs) ≡ placed o r x xs
+put-placed : (r x : Row) (xs : List Row) (o : Ordering) → o ≡ slice_cmp nat_cmp r.path x.path
+    → match_ordering o (r ∷ x ∷ xs) (changed r x ∷ xs) (x ∷ with_row r xs) ≡ placed o r x xs
 put-placed r x xs Less e = refl
 put-placed r x xs Equal e = ap (λ y. y ∷ xs) (changed-is r x e)
 put-placed r x xs Greater e = refl
@@ -37,7 +40,8 @@ module _ {A : Type 0} (said : Row → A) (no : A) where
   abbrev pub say : List ℕ → List Row → A
   say q rs = unwrap_or (option_map said (row_at q rs)) no
 
-  say_head : (b : Bool) (r : Row) (d : Option Row) → unwrap_or (option_map said (cond b (Some r) d)) no ≡ cond b (said r) (unwrap_or (option_map said d) no)
+  say_head : (b : Bool) (r : Row) (d : Option Row) → unwrap_or (option_map said (cond b (Some r) d)) no
+      ≡ cond b (said r) (unwrap_or (option_map said d) no)
   say_head true r d = refl
   say_head false r d = refl
 
@@ -67,13 +71,18 @@ module _ {A : Type 0} (said : Row → A) (no : A) where
   same_test : (q a b : List ℕ) → Equal ≡ slice_cmp nat_cmp a b → bytes_eq q a ≡ bytes_eq q b
   same_test q a b e = ap (bytes_eq q) (sym (same-path a b e))
 
-  say_placed : (q : List ℕ) (r x : Row) (xs : List Row) (o : Ordering) → o ≡ slice_cmp nat_cmp r.path x.path → say q (with_row r xs) ≡ cond (bytes_eq q r.path) (said r) (say q xs)
+  say_placed : (q : List ℕ) (r x : Row) (xs : List Row) (o : Ordering) → o ≡ slice_cmp nat_cmp r.path x.path
+      → say q (with_row r xs) ≡ cond (bytes_eq q r.path) (said r) (say q xs)
       → say q (placed o r x xs) ≡ cond (bytes_eq q r.path) (said r) (say q (x ∷ xs))
   say_placed q r x xs Less e ih = say-cons q r (x ∷ xs)
   say_placed q r x xs Equal e ih =
-      say-cons q r xs ∙ cond_same (bytes_eq q r.path) (said r) (said x) (say q xs) ∙ ap (λ b. cond (bytes_eq q r.path) (said r) (cond b (said x) (say q xs))) (same_test q r.path x.path e) ∙ ap (cond (bytes_eq q r.path) (said r)) (sym (say-cons q x xs))
+      say-cons q r xs ∙ cond_same (bytes_eq q r.path) (said r) (said x) (say q xs)
+      ∙ ap (λ b. cond (bytes_eq q r.path) (said r) (cond b (said x) (say q xs))) (same_test q r.path x.path e)
+      ∙ ap (cond (bytes_eq q r.path) (said r)) (sym (say-cons q x xs))
   say_placed q r x xs Greater e ih =
-      say-cons q x (with_row r xs) ∙ ap (cond (bytes_eq q x.path) (said x)) ih ∙ cond_apart (bytes_eq q x.path) (bytes_eq q r.path) (said x) (said r) (say q xs) (not_both q r.path x.path e) ∙ ap (cond (bytes_eq q r.path) (said r)) (sym (say-cons q x xs))
+      say-cons q x (with_row r xs) ∙ ap (cond (bytes_eq q x.path) (said x)) ih
+      ∙ cond_apart (bytes_eq q x.path) (bytes_eq q r.path) (said x) (said r) (say q xs) (not_both q r.path x.path e)
+      ∙ ap (cond (bytes_eq q r.path) (said r)) (sym (say-cons q x xs))
 
   -- the value for a path after a class is put
   pub say-put : (q : List ℕ) (r : Row) (xs : List Row) → say q (with_row r xs) ≡ cond (bytes_eq q r.path) (said r) (say q xs)
@@ -91,12 +100,14 @@ cond_or false s = refl
 -- which paths the rows have after a class is put
 pub has-put : (q : List ℕ) (r : Row) (xs : List Row) → has (with_row r xs) q ≡ (bytes_eq q r.path || has xs q)
 has-put q r xs =
-    has-say q xs (row_at q (with_row r xs)) ∙ say-put (λ r. true) false q r xs ∙ ap (cond (bytes_eq q r.path) true) (sym (has-say q xs (row_at q xs))) ∙ cond_or (bytes_eq q r.path) (has xs q)
+    has-say q xs (row_at q (with_row r xs)) ∙ say-put (λ r. true) false q r xs
+    ∙ ap (cond (bytes_eq q r.path) true) (sym (has-say q xs (row_at q xs))) ∙ cond_or (bytes_eq q r.path) (has xs q)
 
 pub open-put : (q : List ℕ) (r : Row) (xs : List Row) → open_at (with_row r xs) q ≡ cond (bytes_eq q r.path) r.is_open (open_at xs q)
 open-put q r xs = say-put (λ r. r.is_open) false q r xs
 
-all_placed : (P : Row → Type 0) (r x : Row) (xs : List Row) (o : Ordering) → P r → P x → AllByRecursion P xs → AllByRecursion P (with_row r xs) → AllByRecursion P (placed o r x xs)
+all_placed : (P : Row → Type 0) (r x : Row) (xs : List Row) (o : Ordering) → P r → P x → AllByRecursion P xs
+    → AllByRecursion P (with_row r xs) → AllByRecursion P (placed o r x xs)
 all_placed P r x xs Less pr px h ih = (pr, (px, h))
 all_placed P r x xs Equal pr px h ih = (pr, h)
 all_placed P r x xs Greater pr px h ih = (px, ih)
@@ -106,7 +117,8 @@ pub all-put : (P : Row → Type 0) (r : Row) (xs : List Row) → P r → AllByRe
 all-put P r [] pr h = (pr, tt)
 all-put P r (x ∷ xs) pr h = rw (put-cons r x xs) (all_placed P r x xs (slice_cmp nat_cmp r.path x.path) pr h.0 h.1 (all-put P r xs pr h.1))
 
-length_placed : (r x : Row) (xs : List Row) (o : Ordering) → length (with_row r xs) ≤ suc (length xs) → length (placed o r x xs) ≤ suc (suc (length xs))
+length_placed : (r x : Row) (xs : List Row) (o : Ordering) → length (with_row r xs) ≤ suc (length xs)
+    → length (placed o r x xs) ≤ suc (suc (length xs))
 length_placed r x xs Less h = omega arith
 length_placed r x xs Equal h = omega arith
 length_placed r x xs Greater h = omega arith

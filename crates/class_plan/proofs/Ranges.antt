@@ -8,7 +8,9 @@ use Rattle.class_plan.specs.declared.schedules.Schedule.{Schedule}
 use Rattle.class_plan.specs.Schedules.{IsInRange, IsInRangeIfAny}
 use Rattle.class_plan.specs.Plans.{Row, Listing, row_at, has, own_at, first_own, schedule_at, IsClass, IsPlan}
 
-own_head : (b : Bool) (x : Row) (o : Option Row) → IsInRangeIfAny x.schedule → IsInRangeIfAny (option_and_then (λ r. r.schedule) o) → IsInRangeIfAny (option_and_then (λ r. r.schedule) (cond b (Some x) o))
+own_head : (b : Bool) (x : Row) (o : Option Row) → IsInRangeIfAny x.schedule
+    → IsInRangeIfAny (option_and_then (λ r. r.schedule) o)
+    → IsInRangeIfAny (option_and_then (λ r. r.schedule) (cond b (Some x) o))
 own_head true x o h k = h
 own_head false x o h k = k
 

@@ -1,5 +1,7 @@
 -- A class that is removed from a plan.
-use Rattle.std.proofs.Common.{◌≡◌, ℕ, Bool, true, false, not, cond, List, [], ◌∷◌, filter, Ok, Some, is_some, Vec, Global, Ordering, Less, Equal, Greater, nat_cmp, is_eq, true≢false, refl, ap, sym, ◌∙◌, arith}
+use Rattle.std.proofs.Common.{◌≡◌, ℕ, Bool, true, false, not, cond, List, [], ◌∷◌, filter, Ok, Some, is_some, Vec}
+use Rattle.std.proofs.Common.{Global, Ordering, Less, Equal, Greater, nat_cmp, is_eq, true≢false, refl, ap, sym, ◌∙◌}
+use Rattle.std.proofs.Common.{arith}
 use Rattle.std.proofs.lemmas.Map.Text.{is_eq-slice_cmp}
 use Rattle.std.proofs.lemmas.Slice.Eq.{bytes_eq-Decides}
 use Rattle.std.specs.List.{AllByRecursion}
@@ -45,9 +47,11 @@ goes_first q xs = ap (λ b. cond (not b) (open_row q ∷ filter (is_other q) xs)
 -- removing a class that was put gives the rows from before
 put_goes : (q : List ℕ) (xs : List Row) → has xs q ≡ false → filter (is_other q) (with_row (open_row q) xs) ≡ xs
 put_goes q [] e = goes_first q []
-put_goes q (x ∷ xs) e = ap (filter (is_other q)) (put-cons (open_row q) x xs) ∙ go (slice_cmp nat_cmp q x.path) refl (put_goes q xs (tail_other q x xs e))
+put_goes q (x ∷ xs) e = ap (filter (is_other q)) (put-cons (open_row q) x xs)
+    ∙ go (slice_cmp nat_cmp q x.path) refl (put_goes q xs (tail_other q x xs e))
   where
-    go : (o : Ordering) → o ≡ slice_cmp nat_cmp q x.path → filter (is_other q) (with_row (open_row q) xs) ≡ xs → filter (is_other q) (placed o (open_row q) x xs) ≡ x ∷ xs
+    go : (o : Ordering) → o ≡ slice_cmp nat_cmp q x.path → filter (is_other q) (with_row (open_row q) xs) ≡ xs
+        → filter (is_other q) (placed o (open_row q) x xs) ≡ x ∷ xs
     go Less same rest = goes_first q (x ∷ xs) ∙ kept_all q (x ∷ xs) e
     go Equal same rest = absurd (true≢false (sym ((bytes_eq-Decides q x.path).1 (sym (same-path q x.path same))) ∙ head_other q x xs e))
     go Greater same rest = kept_head q x (with_row (open_row q) xs) (head_other q x xs e) ∙ ap (λ l. x ∷ l) rest
@@ -79,6 +83,11 @@ unfolding IsStrictlySortedBy
 rows-remove q [] h = refl
 rows-remove q (e ∷ es) h = rw (is_eq-slice_cmp q e.0.items) (go (bytes_eq q e.0.items) refl (rows-remove q es h.1))
   where
-    go : (b : Bool) → b ≡ bytes_eq q e.0.items → rows (remove_entry (is_at (λ (k : Vec ℕ Global). slice_cmp nat_cmp q k.items)) es) ≡ filter (is_other q) (rows es) → rows (cond b es (e ∷ remove_entry (is_at (λ (k : Vec ℕ Global). slice_cmp nat_cmp q k.items)) es)) ≡ cond (not b) (row e ∷ filter (is_other q) (rows es)) (filter (is_other q) (rows es))
-    go true same rest = let k : q ≡ e.0.items = (bytes_eq-Decides q e.0.items).0 (sym same) in sym (kept_all q (rows es) (ap (has (rows es)) k ∙ above_others e.0.items es h.0))
+    go : (b : Bool) → b ≡ bytes_eq q e.0.items
+        → rows (remove_entry (is_at (λ (k : Vec ℕ Global). slice_cmp nat_cmp q k.items)) es)
+        ≡ filter (is_other q) (rows es)
+        → rows (cond b es (e ∷ remove_entry (is_at (λ (k : Vec ℕ Global). slice_cmp nat_cmp q k.items)) es))
+        ≡ cond (not b) (row e ∷ filter (is_other q) (rows es)) (filter (is_other q) (rows es))
+    go true same rest = let k : q ≡ e.0.items = (bytes_eq-Decides q e.0.items).0 (sym same) in
+        sym (kept_all q (rows es) (ap (has (rows es)) k ∙ above_others e.0.items es h.0))
     go false other rest = ap (λ l. row e ∷ l) rest

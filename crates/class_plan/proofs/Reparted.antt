@@ -1,5 +1,7 @@
 -- The parts of a plan give that plan.
-use Rattle.std.proofs.Common.{◌≡◌, ℕ, ◌≤◌, nat_le, nat_lt, Bool, true, false, not, ◌&&◌, ◌||◌, if◌then◌else◌, List, [], ◌∷◌, ◌++◌, map, length, Option, Some, None, is_some, option_map, unwrap_or, Ok, Less, Greater, is_eq, refl, ap, sym, subst, ◌∙◌, arith, append_assoc, inl, inr}
+use Rattle.std.proofs.Common.{◌≡◌, ℕ, ◌≤◌, nat_le, nat_lt, Bool, true, false, not, ◌&&◌, ◌||◌, if◌then◌else◌, List, []}
+use Rattle.std.proofs.Common.{◌∷◌, ◌++◌, map, length, Option, Some, None, is_some, option_map, unwrap_or, Ok, Less}
+use Rattle.std.proofs.Common.{Greater, is_eq, refl, ap, sym, subst, ◌∙◌, arith, append_assoc, inl, inr}
 use Rattle.std.proofs.lemmas.Bool.{cases_Bool}
 use Rattle.std.proofs.lemmas.Bool.Decides.{nat_tests}
 use Rattle.std.proofs.lemmas.Cmp.{nat_list_cmp_total}
@@ -17,7 +19,8 @@ use Rattle.class_plan.specs.declared.schedules.Schedule.{Schedule}
 use Rattle.class_plan.specs.declared.schedules.Schedule.TheVariants.{Permanent, After}
 use Rattle.class_plan.specs.Schedules.{most, IsInRange, IsInRangeIfAny}
 use Rattle.class_plan.specs.Plans.{Row, Listing, row_at, has, with_row, open_at, paths_of, IsClass, IsPlan}
-use Rattle.class_plan.specs.Entries.{Entry, row_of, rows_from, with_unfiled, is_known, is_faulty, own_of, stated_if, comes_again, class_count_of, contents_faults, listing_of}
+use Rattle.class_plan.specs.Entries.{Entry, row_of, rows_from, with_unfiled, is_known, is_faulty, own_of, stated_if}
+use Rattle.class_plan.specs.Entries.{comes_again, class_count_of, contents_faults, listing_of}
 use Rattle.class_plan.specs.Parts.{Part, in_range, if_in_range, part_entry, part_row, parts_contents, is_closed_unfiled, plan_of_parts}
 use Rattle.class_plan.proofs.Opened.{path_cmp}
 use Rattle.class_plan.proofs.Twice.{again, again-none, has-listing, length-listing}
@@ -44,24 +47,30 @@ above_push : (rs : List Row) (r : Row) (q : List ℕ) → IsAbove rs q → path_
 above_push [] r q h e = (nat_list_cmp_total.antisymm q r.path ∙ ap ordering_reverse e, tt)
 above_push (x ∷ xs) r q h e = (h.0, above_push xs r q h.1 e)
 
-all_push : (rs : List Row) (r : Row) (qs : List (List ℕ)) → AllByRecursion (IsAbove rs) qs → AllByRecursion (λ q. path_cmp r.path q ≡ Less) qs → AllByRecursion (IsAbove (rs ++ r ∷ [])) qs
+all_push : (rs : List Row) (r : Row) (qs : List (List ℕ)) → AllByRecursion (IsAbove rs) qs
+    → AllByRecursion (λ q. path_cmp r.path q ≡ Less) qs → AllByRecursion (IsAbove (rs ++ r ∷ [])) qs
 all_push rs r [] h e = tt
 all_push rs r (q ∷ qs) h e = (above_push rs r q h.0 e.0, all_push rs r qs h.1 e.1)
 
 abbrev paths_listed : List Entry → List (List ℕ)
 paths_listed es = map (λ e. e.path) es
 
-rows_sorted : (rs : List Row) (es : List Entry) → AllByRecursion (IsAbove rs) (paths_listed es) → IsStrictlySortedBy path_cmp (paths_listed es) → rows_from rs es ≡ rs ++ map row_of es
+rows_sorted : (rs : List Row) (es : List Entry) → AllByRecursion (IsAbove rs) (paths_listed es)
+    → IsStrictlySortedBy path_cmp (paths_listed es) → rows_from rs es ≡ rs ++ map row_of es
 unfolding IsStrictlySortedBy
 rows_sorted rs [] h s = sym (append-nil rs)
 rows_sorted rs (e ∷ es) h s =
-    ap (λ xs. rows_from xs es) (put_last rs (row_of e) h.0) ∙ rows_sorted (rs ++ row_of e ∷ []) es (all_push rs (row_of e) (paths_listed es) h.1 s.0) s.1 ∙ append_assoc rs (row_of e ∷ []) (map row_of es)
+    ap (λ xs. rows_from xs es) (put_last rs (row_of e) h.0)
+    ∙ rows_sorted (rs ++ row_of e ∷ []) es (all_push rs (row_of e) (paths_listed es) h.1 s.0) s.1
+    ∙ append_assoc rs (row_of e ∷ []) (map row_of es)
 
-again_sorted : (rs : List Row) (es : List Entry) → AllByRecursion (IsAbove rs) (paths_listed es) → IsStrictlySortedBy path_cmp (paths_listed es) → again rs es ≡ false
+again_sorted : (rs : List Row) (es : List Entry) → AllByRecursion (IsAbove rs) (paths_listed es)
+    → IsStrictlySortedBy path_cmp (paths_listed es) → again rs es ≡ false
 unfolding IsStrictlySortedBy
 again_sorted rs [] h s = refl
 again_sorted rs (e ∷ es) h s =
-    rw (above_none rs e.path h.0) (ap (λ xs. again xs es) (put_last rs (row_of e) h.0) ∙ again_sorted (rs ++ row_of e ∷ []) es (all_push rs (row_of e) (paths_listed es) h.1 s.0) s.1)
+    rw (above_none rs e.path h.0) (ap (λ xs. again xs es) (put_last rs (row_of e) h.0)
+    ∙ again_sorted (rs ++ row_of e ∷ []) es (all_push rs (row_of e) (paths_listed es) h.1 s.0) s.1)
 
 none_above : (qs : List (List ℕ)) → AllByRecursion (IsAbove []) qs
 none_above [] = tt
@@ -73,7 +82,8 @@ none_any : (p : Entry → Bool) (es : List Entry) → AllByRecursion (λ e. p e 
 none_any p [] h = refl
 none_any p (e ∷ es) h = rw (h.0, none_any p es h.1)
 
-paths_apart : (q : List ℕ) (rs : List Row) → AllByRecursion (λ p. path_cmp q p ≡ Less) (paths_of rs) → AllByRecursion (λ r. bytes_eq r.path q ≡ false) rs
+paths_apart : (q : List ℕ) (rs : List Row) → AllByRecursion (λ p. path_cmp q p ≡ Less) (paths_of rs)
+    → AllByRecursion (λ r. bytes_eq r.path q ≡ false) rs
 paths_apart q [] h = tt
 paths_apart q (x ∷ xs) h = (not_equal x.path q (nat_list_cmp_total.antisymm x.path q ∙ ap ordering_reverse h.0), paths_apart q xs h.1)
 
@@ -87,7 +97,8 @@ none_closed (x ∷ xs) h = (rw h.0, none_closed xs h.1)
 flip_eq : (p q : List ℕ) (b : Bool) → bytes_eq p q ≡ b → bytes_eq q p ≡ b
 flip_eq p q true e = (bytes_eq-Decides q p).1 (sym ((bytes_eq-Decides p q).0 e))
 flip_eq p q false e = elim (cases_Bool (bytes_eq q p)) [
-  | inl is ↦ let k : bytes_eq p q ≡ true = (bytes_eq-Decides p q).1 (sym ((bytes_eq-Decides q p).0 is)) in absurd (let x : true ≡ false = sym k ∙ e in (cc))
+  | inl is ↦ let k : bytes_eq p q ≡ true = (bytes_eq-Decides p q).1 (sym ((bytes_eq-Decides q p).0 is)) in
+      absurd (let x : true ≡ false = sym k ∙ e in (cc))
   | inr other ↦ other
 ]
 
@@ -135,19 +146,27 @@ paths_same : (ps : List Part) → paths_listed (map part_entry ps) ≡ paths_of 
 paths_same [] = refl
 paths_same (p ∷ ps) = ap (λ qs. p.0.items ∷ qs) (paths_same ps)
 
-entries_closed : (ps : List Part) → AllByRecursion (λ r. closes r ≡ false) (map part_row ps) → AllByRecursion (λ e. is_closed_unfiled e ≡ false) (map part_entry ps)
+entries_closed : (ps : List Part) → AllByRecursion (λ r. closes r ≡ false) (map part_row ps)
+    → AllByRecursion (λ e. is_closed_unfiled e ≡ false) (map part_entry ps)
 entries_closed [] h = tt
 entries_closed (p ∷ ps) h = (h.0, entries_closed ps h.1)
 
-entries_paths : (R : List Row) (ps : List Part) → AllByRecursion (IsClass R) (map part_row ps) → AllByRecursion (λ e. not (is_path e.path) ≡ false) (map part_entry ps)
+entries_paths : (R : List Row) (ps : List Part) → AllByRecursion (IsClass R) (map part_row ps)
+    → AllByRecursion (λ e. not (is_path e.path) ≡ false) (map part_entry ps)
 entries_paths R [] h = tt
 entries_paths R (p ∷ ps) h = (ap not h.0.path, entries_paths R ps h.1)
 
-entries_parents : (R : List Row) (known : List ℕ → Bool) (ps : List Part) → ((q : List ℕ) → has R q ≡ known q) → AllByRecursion (IsClass R) (map part_row ps) → AllByRecursion (λ e. not (has_parent_in known e.path) ≡ false) (map part_entry ps)
+entries_parents : (R : List Row) (known : List ℕ → Bool) (ps : List Part) → ((q : List ℕ) → has R q ≡ known q)
+    → AllByRecursion (IsClass R) (map part_row ps)
+    → AllByRecursion (λ e. not (has_parent_in known e.path) ≡ false) (map part_entry ps)
 entries_parents R known [] same h = tt
-entries_parents R known (p ∷ ps) same h = (ap not (sym (first-same (has R) known same (ancestors p.0.items)) ∙ h.0.parent), entries_parents R known ps same h.1)
+entries_parents R known (p ∷ ps) same h = (
+  ap not (sym (first-same (has R) known same (ancestors p.0.items)) ∙ h.0.parent),
+  entries_parents R known ps same h.1,
+)
 
-entries_stated : (R : List Row) (ps : List Part) → AllByRecursion (IsClass R) (map part_row ps) → AllByRecursion (λ e. is_faulty e.stated ≡ false) (map part_entry ps)
+entries_stated : (R : List Row) (ps : List Part) → AllByRecursion (IsClass R) (map part_row ps)
+    → AllByRecursion (λ e. is_faulty e.stated ≡ false) (map part_entry ps)
 entries_stated R [] h = tt
 entries_stated R (p ∷ ps) h = (faulty_in p.2 h.0.range, entries_stated R ps h.1)
 
@@ -158,14 +177,17 @@ has_if (Some r) h = refl
 has_open : (rs : List Row) → open_at rs unfiled ≡ true → has rs unfiled ≡ true
 has_open rs h = has_if (row_at unfiled rs) h
 
-unfiled_there : (rs : List Row) (b : Bool) → b ≡ has rs unfiled → open_at rs unfiled ≡ true → (if b then rs else with_row (record { path = unfiled; is_open = true; schedule = None }) rs) ≡ rs
+unfiled_there : (rs : List Row) (b : Bool) → b ≡ has rs unfiled → open_at rs unfiled ≡ true
+    → (if b then rs else with_row (record { path = unfiled; is_open = true; schedule = None }) rs) ≡ rs
 unfiled_there rs true e h = refl
 unfiled_there rs false e h = let k : false ≡ true = e ∙ has_open rs h in absurd (cc)
 
-made_listing : (p : Listing) (root : Schedule) (o : Option Schedule) (rs : List Row) → o ≡ Some root → root ≡ p.root → rs ≡ p.rows → record { root = unwrap_or o Permanent; rows = rs } ≡ p
+made_listing : (p : Listing) (root : Schedule) (o : Option Schedule) (rs : List Row) → o ≡ Some root → root ≡ p.root
+    → rs ≡ p.rows → record { root = unwrap_or o Permanent; rows = rs } ≡ p
 made_listing p root o rs a b d = rw (a, b, d)
 
-pub parts-same : (p : Listing) (root : Schedule) (ps : List Part) → IsPlan p → root ≡ p.root → map part_row ps ≡ p.rows → plan_of_parts (parts_contents root ps) ≡ Ok p
+pub parts-same : (p : Listing) (root : Schedule) (ps : List Part) → IsPlan p → root ≡ p.root → map part_row ps ≡ p.rows
+    → plan_of_parts (parts_contents root ps) ≡ Ok p
 parts-same p root ps plan same_root shows =
     let es = map part_entry ps in
     let f = parts_contents root ps in
@@ -174,7 +196,9 @@ parts-same p root ps plan same_root shows =
     let plain : rows_from [] es ≡ p.rows = rows_sorted [] es (none_above (paths_listed es)) sorted ∙ rows_listed p.rows ps classes ∙ shows in
     let listed : with_unfiled (rows_from [] es) ≡ p.rows = ap with_unfiled plain ∙ unfiled_there p.rows (has p.rows unfiled) refl plan.unfiled_open in
     let known : (q : List ℕ) → has p.rows q ≡ is_known es q = λ q. ap (λ rs. has rs q) (sym listed) ∙ has-listing es q in
-    let closed : list_any is_closed_unfiled es ≡ false = none_any is_closed_unfiled es (entries_closed ps (rw shows (closed_of p.rows plan.in_order plan.unfiled_open))) in
+    let closed : list_any is_closed_unfiled es ≡ false =
+    none_any is_closed_unfiled es
+    (entries_closed ps (rw shows (closed_of p.rows plan.in_order plan.unfiled_open))) in
     let paths = none_any (λ e. not (is_path e.path)) es (entries_paths p.rows ps classes) in
     let parents = none_any (λ e. not (has_parent_in (is_known es) e.path)) es (entries_parents p.rows (is_known es) ps known classes) in
     let twice : comes_again [] es ≡ false = again-none es ∙ again_sorted [] es (none_above (paths_listed es)) sorted in

@@ -128,7 +128,11 @@ add_below_missing = refl
 
 -- a file that lists `b` twice under a root that is no schedule
 listed_twice : Contents
-listed_twice = record { root = None; entries = record { path = codes "b"; is_open = true; stated = Nothing } ∷ record { path = codes "b"; is_open = true; stated = Faulty } ∷ [] }
+listed_twice = record {
+  root = None;
+  entries = record { path = codes "b"; is_open = true; stated = Nothing }
+      ∷ record { path = codes "b"; is_open = true; stated = Faulty } ∷ [];
+}
 
 twice_first : plan_of listed_twice ≡ Err PathTwice
 unfolding listed_twice is_path
@@ -136,27 +140,42 @@ twice_first = refl
 
 -- a child before its parent, beside `unfiled`, which is not listed
 listed_child_first : Contents
-listed_child_first = record { root = Some Permanent; entries = record { path = codes "z/b"; is_open = true; stated = Nothing } ∷ record { path = codes "z"; is_open = true; stated = Nothing } ∷ [] }
+listed_child_first =
+    record {
+      root = Some Permanent;
+      entries = record { path = codes "z/b"; is_open = true; stated = Nothing }
+          ∷ record { path = codes "z"; is_open = true; stated = Nothing } ∷ [];
+    }
 
-child_first : plan_of listed_child_first ≡ Ok (record { root = Permanent; rows = open_row unfiled ∷ open_row (codes "z") ∷ open_row (codes "z/b") ∷ [] })
+child_first : plan_of listed_child_first
+    ≡ Ok (record { root = Permanent; rows = open_row unfiled ∷ open_row (codes "z") ∷ open_row (codes "z/b") ∷ [] })
 unfolding listed_child_first is_path
 child_first = refl
 
 -- due days: 2023-11-14 is day 19675, 2024-11-14 day 20041, 2030-11-14 day 22232, 2030-12-31 day
 -- 22279
-dates_are : (civil 19675 ≡ record { year = 2023; month = 11; day = 14 }) × (civil 20041 ≡ record { year = 2024; month = 11; day = 14 }) × (civil 22232 ≡ record { year = 2030; month = 11; day = 14 }) × (civil 22279 ≡ record { year = 2030; month = 12; day = 31 })
+dates_are : (civil 19675 ≡ record { year = 2023; month = 11; day = 14 })
+    × (civil 20041 ≡ record { year = 2024; month = 11; day = 14 })
+    × (civil 22232 ≡ record { year = 2030; month = 11; day = 14 })
+    × (civil 22279 ≡ record { year = 2030; month = 12; day = 31 })
 dates_are = (refl, refl, refl, refl)
 
-years_are : (due_by 19675 (After 1 Years Destroy false) ≡ Some 20041) × (due_by 19675 (After 7 Years Destroy false) ≡ Some 22232) × (due_by 19675 (After 7 Years Destroy true) ≡ Some 22279)
+years_are : (due_by 19675 (After 1 Years Destroy false) ≡ Some 20041)
+    × (due_by 19675 (After 7 Years Destroy false) ≡ Some 22232)
+    × (due_by 19675 (After 7 Years Destroy true) ≡ Some 22279)
 unfolding days_from_civil day_count days_of_years days_of_months
 years_are = (refl, refl, refl)
 
 -- 2024-01-31 and a month is 2024-02-29, and 2024-12-31 at the year's end
-months_are : (civil 19753 ≡ record { year = 2024; month = 1; day = 31 }) × (due_by 19753 (After 1 Months Review false) ≡ Some 19782) × (due_by 19753 (After 1 Months Review true) ≡ Some 20088)
+months_are : (civil 19753 ≡ record { year = 2024; month = 1; day = 31 })
+    × (due_by 19753 (After 1 Months Review false) ≡ Some 19782)
+    × (due_by 19753 (After 1 Months Review true) ≡ Some 20088)
 unfolding days_from_civil day_count days_of_years days_of_months
 months_are = (refl, refl, refl)
 
 -- 2024-12-31 and a day is 2025-01-01, and 2025-12-31 at the year's end
-days_are : (civil 20088 ≡ record { year = 2024; month = 12; day = 31 }) × (due_by 20088 (After 1 Days Review true) ≡ Some 20453) × (civil 20453 ≡ record { year = 2025; month = 12; day = 31 })
+days_are : (civil 20088 ≡ record { year = 2024; month = 12; day = 31 })
+    × (due_by 20088 (After 1 Days Review true) ≡ Some 20453)
+    × (civil 20453 ≡ record { year = 2025; month = 12; day = 31 })
 unfolding days_from_civil day_count days_of_years days_of_months
 days_are = (refl, refl, refl)

@@ -1,5 +1,7 @@
 -- What is read as a schedule is the schedule's text.
-use Rattle.std.proofs.Common.{◌≡◌, ℕ, ◌+◌, ◌-◌, ◌*◌, ◌/◌, ◌%◌, ◌^◌, ◌<◌, ◌≤◌, ◌==◌, ◌⊎◌, inl, inr, nat_le, Bool, true, false, not, ◌&&◌, if◌then◌else◌, List, [], ◌∷◌, ◌++◌, length, get_or, codes, Option, Some, None, refl, ap, sym, ◌∙◌, arith, append_assoc}
+use Rattle.std.proofs.Common.{◌≡◌, ℕ, ◌+◌, ◌-◌, ◌*◌, ◌/◌, ◌%◌, ◌^◌, ◌<◌, ◌≤◌, ◌==◌, ◌⊎◌, inl, inr, nat_le, Bool, true}
+use Rattle.std.proofs.Common.{false, not, ◌&&◌, if◌then◌else◌, List, [], ◌∷◌, ◌++◌, length, get_or, codes, Option, Some}
+use Rattle.std.proofs.Common.{None, refl, ap, sym, ◌∙◌, arith, append_assoc}
 use Rattle.std.proofs.lemmas.Bool.{cases_Bool, cases_order}
 use Rattle.std.proofs.lemmas.Bool.Decides.{nat_tests}
 use Rattle.std.proofs.lemmas.Fmt.{decimal_step, decimal_digit}
@@ -16,7 +18,9 @@ use Rattle.class_plan.specs.declared.schedules.Action.TheVariants.{Review, Trans
 use Rattle.class_plan.specs.declared.schedules.Schedule.{Schedule}
 use Rattle.class_plan.specs.declared.schedules.Schedule.TheVariants.{Permanent, After}
 use Rattle.class_plan.specs.Schedules.{most}
-use Rattle.class_plan.specs.Texts.{count_from, count_of, unit_of, action_of, year_end_of, from_space, ending_of, unit_word, action_word, year_end_text, text_of, is_space, period_of, schedule_of_bytes}
+use Rattle.class_plan.specs.Texts.{count_from, count_of, unit_of, action_of, year_end_of, from_space, ending_of}
+use Rattle.class_plan.specs.Texts.{unit_word, action_word, year_end_text, text_of, is_space, period_of}
+use Rattle.class_plan.specs.Texts.{schedule_of_bytes}
 use Rattle.class_plan.proofs.Periods.{after-none, most-small}
 
 same_bytes : (xs ys : List ℕ) → bytes_eq xs ys ≡ true → ys ≡ xs
@@ -55,7 +59,8 @@ count_after n (c ∷ cs) m some small e = elim (cases_Bool (is_digit c)) [
       let fits : k < 2 ^ 64 = omega (arith, count_grows (n * 10 + (c - 48)) cs m rest) in
       let front : k / 10 ≡ n = omega arith in
       let last : 48 + k % 10 ≡ c = omega arith in
-      count_after k cs m (omega arith) small rest ∙ ap (λ ds. ds ++ cs) (decimal_step k (omega arith) fits ∙ (λ i. decimal (front i) ++ (last i ∷ []))) ∙ append_assoc (decimal n) (c ∷ []) cs
+      count_after k cs m (omega arith) small rest ∙ ap (λ ds. ds ++ cs) (decimal_step k (omega arith) fits
+      ∙ (λ i. decimal (front i) ++ (last i ∷ []))) ∙ append_assoc (decimal n) (c ∷ []) cs
   | inr other ↦ let k : None ≡ Some m = rw other at e in absurd (cc)
 ]
 
@@ -80,7 +85,8 @@ count_is (c ∷ cs) n small e = elim (cases_Bool (c == 48)) [
 
 -- ---- words
 
-unit_if : (d m y : Bool) (b : List ℕ) (u : TimeUnit) → d ≡ bytes_eq b (codes "days") → m ≡ bytes_eq b (codes "months") → y ≡ bytes_eq b (codes "years")
+unit_if : (d m y : Bool) (b : List ℕ) (u : TimeUnit) → d ≡ bytes_eq b (codes "days") → m ≡ bytes_eq b (codes "months")
+    → y ≡ bytes_eq b (codes "years")
     → (if d then Some Days else if m then Some Months else if y then Some Years else None) ≡ Some u → unit_word u ≡ b
 unit_if true m y b u i j k e = let is : Days ≡ u = cc in ap unit_word (sym is) ∙ same_bytes b (codes "days") (sym i)
 unit_if false true y b u i j k e = let is : Months ≡ u = cc in ap unit_word (sym is) ∙ same_bytes b (codes "months") (sym j)
@@ -90,7 +96,8 @@ unit_if false false false b u i j k e = absurd (cc)
 unit_is : (b : List ℕ) (u : TimeUnit) → unit_of b ≡ Some u → unit_word u ≡ b
 unit_is b u e = unit_if (bytes_eq b (codes "days")) (bytes_eq b (codes "months")) (bytes_eq b (codes "years")) b u refl refl refl e
 
-action_if : (r t d : Bool) (b : List ℕ) (x : Action) → r ≡ bytes_eq b (codes "review") → t ≡ bytes_eq b (codes "transfer") → d ≡ bytes_eq b (codes "destroy")
+action_if : (r t d : Bool) (b : List ℕ) (x : Action) → r ≡ bytes_eq b (codes "review")
+    → t ≡ bytes_eq b (codes "transfer") → d ≡ bytes_eq b (codes "destroy")
     → (if r then Some Review else if t then Some Transfer else if d then Some Destroy else None) ≡ Some x → action_word x ≡ b
 action_if true t d b x i j k e = let is : Review ≡ x = cc in ap action_word (sym is) ∙ same_bytes b (codes "review") (sym i)
 action_if false true d b x i j k e = let is : Transfer ≡ x = cc in ap action_word (sym is) ∙ same_bytes b (codes "transfer") (sym j)
@@ -109,13 +116,17 @@ action_is b x e = action_if (bytes_eq b (codes "review")) (bytes_eq b (codes "tr
 year_end_is : (b : List ℕ) (v : Bool) → year_end_of b ≡ Some v → year_end_text v ≡ b
 year_end_is b v e = year_end_if (bytes_eq b []) (bytes_eq b (codes " year-end")) b v refl refl e
 
-ending_if : (a : Option Action) (y : Option Bool) (c : List ℕ) (x : Action × Bool) → action_of (before_first is_space c) ≡ a → year_end_of (from_space c) ≡ y → ending_of c ≡ Some x → action_word x.0 ++ year_end_text x.1 ≡ c
+ending_if : (a : Option Action) (y : Option Bool) (c : List ℕ) (x : Action × Bool)
+    → action_of (before_first is_space c) ≡ a → year_end_of (from_space c) ≡ y → ending_of c ≡ Some x → action_word x.0
+    ++ year_end_text x.1 ≡ c
 ending_if None y c x d e h = let k : None ≡ Some x = rw d at h in absurd (cc)
 ending_if (Some a) None c x d e h = let k : None ≡ Some x = rw (d, e) at h in absurd (cc)
 ending_if (Some a) (Some y) c x d e h =
     let both : Some (a, y) ≡ Some x = rw (d, e) at h in
     let is : (a, y) ≡ x = cc in
-    ap (λ p. action_word p.0 ++ year_end_text p.1) (sym is) ∙ (λ i. action_is (before_first is_space c) a d i ++ year_end_is (from_space c) y e i) ∙ take-append-drop (position_or_len is_space c) c
+    ap (λ p. action_word p.0 ++ year_end_text p.1) (sym is)
+    ∙ (λ i. action_is (before_first is_space c) a d i ++ year_end_is (from_space c) y e i)
+    ∙ take-append-drop (position_or_len is_space c) c
 
 ending_is : (c : List ℕ) (x : Action × Bool) → ending_of c ≡ Some x → action_word x.0 ++ year_end_text x.1 ≡ c
 ending_is c x e = ending_if (action_of (before_first is_space c)) (year_end_of (from_space c)) c x refl refl e
@@ -129,7 +140,10 @@ space_is c e = grind (arith, nat_tests)
 space_or_none : (t : List ℕ) → (t ≡ before_first is_space t ++ 32 ∷ after_first is_space t) ⊎ ([] ≡ after_first is_space t)
 space_or_none t = elim (cases_order (position_or_len is_space t) (length t)) [
   | inl same ↦ inr (after-none t same)
-  | inr (inl less) ↦ inl (split_at_first is_space t 0 less ∙ ap (λ c. before_first is_space t ++ c ∷ after_first is_space t) (space_is (get_or t (position_or_len is_space t) 0) (passes_at_first is_space t 0 less)))
+  | inr (inl less) ↦ inl (split_at_first is_space t 0 less
+      ∙ ap (λ c. before_first is_space t
+      ++ c ∷ after_first is_space t)
+      (space_is (get_or t (position_or_len is_space t) 0) (passes_at_first is_space t 0 less)))
   | inr (inr more) ↦ absurd (omega (arith, prefix_len-le-length (λ c. not (is_space c)) t))
 ]
 
@@ -139,13 +153,15 @@ no_unit u e = cc
 no_ending : (x : Action × Bool) → ending_of [] ≡ Some x → ⊥
 no_ending x e = cc
 
-rest_is : (r : List ℕ) (u : TimeUnit) (x : Action × Bool) → unit_of (before_first is_space r) ≡ Some u → ending_of (after_first is_space r) ≡ Some x → unit_word u ++ 32 ∷ (action_word x.0 ++ year_end_text x.1) ≡ r
+rest_is : (r : List ℕ) (u : TimeUnit) (x : Action × Bool) → unit_of (before_first is_space r) ≡ Some u
+    → ending_of (after_first is_space r) ≡ Some x → unit_word u ++ 32 ∷ (action_word x.0 ++ year_end_text x.1) ≡ r
 rest_is r u x d e = elim (space_or_none r) [
   | inl cut ↦ (λ i. unit_is (before_first is_space r) u d i ++ 32 ∷ ending_is (after_first is_space r) x e i) ∙ sym cut
   | inr none ↦ absurd (no_ending x (ap ending_of none ∙ e))
 ]
 
-whole_is : (t : List ℕ) (n : ℕ) (u : TimeUnit) (x : Action × Bool) → n < 2 ^ 64 → count_of (before_first is_space t) ≡ Some n → unit_of (before_first is_space (after_first is_space t)) ≡ Some u
+whole_is : (t : List ℕ) (n : ℕ) (u : TimeUnit) (x : Action × Bool) → n < 2 ^ 64
+    → count_of (before_first is_space t) ≡ Some n → unit_of (before_first is_space (after_first is_space t)) ≡ Some u
     → ending_of (after_first is_space (after_first is_space t)) ≡ Some x → text_of (After n u x.0 x.1) ≡ t
 whole_is t n u x small c d e = elim (space_or_none t) [
   | inl cut ↦ (λ i. count_is (before_first is_space t) n small c i ++ 32 ∷ rest_is (after_first is_space t) u x d e i) ∙ sym cut
@@ -155,7 +171,9 @@ whole_is t n u x small c d e = elim (space_or_none t) [
 range_high : (n m : ℕ) → (nat_le 1 n && nat_le n m) ≡ true → n ≤ m
 range_high n m e = grind (arith, nat_tests)
 
-period_if : (g : Bool) (t : List ℕ) (n : ℕ) (u : TimeUnit) (x : Action × Bool) (s : Schedule) → (nat_le 1 n && nat_le n (most u)) ≡ g → count_of (before_first is_space t) ≡ Some n → unit_of (before_first is_space (after_first is_space t)) ≡ Some u
+period_if : (g : Bool) (t : List ℕ) (n : ℕ) (u : TimeUnit) (x : Action × Bool) (s : Schedule)
+    → (nat_le 1 n && nat_le n (most u)) ≡ g → count_of (before_first is_space t) ≡ Some n
+    → unit_of (before_first is_space (after_first is_space t)) ≡ Some u
     → ending_of (after_first is_space (after_first is_space t)) ≡ Some x → (if g then Some (After n u x.0 x.1) else None) ≡ Some s → text_of s ≡ t
 period_if true t n u x s g c d e h =
     let is : After n u x.0 x.1 ≡ s = cc in
@@ -164,8 +182,11 @@ period_if true t n u x s g c d e h =
     ap text_of (sym is) ∙ whole_is t n u x (omega arith) c d e
 period_if false t n u x s g c d e h = absurd (cc)
 
-period_is : (o : Option ℕ) (u : Option TimeUnit) (x : Option (Action × Bool)) (t : List ℕ) (s : Schedule) → count_of (before_first is_space t) ≡ o → unit_of (before_first is_space (after_first is_space t)) ≡ u
-    → ending_of (after_first is_space (after_first is_space t)) ≡ x → period_of (before_first is_space t) (before_first is_space (after_first is_space t)) (after_first is_space (after_first is_space t)) ≡ Some s → text_of s ≡ t
+period_is : (o : Option ℕ) (u : Option TimeUnit) (x : Option (Action × Bool)) (t : List ℕ) (s : Schedule)
+    → count_of (before_first is_space t) ≡ o → unit_of (before_first is_space (after_first is_space t)) ≡ u
+    → ending_of (after_first is_space (after_first is_space t)) ≡ x
+    → period_of (before_first is_space t) (before_first is_space (after_first is_space t))
+    (after_first is_space (after_first is_space t)) ≡ Some s → text_of s ≡ t
 unfolding period_of
 period_is None u x t s c d e h = let k : None ≡ Some s = rw c at h in absurd (cc)
 period_is (Some n) None x t s c d e h = let k : None ≡ Some s = rw (c, d) at h in absurd (cc)
@@ -173,9 +194,13 @@ period_is (Some n) (Some u) None t s c d e h = let k : None ≡ Some s = rw (c, 
 period_is (Some n) (Some u) (Some x) t s c d e h = period_if (nat_le 1 n && nat_le n (most u)) t n u x s refl c d e (rw (c, d, e) at h)
 
 text_if : (p : Bool) (t : List ℕ) (s : Schedule) → bytes_eq t (codes "permanent") ≡ p
-    → (if p then Some Permanent else period_of (before_first is_space t) (before_first is_space (after_first is_space t)) (after_first is_space (after_first is_space t))) ≡ Some s → text_of s ≡ t
+    → (if p then Some Permanent else period_of (before_first is_space t)
+    (before_first is_space (after_first is_space t)) (after_first is_space (after_first is_space t))) ≡ Some s
+    → text_of s ≡ t
 text_if true t s p h = let is : Permanent ≡ s = cc in ap text_of (sym is) ∙ same_bytes t (codes "permanent") p
-text_if false t s p h = period_is (count_of (before_first is_space t)) (unit_of (before_first is_space (after_first is_space t))) (ending_of (after_first is_space (after_first is_space t))) t s refl refl refl h
+text_if false t s p h =
+    period_is (count_of (before_first is_space t)) (unit_of (before_first is_space (after_first is_space t)))
+    (ending_of (after_first is_space (after_first is_space t))) t s refl refl refl h
 
 -- the schedule that is read from a text has that text
 pub text-read : (t : List ℕ) (s : Schedule) → schedule_of_bytes t ≡ Some s → text_of s ≡ t

@@ -5,7 +5,9 @@ use Rattle.class_plan.specs.Plans.{Row}
 use Rattle.class_plan.specs.Fields.{MapEntry, row, rows}
 use Rattle.class_plan.specs.Parts.{ClassAnswer, answer_row}
 
-pub told-more : (xs : List ClassAnswer) (x : ClassAnswer) (e : MapEntry) (it rest : List MapEntry) (whole : List Row) → it ≡ e ∷ rest → answer_row x ≡ row e → map answer_row xs ++ rows it ≡ whole → map answer_row (xs ++ x ∷ []) ++ rows rest ≡ whole
+pub told-more : (xs : List ClassAnswer) (x : ClassAnswer) (e : MapEntry) (it rest : List MapEntry) (whole : List Row)
+    → it ≡ e ∷ rest → answer_row x ≡ row e → map answer_row xs ++ rows it ≡ whole → map answer_row (xs ++ x ∷ [])
+    ++ rows rest ≡ whole
 told-more xs x e it rest whole cut same so =
     ap (λ l. l ++ rows rest) (map-append answer_row xs (x ∷ []))
     ∙ append_assoc (map answer_row xs) (answer_row x ∷ []) (rows rest)
@@ -13,5 +15,6 @@ told-more xs x e it rest whole cut same so =
     ∙ ap (λ z. map answer_row xs ++ rows z) (sym cut)
     ∙ so
 
-pub told-all : (xs : List ClassAnswer) (it : List MapEntry) (whole : List Row) → it ≡ [] → map answer_row xs ++ rows it ≡ whole → map answer_row xs ≡ whole
+pub told-all : (xs : List ClassAnswer) (it : List MapEntry) (whole : List Row) → it ≡ [] → map answer_row xs
+    ++ rows it ≡ whole → map answer_row xs ≡ whole
 told-all xs it whole none so = sym (append-nil (map answer_row xs)) ∙ ap (λ z. map answer_row xs ++ rows z) (sym none) ∙ so

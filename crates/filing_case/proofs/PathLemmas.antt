@@ -8,6 +8,7 @@ use Rattle.std.specs.Str.{bytes_eq}
 use Rattle.filing_case.specs.Message.{is_among}
 
 -- the keys of a set have a path, by their order, where it is among them, octet for octet
-pub keys_have : (q : List ℕ) (ks : List (Vec ℕ Global)) → list_any (is_at (λ (k : Vec ℕ Global). slice_cmp nat_cmp q k.items)) ks ≡ is_among (map (λ v. v.items) ks) q
+pub keys_have : (q : List ℕ) (ks : List (Vec ℕ Global))
+    → list_any (is_at (λ (k : Vec ℕ Global). slice_cmp nat_cmp q k.items)) ks ≡ is_among (map (λ v. v.items) ks) q
 keys_have q [] = refl
 keys_have q (k ∷ ks) = rw (is_eq-slice_cmp q k.items) (ap (λ b. bytes_eq q k.items || b) (keys_have q ks))

@@ -12,7 +12,8 @@ use Rattle.filing_image.specs.Program.{Program}
 use Rattle.filing_table.specs.Machine.{State, At, start, after_steps}
 use Rattle.filing_table.specs.Ends.{HasOutcome}
 use Rattle.filing_table.proofs.Once.{one_outcome}
-use Rattle.filing_commands.specs.Pinning.{BeginState, IsAlone, GivesOutcome, Pins, PinsChoice, PinsScript, Choice, nothing, script, image_of, case_in, one_stop, one_fault, kept_alone}
+use Rattle.filing_commands.specs.Pinning.{BeginState, IsAlone, GivesOutcome, Pins, PinsChoice, PinsScript, Choice}
+use Rattle.filing_commands.specs.Pinning.{nothing, script, image_of, case_in, one_stop, one_fault, kept_alone}
 
 -- a run of one step
 first_only : (p : Program) (c : Facts) (k : ℕ) → k < 1 → (t : State) × (after_steps p c k ≡ At t)
@@ -25,7 +26,9 @@ stop_ends c = (None, start, record { over = refl; going = first_only one_stop c 
 pub fault_ends : (c : Facts) → HasOutcome one_fault c 1 (outcome_at (Some TooHeavy) [] false false)
 fault_ends c = (Some TooHeavy, start, record { over = refl; going = first_only one_fault c }, refl)
 
-script_gives : (heavy : Bool) (facts : Facts) (lib : Library) (name : List ℕ) (c : Commands) (p : Program) (n : ℕ) (o : Outcome) → is_too_heavy lib (Some name) c ≡ heavy → PinsScript heavy lib name c p → HasOutcome p facts n o → o ≡ outcome facts lib (Some name) c
+script_gives : (heavy : Bool) (facts : Facts) (lib : Library) (name : List ℕ) (c : Commands) (p : Program) (n : ℕ)
+    (o : Outcome) → is_too_heavy lib (Some name) c ≡ heavy → PinsScript heavy lib name c p → HasOutcome p facts n o
+    → o ≡ outcome facts lib (Some name) c
 script_gives true facts lib name c p n o e h k =
     let P : Program → Type 0 = λ q. HasOutcome q facts n o in
     one_outcome one_fault facts n 1 o _ (subst P h k) (fault_ends facts) ∙ sym (heavy_outcome facts lib (Some name) c e)
@@ -33,7 +36,8 @@ script_gives false facts lib name c p n o e h k =
     let ends = h.outcomes facts in
     one_outcome p facts n ends.0 o _ k ends.1 ∙ sym (light_outcome facts lib (Some name) c e)
 
-chosen_gives : (x : Choice) (facts : Facts) (lib : Library) (p : Program) (n : ℕ) (o : Outcome) → PinsChoice x lib p → HasOutcome p facts n o → GivesOutcome x lib facts o
+chosen_gives : (x : Choice) (facts : Facts) (lib : Library) (p : Program) (n : ℕ) (o : Outcome) → PinsChoice x lib p
+    → HasOutcome p facts n o → GivesOutcome x lib facts o
 chosen_gives nothing facts lib p n o h k =
     let P : Program → Type 0 = λ q. HasOutcome q facts n o in
     one_outcome one_stop facts n 1 o _ (subst P h k) (stop_ends facts)

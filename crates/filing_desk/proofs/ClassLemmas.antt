@@ -1,5 +1,7 @@
 -- Commands of the archive drop no class of the plan.
-use Rattle.std.proofs.Common.{◌≡◌, ℕ, List, [], ◌∷◌, Bool, true, false, not, cond, ◌&&◌, Option, Some, None, is_some, Result, Ok, Err, if◌then◌else◌, Ordering, Less, Equal, Greater, nat_cmp, refl, ap, sym, ◌∙◌, subst, rules}
+use Rattle.std.proofs.Common.{◌≡◌, ℕ, List, [], ◌∷◌, Bool, true, false, not, cond, ◌&&◌, Option, Some, None, is_some}
+use Rattle.std.proofs.Common.{Result, Ok, Err, if◌then◌else◌, Ordering, Less, Equal, Greater, nat_cmp, refl, ap, sym}
+use Rattle.std.proofs.Common.{◌∙◌, subst, rules}
 use Rattle.std.specs.List.{list_all}
 use Rattle.std.specs.Ordering.{match_ordering}
 use Rattle.std.specs.Cmp.Lexicographic.{slice_cmp}
@@ -9,7 +11,10 @@ use Rattle.class_plan.specs.Faults.{answer, first_fault}
 use Rattle.class_plan.specs.Plans.{Listing, Row, row_at, has, keeps, open_row, schedule_at, with_row}
 use Rattle.class_plan.specs.declared.faults.PlanFault.{PlanFault}
 use Rattle.class_plan.specs.declared.faults.PlanFault.TheVariants.{PathDropped}
-use Rattle.record_archive.specs.Archive.{Record, Archive, add_class, capture, after_capture, has_room, destroy, destroy_one, destroys, due_of, hold, hold_one, is_by, is_held, is_held_by, plan_answer, record_at, release, release_one, revise, with_hold, without, without_hold}
+use Rattle.record_archive.specs.Archive.{Record, Archive, add_class, capture, after_capture, has_room, destroy}
+use Rattle.record_archive.specs.Archive.{destroy_one, destroys, due_of, hold, hold_one, is_by, is_held, is_held_by}
+use Rattle.record_archive.specs.Archive.{plan_answer, record_at, release, release_one, revise, with_hold, without}
+use Rattle.record_archive.specs.Archive.{without_hold}
 use Rattle.record_archive.specs.declared.fault.ArchiveRefusal.{ArchiveRefusal}
 use Rattle.record_archive.specs.declared.fault.ArchiveRefusal.TheVariants as fault
 
@@ -44,7 +49,9 @@ release_stays a b name n e = go (record_at a n) e
 pub destroy_stays : (a b : Archive) (n day : ℕ) → destroy a n day ≡ Ok b → b.plan ≡ a.plan
 destroy_stays a b n day e = go (record_at a n) e
   where
-    four : (r : Record) (w x y z : Bool) → (if w then Err fault.Destroyed else if x then Err fault.Held else if not y then Err fault.NotForDestruction else if not z then Err fault.NotDue else Ok (without a r)) ≡ Ok b → b.plan ≡ a.plan
+    four : (r : Record) (w x y z : Bool)
+        → (if w then Err fault.Destroyed else if x then Err fault.Held else if not y then Err fault.NotForDestruction
+        else if not z then Err fault.NotDue else Ok (without a r)) ≡ Ok b → b.plan ≡ a.plan
     four r true x y z e = absurd cc
     four r false true y z e = absurd cc
     four r false false false z e = absurd cc
@@ -75,7 +82,8 @@ found_after : (b : Bool) (r : Row) (rest : Option Row) → is_some rest ≡ true
 found_after true r rest h = refl
 found_after false r rest h = h
 
-found_still : (b : Bool) (r s : Row) (rest more : Option Row) → (is_some rest ≡ true → is_some more ≡ true) → is_some (cond b (Some r) rest) ≡ true → is_some (cond b (Some s) more) ≡ true
+found_still : (b : Bool) (r s : Row) (rest more : Option Row) → (is_some rest ≡ true → is_some more ≡ true)
+    → is_some (cond b (Some r) rest) ≡ true → is_some (cond b (Some s) more) ≡ true
 found_still true r s rest more on h = refl
 found_still false r s rest more on h = on h
 
@@ -88,7 +96,8 @@ has_more : (r : Row) (rows : List Row) (q : List ℕ) → has rows q ≡ true �
 has_more r [] q h = absurd cc
 has_more r (x ∷ xs) q h = go (slice_cmp nat_cmp r.path x.path) (has_more r xs q)
   where
-    go : (o : Ordering) → (has xs q ≡ true → has (with_row r xs) q ≡ true) → has (match_ordering o (r ∷ x ∷ xs) (changed r x ∷ xs) (x ∷ with_row r xs)) q ≡ true
+    go : (o : Ordering) → (has xs q ≡ true → has (with_row r xs) q ≡ true)
+        → has (match_ordering o (r ∷ x ∷ xs) (changed r x ∷ xs) (x ∷ with_row r xs)) q ≡ true
     go Less more = found_after (bytes_eq q r.path) r (row_at q (x ∷ xs)) h
     go Equal more = found_still (bytes_eq q x.path) x (changed r x) (row_at q xs) (row_at q xs) (λ there. there) h
     go Greater more = found_still (bytes_eq q x.path) x x (row_at q xs) (row_at q (with_row r xs)) more h

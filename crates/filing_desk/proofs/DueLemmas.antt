@@ -26,26 +26,42 @@ abbrev IsDueList : (day : ℤ) → Archive → Vec code.Line Global → Type 0
 IsDueList day a v = map line_view v.items ≡ due_list_on a day
 
 -- the database or the memory refuses, and never the archive
-given_up : {E : Type 0} (s : Standing) (n : ℕ) (f : ArchiveFault E) → WhereRefused (λ r. unchanged s.office.archive ≡ Err r) f → OfficeStep s.office (due n) (refused_by (archive_fault f)) s.office
+given_up : {E : Type 0} (s : Standing) (n : ℕ) (f : ArchiveFault E)
+    → WhereRefused (λ r. unchanged s.office.archive ≡ Err r) f
+    → OfficeStep s.office (due n) (refused_by (archive_fault f)) s.office
 given_up s n (Refused r) refuses = absurd (let other : unchanged s.office.archive ≡ Err r = refuses r refl in cc)
 given_up s n (Database e) refuses = inr (89, inr refl, refl, refl)
 given_up s n NoMemory refuses = inr (99, inl refl, refl, refl)
 
 -- the same, where only a refusal of the archive itself is known to be right
-either_given_up : {E : Type 0} (s : Standing) (n : ℕ) (f : ArchiveFault E) → IsArchiveFault (archive_fault f) → (is_refused_outside (refused_by (archive_fault f)) ≡ false → WhereRefused (λ r. unchanged s.office.archive ≡ Err r) f) → OfficeStep s.office (due n) (refused_by (archive_fault f)) s.office
+either_given_up : {E : Type 0} (s : Standing) (n : ℕ) (f : ArchiveFault E) → IsArchiveFault (archive_fault f)
+    → (is_refused_outside (refused_by (archive_fault f)) ≡ false
+    → WhereRefused (λ r. unchanged s.office.archive ≡ Err r) f)
+    → OfficeStep s.office (due n) (refused_by (archive_fault f)) s.office
 either_given_up s n f (inl trouble) refuses = inr (trouble.0, trouble.1, trouble.2, refl)
 either_given_up s n f (inr inside) refuses = given_up s n f (refuses inside)
 
 module _ {A : Type 0} (is_clean : A → Type 0) (stood : A → Archive → Type 0) where
-  pub due_told : {E : Type 0} (old new : Desk A) (n : ℕ) (lines : Vec code.Line Global) → KeepsRest is_clean stood old new → new.open_paths ≡ old.open_paths → CarriesOut {E = E} is_clean stood old.store new.store unchanged (IsDueList (pos n)) (Ok lines) → Calls (IsClean is_clean) (StandsFor stood) old (plain (due n)) (listed (map line_view lines.items)) new
-  due_told old new n lines rest same call = plain_calls is_clean stood old new (due n) (listed (map line_view lines.items)) call.was_clean (λ sure s stands.
+  pub due_told : {E : Type 0} (old new : Desk A) (n : ℕ) (lines : Vec code.Line Global)
+      → KeepsRest is_clean stood old new → new.open_paths ≡ old.open_paths
+      → CarriesOut {E = E} is_clean stood old.store new.store unchanged (IsDueList (pos n)) (Ok lines)
+      → Calls (IsClean is_clean) (StandsFor stood) old (plain (due n)) (listed (map line_view lines.items)) new
+  due_told old new n lines rest same call =
+      plain_calls is_clean stood old new (due n) (listed (map line_view lines.items)) call.was_clean (λ sure s stands.
       let clean : is_clean new.store = sure refl in
       let h = call.does clean s.office.archive stands.store in
       (s.office, inl (refl, h.1), still_stands is_clean stood old new s rest same stands h.0)) (λ refused. absurd (false≢true refused))
 
-  pub due_given_up : {E : Type 0} (old new : Desk A) (n : ℕ) (day : ℤ) (f : ArchiveFault E) (a : Answer) → KeepsRest is_clean stood old new → new.open_paths ≡ old.open_paths → CarriesOut {X = Vec code.Line Global} {E = E} is_clean stood old.store new.store unchanged (IsDueList day) (Err f) → a ≡ refused_by (archive_fault f) → Calls (IsClean is_clean) (StandsFor stood) old (plain (due n)) a new
+  pub due_given_up : {E : Type 0} (old new : Desk A) (n : ℕ) (day : ℤ) (f : ArchiveFault E) (a : Answer)
+      → KeepsRest is_clean stood old new → new.open_paths ≡ old.open_paths
+      → CarriesOut {X = Vec code.Line Global} {E = E} is_clean stood old.store new.store unchanged (IsDueList day)
+      (Err f) → a ≡ refused_by (archive_fault f) → Calls (IsClean is_clean) (StandsFor stood) old (plain (due n)) a new
   due_given_up old new n day f a rest same call is_told = plain_calls is_clean stood old new (due n) a call.was_clean (λ sure s stands.
       let h = call.does s.office.archive stands.store in
       let P : Answer → Type 0 = λ x. OfficeStep s.office (due n) x s.office in
-      let step : OfficeStep s.office (due n) (refused_by (archive_fault f)) s.office = either_given_up s n f (fault_told f) (λ inside. h.1 (sure (of_archive (due n) a refl (ap is_refused_outside is_told ∙ inside)))) in
-      (s.office, subst P (sym is_told) step, still_stands is_clean stood old new s rest same stands h.0)) (λ refused s stands. still_stands is_clean stood old new s rest same stands (call.does s.office.archive stands.store).0)
+      let step : OfficeStep s.office (due n) (refused_by (archive_fault f)) s.office =
+      either_given_up s n f (fault_told f) (λ inside.
+      h.1 (sure (of_archive (due n) a refl (ap is_refused_outside is_told ∙ inside)))) in
+      (s.office, subst P (sym is_told) step, still_stands is_clean stood old new s rest same stands h.0))
+      (λ refused s stands.
+      still_stands is_clean stood old new s rest same stands (call.does s.office.archive stands.store).0)

@@ -33,78 +33,125 @@ use Rattle.filing_desk.proofs.ScriptLemmas.{library_meant}
 use Rattle.filing_desk.proofs.StepLemmas.{plain_calls}
 
 -- the answer to a fault
-pub outcome_fault : (result : Result Outcome DeskFault) (fault : DeskFault) → IsErr result → IsErrAnd result (λ f. f ≡ fault) → answer_of_outcome result ≡ refused_by fault
+pub outcome_fault : (result : Result Outcome DeskFault) (fault : DeskFault) → IsErr result
+    → IsErrAnd result (λ f. f ≡ fault) → answer_of_outcome result ≡ refused_by fault
 outcome_fault (Err f) fault is same = ap refused_by same
 outcome_fault (Ok o) fault is same = absurd (false≢true is)
 
-pub lines_fault : (result : Result (Vec Line Global) DeskFault) (fault : DeskFault) → IsErr result → IsErrAnd result (λ f. f ≡ fault) → answer_of_lines result ≡ refused_by fault
+pub lines_fault : (result : Result (Vec Line Global) DeskFault) (fault : DeskFault) → IsErr result
+    → IsErrAnd result (λ f. f ≡ fault) → answer_of_lines result ≡ refused_by fault
 lines_fault (Err f) fault is same = ap refused_by same
 lines_fault (Ok o) fault is same = absurd (false≢true is)
 
 -- a fault of a part, as that of a command
-pub fault_step : (s : Office) (c : PlainCommand) (Rule : ℕ → Type 0) (limit : ℕ) (payload : List ℕ) (f : DeskFault) → ((n : ℕ) → Rule n → Refuses s c n) → ((n : ℕ) → LacksMemory limit payload n → GivesUp s c n) → IsFaultOf Rule limit payload f → OfficeStep s c (refused_by f) s
+pub fault_step : (s : Office) (c : PlainCommand) (Rule : ℕ → Type 0) (limit : ℕ) (payload : List ℕ) (f : DeskFault)
+    → ((n : ℕ) → Rule n → Refuses s c n) → ((n : ℕ) → LacksMemory limit payload n → GivesUp s c n)
+    → IsFaultOf Rule limit payload f → OfficeStep s c (refused_by f) s
 fault_step s c Rule limit payload f refuses lacks (inl h) = inl (refl, h.0, refuses _ h.1)
 fault_step s c Rule limit payload f refuses lacks (inr h) =
     let P : DeskFault → Type 0 = λ x. OfficeStep s c (refused_by x) s in
     subst P (sym h.0) (inr (99, lacks 99 (refl, h.1), refl, refl))
 
-pub lacking : (s : Office) (c : PlainCommand) (limit : ℕ) (payload : List ℕ) (f : DeskFault) (a : Answer) → a ≡ refused_by f → f ≡ NoMemory → length payload ≤ limit → ((n : ℕ) → LacksMemory limit payload n → GivesUp s c n) → OfficeStep s c a s
+pub lacking : (s : Office) (c : PlainCommand) (limit : ℕ) (payload : List ℕ) (f : DeskFault) (a : Answer)
+    → a ≡ refused_by f → f ≡ NoMemory → length payload ≤ limit → ((n : ℕ) → LacksMemory limit payload n → GivesUp s c n)
+    → OfficeStep s c a s
 lacking s c limit payload f a told is short lacks =
     let P : Answer → Type 0 = λ x. OfficeStep s c x s in
     subst P (sym told) (fault_step s c (λ n. ⊥) limit payload f (λ n r. absurd r) lacks (inr (is, short)))
 
 module _ {A : Type 0} (is_clean : A → Type 0) (stood : A → Archive → Type 0) where
   -- a call that leaves the desk as it was
-  pub unchanged : (desk : Desk A) (c : PlainCommand) (a : Answer) → ((s : Standing) → StandsFor stood desk s → OfficeStep s.office c a s.office) → Calls (IsClean is_clean) (StandsFor stood) desk (plain c) a desk
-  unchanged desk c a step = plain_calls is_clean stood desk desk c a (λ clean. clean) (λ sure s stands. (s.office, step s stands, stands)) (λ refused s stands. stands)
+  pub unchanged : (desk : Desk A) (c : PlainCommand) (a : Answer)
+      → ((s : Standing) → StandsFor stood desk s → OfficeStep s.office c a s.office)
+      → Calls (IsClean is_clean) (StandsFor stood) desk (plain c) a desk
+  unchanged desk c a step = plain_calls is_clean stood desk desk c a (λ clean. clean) (λ sure s stands.
+      (s.office, step s stands, stands)) (λ refused s stands. stands)
 
   -- the outcome of a script with the global scripts of a desk, in a message's case
-  pub file_done : (desk : Desk A) (p : Listing) (lent : Scripts) (tree : CommandTrees) (script message : List ℕ) (facts : Facts) (o : Outcome) → ((s : Standing) → StandsFor stood desk s → p ≡ s.office.archive.plan) → lent ≡ record { personal = []; global = desk.officers.globals } → IsGood script tree → length message ≤ greatest_message → facts ≡ case_of message (is_open_in p) → o ≡ meaning.outcome facts (library_of lent) None (program_of tree) → Calls (IsClean is_clean) (StandsFor stood) desk (plain (file script message)) (dry_run o) desk
+  pub file_done : (desk : Desk A) (p : Listing) (lent : Scripts) (tree : CommandTrees) (script message : List ℕ)
+      (facts : Facts) (o : Outcome) → ((s : Standing) → StandsFor stood desk s → p ≡ s.office.archive.plan)
+      → lent ≡ record { personal = []; global = desk.officers.globals } → IsGood script tree
+      → length message ≤ greatest_message → facts ≡ case_of message (is_open_in p)
+      → o ≡ meaning.outcome facts (library_of lent) None (program_of tree)
+      → Calls (IsClean is_clean) (StandsFor stood) desk (plain (file script message)) (dry_run o) desk
   file_done desk p lent tree script message facts o is_plan globals good short case is = unchanged desk (file script message) (dry_run o) (λ s stands.
       let main = program_of tree in
       let there : facts ≡ case_of message (is_open_in s.office.archive.plan) = case ∙ ap (λ q. case_of message (is_open_in q)) (is_plan s stands) in
-      let lib : library_of lent ≡ library [] s.office.globals = library_meant lent desk.officers.globals globals ∙ ap (λ o. library [] o.globals) stands.officers in
+      let lib : library_of lent ≡ library [] s.office.globals = library_meant lent desk.officers.globals globals
+      ∙ ap (λ o. library [] o.globals) stands.officers in
       let filed : IsFiled s.office script message o = record {
         tree = tree;
         good = good;
         short = short;
-        outcome = is ∙ ap (λ f. meaning.outcome f (library_of lent) None main) there ∙ ap (λ l. meaning.outcome (case_of message (is_open_in s.office.archive.plan)) l None main) lib;
+        outcome = is ∙ ap (λ f. meaning.outcome f (library_of lent) None main) there
+            ∙ ap (λ l. meaning.outcome (case_of message (is_open_in s.office.archive.plan)) l None main) lib;
       } in
       inl (refl, filed))
 
   -- the outcome of an image's run
-  pub try_done : (desk : Desk A) (p : Listing) (program : Program) (image message : List ℕ) (facts : Facts) (n : ℕ) (o : Outcome) → ((s : Standing) → StandsFor stood desk s → p ≡ s.office.archive.plan) → IsGoodImage image program → length message ≤ greatest_message → facts ≡ case_of message (is_open_in p) → HasOutcome program facts n o → Calls (IsClean is_clean) (StandsFor stood) desk (plain (try_image image message)) (dry_run o) desk
+  pub try_done : (desk : Desk A) (p : Listing) (program : Program) (image message : List ℕ) (facts : Facts) (n : ℕ)
+      (o : Outcome) → ((s : Standing) → StandsFor stood desk s → p ≡ s.office.archive.plan) → IsGoodImage image program
+      → length message ≤ greatest_message → facts ≡ case_of message (is_open_in p) → HasOutcome program facts n o
+      → Calls (IsClean is_clean) (StandsFor stood) desk (plain (try_image image message)) (dry_run o) desk
   try_done desk p program image message facts n o is_plan good short case ran = unchanged desk (try_image image message) (dry_run o) (λ s stands.
       let there : facts ≡ case_of message (is_open_in s.office.archive.plan) = case ∙ ap (λ q. case_of message (is_open_in q)) (is_plan s stands) in
       let P : Facts → Type 0 = λ f. HasOutcome program f n o in
-      let tried : IsTried s.office image message o = record { program = program; good = good; short = short; steps = n; outcome = subst P there ran } in
+      let tried : IsTried s.office image message o = record {
+        program = program;
+        good = good;
+        short = short;
+        steps = n;
+        outcome = subst P there ran;
+      } in
       inl (refl, tried))
 
-  pub file_no_script : (desk : Desk A) (script message : List ℕ) (f : DeskFault) (a : Answer) → a ≡ refused_by f → IsFaultOf (RefusesScript script) greatest_script script f → Calls (IsClean is_clean) (StandsFor stood) desk (plain (file script message)) a desk
+  pub file_no_script : (desk : Desk A) (script message : List ℕ) (f : DeskFault) (a : Answer) → a ≡ refused_by f
+      → IsFaultOf (RefusesScript script) greatest_script script f
+      → Calls (IsClean is_clean) (StandsFor stood) desk (plain (file script message)) a desk
   file_no_script desk script message f a told h = unchanged desk (file script message) a (λ s stands.
       let P : Answer → Type 0 = λ x. OfficeStep s.office (file script message) x s.office in
       subst P (sym told) (fault_step s.office (file script message) (RefusesScript script) greatest_script script f (λ n r. inl r) (λ n l. l) h))
 
-  pub file_no_message : (desk : Desk A) (script message : List ℕ) (tree : CommandTrees) (f : DeskFault) (a : Answer) → a ≡ refused_by f → IsGood script tree → length script ≤ greatest_script → IsFaultOf (IsTooLong message) greatest_message message f → Calls (IsClean is_clean) (StandsFor stood) desk (plain (file script message)) a desk
+  pub file_no_message : (desk : Desk A) (script message : List ℕ) (tree : CommandTrees) (f : DeskFault) (a : Answer)
+      → a ≡ refused_by f → IsGood script tree → length script ≤ greatest_script
+      → IsFaultOf (IsTooLong message) greatest_message message f
+      → Calls (IsClean is_clean) (StandsFor stood) desk (plain (file script message)) a desk
   file_no_message desk script message tree f a told good short h = unchanged desk (file script message) a (λ s stands.
       let P : Answer → Type 0 = λ x. OfficeStep s.office (file script message) x s.office in
-      subst P (sym told) (fault_step s.office (file script message) (IsTooLong message) greatest_message message f (λ n long. inr (record { tree = tree; good = good; long = long.0; is_number = long.1 })) (λ n l. (l.0, short)) h))
+      subst P (sym told) (fault_step s.office (file script message) (IsTooLong message) greatest_message message f
+      (λ n long. inr (record { tree = tree; good = good; long = long.0; is_number = long.1 })) (λ n l.
+      (l.0, short)) h))
 
-  pub try_no_image : (desk : Desk A) (image message : List ℕ) (f : DeskFault) (a : Answer) → a ≡ refused_by f → IsFaultOf (RefusesImage image) greatest_image image f → Calls (IsClean is_clean) (StandsFor stood) desk (plain (try_image image message)) a desk
+  pub try_no_image : (desk : Desk A) (image message : List ℕ) (f : DeskFault) (a : Answer) → a ≡ refused_by f
+      → IsFaultOf (RefusesImage image) greatest_image image f
+      → Calls (IsClean is_clean) (StandsFor stood) desk (plain (try_image image message)) a desk
   try_no_image desk image message f a told h = unchanged desk (try_image image message) a (λ s stands.
       let P : Answer → Type 0 = λ x. OfficeStep s.office (try_image image message) x s.office in
       subst P (sym told) (fault_step s.office (try_image image message) (RefusesImage image) greatest_image image f (λ n r. inl r) (λ n l. l) h))
 
-  pub try_no_message : (desk : Desk A) (image message : List ℕ) (program : Program) (f : DeskFault) (a : Answer) → a ≡ refused_by f → IsGoodImage image program → length image ≤ greatest_image → IsFaultOf (IsTooLong message) greatest_message message f → Calls (IsClean is_clean) (StandsFor stood) desk (plain (try_image image message)) a desk
+  pub try_no_message : (desk : Desk A) (image message : List ℕ) (program : Program) (f : DeskFault) (a : Answer)
+      → a ≡ refused_by f → IsGoodImage image program → length image ≤ greatest_image
+      → IsFaultOf (IsTooLong message) greatest_message message f
+      → Calls (IsClean is_clean) (StandsFor stood) desk (plain (try_image image message)) a desk
   try_no_message desk image message program f a told good short h = unchanged desk (try_image image message) a (λ s stands.
       let P : Answer → Type 0 = λ x. OfficeStep s.office (try_image image message) x s.office in
-      subst P (sym told) (fault_step s.office (try_image image message) (IsTooLong message) greatest_message message f (λ n long. inr (record { program = program; good = good; long = long.0; is_number = long.1 })) (λ n l. (l.0, short)) h))
+      subst P (sym told) (fault_step s.office (try_image image message) (IsTooLong message) greatest_message message f
+      (λ n long. inr (record { program = program; good = good; long = long.0; is_number = long.1 })) (λ n l.
+      (l.0, short)) h))
 
-  pub refused_part : (desk : Desk A) (c : PlainCommand) (Rule : ℕ → Type 0) (limit : ℕ) (payload : List ℕ) (f : DeskFault) (a : Answer) → ((s : Office) (n : ℕ) → Rule n → Refuses s c n) → ((s : Office) (n : ℕ) → LacksMemory limit payload n → GivesUp s c n) → a ≡ refused_by f → IsFaultOf Rule limit payload f → Calls (IsClean is_clean) (StandsFor stood) desk (plain c) a desk
+  pub refused_part : (desk : Desk A) (c : PlainCommand) (Rule : ℕ
+      → Type 0) (limit : ℕ) (payload : List ℕ) (f : DeskFault) (a : Answer)
+      → ((s : Office) (n : ℕ) → Rule n → Refuses s c n)
+      → ((s : Office) (n : ℕ) → LacksMemory limit payload n → GivesUp s c n) → a ≡ refused_by f
+      → IsFaultOf Rule limit payload f → Calls (IsClean is_clean) (StandsFor stood) desk (plain c) a desk
   refused_part desk c Rule limit payload f a refuses lacks told h = unchanged desk c a (λ s stands.
       let P : Answer → Type 0 = λ x. OfficeStep s.office c x s.office in
       subst P (sym told) (fault_step s.office c Rule limit payload f (refuses s.office) (lacks s.office) h))
 
   -- no memory in a run
-  pub gave_up : (desk : Desk A) (c : PlainCommand) (limit : ℕ) (payload : List ℕ) (f : DeskFault) (a : Answer) → a ≡ refused_by f → f ≡ NoMemory → length payload ≤ limit → ((s : Office) (n : ℕ) → LacksMemory limit payload n → GivesUp s c n) → Calls (IsClean is_clean) (StandsFor stood) desk (plain c) a desk
-  gave_up desk c limit payload f a told is short lacks = unchanged desk c a (λ s stands. lacking s.office c limit payload f a told is short (lacks s.office))
+  pub gave_up : (desk : Desk A) (c : PlainCommand) (limit : ℕ) (payload : List ℕ) (f : DeskFault) (a : Answer)
+      → a ≡ refused_by f → f ≡ NoMemory → length payload ≤ limit
+      → ((s : Office) (n : ℕ) → LacksMemory limit payload n → GivesUp s c n)
+      → Calls (IsClean is_clean) (StandsFor stood) desk (plain c) a desk
+  gave_up desk c limit payload f a told is short lacks =
+      unchanged desk c a (λ s stands. lacking s.office c limit payload f a told is short (lacks s.office))

@@ -1,5 +1,6 @@
 -- Outcomes that are filed, and captures that are shown.
-use Rattle.std.proofs.Common.{◌≡◌, ◌↔◌, ℕ, List, map, Bool, true, false, if◌then◌else◌, Option, Some, None, Result, Ok, Err, Vec, inl, inr, refl, ap, sym, ◌∙◌, subst}
+use Rattle.std.proofs.Common.{◌≡◌, ◌↔◌, ℕ, List, map, Bool, true, false, if◌then◌else◌, Option, Some, None, Result, Ok}
+use Rattle.std.proofs.Common.{Err, Vec, inl, inr, refl, ap, sym, ◌∙◌, subst}
 use Rattle.std.specs.Prelude.{IfErr, IsTrue}
 use Rattle.std.specs.Result.{IsErr, IsErrAnd}
 use Rattle.std.specs.declared.alloc.Global.{Global}
@@ -30,12 +31,14 @@ use Rattle.filing_desk.proofs.FlightLemmas.{none_found}
 use Rattle.filing_desk.proofs.ArchiveLemmas.{told}
 
 -- the answer to a fault
-pub capture_fault : (result : Result Capture DeskFault) (fault : DeskFault) → IsErr result → IsErrAnd result (λ f. f ≡ fault) → answer_of_capture result ≡ refused_by fault
+pub capture_fault : (result : Result Capture DeskFault) (fault : DeskFault) → IsErr result
+    → IsErrAnd result (λ f. f ≡ fault) → answer_of_capture result ≡ refused_by fault
 capture_fault (Err f) fault is same = ap refused_by same
 capture_fault (Ok c) fault is same = absurd (false≢true is)
 
 -- the fault of a filing that was refused
-pub fault_is : (result : Result (Vec Line Global) DeskFault) (f : DeskFault) → IsErr result → IsErrAnd result (λ x. x ≡ f) → IsArchiveFault f → IfErr result IsArchiveFault
+pub fault_is : (result : Result (Vec Line Global) DeskFault) (f : DeskFault) → IsErr result
+    → IsErrAnd result (λ x. x ≡ f) → IsArchiveFault f → IfErr result IsArchiveFault
 fault_is (Err e) f is same h = let P : DeskFault → Type 0 = IsArchiveFault in subst P (sym same) h
 fault_is (Ok v) f is same h = absurd (false≢true is)
 
@@ -47,7 +50,8 @@ only_full a body day classes r e = go (has_room a classes) e
     go true e = absurd cc
     go false e = cc
 
-reason : {E : Type 0} (a : Archive) (body : List ℕ) (day : ℕ) (classes : List (List ℕ)) (f : ArchiveFault E) → WhereRefused (λ r. capture a body day classes ≡ Err r) f → IsNotFiled a body day classes (archive_fault f)
+reason : {E : Type 0} (a : Archive) (body : List ℕ) (day : ℕ) (classes : List (List ℕ)) (f : ArchiveFault E)
+    → WhereRefused (λ r. capture a body day classes ≡ Err r) f → IsNotFiled a body day classes (archive_fault f)
 reason a body day classes (Refused r) refuses =
     let refused = refuses r refl in
     let full = only_full a body day classes r refused in
@@ -60,28 +64,40 @@ abbrev AreLines : ℕ → List (List ℕ) → Archive → Vec Line Global → Ty
 AreLines day classes a lines = map line_view lines.items ≡ capture_lines a day classes
 
 module _ {A : Type 0} (is_clean : A → Type 0) (stood : A → Archive → Type 0) where
-  pub files_fault : (old new : A) (body : List ℕ) (day : ℕ) (classes : List (List ℕ)) (result : Result (Vec Line Global) DeskFault) (f : DeskFault) → IsErr result → IsErrAnd result (λ x. x ≡ f) → Files is_clean stood old new body day classes (Err f) → Files is_clean stood old new body day classes result
-  files_fault old new body day classes (Err e) f is same h = let P : DeskFault → Type 0 = λ x. Files is_clean stood old new body day classes (Err x) in subst P (sym same) h
+  pub files_fault : (old new : A) (body : List ℕ) (day : ℕ) (classes : List (List ℕ))
+      (result : Result (Vec Line Global) DeskFault) (f : DeskFault) → IsErr result → IsErrAnd result (λ x. x ≡ f)
+      → Files is_clean stood old new body day classes (Err f) → Files is_clean stood old new body day classes result
+  files_fault old new body day classes (Err e) f is same h = let P : DeskFault
+      → Type 0 = λ x. Files is_clean stood old new body day classes (Err x) in subst P (sym same) h
   files_fault old new body day classes (Ok v) f is same h = absurd (false≢true is)
 
-  pub file_poor : (store : A) (body : List ℕ) (day : ℕ) (classes : List (List ℕ)) → Files is_clean stood store store body day classes (Err faults.NoMemory)
+  pub file_poor : (store : A) (body : List ℕ) (day : ℕ) (classes : List (List ℕ))
+      → Files is_clean stood store store body day classes (Err faults.NoMemory)
   file_poor store body day classes = λ a stands are. (stands, λ clean. record { number = 99; told = refl; reason = inl (inl refl) })
 
   -- paths that are no classes of the archive's plan
-  pub no_classes : (store : A) (plan : Listing) (body : List ℕ) (day : ℕ) (asked classes : List (List ℕ)) (b : Bool) (f : DeskFault) → ((a : Archive) → stood store a → plan ≡ a.plan) → asked ≡ classes → b ≡ false → (IsTrue b ↔ AreClasses plan asked) → Files is_clean stood store store body day classes (Err f)
+  pub no_classes : (store : A) (plan : Listing) (body : List ℕ) (day : ℕ) (asked classes : List (List ℕ)) (b : Bool)
+      (f : DeskFault) → ((a : Archive) → stood store a → plan ≡ a.plan) → asked ≡ classes → b ≡ false
+      → (IsTrue b ↔ AreClasses plan asked) → Files is_clean stood store store body day classes (Err f)
   no_classes store plan body day asked classes b f kept same off is = λ a stands are.
       let P : List (List ℕ) → Type 0 = λ qs. AreClasses plan qs in
       let Q : Listing → Type 0 = λ p. AreClasses p classes in
       let on : b ≡ true = is.1 (subst P (sym same) (subst Q (sym (kept a stands)) are)) in
       absurd (false≢true (sym off ∙ on))
 
-  pub file_refused : {E : Type 0} (old new : A) (body said : List ℕ) (day on : ℕ) (classes asked : List (List ℕ)) (f : ArchiveFault E) → said ≡ body → on ≡ day → asked ≡ classes → CarriesOut {E = E} is_clean stood old new (λ a. capture a said on asked) (AreLines on asked) (Err f) → Files is_clean stood old new body day classes (Err (archive_fault f))
+  pub file_refused : {E : Type 0} (old new : A) (body said : List ℕ) (day on : ℕ) (classes asked : List (List ℕ))
+      (f : ArchiveFault E) → said ≡ body → on ≡ day → asked ≡ classes
+      → CarriesOut {E = E} is_clean stood old new (λ a. capture a said on asked) (AreLines on asked) (Err f)
+      → Files is_clean stood old new body day classes (Err (archive_fault f))
   file_refused old new body said day on classes asked f b d c call = λ a stands are.
       let h = call.does a stands in
       let same : capture a said on asked ≡ capture a body day classes = λ i. capture a (b i) (d i) (c i) in
       (h.0, λ clean. reason a body day classes f (λ r is. sym same ∙ h.1 clean r is))
 
-  pub file_done : {E : Type 0} (old new : A) (body said : List ℕ) (day on : ℕ) (classes asked : List (List ℕ)) (lines : Vec Line Global) → said ≡ body → on ≡ day → asked ≡ classes → CarriesOut {E = E} is_clean stood old new (λ a. capture a said on asked) (AreLines on asked) (Ok lines) → Files is_clean stood old new body day classes (Ok lines)
+  pub file_done : {E : Type 0} (old new : A) (body said : List ℕ) (day on : ℕ) (classes asked : List (List ℕ))
+      (lines : Vec Line Global) → said ≡ body → on ≡ day → asked ≡ classes
+      → CarriesOut {E = E} is_clean stood old new (λ a. capture a said on asked) (AreLines on asked) (Ok lines)
+      → Files is_clean stood old new body day classes (Ok lines)
   file_done old new body said day on classes asked lines b d c call = λ clean a stands.
       let h = call.does clean a stands in
       let same : capture a said on asked ≡ capture a body day classes = λ i. capture a (b i) (d i) (c i) in

@@ -24,14 +24,29 @@ pub first_pinned : (ends : RunsEnd) (t : ℕ) (s : BeginState) (p : Program) (we
 first_pinned ends t s p well pins = let run = ends p (case_in s) well in record { pins = pins; well = well; length = (run.1, run.3) }
 
 -- it begins with the program, the message, the open paths and the day of the state at its beginning
-pub first_begun : (ends : RunsEnd) (t : ℕ) (s : BeginState) (p : Program) (well : IsWell p) (paths : List (List ℕ)) (day : Date) → Pins s p → s.is_open ≡ is_among paths → epoch_day day ≡ pos s.day → IsBegun t p s.message paths day (first_flight ends t s p well)
-first_begun ends t s p well paths day pins opens on = record { ticket = refl; program = refl; pinned = first_pinned ends t s p well pins; message = refl; paths = opens; day = on; fresh = refl }
+pub first_begun : (ends : RunsEnd) (t : ℕ) (s : BeginState) (p : Program) (well : IsWell p) (paths : List (List ℕ))
+    (day : Date) → Pins s p → s.is_open ≡ is_among paths → epoch_day day ≡ pos s.day
+    → IsBegun t p s.message paths day (first_flight ends t s p well)
+first_begun ends t s p well paths day pins opens on =
+    record {
+      ticket = refl;
+      program = refl;
+      pinned = first_pinned ends t s p well pins;
+      message = refl;
+      paths = opens;
+      day = on;
+      fresh = refl;
+    }
 
 -- the state of the desk after a capture has begun
 abbrev pub after_begin : (s : Standing) → Flight → Standing
 after_begin s f = record { office = s.office; flights = s.flights ++ f ∷ []; last = s.last + 1 }
 
-pub begins : (ends : RunsEnd) (s : Standing) (officer : List ℕ) (moment : ℕ) (message : List ℕ) (p : Program) (well : IsWell p) → begin_refusal (length s.flights) s.last moment (length message) ≡ None → Pins (begin_state s.office officer moment message) p → Begins s officer moment message (s.last + 1) p.budget (after_begin s (first_flight ends (s.last + 1) (begin_state s.office officer moment message) p well))
+pub begins : (ends : RunsEnd) (s : Standing) (officer : List ℕ) (moment : ℕ) (message : List ℕ) (p : Program)
+    (well : IsWell p) → begin_refusal (length s.flights) s.last moment (length message) ≡ None
+    → Pins (begin_state s.office officer moment message) p
+    → Begins s officer moment message (s.last + 1) p.budget
+    (after_begin s (first_flight ends (s.last + 1) (begin_state s.office officer moment message) p well))
 begins ends s officer moment message p well allowed pins =
     let at_begin = begin_state s.office officer moment message in
     record {

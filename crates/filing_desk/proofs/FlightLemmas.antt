@@ -1,5 +1,6 @@
 -- Captures in flight of a desk: their turns, and their ends.
-use Rattle.std.proofs.Common.{◌≡◌, ℕ, ◌+◌, ◌==◌, List, [], ◌∷◌, map, Bool, true, false, not, if◌then◌else◌, Option, Some, None, Result, Ok, Err, Vec, inl, inr, refl, ap, sym, ◌∙◌, subst}
+use Rattle.std.proofs.Common.{◌≡◌, ℕ, ◌+◌, ◌==◌, List, [], ◌∷◌, map, Bool, true, false, not, if◌then◌else◌, Option}
+use Rattle.std.proofs.Common.{Some, None, Result, Ok, Err, Vec, inl, inr, refl, ap, sym, ◌∙◌, subst}
 use Rattle.std.specs.Prelude.{nat_lt, unsigned_abs, All}
 use Rattle.std.proofs.lemmas.Bool.{false≢true}
 use Rattle.std.specs.List.{AllByRecursion}
@@ -38,7 +39,8 @@ granted_classes : (p : Listing) (t k : ℕ) (fs : List Flight) → AllByRecursio
 granted_classes p t k [] all = tt
 granted_classes p t k (f ∷ fs) all = go (f.ticket == t) (granted_classes p t k fs all.1)
   where
-    go : (b : Bool) → AllByRecursion (HasPathsOf p) (grant t k fs) → AllByRecursion (HasPathsOf p) (if b then record f { granted = f.granted + k } ∷ fs else f ∷ grant t k fs)
+    go : (b : Bool) → AllByRecursion (HasPathsOf p) (grant t k fs)
+        → AllByRecursion (HasPathsOf p) (if b then record f { granted = f.granted + k } ∷ fs else f ∷ grant t k fs)
     go true rest = (all.0, all.1)
     go false rest = (all.0, rest)
 
@@ -88,7 +90,10 @@ early_flag x f b tells holds e = go (nat_lt f.granted f.run_length) (sym (tells 
 
 module _ {A : Type 0} (is_clean : A → Type 0) (stood : A → Archive → Type 0) where
   -- the desk represents the state with other flights
-  pub reflies : (old new : Desk A) (s : Standing) (fs : List Flight) (n : ℕ) → new.store ≡ old.store → new.officers ≡ old.officers → new.last ≡ n → AreOpenPaths new.open_paths s.office.archive.plan → StandsFor stood old s → AreHeld new.flights fs → AllByRecursion (HasPathsOf s.office.archive.plan) fs → StandsFor stood new (record { office = s.office; flights = fs; last = n })
+  pub reflies : (old new : Desk A) (s : Standing) (fs : List Flight) (n : ℕ) → new.store ≡ old.store
+      → new.officers ≡ old.officers → new.last ≡ n → AreOpenPaths new.open_paths s.office.archive.plan
+      → StandsFor stood old s → AreHeld new.flights fs → AllByRecursion (HasPathsOf s.office.archive.plan) fs
+      → StandsFor stood new (record { office = s.office; flights = fs; last = n })
   reflies old new s fs n es eo el paths stands held classes =
       let P : A → Type 0 = λ x. stood x s.office.archive in
       record {
@@ -104,7 +109,9 @@ module _ {A : Type 0} (is_clean : A → Type 0) (stood : A → Archive → Type 
   cleans old new same clean = let P : A → Type 0 = λ x. is_clean x in subst P same clean
 
   -- turns are granted
-  pub turned_by : (old new : Desk A) (t k : ℕ) (a : Answer) → new.store ≡ old.store → new.officers ≡ old.officers → new.last ≡ old.last → new.open_paths ≡ old.open_paths → Turns old.flights t k a new.flights → Calls (IsClean is_clean) (StandsFor stood) old (turn t k) a new
+  pub turned_by : (old new : Desk A) (t k : ℕ) (a : Answer) → new.store ≡ old.store → new.officers ≡ old.officers
+      → new.last ≡ old.last → new.open_paths ≡ old.open_paths → Turns old.flights t k a new.flights
+      → Calls (IsClean is_clean) (StandsFor stood) old (turn t k) a new
   unfolding Step
   turned_by old new t k a es eo el ep turns = record {
     was_clean = cleans old new es;
@@ -114,13 +121,17 @@ module _ {A : Type 0} (is_clean : A → Type 0) (stood : A → Archive → Type 
         record {
           to = with_turns s t h.made;
           is_one = h.step;
-          there = reflies old new s (grant t h.made s.flights) s.last es eo (el ∙ stands.last) (subst P (sym ep) stands.open_paths) stands h.held (granted_classes s.office.archive.plan t h.made s.flights stands.classes);
+          there = reflies old new s (grant t h.made s.flights) s.last es eo (el
+              ∙ stands.last) (subst P (sym ep) stands.open_paths) stands h.held
+              (granted_classes s.office.archive.plan t h.made s.flights stands.classes);
         };
     unchanged = λ from_archive. absurd (false≢true from_archive);
   }
 
   -- nothing is finished
-  finish_same : (desk : Desk A) (t : ℕ) (a : Answer) → ((s : Standing) → StandsFor stood desk s → FinishStep s t (flight_of t s.flights) a s) → Calls (IsClean is_clean) (StandsFor stood) desk (finish t) a desk
+  finish_same : (desk : Desk A) (t : ℕ) (a : Answer)
+      → ((s : Standing) → StandsFor stood desk s → FinishStep s t (flight_of t s.flights) a s)
+      → Calls (IsClean is_clean) (StandsFor stood) desk (finish t) a desk
   unfolding Step
   finish_same desk t a step = record {
     was_clean = λ clean. clean;
@@ -129,20 +140,24 @@ module _ {A : Type 0} (is_clean : A → Type 0) (stood : A → Archive → Type 
   }
 
   -- no capture in flight has the ticket
-  pub finish_none : (desk : Desk A) (t : ℕ) → Finds desk.flights t None → Calls (IsClean is_clean) (StandsFor stood) desk (finish t) (refused 91 None) desk
+  pub finish_none : (desk : Desk A) (t : ℕ) → Finds desk.flights t None
+      → Calls (IsClean is_clean) (StandsFor stood) desk (finish t) (refused 91 None) desk
   finish_none desk t finds = finish_same desk t (refused 91 None) (λ s stands.
       let P : Option Flight → Type 0 = λ o. FinishStep s t o (refused 91 None) s in
       subst P (sym (none_found (flight_of t s.flights) (finds s.flights stands.flights))) (refl, refl))
 
   -- a capture that has not come to its end
-  pub finish_early : (desk : Desk A) (t : ℕ) (x : FlightView) (b : Bool) → Finds desk.flights t (Some x) → TellsEnd x b → b ≡ false → Calls (IsClean is_clean) (StandsFor stood) desk (finish t) (refused 92 None) desk
+  pub finish_early : (desk : Desk A) (t : ℕ) (x : FlightView) (b : Bool) → Finds desk.flights t (Some x) → TellsEnd x b
+      → b ≡ false → Calls (IsClean is_clean) (StandsFor stood) desk (finish t) (refused 92 None) desk
   finish_early desk t x b finds tells e = finish_same desk t (refused 92 None) (λ s stands.
       let f = some_found (flight_of t s.flights) x (finds s.flights stands.flights) in
       let early = early_flag x f.0 b tells f.2 e in
       rw (f.1, early) (refl, refl))
 
   -- there is no memory for the outcome
-  pub finish_poor : (desk : Desk A) (t : ℕ) (x : FlightView) (b : Bool) (a : Answer) → Finds desk.flights t (Some x) → TellsEnd x b → b ≡ true → a ≡ refused 99 None → Calls (IsClean is_clean) (StandsFor stood) desk (finish t) a desk
+  pub finish_poor : (desk : Desk A) (t : ℕ) (x : FlightView) (b : Bool) (a : Answer) → Finds desk.flights t (Some x)
+      → TellsEnd x b → b ≡ true → a ≡ refused 99 None
+      → Calls (IsClean is_clean) (StandsFor stood) desk (finish t) a desk
   finish_poor desk t x b a finds tells e told = finish_same desk t a (λ s stands.
       let f = some_found (flight_of t s.flights) x (finds s.flights stands.flights) in
       let ended = ended_flag x f.0 b tells f.2 e in
@@ -153,10 +168,19 @@ module _ {A : Type 0} (is_clean : A → Type 0) (stood : A → Archive → Type 
   of_flight x f s holds = ap (λ z. unsigned_abs z) holds.day
 
   -- after nothing was filed, the desk represents the same state
-  finish_stays : (are_classes : CapturesHaveClasses) → ((x : A) (a : Archive) → stood x a → IsArchive a) → (old new : Desk A) (t : ℕ) (x : FlightView) (o : Outcome) (f : DeskFault) → Finds old.flights t (Some x) → IsIncreasing o.classes → All (IsClass x) o.classes → Files is_clean stood old.store new.store x.message (number_of_day x.day) o.classes (Err f) → new.officers ≡ old.officers → new.flights ≡ old.flights → new.last ≡ old.last → new.open_paths ≡ old.open_paths → (s : Standing) → StandsFor stood old s → StandsFor stood new s × (is_clean new.store → IsNotFiled s.office.archive x.message (number_of_day x.day) o.classes f)
+  finish_stays : (are_classes : CapturesHaveClasses) → ((x : A) (a : Archive) → stood x a → IsArchive a)
+      → (old new : Desk A) (t : ℕ) (x : FlightView) (o : Outcome) (f : DeskFault) → Finds old.flights t (Some x)
+      → IsIncreasing o.classes → All (IsClass x) o.classes
+      → Files is_clean stood old.store new.store x.message (number_of_day x.day) o.classes (Err f)
+      → new.officers ≡ old.officers → new.flights ≡ old.flights → new.last ≡ old.last → new.open_paths ≡ old.open_paths
+      → (s : Standing) → StandsFor stood old s → StandsFor stood new s
+      × (is_clean new.store → IsNotFiled s.office.archive x.message (number_of_day x.day) o.classes f)
   finish_stays are_classes is_archive old new t x o f finds up each files eo ef el ep s stands =
       let here = some_found (flight_of t s.flights) x (finds s.flights stands.flights) in
-      let classes = are_classes x s.office.archive.plan o.classes (is_archive old.store s.office.archive stands.store).plan (has_open x here.0 s.office.archive.plan here.2 (found_classes s.office.archive.plan t s.flights here.0 stands.classes here.1)) each up in
+      let classes =
+      are_classes x s.office.archive.plan o.classes (is_archive old.store s.office.archive stands.store).plan
+      (has_open x here.0 s.office.archive.plan here.2 (found_classes s.office.archive.plan t s.flights here.0
+      stands.classes here.1)) each up in
       let filed = files s.office.archive stands.store classes in
       let P : Option (List (List ℕ)) → Type 0 = λ y. AreOpenPaths y s.office.archive.plan in
       let Q : List FlightView → Type 0 = λ xs. AreHeld xs s.flights in
@@ -171,7 +195,11 @@ module _ {A : Type 0} (is_clean : A → Type 0) (stood : A → Archive → Type 
       (there, filed.1)
 
   -- there is no memory, or the database refuses, or the numbers of records are used up
-  not_filed_step : (s : Standing) (t : ℕ) (x : FlightView) (f : Flight) (b : Bool) (o : Outcome) (fault : DeskFault) → flight_of t s.flights ≡ Some f → Holds x f → TellsEnd x b → b ≡ true → IsOutcome x o → IsArchiveFault fault → (is_refused_outside (refused_by fault) ≡ false → IsNotFiled s.office.archive x.message (number_of_day x.day) o.classes fault) → FinishStep s t (flight_of t s.flights) (refused_by fault) s
+  not_filed_step : (s : Standing) (t : ℕ) (x : FlightView) (f : Flight) (b : Bool) (o : Outcome) (fault : DeskFault)
+      → flight_of t s.flights ≡ Some f → Holds x f → TellsEnd x b → b ≡ true → IsOutcome x o → IsArchiveFault fault
+      → (is_refused_outside (refused_by fault) ≡ false
+      → IsNotFiled s.office.archive x.message (number_of_day x.day) o.classes fault)
+      → FinishStep s t (flight_of t s.flights) (refused_by fault) s
   not_filed_step s t x f b o fault here holds tells e alone (inl trouble) reason =
       let ended = ended_flag x f b tells holds e in
       rw (here, ended) (inr (trouble.0, trouble.1, trouble.2, refl))
@@ -191,14 +219,22 @@ module _ {A : Type 0} (is_clean : A → Type 0) (stood : A → Archive → Type 
       subst R (sym why.told) (subst T (sym here) step)
 
   -- nothing is filed
-  pub finish_refused : CapturesHaveClasses → ((x : A) (a : Archive) → stood x a → IsArchive a) → (old new : Desk A) (t : ℕ) (x : FlightView) (b : Bool) (o : Outcome) (f : DeskFault) (a : Answer) → Finds old.flights t (Some x) → TellsEnd x b → b ≡ true → IsOutcome x o → IsIncreasing o.classes → All (IsClass x) o.classes → Files is_clean stood old.store new.store x.message (number_of_day x.day) o.classes (Err f) → IsArchiveFault f → (is_clean new.store → is_clean old.store) → new.officers ≡ old.officers → new.flights ≡ old.flights → new.last ≡ old.last → new.open_paths ≡ old.open_paths → a ≡ refused_by f → Calls (IsClean is_clean) (StandsFor stood) old (finish t) a new
+  pub finish_refused : CapturesHaveClasses → ((x : A) (a : Archive) → stood x a → IsArchive a)
+      → (old new : Desk A) (t : ℕ) (x : FlightView) (b : Bool) (o : Outcome) (f : DeskFault) (a : Answer)
+      → Finds old.flights t (Some x) → TellsEnd x b → b ≡ true → IsOutcome x o → IsIncreasing o.classes
+      → All (IsClass x) o.classes
+      → Files is_clean stood old.store new.store x.message (number_of_day x.day) o.classes (Err f) → IsArchiveFault f
+      → (is_clean new.store → is_clean old.store) → new.officers ≡ old.officers → new.flights ≡ old.flights
+      → new.last ≡ old.last → new.open_paths ≡ old.open_paths → a ≡ refused_by f
+      → Calls (IsClean is_clean) (StandsFor stood) old (finish t) a new
   unfolding Step
   finish_refused are_classes is_archive old new t x b o f a finds tells e alone up each files fault falls eo ef el ep told = record {
     was_clean = falls;
     leads = λ sure s stands.
         let here = some_found (flight_of t s.flights) x (finds s.flights stands.flights) in
         let stays = finish_stays are_classes is_archive old new t x o f finds up each files eo ef el ep s stands in
-        let from_archive : is_refused_outside (refused_by f) ≡ false → is_of_archive (finish t) a ≡ true = λ inside. ap (λ y. is_of_archive (finish t) y) told ∙ ap not inside in
+        let from_archive : is_refused_outside (refused_by f) ≡ false → is_of_archive (finish t) a ≡ true = λ inside.
+        ap (λ y. is_of_archive (finish t) y) told ∙ ap not inside in
         let R : Answer → Type 0 = λ y. FinishStep s t (flight_of t s.flights) y s in
         let step = not_filed_step s t x here.0 b o f here.1 here.2 tells e alone fault (λ inside. stays.1 (sure (from_archive inside))) in
         record { to = s; is_one = subst R (sym told) step; there = stays.0 };
@@ -210,7 +246,12 @@ module _ {A : Type 0} (is_clean : A → Type 0) (stood : A → Archive → Type 
   becomes new (Err f) h = absurd h
 
   -- a capture is whole
-  pub finish_done : (old new : Desk A) (t : ℕ) (x : FlightView) (b : Bool) (o : Outcome) (lines : Vec Line Global) → Finds old.flights t (Some x) → TellsEnd x b → b ≡ true → IsOutcome x o → Files is_clean stood old.store new.store x.message (number_of_day x.day) o.classes (Ok lines) → (is_clean new.store → is_clean old.store) → new.officers ≡ old.officers → Removes old.flights t new.flights → new.last ≡ old.last → new.open_paths ≡ old.open_paths → Calls (IsClean is_clean) (StandsFor stood) old (finish t) (captured o.fault (map line_view lines.items)) new
+  pub finish_done : (old new : Desk A) (t : ℕ) (x : FlightView) (b : Bool) (o : Outcome) (lines : Vec Line Global)
+      → Finds old.flights t (Some x) → TellsEnd x b → b ≡ true → IsOutcome x o
+      → Files is_clean stood old.store new.store x.message (number_of_day x.day) o.classes (Ok lines)
+      → (is_clean new.store → is_clean old.store) → new.officers ≡ old.officers → Removes old.flights t new.flights
+      → new.last ≡ old.last → new.open_paths ≡ old.open_paths
+      → Calls (IsClean is_clean) (StandsFor stood) old (finish t) (captured o.fault (map line_view lines.items)) new
   unfolding Step
   finish_done old new t x b o lines finds tells e alone files falls eo removes el ep = record {
     was_clean = falls;
@@ -221,7 +262,8 @@ module _ {A : Type 0} (is_clean : A → Type 0) (stood : A → Archive → Type 
         let ended = ended_flag x flight b tells here.2 e in
         let was = s.office.archive in
         let h = files clean was stands.store in
-        let D : ℕ → Type 0 = λ d. Makes (stood new.store) (capture was x.message d o.classes) × (map line_view lines.items ≡ capture_lines was d o.classes) in
+        let D : ℕ → Type 0 = λ d. Makes (stood new.store) (capture was x.message d o.classes)
+        × (map line_view lines.items ≡ capture_lines was d o.classes) in
         let C : List ℕ → Type 0 = λ m. Makes (stood new.store) (capture was m flight.at_begin.day o.classes) in
         let dated = subst D (of_flight x flight s here.2) h in
         let made = becomes new.store (capture was flight.at_begin.message flight.at_begin.day o.classes) (subst C here.2.message dated.0) in

@@ -12,7 +12,14 @@ use Rattle.filing_desk.specs.Judging.{IsFaultOf}
 
 module _ (octets : List ℕ) (p : Program) (short : length octets ≤ greatest_image) (fits : Fits (parts p)) (spells : octets ≡ spelling (parts p)) where
   unfit : (fault : VerifyFault) → Fails fault p → IsUnfit octets (verify_number fault)
-  unfit fault fails = record { program = p; is_image = record { short = short; fits = fits; spells = spells }; fault = fault; fails = fails; is_number = refl }
+  unfit fault fails = record {
+    program = p;
+    is_image = record { short = short; fits = fits; spells = spells };
+    fault =
+        fault;
+    fails = fails;
+    is_number = refl;
+  }
 
   pub unfit_fault : (fault : VerifyFault) → Fails fault p → IsFaultOf (RefusesImage octets) greatest_image octets (verify_fault fault)
   unfit_fault NoMemory fails = inr (refl, short)

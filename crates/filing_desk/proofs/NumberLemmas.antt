@@ -3,7 +3,8 @@ use Rattle.std.proofs.Common.{◌≡◌, ◌≤◌, ◌^◌, ℕ, List, [], ◌�
 use Rattle.std.specs.List.{AllByRecursion}
 use Rattle.std.proofs.lemmas.Bool.Decides.{nat_tests}
 use Rattle.std.proofs.lemmas.List.Elements.{recursion_from_All}
-use Rattle.record_archive.specs.Archive.{Record, Archive, IsArchive, IsRecord, has_number, record_at, hold, release, destroy, hold_one, release_one, destroy_one}
+use Rattle.record_archive.specs.Archive.{Record, Archive, IsArchive, IsRecord, has_number, record_at, hold, release}
+use Rattle.record_archive.specs.Archive.{destroy, hold_one, release_one, destroy_one}
 use Rattle.record_archive.specs.declared.fault.ArchiveRefusal.TheVariants.{NoRecord}
 
 none_above : (a : Archive) (n : ℕ) (rs : List Record) → AllByRecursion (IsRecord a) rs → 2 ^ 32 ≤ n → find (has_number n) rs ≡ None

@@ -27,17 +27,33 @@ use Rattle.filing_desk.proofs.StepLemmas.{plain_calls}
 -- ---- steps of the office
 
 -- a script is kept in a location that has room for it
-pub kept : (location was : List (List ℕ × Commands)) (name text : List ℕ) (tree : CommandTrees) → was ≡ location → IsGood text tree → (HasNoRoom was name → ⊥) → IsKept location name text (put_script name (program_of tree) location)
+pub kept : (location was : List (List ℕ × Commands)) (name text : List ℕ) (tree : CommandTrees) → was ≡ location
+    → IsGood text tree → (HasNoRoom was name → ⊥)
+    → IsKept location name text (put_script name (program_of tree) location)
 kept location was name text tree same good room =
     let P : List (List ℕ × Commands) → Type 0 = λ x. HasNoRoom x name in
     record { tree = tree; good = good; has_room = λ full. room (subst P (sym same) full); put = refl }
 
 -- there is no room, or no memory
-pub keep_refused : (s : Office) (c : PlainCommand) (location was : List (List ℕ × Commands)) (name text : List ℕ) (tree : CommandTrees) (f : DeskFault) → ((n : ℕ) → RefusesToKeep location name text n → Refuses s c n) → ((n : ℕ) → LacksMemory greatest_script text n → GivesUp s c n) → was ≡ location → IsGood text tree → length text ≤ greatest_script → (f ≡ LibraryFull) ⊎ (f ≡ NoMemory) → (f ≡ LibraryFull → HasNoRoom was name) → OfficeStep s c (refused_by f) s
+pub keep_refused : (s : Office) (c : PlainCommand) (location was : List (List ℕ × Commands)) (name text : List ℕ)
+    (tree : CommandTrees) (f : DeskFault) → ((n : ℕ) → RefusesToKeep location name text n → Refuses s c n)
+    → ((n : ℕ) → LacksMemory greatest_script text n → GivesUp s c n) → was ≡ location → IsGood text tree
+    → length text ≤ greatest_script → (f ≡ LibraryFull) ⊎ (f ≡ NoMemory) → (f ≡ LibraryFull → HasNoRoom was name)
+    → OfficeStep s c (refused_by f) s
 keep_refused s c location was name text tree f refuses lacks same good short (inl full) room =
     let P : List (List ℕ × Commands) → Type 0 = λ x. HasNoRoom x name in
     let Q : DeskFault → Type 0 = λ x. OfficeStep s c (refused_by x) s in
-    subst Q (sym full) (inl (refl, refl, refuses 96 (inr (record { tree = tree; good = good; has_no_room = subst P same (room full); is_number = refl }))))
+    subst Q (sym full) (inl (
+      refl,
+      refl,
+      refuses 96 (inr (record {
+        tree = tree;
+        good = good;
+        has_no_room = subst P same (room full);
+        is_number =
+            refl;
+      })),
+    ))
 keep_refused s c location was name text tree f refuses lacks same good short (inr none) room =
     let Q : DeskFault → Type 0 = λ x. OfficeStep s c (refused_by x) s in
     subst Q (sym none) (inr (99, lacks 99 (refl, short), refl, refl))
@@ -55,7 +71,10 @@ has_script true f poor missing = refl
 has_script false f poor missing = absurd (false≢true (ap tells_no_script (ap failed (sym poor) ∙ missing refl)))
 
 -- the officer has no such script, or there is no memory
-pub activate_refused : (s : Office) (officer name : List ℕ) (o : Officer) (f : DeskFault) → o ≡ s.officers officer → (f ≡ NoScript) ⊎ (f ≡ NoMemory) → (f ≡ NoScript → is_some (script_at name o.scripts) ≡ false) → (is_some (script_at name o.scripts) ≡ false → failed f ≡ failed NoScript) → OfficeStep s (activate officer name) (refused_by f) s
+pub activate_refused : (s : Office) (officer name : List ℕ) (o : Officer) (f : DeskFault) → o ≡ s.officers officer
+    → (f ≡ NoScript) ⊎ (f ≡ NoMemory) → (f ≡ NoScript → is_some (script_at name o.scripts) ≡ false)
+    → (is_some (script_at name o.scripts) ≡ false → failed f ≡ failed NoScript)
+    → OfficeStep s (activate officer name) (refused_by f) s
 activate_refused s officer name o f same (inl missing) none exact =
     let Q : DeskFault → Type 0 = λ x. OfficeStep s (activate officer name) (refused_by x) s in
     let P : Officer → Type 0 = λ x. is_some (script_at name x.scripts) ≡ false in
@@ -75,7 +94,9 @@ module _ {A : Type 0} (is_clean : A → Type 0) (stood : A → Archive → Type 
     pub open_paths : new.open_paths ≡ old.open_paths
 
   -- the desk represents the state with the office that its officers have now
-  resets : (old new : Desk A) (s : Standing) (b : Office) → KeepsOthers old new → StandsFor stood old s → b.archive ≡ s.office.archive → office_of s.office.archive new.officers ≡ b → StandsFor stood new (record s { office = b })
+  resets : (old new : Desk A) (s : Standing) (b : Office) → KeepsOthers old new → StandsFor stood old s
+      → b.archive ≡ s.office.archive → office_of s.office.archive new.officers ≡ b
+      → StandsFor stood new (record s { office = b })
   resets old new s b rest stands same is =
       let P : A → Type 0 = λ x. stood x b.archive in
       let Q : Archive → Type 0 = λ x. stood old.store x in
@@ -96,13 +117,25 @@ module _ {A : Type 0} (is_clean : A → Type 0) (stood : A → Archive → Type 
   cleans old new same clean = let P : A → Type 0 = λ x. is_clean x in subst P same clean
 
   -- something is set
-  pub set_by : (old new : Desk A) (c : PlainCommand) (change : Office → Office) → KeepsOthers old new → ((s : Office) → (change s).archive ≡ s.archive) → ((a : Archive) → office_of a new.officers ≡ change (office_of a old.officers)) → ((s : Standing) → StandsFor stood old s → Settles s.office c (change s.office)) → Calls (IsClean is_clean) (StandsFor stood) old (plain c) done new
-  set_by old new c change rest keeps is settles = plain_calls is_clean stood old new c done (cleans old new rest.store) (λ sure s stands.
-      (change s.office, inl (settles s stands), resets old new s (change s.office) rest stands (keeps s.office) (is s.office.archive ∙ ap change stands.officers))) (λ refused. absurd (false≢true refused))
+  pub set_by : (old new : Desk A) (c : PlainCommand) (change : Office → Office) → KeepsOthers old new
+      → ((s : Office) → (change s).archive ≡ s.archive)
+      → ((a : Archive) → office_of a new.officers ≡ change (office_of a old.officers))
+      → ((s : Standing) → StandsFor stood old s → Settles s.office c (change s.office))
+      → Calls (IsClean is_clean) (StandsFor stood) old (plain c) done new
+  set_by old new c change rest keeps is settles = plain_calls is_clean stood old new c done (cleans old new rest.store) (λ sure s stands. (
+    change s.office,
+    inl (settles s stands),
+    resets old new s (change s.office) rest stands (keeps s.office) (is s.office.archive
+        ∙ ap change stands.officers),
+  )) (λ refused. absurd (false≢true refused))
 
   -- nothing is set
-  pub not_set : (old new : Desk A) (c : PlainCommand) (a : Answer) → KeepsOthers old new → new.officers ≡ old.officers → ((s : Standing) → StandsFor stood old s → OfficeStep s.office c a s.office) → Calls (IsClean is_clean) (StandsFor stood) old (plain c) a new
-  not_set old new c a rest same step = plain_calls is_clean stood old new c a (cleans old new rest.store) (λ sure s stands. (s.office, step s stands, stays s stands)) (λ refused s stands. stays s stands)
+  pub not_set : (old new : Desk A) (c : PlainCommand) (a : Answer) → KeepsOthers old new → new.officers ≡ old.officers
+      → ((s : Standing) → StandsFor stood old s → OfficeStep s.office c a s.office)
+      → Calls (IsClean is_clean) (StandsFor stood) old (plain c) a new
+  not_set old new c a rest same step =
+      plain_calls is_clean stood old new c a (cleans old new rest.store) (λ sure s stands.
+      (s.office, step s stands, stays s stands)) (λ refused s stands. stays s stands)
     where
       stays : (s : Standing) → StandsFor stood old s → StandsFor stood new s
       stays s stands = resets old new s s.office rest stands refl (ap (λ x. office_of s.office.archive x) same ∙ stands.officers)
@@ -111,5 +144,6 @@ module _ {A : Type 0} (is_clean : A → Type 0) (stood : A → Archive → Type 
   pub globals_are : (desk : Desk A) (s : Standing) → StandsFor stood desk s → (office_of s.office.archive desk.officers).globals ≡ s.office.globals
   globals_are desk s stands = ap (λ (o : Office). o.globals) stands.officers
 
-  pub officer_is : (desk : Desk A) (s : Standing) (name : List ℕ) → StandsFor stood desk s → officer_at name desk.officers.officers ≡ s.office.officers name
+  pub officer_is : (desk : Desk A) (s : Standing) (name : List ℕ) → StandsFor stood desk s
+      → officer_at name desk.officers.officers ≡ s.office.officers name
   officer_is desk s name stands = ap (λ (o : Office). o.officers name) stands.officers

@@ -21,16 +21,22 @@ abbrev pub OutcomesAreOne : Type 0
 OutcomesAreOne = (p : Program) (c : Facts) (m n : ℕ) (a b : Outcome) → HasOutcome p c m a → HasOutcome p c n b → a ≡ b
 
 -- a script that is too heavy has that fault
-pub heavy_outcome : (facts : Facts) (lib : Library) (known_as : Option (List ℕ)) (main : Commands) → IsTooHeavy lib known_as main → outcome facts lib known_as main ≡ outcome_at (Some TooHeavy) [] false false
+pub heavy_outcome : (facts : Facts) (lib : Library) (known_as : Option (List ℕ)) (main : Commands)
+    → IsTooHeavy lib known_as main → outcome facts lib known_as main ≡ outcome_at (Some TooHeavy) [] false false
 unfolding outcome
 heavy_outcome facts lib known_as main heavy = rw heavy refl
 
-light_outcome : (facts : Facts) (lib : Library) (known_as : Option (List ℕ)) (main : Commands) → is_too_heavy lib known_as main ≡ false → outcome facts lib known_as main ≡ outcome_of (meaning facts lib known_as main)
+light_outcome : (facts : Facts) (lib : Library) (known_as : Option (List ℕ)) (main : Commands)
+    → is_too_heavy lib known_as main ≡ false
+    → outcome facts lib known_as main ≡ outcome_of (meaning facts lib known_as main)
 unfolding outcome
 light_outcome facts lib known_as main light = rw light refl
 
 -- what a run of its image captures, where it is not too heavy
-pub outcome_of_run : OutcomesAreOne → (facts : Facts) (lib : Library) (main : Commands) (p : Program) (n : ℕ) (o : Outcome) → IsCompiled lib None main p → (IsTooHeavy lib None main → ⊥) → HasOutcome p facts n o → o ≡ outcome facts lib None main
+pub outcome_of_run : OutcomesAreOne
+    → (facts : Facts) (lib : Library) (main : Commands) (p : Program) (n : ℕ) (o : Outcome) → IsCompiled lib None main p
+    → (IsTooHeavy lib None main → ⊥) → HasOutcome p facts n o → o ≡ outcome facts lib None main
 outcome_of_run one_outcome facts lib main p n o compiled light ran =
     let (m, meant) = compiled.outcomes facts in
-    one_outcome p facts n m o (outcome_of (meaning facts lib None main)) ran meant ∙ sym (light_outcome facts lib None main (false_from_ne_true (is_too_heavy lib None main) light))
+    one_outcome p facts n m o (outcome_of (meaning facts lib None main)) ran meant
+    ∙ sym (light_outcome facts lib None main (false_from_ne_true (is_too_heavy lib None main) light))

@@ -25,7 +25,9 @@ use Rattle.filing_desk.proofs.StepLemmas.{IsCommand}
 dropped : (a : Archive) (p : Listing) (n : ℕ) → IsRefused (revise a p) n → (keeps a.plan p ≡ false) × (n ≡ 57)
 dropped a p n h = go (keeps a.plan p) refl h
   where
-    go : (b : Bool) → keeps a.plan p ≡ b → IsRefused (if b then Ok (record a { plan = p }) else Err (Plan PathDropped)) n → (keeps a.plan p ≡ false) × (n ≡ 57)
+    go : (b : Bool) → keeps a.plan p ≡ b
+        → IsRefused (if b then Ok (record a { plan = p }) else Err (Plan PathDropped)) n → (keeps a.plan p ≡ false)
+        × (n ≡ 57)
     go true e h = absurd h
     go false e h = (e, h)
 
@@ -40,11 +42,14 @@ plan_command t p is = record {
 }
 
 -- the text is no plan, or there was no memory
-text_step : (s : Office) (t : List ℕ) (f : PlanFault) → length t ≤ greatest_plan → (f ≢ plans.NoMemory → plan_of_text t ≡ Err f) → OfficeStep s (set_plan t) (refused_by (plan_fault f)) s
+text_step : (s : Office) (t : List ℕ) (f : PlanFault) → length t ≤ greatest_plan
+    → (f ≢ plans.NoMemory → plan_of_text t ≡ Err f) → OfficeStep s (set_plan t) (refused_by (plan_fault f)) s
 text_step s t plans.NoMemory short refuses = inr (99, (inl refl, short), refl, refl)
 text_step s t f short refuses = inl (refl, refl, inr (inl (record { short = short; fault = f; refuses = refuses (λ e. cc); is_number = refl })))
 
-long_step : (s : Office) (t : List ℕ) (f : DeskFault) → ((greatest_plan < length t) × (f ≡ faults.PlanTooLong)) ⊎ ((length t ≤ greatest_plan) × (f ≡ faults.NoMemory)) → OfficeStep s (set_plan t) (refused_by f) s
+long_step : (s : Office) (t : List ℕ) (f : DeskFault)
+    → ((greatest_plan < length t) × (f ≡ faults.PlanTooLong)) ⊎ ((length t ≤ greatest_plan) × (f ≡ faults.NoMemory))
+    → OfficeStep s (set_plan t) (refused_by f) s
 long_step s t f (inl h) =
     let P : DeskFault → Type 0 = λ x. OfficeStep s (set_plan t) (refused_by x) s in
     subst P (sym h.1) (inl (refl, refl, inl (h.0, refl)))
@@ -53,12 +58,16 @@ long_step s t f (inr h) =
     subst P (sym h.1) (inr (99, (inl refl, h.0), refl, refl))
 
 module _ {A : Type 0} (is_clean : A → Type 0) (stood : A → Archive → Type 0) where
-  pub no_text : (desk : Desk A) (t : List ℕ) (f : DeskFault) (a : Answer) → a ≡ refused_by f → ((greatest_plan < length t) × (f ≡ faults.PlanTooLong)) ⊎ ((length t ≤ greatest_plan) × (f ≡ faults.NoMemory)) → Calls (IsClean is_clean) (StandsFor stood) desk (plain (set_plan t)) a desk
+  pub no_text : (desk : Desk A) (t : List ℕ) (f : DeskFault) (a : Answer) → a ≡ refused_by f
+      → ((greatest_plan < length t) × (f ≡ faults.PlanTooLong)) ⊎ ((length t ≤ greatest_plan) × (f ≡ faults.NoMemory))
+      → Calls (IsClean is_clean) (StandsFor stood) desk (plain (set_plan t)) a desk
   no_text desk t f a told h = unchanged is_clean stood desk (set_plan t) a (λ s stands.
       let P : Answer → Type 0 = λ x. OfficeStep s.office (set_plan t) x s.office in
       subst P (sym told) (long_step s.office t f h))
 
-  pub no_plan : (desk : Desk A) (t : List ℕ) (f : PlanFault) (a : Answer) → a ≡ refused_by (plan_fault f) → length t ≤ greatest_plan → (f ≢ plans.NoMemory → plan_of_text t ≡ Err f) → Calls (IsClean is_clean) (StandsFor stood) desk (plain (set_plan t)) a desk
+  pub no_plan : (desk : Desk A) (t : List ℕ) (f : PlanFault) (a : Answer) → a ≡ refused_by (plan_fault f)
+      → length t ≤ greatest_plan → (f ≢ plans.NoMemory → plan_of_text t ≡ Err f)
+      → Calls (IsClean is_clean) (StandsFor stood) desk (plain (set_plan t)) a desk
   no_plan desk t f a told short refuses = unchanged is_clean stood desk (set_plan t) a (λ s stands.
       let P : Answer → Type 0 = λ x. OfficeStep s.office (set_plan t) x s.office in
       subst P (sym told) (text_step s.office t f short refuses))

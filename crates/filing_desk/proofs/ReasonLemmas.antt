@@ -15,14 +15,16 @@ refused_length count last moment size h k =
     let f : nat_lt greatest_message size ≡ true = grind (arith, nat_tests, k) in
     rw e (rw f refl)
 
-pub refused_count : (count last moment size : ℕ) → moment ≤ last_moment → size ≤ greatest_message → most_in_flight ≤ count → begin_refusal count last moment size ≡ Some 90
+pub refused_count : (count last moment size : ℕ) → moment ≤ last_moment → size ≤ greatest_message
+    → most_in_flight ≤ count → begin_refusal count last moment size ≡ Some 90
 refused_count count last moment size h k l =
     let e : nat_lt last_moment moment ≡ false = grind (arith, nat_tests, h) in
     let f : nat_lt greatest_message size ≡ false = grind (arith, nat_tests, k) in
     let g : nat_le most_in_flight count ≡ true = grind (arith, nat_tests, l) in
     rw e (rw f (rw g refl))
 
-pub refused_ticket : (count last moment size : ℕ) → moment ≤ last_moment → size ≤ greatest_message → count < most_in_flight → last_ticket ≤ last → begin_refusal count last moment size ≡ Some 97
+pub refused_ticket : (count last moment size : ℕ) → moment ≤ last_moment → size ≤ greatest_message
+    → count < most_in_flight → last_ticket ≤ last → begin_refusal count last moment size ≡ Some 97
 refused_ticket count last moment size h k l m =
     let e : nat_lt last_moment moment ≡ false = grind (arith, nat_tests, h) in
     let f : nat_lt greatest_message size ≡ false = grind (arith, nat_tests, k) in
@@ -30,7 +32,8 @@ refused_ticket count last moment size h k l m =
     let i : nat_le last_ticket last ≡ true = grind (arith, nat_tests, m) in
     rw e (rw f (rw g (rw i refl)))
 
-pub allowed : (count last moment size : ℕ) → moment ≤ last_moment → size ≤ greatest_message → count < most_in_flight → last < last_ticket → begin_refusal count last moment size ≡ None
+pub allowed : (count last moment size : ℕ) → moment ≤ last_moment → size ≤ greatest_message → count < most_in_flight
+    → last < last_ticket → begin_refusal count last moment size ≡ None
 allowed count last moment size h k l m =
     let e : nat_lt last_moment moment ≡ false = grind (arith, nat_tests, h) in
     let f : nat_lt greatest_message size ≡ false = grind (arith, nat_tests, k) in

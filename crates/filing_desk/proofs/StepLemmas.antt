@@ -1,5 +1,6 @@
 -- Calls of a desk that have nothing to do with captures in flight.
-use Rattle.std.proofs.Common.{◌≡◌, ℕ, List, [], ◌∷◌, Bool, true, false, not, if◌then◌else◌, Option, None, Result, Ok, Err, inl, inr, refl, ap, sym, ◌∙◌, subst}
+use Rattle.std.proofs.Common.{◌≡◌, ℕ, List, [], ◌∷◌, Bool, true, false, not, if◌then◌else◌, Option, None, Result, Ok}
+use Rattle.std.proofs.Common.{Err, inl, inr, refl, ap, sym, ◌∙◌, subst}
 use Rattle.std.specs.Result.{IsErr, IsErrAnd}
 use Rattle.std.proofs.lemmas.Bool.{false≢true}
 use Rattle.std.specs.List.{AllByRecursion}
@@ -51,29 +52,38 @@ of_archive c a for_archive inside = go (is_for_archive c) (is_refused_outside a)
     go false y e f = absurd cc
 
 -- the answer to a fault
-pub done_fault : (result : Result (Unit {0}) DeskFault) (fault : DeskFault) → IsErr result → IsErrAnd result (λ f. f ≡ fault) → answer_of_done result ≡ refused_by fault
+pub done_fault : (result : Result (Unit {0}) DeskFault) (fault : DeskFault) → IsErr result
+    → IsErrAnd result (λ f. f ≡ fault) → answer_of_done result ≡ refused_by fault
 done_fault (Err f) fault is same = ap refused_by same
 done_fault (Ok u) fault is same = absurd (false≢true is)
 
 -- the archive refuses
-pub refusal_step : (s : Office) (c : PlainCommand) (command : Archive → Result Archive ArchiveRefusal) (r : ArchiveRefusal) → IsCommand c command → command s.archive ≡ Err r → OfficeStep s c (refused_by (refusal_fault r)) s
+pub refusal_step : (s : Office) (c : PlainCommand) (command : Archive
+    → Result Archive ArchiveRefusal) (r : ArchiveRefusal) → IsCommand c command → command s.archive ≡ Err r
+    → OfficeStep s c (refused_by (refusal_fault r)) s
 refusal_step s c command r is refuses =
     let P : Answer → Type 0 = λ a. OfficeStep s c a s in
     subst P (sym (told r)) (inl (refl, sym (no_place r), is.refuses s (number_of r) (refusal r (command s.archive) refuses)))
 
 -- the archive refuses, or its database or the memory does
-pub refused_step : {E : Type 0} (s : Office) (c : PlainCommand) (command : Archive → Result Archive ArchiveRefusal) (f : ArchiveFault E) → IsCommand c command → WhereRefused (λ r. command s.archive ≡ Err r) f → OfficeStep s c (refused_by (archive_fault f)) s
+pub refused_step : {E : Type 0} (s : Office) (c : PlainCommand) (command : Archive
+    → Result Archive ArchiveRefusal) (f : ArchiveFault E) → IsCommand c command
+    → WhereRefused (λ r. command s.archive ≡ Err r) f → OfficeStep s c (refused_by (archive_fault f)) s
 refused_step s c command (Refused r) is refuses = refusal_step s c command r is (refuses r refl)
 refused_step s c command (Database e) is refuses = inr (89, is.gives_up s 89 (inr refl), refl, refl)
 refused_step s c command NoMemory is refuses = inr (99, is.gives_up s 99 (inl refl), refl, refl)
 
 -- the same, where only a refusal of the archive itself is known to be right
-either_step : {E : Type 0} (s : Office) (c : PlainCommand) (command : Archive → Result Archive ArchiveRefusal) (f : ArchiveFault E) → IsCommand c command → IsArchiveFault (archive_fault f) → (is_refused_outside (refused_by (archive_fault f)) ≡ false → WhereRefused (λ r. command s.archive ≡ Err r) f) → OfficeStep s c (refused_by (archive_fault f)) s
+either_step : {E : Type 0} (s : Office) (c : PlainCommand) (command : Archive
+    → Result Archive ArchiveRefusal) (f : ArchiveFault E) → IsCommand c command → IsArchiveFault (archive_fault f)
+    → (is_refused_outside (refused_by (archive_fault f)) ≡ false → WhereRefused (λ r. command s.archive ≡ Err r) f)
+    → OfficeStep s c (refused_by (archive_fault f)) s
 either_step s c command f is (inl trouble) refuses = inr (trouble.0, is.gives_up s trouble.0 trouble.1, trouble.2, refl)
 either_step s c command f is (inr inside) refuses = refused_step s c command f is (refuses inside)
 
 -- a plan that drops no class has the classes of flights
-still_classes : (p q : Listing) (fs : List Flight) → ((x : List ℕ) → has p.rows x ≡ true → has q.rows x ≡ true) → AllByRecursion (HasPathsOf p) fs → AllByRecursion (HasPathsOf q) fs
+still_classes : (p q : Listing) (fs : List Flight) → ((x : List ℕ) → has p.rows x ≡ true → has q.rows x ≡ true)
+    → AllByRecursion (HasPathsOf p) fs → AllByRecursion (HasPathsOf q) fs
 still_classes p q [] keeps all = tt
 still_classes p q (f ∷ fs) keeps all = ((λ x there. keeps x (all.0 x there)), still_classes p q fs keeps all.1)
 
@@ -84,7 +94,11 @@ module _ {A : Type 0} (is_clean : A → Type 0) (stood : A → Archive → Type 
     pub flights : new.flights ≡ old.flights
     pub last : new.last ≡ old.last
 
-  pub plain_calls : (old new : Desk A) (c : PlainCommand) (a : Answer) → (is_clean new.store → is_clean old.store) → ((is_of_archive (plain c) a ≡ true → is_clean new.store) → (s : Standing) → StandsFor stood old s → (b : Office) × OfficeStep s.office c a b × StandsFor stood new (record s { office = b })) → (is_refusal a ≡ true → (s : Standing) → StandsFor stood old s → StandsFor stood new s) → Calls (IsClean is_clean) (StandsFor stood) old (plain c) a new
+  pub plain_calls : (old new : Desk A) (c : PlainCommand) (a : Answer) → (is_clean new.store → is_clean old.store)
+      → ((is_of_archive (plain c) a ≡ true → is_clean new.store) → (s : Standing) → StandsFor stood old s → (b : Office)
+      × OfficeStep s.office c a b × StandsFor stood new (record s { office = b }))
+      → (is_refusal a ≡ true → (s : Standing) → StandsFor stood old s → StandsFor stood new s)
+      → Calls (IsClean is_clean) (StandsFor stood) old (plain c) a new
   unfolding Step
   plain_calls old new c a falls leads keeps = record {
     was_clean = falls;
@@ -95,7 +109,9 @@ module _ {A : Type 0} (is_clean : A → Type 0) (stood : A → Archive → Type 
   }
 
   -- the desk represents the state with the archive that its store represents now
-  pub restands : (old new : Desk A) (s : Standing) (b : Archive) → KeepsRest old new → StandsFor stood old s → stood new.store b → AreOpenPaths new.open_paths b.plan → ((q : List ℕ) → has s.office.archive.plan.rows q ≡ true → has b.plan.rows q ≡ true) → StandsFor stood new (record s { office = with_archive s.office b })
+  pub restands : (old new : Desk A) (s : Standing) (b : Archive) → KeepsRest old new → StandsFor stood old s
+      → stood new.store b → AreOpenPaths new.open_paths b.plan → ((q : List ℕ) → has s.office.archive.plan.rows q ≡ true
+      → has b.plan.rows q ≡ true) → StandsFor stood new (record s { office = with_archive s.office b })
   restands old new s b rest stands store paths keeps =
       let P : List FlightView → Type 0 = λ xs. AreHeld xs s.flights in
       record {
@@ -108,7 +124,8 @@ module _ {A : Type 0} (is_clean : A → Type 0) (stood : A → Archive → Type 
       }
 
   -- the same with the archive as it was
-  pub still_stands : (old new : Desk A) (s : Standing) → KeepsRest old new → new.open_paths ≡ old.open_paths → StandsFor stood old s → stood new.store s.office.archive → StandsFor stood new s
+  pub still_stands : (old new : Desk A) (s : Standing) → KeepsRest old new → new.open_paths ≡ old.open_paths
+      → StandsFor stood old s → stood new.store s.office.archive → StandsFor stood new s
   still_stands old new s rest same stands store =
       let P : Option (List (List ℕ)) → Type 0 = λ x. AreOpenPaths x s.office.archive.plan in
       restands old new s s.office.archive rest stands store (subst P (sym same) stands.open_paths) (λ q there. there)
@@ -118,23 +135,49 @@ module _ {A : Type 0} (is_clean : A → Type 0) (stood : A → Archive → Type 
   becomes new (Err f) h = absurd h
 
   -- the archive's command is done
-  pub done_by : {E : Type 0} (old new : Desk A) (c : PlainCommand) (command : Archive → Result Archive ArchiveRefusal) → IsCommand c command → KeepsRest old new → ((a b : Archive) → command a ≡ Ok b → AreOpenPaths old.open_paths a.plan → AreOpenPaths new.open_paths b.plan) → CarriesOut {X = Unit {0}} {E = E} is_clean stood old.store new.store command Quietly (Ok tt) → Calls (IsClean is_clean) (StandsFor stood) old (plain c) done new
+  pub done_by : {E : Type 0} (old new : Desk A) (c : PlainCommand) (command : Archive → Result Archive ArchiveRefusal)
+      → IsCommand c command → KeepsRest old new
+      → ((a b : Archive) → command a ≡ Ok b → AreOpenPaths old.open_paths a.plan → AreOpenPaths new.open_paths b.plan)
+      → CarriesOut {X = Unit {0}} {E = E} is_clean stood old.store new.store command Quietly (Ok tt)
+      → Calls (IsClean is_clean) (StandsFor stood) old (plain c) done new
   done_by old new c command is rest paths call = plain_calls old new c done call.was_clean (λ sure s stands.
       let clean : is_clean new.store = sure (of_archive c done is.for_archive refl) in
       let b = becomes new.store (command s.office.archive) (call.does clean s.office.archive stands.store).0 in
-      let step : Settles s.office c (with_archive s.office b.0) = is.settles s.office (with_archive s.office b.0) (made s.office b.0 (command s.office.archive) b.1) in
-      (with_archive s.office b.0, inl step, restands old new s b.0 rest stands b.2 (paths s.office.archive b.0 b.1 stands.open_paths) (is.keeps s.office.archive b.0 b.1))) (λ refused. absurd (false≢true refused))
+      let step : Settles s.office c (with_archive s.office b.0) =
+      is.settles s.office (with_archive s.office b.0) (made s.office b.0 (command s.office.archive) b.1) in (
+        with_archive s.office b.0,
+        inl step,
+        restands old new s b.0 rest stands b.2 (paths s.office.archive b.0 b.1 stands.open_paths)
+            (is.keeps s.office.archive b.0 b.1),
+      )) (λ refused. absurd (false≢true refused))
 
   -- the archive's command is refused, or given up
-  pub refused_by_archive : {E : Type 0} (old new : Desk A) (c : PlainCommand) (command : Archive → Result Archive ArchiveRefusal) (f : ArchiveFault E) (a : Answer) → IsCommand c command → KeepsRest old new → new.open_paths ≡ old.open_paths → CarriesOut {X = Unit {0}} {E = E} is_clean stood old.store new.store command Quietly (Err f) → a ≡ refused_by (archive_fault f) → Calls (IsClean is_clean) (StandsFor stood) old (plain c) a new
+  pub refused_by_archive : {E : Type 0} (old new : Desk A) (c : PlainCommand) (command : Archive
+      → Result Archive ArchiveRefusal) (f : ArchiveFault E) (a : Answer) → IsCommand c command → KeepsRest old new
+      → new.open_paths ≡ old.open_paths
+      → CarriesOut {X = Unit {0}} {E = E} is_clean stood old.store new.store command Quietly (Err f)
+      → a ≡ refused_by (archive_fault f) → Calls (IsClean is_clean) (StandsFor stood) old (plain c) a new
   refused_by_archive old new c command f a is rest same call is_told = plain_calls old new c a call.was_clean (λ sure s stands.
       let h = call.does s.office.archive stands.store in
       let P : Answer → Type 0 = λ x. OfficeStep s.office c x s.office in
-      let step : OfficeStep s.office c (refused_by (archive_fault f)) s.office = either_step s.office c command f is (fault_told f) (λ inside. h.1 (sure (of_archive c a is.for_archive (ap is_refused_outside is_told ∙ inside)))) in
-      (s.office, subst P (sym is_told) step, still_stands old new s rest same stands h.0)) (λ refused s stands. still_stands old new s rest same stands (call.does s.office.archive stands.store).0)
+      let step : OfficeStep s.office c (refused_by (archive_fault f)) s.office =
+      either_step s.office c command f is (fault_told f) (λ inside.
+      h.1 (sure (of_archive c a is.for_archive (ap is_refused_outside is_told ∙ inside)))) in
+      (s.office, subst P (sym is_told) step, still_stands old new s rest same stands h.0)) (λ refused s stands.
+      still_stands old new s rest same stands (call.does s.office.archive stands.store).0)
 
   -- no record has the number
-  pub refused_by_number : ((x : A) (a : Archive) → stood x a → IsArchive a) → (desk : Desk A) (c : PlainCommand) (command : Archive → Result Archive ArchiveRefusal) (r : ArchiveRefusal) (a : Answer) → IsCommand c command → ((x : Archive) → IsArchive x → command x ≡ Err r) → a ≡ refused_by (refusal_fault r) → Calls (IsClean is_clean) (StandsFor stood) desk (plain c) a desk
+  pub refused_by_number : ((x : A) (a : Archive) → stood x a → IsArchive a)
+      → (desk : Desk A) (c : PlainCommand) (command : Archive
+      → Result Archive ArchiveRefusal) (r : ArchiveRefusal) (a : Answer) → IsCommand c command
+      → ((x : Archive) → IsArchive x → command x ≡ Err r) → a ≡ refused_by (refusal_fault r)
+      → Calls (IsClean is_clean) (StandsFor stood) desk (plain c) a desk
   refused_by_number is_archive desk c command r a is none is_told = plain_calls desk desk c a (λ clean. clean) (λ sure s stands.
-      let P : Answer → Type 0 = λ x. OfficeStep s.office c x s.office in
-      (s.office, subst P (sym is_told) (refusal_step s.office c command r is (none s.office.archive (is_archive desk.store s.office.archive stands.store))), stands)) (λ refused s stands. stands)
+      let P : Answer → Type 0 = λ x. OfficeStep s.office c x s.office in (
+        s.office,
+        subst P (sym is_told)
+            (refusal_step s.office c command r is
+            (none s.office.archive (is_archive desk.store s.office.archive stands.store))),
+        stands,
+      )) (λ refused s stands.
+      stands)

@@ -5,7 +5,8 @@ use Rattle.filing_flights.specs.FlightViews.{FlightView, facts_in}
 use Rattle.filing_flights.specs.Begun.{HoldsBegun}
 
 -- a capture with the case of its message and paths, and with no step made, holds each flight that begins with these
-pub holds_begun : (x : FlightView) (paths : List (List ℕ)) → facts_in x.case ≡ case_of x.message (is_among paths) → x.machine.steps ≡ 0 → HoldsBegun x.ticket x.program x.message paths x.day x
+pub holds_begun : (x : FlightView) (paths : List (List ℕ)) → facts_in x.case ≡ case_of x.message (is_among paths)
+    → x.machine.steps ≡ 0 → HoldsBegun x.ticket x.program x.message paths x.day x
 holds_begun x paths case none = λ f b.
     let granted = b.fresh in
     record {

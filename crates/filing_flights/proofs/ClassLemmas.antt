@@ -13,8 +13,13 @@ use Rattle.sieve_meaning.specs.Outcome.{outcome_at}
 use Rattle.class_paths.proofs.PathLemmas.{all_in_insert_path, insert_path_increasing, none_increasing}
 use Rattle.filing_image.specs.Program.{Program, first_places}
 use Rattle.filing_image.specs.declared.instruction.Operation.{Operation}
-use Rattle.filing_image.specs.declared.instruction.Operation.TheVariants.{PushTrue, PushFalse, Not, Values, Join, Match, Pop, Exists, Size, Number, Less as LessThan, Jump, JumpIf, JumpUnless, Marked, Mark, File, Keep, Discard, Stop, Fault, Call, Return}
-use Rattle.filing_table.specs.Machine.{Entry, T, L, N, State, Run, At, Over, Trap, comparison_holds, values_of, with_stack, with_named, only_if, file, enter, go_back, on_stack, at_place, step, after_steps}
+use Rattle.filing_image.specs.declared.instruction.Operation.TheVariants.{PushTrue, PushFalse, Not, Values, Join, Match}
+use Rattle.filing_image.specs.declared.instruction.Operation.TheVariants.{Pop, Exists, Size, Number, Less as LessThan}
+use Rattle.filing_image.specs.declared.instruction.Operation.TheVariants.{Jump, JumpIf, JumpUnless, Marked, Mark, File}
+use Rattle.filing_image.specs.declared.instruction.Operation.TheVariants.{Keep, Discard, Stop, Fault, Call, Return}
+use Rattle.filing_table.specs.Machine.{Entry, T, L, N, State, Run, At, Over, Trap, comparison_holds, values_of}
+use Rattle.filing_table.specs.Machine.{with_stack, with_named, only_if, file, enter, go_back, on_stack, at_place, step}
+use Rattle.filing_table.specs.Machine.{after_steps}
 use Rattle.sieve_meaning.specs.Truth.{has_field}
 use Rattle.filing_table.specs.Ends.{HasOutcome}
 
@@ -31,7 +36,8 @@ HasFiled c Trap = Unit {0}
 
 module _ (p : Program) (c : Facts) where
   on : (s : State) (es : List Entry) → IsFiled c s.filed → HasFiled c (with_stack s es)
-  on s es h = elim (nat_lt 32 (length es)) as (λ b. HasFiled c (if b then Trap else At (record s { place = s.place + 1; stack = es }))) [ true ↦ tt | false ↦ h ]
+  on s es h = elim (nat_lt 32 (length es)) as (λ b.
+      HasFiled c (if b then Trap else At (record s { place = s.place + 1; stack = es }))) [ true ↦ tt | false ↦ h ]
 
   named : {A : Type 0} (o : Option A) (go : A → Run) → ((x : A) → HasFiled c (go x)) → HasFiled c (with_named o go)
   named None go h = tt
@@ -43,8 +49,17 @@ module _ (p : Program) (c : Facts) where
 
   filed_under : (s : State) (a : ℕ) (path : List ℕ) → IsFiled c s.filed → HasFiled c (file c s a path)
   filed_under s a path h =
-      (elim (c.is_open path) as (λ b. c.is_open path ≡ b → HasFiled c (if b then At (record s { place = s.place + 1; filed = insert_path path s.filed; cancelled = s.cancelled || nat_eq a 0 }) else Over (Some ClassNotOpen) s)) [
-        | true ↦ λ e. record { open_paths = all_in_insert_path (λ q. c.is_open q ≡ true) s.filed path e h.open_paths; in_order = insert_path_increasing s.filed path h.in_order }
+      (elim (c.is_open path) as (λ b. c.is_open path ≡ b
+      → HasFiled c (if b then At (record s {
+        place = s.place + 1;
+        filed = insert_path path s.filed;
+        cancelled =
+            s.cancelled || nat_eq a 0;
+      }) else Over (Some ClassNotOpen) s)) [
+        | true ↦ λ e. record {
+          open_paths = all_in_insert_path (λ q. c.is_open q ≡ true) s.filed path e h.open_paths;
+          in_order = insert_path_increasing s.filed path h.in_order;
+        }
         | false ↦ λ e. h
       ]) refl
 
@@ -57,16 +72,19 @@ module _ (p : Program) (c : Facts) where
   acted PushFalse s es h = on s (T false ∷ es) h
   acted Not s (T b ∷ es) h = on s (T (not b) ∷ es) h
   acted Not s _ h = tt
-  acted (Values b) s es h = named (slice_get p.texts b) (λ name. with_stack s (L (values_of c name) ∷ es)) (λ name. on s (L (values_of c name) ∷ es) h)
+  acted (Values b) s es h = named (slice_get p.texts b) (λ name. with_stack s (L (values_of c name) ∷ es)) (λ name.
+      on s (L (values_of c name) ∷ es) h)
   acted Join s (L ys ∷ L xs ∷ es) h = on s (L (xs ++ ys) ∷ es) h
   acted Join s _ h = tt
   acted (Match a b) s (L xs ∷ es) h =
       let go : List ℕ → Run = λ key. with_stack s (T (list_any (comparison_holds a key) xs) ∷ L xs ∷ es) in
-      only (nat_le a 5) (with_named (slice_get p.texts b) go) (named (slice_get p.texts b) go (λ key. on s (T (list_any (comparison_holds a key) xs) ∷ L xs ∷ es) h))
+      only (nat_le a 5) (with_named (slice_get p.texts b) go) (named (slice_get p.texts b) go (λ key.
+      on s (T (list_any (comparison_holds a key) xs) ∷ L xs ∷ es) h))
   acted (Match a b) s _ h = tt
   acted Pop s (e ∷ es) h = on s es h
   acted Pop s _ h = tt
-  acted (Exists b) s es h = named (slice_get p.texts b) (λ name. with_stack s (T (has_field c name) ∷ es)) (λ name. on s (T (has_field c name) ∷ es) h)
+  acted (Exists b) s es h = named (slice_get p.texts b) (λ name. with_stack s (T (has_field c name) ∷ es)) (λ name.
+      on s (T (has_field c name) ∷ es) h)
   acted Size s es h = on s (N c.size ∷ es) h
   acted (Number b) s es h = named (slice_get p.numbers b) (λ n. with_stack s (N n ∷ es)) (λ n. on s (N n ∷ es) h)
   acted LessThan s (N y ∷ N x ∷ es) h = on s (T (nat_lt x y) ∷ es) h
@@ -76,13 +94,19 @@ module _ (p : Program) (c : Facts) where
   acted (JumpIf b) s _ h = tt
   acted (JumpUnless b) s (T t ∷ es) h = h
   acted (JumpUnless b) s _ h = tt
-  acted (Marked b) s es h = only (nat_lt b p.slots) (with_stack s (T (slice_index_or s.marks b false) ∷ es)) (on s (T (slice_index_or s.marks b false) ∷ es) h)
+  acted (Marked b) s es h =
+      only (nat_lt b p.slots) (with_stack s (T (slice_index_or s.marks b false) ∷ es))
+      (on s (T (slice_index_or s.marks b false) ∷ es) h)
   acted (Mark b) s es h = only (nat_lt b p.slots) (At (record s { place = s.place + 1; marks = slice_set s.marks b true })) h
-  acted (File a b) s es h = only (nat_le a 1) (with_named (slice_get p.texts b) (file c s a)) (named (slice_get p.texts b) (file c s a) (λ path. filed_under s a path h))
+  acted (File a b) s es h =
+      only (nat_le a 1) (with_named (slice_get p.texts b) (file c s a))
+      (named (slice_get p.texts b) (file c s a) (λ path. filed_under s a path h))
   acted Keep s es h = h
   acted Discard s es h = h
   acted Stop s es h = h
-  acted (Fault a) s es h = only (nat_le 2 a) (with_named (fault_of a) (λ fault. Over (Some fault) s)) (named (fault_of a) (λ fault. Over (Some fault) s) (λ fault. h))
+  acted (Fault a) s es h =
+      only (nat_le 2 a) (with_named (fault_of a) (λ fault. Over (Some fault) s)) (named (fault_of a) (λ fault.
+      Over (Some fault) s) (λ fault. h))
   acted (Call b) s [] h = named (slice_get (first_places p) b) (enter s) (λ first. h)
   acted (Call b) s _ h = tt
   acted Return s [] h = gone_back s s.calls h
@@ -119,7 +143,8 @@ with_default c filed h = record {
   in_order = insert_path_increasing filed unfiled h.in_order;
 }
 
-left : (c : Facts) (fault : Option RunFault) (filed : Paths) (kept cancelled : Bool) → IsFiled c filed → AreOpenClasses c (outcome_at fault filed kept cancelled).classes
+left : (c : Facts) (fault : Option RunFault) (filed : Paths) (kept cancelled : Bool) → IsFiled c filed
+    → AreOpenClasses c (outcome_at fault filed kept cancelled).classes
 left c (Some fault) filed kept cancelled h = record { each = (inl refl, tt); in_order = insert_path_increasing [] unfiled none_increasing }
 left c None filed kept cancelled h =
     elim (kept || not cancelled) as (λ b. AreOpenClasses c (if b then insert_path unfiled filed else filed)) [

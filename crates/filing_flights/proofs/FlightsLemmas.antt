@@ -1,5 +1,6 @@
 -- The captures in flight and the flights that they hold.
-use Rattle.std.proofs.Common.{◌≡◌, ◌<◌, ◌+◌, ◌++◌, ◌∷◌, [], ℕ, zero, suc, List, length, refl, arith, ap, ◌∙◌, sym, inl, inr, Bool, true, false, Some, None, get_or, set, eqb, subst}
+use Rattle.std.proofs.Common.{◌≡◌, ◌<◌, ◌+◌, ◌++◌, ◌∷◌, [], ℕ, zero, suc, List, length, refl, arith, ap, ◌∙◌, sym, inl}
+use Rattle.std.proofs.Common.{inr, Bool, true, false, Some, None, get_or, set, eqb, subst}
 use Rattle.std.specs.Prelude.{◌==◌, nat_le, position, remove}
 use Rattle.std.specs.List.{position_from}
 use Rattle.std.proofs.lemmas.Bool.Decides.{nat_tests}
@@ -69,7 +70,8 @@ has_flight t [] fs i d a at = absurd (omega (arith, at.within))
 has_flight t (x ∷ xs) [] i d a at = absurd a
 
 -- no capture has the ticket
-none_from : (t i : ℕ) (xs : List FlightView) (fs : List Flight) → AreHeld xs fs → position_from (λ x. x.ticket == t) i xs ≡ None → flight_of t fs ≡ None
+none_from : (t i : ℕ) (xs : List FlightView) (fs : List Flight) → AreHeld xs fs
+    → position_from (λ x. x.ticket == t) i xs ≡ None → flight_of t fs ≡ None
 none_from t i [] [] a h = refl
 none_from t i (x ∷ xs) (f ∷ fs) a h =
     let same : f.ticket ≡ x.ticket = sym a.0.ticket in
@@ -81,7 +83,8 @@ none_from t i (x ∷ xs) [] a h = absurd a
 none : (t : ℕ) (xs : List FlightView) (fs : List Flight) → AreHeld xs fs → position (λ x. x.ticket == t) xs ≡ None → flight_of t fs ≡ None
 none t xs fs a h = none_from t 0 xs fs a (sym (position_from-zero (λ x. x.ticket == t) xs) ∙ h)
 
-some : (t : ℕ) (xs : List FlightView) (fs : List Flight) (i : ℕ) (d : FlightView) → AreHeld xs fs → position (λ x. x.ticket == t) xs ≡ Some i → HasFlight t xs fs i d
+some : (t : ℕ) (xs : List FlightView) (fs : List Flight) (i : ℕ) (d : FlightView) → AreHeld xs fs
+    → position (λ x. x.ticket == t) xs ≡ Some i → HasFlight t xs fs i d
 some t xs fs i d a e =
     let h = position-Some (λ x. x.ticket == t) xs i d e in
     has_flight t xs fs i d a (record { within = h.0; here = h.1; first = h.2 })
@@ -106,7 +109,8 @@ without-none t (f ∷ fs) e = go (eqb f.ticket t) refl (without-none t fs)
 pub finds_none : (t : ℕ) (xs : List FlightView) → position (λ x. x.ticket == t) xs ≡ None → Finds xs t None
 finds_none t xs e = λ fs a. let is = none t xs fs a e in rw is tt
 
-pub finds_some : (t : ℕ) (xs : List FlightView) (i : ℕ) (x : FlightView) → position (λ y. y.ticket == t) xs ≡ Some i → x ≡ get_or xs i x → Finds xs t (Some x)
+pub finds_some : (t : ℕ) (xs : List FlightView) (i : ℕ) (x : FlightView) → position (λ y. y.ticket == t) xs ≡ Some i
+    → x ≡ get_or xs i x → Finds xs t (Some x)
 finds_some t xs i x e here = λ fs a.
     let found = some t xs fs i x a e in
     let P : FlightView → Type 0 = λ y. Holds y found.flight in
@@ -123,7 +127,9 @@ turn_none t k xs e = λ s a.
       held = subst P (sym same) a;
     }
 
-pub turn_made : (t k i : ℕ) (xs : List FlightView) (d y : FlightView) (a : Answer) → position (λ x. x.ticket == t) xs ≡ Some i → IsGranted (get_or xs i d) k y → ((f : Flight) → Holds y f → a ≡ turn_answer f f.granted) → Turns xs t k a (set xs i y)
+pub turn_made : (t k i : ℕ) (xs : List FlightView) (d y : FlightView) (a : Answer)
+    → position (λ x. x.ticket == t) xs ≡ Some i → IsGranted (get_or xs i d) k y
+    → ((f : Flight) → Holds y f → a ≡ turn_answer f f.granted) → Turns xs t k a (set xs i y)
 turn_made t k i xs d y a e made tells = λ s h.
     let found = some t xs s.flights i d h e in
     let holds = made found.flight found.holds in
@@ -133,7 +139,8 @@ turn_made t k i xs d y a e made tells = λ s h.
       held = found.changed y k holds;
     }
 
-pub turn_stopped : (t k i : ℕ) (xs : List FlightView) (d y : FlightView) → position (λ x. x.ticket == t) xs ≡ Some i → StopsShort (get_or xs i d) k y → Turns xs t k (refused 99 None) (set xs i y)
+pub turn_stopped : (t k i : ℕ) (xs : List FlightView) (d y : FlightView) → position (λ x. x.ticket == t) xs ≡ Some i
+    → StopsShort (get_or xs i d) k y → Turns xs t k (refused 99 None) (set xs i y)
 turn_stopped t k i xs d y e stop = λ s h.
     let found = some t xs s.flights i d h e in
     let short = stop found.flight found.holds in

@@ -21,7 +21,8 @@ open_is_there (Some r) e = refl
 pub open_has : (p : Listing) (q : List ℕ) → is_open_in p q ≡ true → has p.rows q ≡ true
 open_has p q e = open_is_there (row_at q p.rows) e
 
-are_there : (x : FlightView) (p : Listing) (cs : List (List ℕ)) → has p.rows unfiled ≡ true → HasOpen x p → AllByRecursion (IsClass x) cs → AllByRecursion (λ q. has p.rows q ≡ true) cs
+are_there : (x : FlightView) (p : Listing) (cs : List (List ℕ)) → has p.rows unfiled ≡ true → HasOpen x p
+    → AllByRecursion (IsClass x) cs → AllByRecursion (λ q. has p.rows q ≡ true) cs
 are_there x p [] d opens all = tt
 are_there x p (q ∷ qs) d opens all = (is_there all.0, are_there x p qs d opens all.1)
   where
@@ -29,11 +30,15 @@ are_there x p (q ∷ qs) d opens all = (is_there all.0, are_there x p qs d opens
     is_there (inl same) = let P : List ℕ → Type 0 = λ r. has p.rows r ≡ true in subst P (sym same) d
     is_there (inr among) = opens q among
 
-pub are_classes : (x : FlightView) (p : Listing) (cs : List (List ℕ)) → IsPlan p → HasOpen x p → All (IsClass x) cs → IsIncreasing cs → AreClasses p cs
+pub are_classes : (x : FlightView) (p : Listing) (cs : List (List ℕ)) → IsPlan p → HasOpen x p → All (IsClass x) cs
+    → IsIncreasing cs → AreClasses p cs
 are_classes x p cs plan opens each up = record {
-  classes = All-from_recursion (λ q. has p.rows q ≡ true) cs (are_there x p cs (open_has p unfiled plan.unfiled_open) opens (recursion_from_All (IsClass x) cs each));
+  classes = All-from_recursion (λ q.
+      has p.rows q ≡ true) cs (are_there x p cs (open_has p unfiled plan.unfiled_open) opens
+      (recursion_from_All (IsClass x) cs each));
   in_order = up;
 }
 
-pub held_has_open : (x : FlightView) (f : Flight) (p : Listing) → Holds x f → ((q : List ℕ) → f.at_begin.is_open q ≡ true → has p.rows q ≡ true) → HasOpen x p
+pub held_has_open : (x : FlightView) (f : Flight) (p : Listing) → Holds x f
+    → ((q : List ℕ) → f.at_begin.is_open q ≡ true → has p.rows q ≡ true) → HasOpen x p
 held_has_open x f p h opens = λ q among. opens q (sym (ap (λ (c : Facts). c.is_open q) h.facts) ∙ among)

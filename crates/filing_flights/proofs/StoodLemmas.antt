@@ -17,7 +17,11 @@ module _ (P : BeginState → Type 0) where
   stood_grant t k [] all = tt
   stood_grant t k (f ∷ fs) all =
       let rest = stood_grant t k fs all.1 in
-      elim (eqb f.ticket t) as (λ b. AllStood (if b then record f { granted = f.granted + k } ∷ fs else f ∷ grant t k fs)) [ true ↦ all | false ↦ (all.0, rest) ]
+      elim (eqb f.ticket t) as (λ b.
+      AllStood (if b then record f { granted = f.granted + k } ∷ fs else f ∷ grant t k fs)) [
+        | true ↦ all
+        | false ↦ (all.0, rest)
+      ]
 
   pub stood_without : (t : ℕ) (fs : List Flight) → AllStood fs → AllStood (without t fs)
   stood_without t [] all = tt

@@ -21,7 +21,8 @@ unfolding steps
 after_is p c zero = refl
 after_is p c (suc n) = ap (step p c) (after_is p c n) ∙ sym (steps_last p c n (At start))
 
-pub outcome_at_end : (p : Program) (c : Facts) (fault : Option RunFault) (f : Filing) → OverAt p c (At (on [] nothing_done 0 [])) fault f → (n : ℕ) × HasOutcome p c n (outcome_from fault f)
+pub outcome_at_end : (p : Program) (c : Facts) (fault : Option RunFault) (f : Filing)
+    → OverAt p c (At (on [] nothing_done 0 [])) fault f → (n : ℕ) × HasOutcome p c n (outcome_from fault f)
 outcome_at_end p c fault f over =
     let s : State = on over.calls f over.pc over.stack in
     let (n, ends) = first_end p c over.comes.count fault s (after_is p c over.comes.count ∙ over.comes.leads) in
@@ -30,5 +31,7 @@ outcome_at_end p c fault f over =
 pub program_ends : RunsAsItsCode
 program_ends p c a fault f is ok means =
     let from : Run = At (on [] nothing_done 0 []) in
-    let runs : Arrives p c [] (effect no_calls c (whole a) nothing_done []) (0 + size (whole a)) [] from = flow_runs p c [] no_calls (λ b f pc ends at. tt) (without_procedures p.slots) refl (whole a) [] 0 nothing_done [] (ok, tt) is.stands in
+    let runs : Arrives p c [] (effect no_calls c (whole a) nothing_done []) (0 + size (whole a)) [] from =
+    flow_runs p c [] no_calls (λ b f pc ends at. tt) (without_procedures p.slots) refl (whole a) [] 0 nothing_done
+    [] (ok, tt) is.stands in
     outcome_at_end p c fault f (subst (λ (x : Exit). Arrives p c [] x (0 + size (whole a)) [] from) means runs)

@@ -21,7 +21,8 @@ unfolding begun
 begun_is r fs = is_count_by (begun r) (λ f. leb f r) refl (λ x xs. refl) fs
 
 -- a procedure that begins at or before r, and those after it
-pub begun_first : (r place : ℕ) (a : Flow) (later : List Flow) → place ≤ r → begun r (places_from place (a ∷ later)) ≡ 1 + begun r (places_from (place + size a + 1) later)
+pub begun_first : (r place : ℕ) (a : Flow) (later : List Flow) → place ≤ r
+    → begun r (places_from place (a ∷ later)) ≡ 1 + begun r (places_from (place + size a + 1) later)
 unfolding begun
 begun_first r place a later le = rw (le-leb place r le) refl
 
@@ -41,7 +42,8 @@ ascends place (a ∷ b ∷ later) (suc i) lt =
     let rest = ascends (place + size a + 1) (b ∷ later) i (omega (arith, lt)) in
     subst (λ (k : ℕ). get_or (places_from (place + size a + 1) (b ∷ later)) i 0 < get_or (places_from place (a ∷ b ∷ later)) k 0) (sym e) rest
 
-begins_within : (place : ℕ) (procedures : List Flow) (k d : ℕ) → k < length (places_from place procedures) → get_or (places_from place procedures) k d < place + whole_size procedures
+begins_within : (place : ℕ) (procedures : List Flow) (k d : ℕ) → k < length (places_from place procedures)
+    → get_or (places_from place procedures) k d < place + whole_size procedures
 begins_within place [] k d lt = absurd (omega arith)
 begins_within place (a ∷ later) zero d lt = omega arith
 begins_within place (a ∷ later) (suc k) d lt = let rest = begins_within (place + size a + 1) later k d (omega (arith, lt)) in omega (arith, rest)
@@ -50,7 +52,8 @@ begins_at_zero : (procedures : List Flow) → 1 ≤ length procedures → get_or
 begins_at_zero [] some = absurd (omega arith)
 begins_at_zero (a ∷ later) some = refl
 
-pub are_procedures : (places : ℕ) (procedures : List Flow) → places ≡ whole_size procedures → 1 ≤ length procedures → length procedures ≤ 256 → AreProcedures places (places_from 0 procedures)
+pub are_procedures : (places : ℕ) (procedures : List Flow) → places ≡ whole_size procedures → 1 ≤ length procedures
+    → length procedures ≤ 256 → AreProcedures places (places_from 0 procedures)
 are_procedures places procedures long some few = record {
   some = omega (arith, some, places_long 0 procedures);
   most = omega (arith, few, places_long 0 procedures);

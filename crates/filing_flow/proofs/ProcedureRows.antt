@@ -49,13 +49,17 @@ doubled_steps : steps_by 0 doubled 0 ≡ 17
 doubled_steps = refl
 
 -- `stop` in a procedure ends the run, and `return` goes on after the call
-stopped : effect (called_by facts 1 (action End ∷ [])) facts (sequence (action (CallTo 1)) (action SetKept)) nothing_done [] ≡ EndsRun None nothing_done
+stopped : effect (called_by facts 1 (action End ∷ [])) facts (sequence (action (CallTo 1)) (action SetKept))
+    nothing_done [] ≡ EndsRun None nothing_done
 stopped = refl
 
-gone_on : effect (called_by facts 1 (sequence (leave 0) (action SetCancelled) ∷ [])) facts (block (sequence (action (CallTo 1)) (action SetKept))) nothing_done [] ≡ FallsThrough (record nothing_done { kept = true }) []
+gone_on : effect (called_by facts 1 (sequence (leave 0) (action SetCancelled) ∷ [])) facts
+    (block (sequence (action (CallTo 1)) (action SetKept))) nothing_done []
+    ≡ FallsThrough (record nothing_done { kept = true }) []
 gone_on = refl
 
-failed : effect (called_by facts 1 (action (Fail RecursiveInclude) ∷ [])) facts (action (CallTo 1)) nothing_done [] ≡ EndsRun (Some RecursiveInclude) nothing_done
+failed : effect (called_by facts 1 (action (Fail RecursiveInclude) ∷ [])) facts (action (CallTo 1)) nothing_done []
+    ≡ EndsRun (Some RecursiveInclude) nothing_done
 failed = refl
 
 -- no procedure calls itself, or one before it
@@ -69,7 +73,8 @@ not_there : effect (called_by facts 0 (action (CallTo 2) ∷ action SetKept ∷ 
 not_there = refl
 
 -- the stack must be empty at a call and at a return
-call_with_an_entry : effect (called_by facts 1 (action SetKept ∷ [])) facts (sequence (action (Push true)) (action (CallTo 1))) nothing_done [] ≡ Stuck
+call_with_an_entry : effect (called_by facts 1 (action SetKept ∷ [])) facts
+    (sequence (action (Push true)) (action (CallTo 1))) nothing_done [] ≡ Stuck
 call_with_an_entry = refl
 
 return_with_an_entry : effect (called_by facts 1 (action (Push true) ∷ [])) facts (action (CallTo 1)) nothing_done [] ≡ Stuck

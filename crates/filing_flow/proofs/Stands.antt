@@ -2,7 +2,9 @@
 use Rattle.std.proofs.Common.{◌≡◌, ℕ, ◌+◌, ◌≤◌, List, ◌∷◌, true, false, Some, arith}
 use Rattle.std.specs.Prelude.{slice_get}
 use Rattle.filing_image.specs.declared.instruction.Operation.{Operation}
-use Rattle.filing_flow.specs.Structure.{Action, Push, Negate, ValuesOf, JoinTwo, MatchKey, Drop, HasField, PushSize, PushNumber, IsLess, IsMarked, SetMark, FileInto, SetKept, SetCancelled, End, Fail, CallTo, Flow, nothing, action, sequence, block, leave, leave_if, size}
+use Rattle.filing_flow.specs.Structure.{Action, Push, Negate, ValuesOf, JoinTwo, MatchKey, Drop, HasField, PushSize}
+use Rattle.filing_flow.specs.Structure.{PushNumber, IsLess, IsMarked, SetMark, FileInto, SetKept, SetCancelled, End}
+use Rattle.filing_flow.specs.Structure.{Fail, CallTo, Flow, nothing, action, sequence, block, leave, leave_if, size}
 use Rattle.filing_flow.specs.Code.{Operands, IsWritten, Stands}
 
 -- what an operand names, it names there too
@@ -42,7 +44,8 @@ module _ (n m : Operands) (named : Named n m) where
   written_there (Fail fault) o w = w
   written_there (CallTo b) o w = w
 
-  pub stands_there : (os ps : List Operation) (low : ℕ) → SameFrom low os ps → (a : Flow) (ends : List ℕ) (place : ℕ) → low ≤ place → Stands n os a ends place → Stands m ps a ends place
+  pub stands_there : (os ps : List Operation) (low : ℕ) → SameFrom low os ps → (a : Flow) (ends : List ℕ) (place : ℕ)
+      → low ≤ place → Stands n os a ends place → Stands m ps a ends place
   stands_there os ps low same nothing ends place le h = tt
   stands_there os ps low same (action x) ends place le (o, at, w) = (o, same place o le at, written_there x o w)
   stands_there os ps low same (sequence a b) ends place le h =

@@ -1,5 +1,6 @@
 -- A program of structured code is well formed.
-use Rattle.std.proofs.Common.{◌≡◌, ℕ, zero, suc, ◌+◌, ◌<◌, ◌≤◌, ◌^◌, List, [], ◌∷◌, ◌++◌, length, Option, Some, refl, sym, ap, ◌∙◌, subst, arith, inl, inr, length-append, append_assoc, replicate, get_or}
+use Rattle.std.proofs.Common.{◌≡◌, ℕ, zero, suc, ◌+◌, ◌<◌, ◌≤◌, ◌^◌, List, [], ◌∷◌, ◌++◌, length, Option, Some, refl}
+use Rattle.std.proofs.Common.{sym, ap, ◌∙◌, subst, arith, inl, inr, length-append, append_assoc, replicate, get_or}
 use Rattle.std.specs.Prelude.{slice_get, slice_index_or, All}
 use Rattle.std.proofs.lemmas.Bool.{cases_lt}
 use Rattle.std.proofs.lemmas.List.Elements.{All-from_get_or}
@@ -33,10 +34,15 @@ pub shaped_from : (pre ks : List Shape) → ShapedAt (λ q. slice_index_or (pre 
 shaped_from pre [] = tt
 shaped_from pre (k ∷ ks) =
     let e : (pre ++ k ∷ []) ++ ks ≡ pre ++ k ∷ ks = append_assoc pre (k ∷ []) ks in
-    let n : length (pre ++ k ∷ []) ≡ length pre + 1 = length-append pre (k ∷ []) in
-    (get_or-append_seam pre k ks deep, subst (λ (m : ℕ). ShapedAt (λ q. slice_index_or (pre ++ k ∷ ks) q deep) m ks) n (subst (λ (l : List Shape). ShapedAt (λ q. slice_index_or l q deep) (length (pre ++ k ∷ [])) ks) e (shaped_from (pre ++ k ∷ []) ks)))
+    let n : length (pre ++ k ∷ []) ≡ length pre + 1 = length-append pre (k ∷ []) in (
+      get_or-append_seam pre k ks deep,
+      subst (λ (m : ℕ). ShapedAt (λ q. slice_index_or (pre ++ k ∷ ks) q deep) m ks) n (subst (λ (l : List Shape).
+          ShapedAt (λ q. slice_index_or l q deep) (length (pre ++ k ∷ [])) ks) e (shaped_from (pre ++ k ∷ []) ks)),
+    )
 
-module _ (p : Program) (a : Flow) (is : IsCodeOf p a) (d : HasType (block a) [] [] []) (ok : IsSound (without_procedures p.slots) a) (slots : p.slots ≤ 64) (enough : size a + 1 ≤ p.budget) (small : p.budget < 2 ^ 16) where
+module _ (p : Program) (a : Flow) (is : IsCodeOf p a) (d : HasType (block a) [] [] [])
+    (ok : IsSound (without_procedures p.slots) a) (slots : p.slots ≤ 64) (enough : size a + 1 ≤ p.budget)
+    (small : p.budget < 2 ^ 16) where
   table : List Shape
   table = shapes_of (block a) [] [] [] d ++ [] ∷ []
 
@@ -52,8 +58,10 @@ module _ (p : Program) (a : Flow) (is : IsCodeOf p a) (d : HasType (block a) [] 
   shaped =
       let sa = shapes_of (block a) [] [] [] d in
       let n : length sa ≡ size a = shapes_long (block a) [] [] [] d in
-      let end : slice_index_or (sa ++ [] ∷ []) (length sa) deep ≡ [] = get_or-append_seam sa [] [] deep in
-      (shaped_front (λ q. slice_index_or (sa ++ [] ∷ []) q deep) 0 sa ([] ∷ []) (shaped_from [] (sa ++ [] ∷ [])), subst (λ (k : ℕ). slice_index_or (sa ++ [] ∷ []) k deep ≡ []) n end)
+      let end : slice_index_or (sa ++ [] ∷ []) (length sa) deep ≡ [] = get_or-append_seam sa [] [] deep in (
+        shaped_front (λ q. slice_index_or (sa ++ [] ∷ []) q deep) 0 sa ([] ∷ []) (shaped_from [] (sa ++ [] ∷ [])),
+        subst (λ (k : ℕ). slice_index_or (sa ++ [] ∷ []) k deep ≡ []) n end,
+      )
 
   code_long : length p.code ≡ size a + 1
   code_long = is.long
@@ -65,13 +73,20 @@ module _ (p : Program) (a : Flow) (is : IsCodeOf p a) (d : HasType (block a) [] 
   no_call b q less first = absurd (omega (arith, slice_get_within (first_places p) b q first, no_first))
 
   end_fine : FineAt p σ (size a) Stop
-  end_fine = record { result = []; finds = ap (shapes.after Stop) shaped.1; shallow = rw (shaped.1) (omega arith); shallow_after = omega arith; goes = λ q f. elim f [ inl (g, at) ↦ absurd (cc g) | inr to ↦ absurd (cc to) ] }
+  end_fine = record {
+    result = [];
+    finds = ap (shapes.after Stop) shaped.1;
+    shallow = rw (shaped.1) (omega arith);
+    shallow_after = omega arith;
+    goes = λ q f. elim f [ inl (g, at) ↦ absurd (cc g) | inr to ↦ absurd (cc to) ];
+  }
 
   fine : (q : ℕ) (o : Operation) → slice_get p.code q ≡ Some o → FineAt p σ q o
   fine q o at =
       let inside : q < size a + 1 = omega (arith, slice_get_within p.code q o at, code_long) in
       let z : 0 + size a ≡ size a = omega arith in
-      let front = flow_fine p σ (without_procedures p.slots) (size a) no_call (block a) [] 0 [] [] [] d ok (omega arith) is.stands.0 shaped.0 (rw z shaped.1) (λ n k e. absurd (cc e)) in
+      let front = flow_fine p σ (without_procedures p.slots) (size a) no_call (block a) [] 0 [] [] [] d ok (omega arith)
+      is.stands.0 shaped.0 (rw z shaped.1) (λ n k e. absurd (cc e)) in
       elim (cases_lt q (size a)) [
         | inl lt ↦ front q o (omega arith) (omega (arith, lt)) at
         | inr le ↦
@@ -95,7 +110,8 @@ module _ (p : Program) (a : Flow) (is : IsCodeOf p a) (d : HasType (block a) [] 
   each_in_range : (q : ℕ) (o : Operation) → slice_get p.code q ≡ Some o → InRange p o
   each_in_range q o at =
       let inside : q < size a + 1 = omega (arith, slice_get_within p.code q o at, code_long) in
-      let front = flow_within p (without_procedures p.slots) refl (omega arith) (size a) (omega (arith, code_long)) (block a) [] 0 [] [] [] d ok is.stands.0 (omega arith) (λ n k e. absurd (cc e)) in
+      let front = flow_within p (without_procedures p.slots) refl (omega arith) (size a) (omega (arith, code_long))
+      (block a) [] 0 [] [] [] d ok is.stands.0 (omega arith) (λ n k e. absurd (cc e)) in
       elim (cases_lt q (size a)) [
         | inl lt ↦ (front q o (omega arith) (omega (arith, lt)) at).in_range
         | inr le ↦
@@ -140,7 +156,14 @@ module _ (p : Program) (a : Flow) (is : IsCodeOf p a) (d : HasType (block a) [] 
       σ,
       record {
         start = starts_empty;
-        each = λ q o reached at. let f = fine q o at in record { result = f.result; finds = f.finds; shallow = f.shallow; shallow_after = f.shallow_after; passed_on = λ r follows lt. (f.goes r follows).1 };
+        each = λ q o reached at. let f = fine q o at in record {
+          result = f.result;
+          finds = f.finds;
+          shallow =
+              f.shallow;
+          shallow_after = f.shallow_after;
+          passed_on = λ r follows lt. (f.goes r follows).1;
+        };
       },
     );
     inside = record {

@@ -1,5 +1,6 @@
 -- A program of procedures is well formed.
-use Rattle.std.proofs.Common.{◌≡◌, ℕ, suc, ◌+◌, ◌<◌, ◌≤◌, Bool, true, false, leb, List, [], ◌∷◌, ◌++◌, length, get_or, Option, Some, refl, sym, ap, ◌∙◌, subst, arith, inl, inr}
+use Rattle.std.proofs.Common.{◌≡◌, ℕ, suc, ◌+◌, ◌<◌, ◌≤◌, Bool, true, false, leb, List, [], ◌∷◌, ◌++◌, length, get_or}
+use Rattle.std.proofs.Common.{Option, Some, refl, sym, ap, ◌∙◌, subst, arith, inl, inr}
 use Rattle.std.specs.Prelude.{slice_get, slice_index_or, nat_eq, All}
 use Rattle.std.specs.List.{count_by}
 use Rattle.std.proofs.lemmas.Bool.{cases_lt}
@@ -37,18 +38,23 @@ module _ (p : Program) (σ : ℕ → Shape) (count : ℕ) where
     pub end : σ (place + size a) ≡ []
     pub rest : ShapedAt σ (place + size a + 1) (all_shapes later typed.1)
 
-  shaped : (place : ℕ) (a : Flow) (later : List Flow) (typed : AreTyped (a ∷ later)) → ShapedAt σ place (all_shapes (a ∷ later) typed) → Shaped place a later typed
+  shaped : (place : ℕ) (a : Flow) (later : List Flow) (typed : AreTyped (a ∷ later))
+      → ShapedAt σ place (all_shapes (a ∷ later) typed) → Shaped place a later typed
   shaped place a later typed h =
       let sa = shapes_of (block a) [] [] [] typed.0 in
       let e : place + length sa ≡ place + size a = omega (arith, shapes_long (block a) [] [] [] typed.0) in
-      let back : ShapedAt σ (place + size a) ([] ∷ all_shapes later typed.1) = subst (λ (n : ℕ). ShapedAt σ n ([] ∷ all_shapes later typed.1)) e (shaped_back σ place sa ([] ∷ all_shapes later typed.1) h) in
+      let back : ShapedAt σ (place + size a) ([] ∷ all_shapes later typed.1) =
+      subst (λ (n : ℕ). ShapedAt σ n ([] ∷ all_shapes later typed.1)) e
+      (shaped_back σ place sa ([] ∷ all_shapes later typed.1) h) in
       record { own = shaped_front σ place sa ([] ∷ all_shapes later typed.1) h; end = back.0; rest = back.1 }
 
   -- calls enter procedures from here on with the empty shape
   abbrev Entered : (from place : ℕ) → Type 0
   Entered from place = (b q : ℕ) → from ≤ b → first_place p b ≡ Some q → (place ≤ q) × (σ q ≡ [])
 
-  one_entered : (a : Flow) (later : List Flow) (from place : ℕ) (typed : AreTyped (a ∷ later)) → RestOf p count from place (a ∷ later) → Shaped place a later typed → Entered (suc from) (place + size a + 1) → Entered from place
+  one_entered : (a : Flow) (later : List Flow) (from place : ℕ) (typed : AreTyped (a ∷ later))
+      → RestOf p count from place (a ∷ later) → Shaped place a later typed → Entered (suc from) (place + size a + 1)
+      → Entered from place
   one_entered a later from place typed rest h after b q le first = go (nat_eq b from) refl
     where
       go : (t : Bool) → nat_eq b from ≡ t → (place ≤ q) × (σ q ≡ [])
@@ -58,11 +64,13 @@ module _ (p : Program) (σ : ℕ → Shape) (count : ℕ) where
           (omega (arith, same), subst (λ (n : ℕ). σ n ≡ []) same (starts p σ (block a) [] [] [] typed.0 place h.own h.end))
       go false e = let x = after b q ((first_or_later p count from place a later rest b le).1 e) first in (omega (arith, x.0), x.1)
 
-  all_entered : (procedures : List Flow) (from place : ℕ) (typed : AreTyped procedures) → RestOf p count from place procedures → ShapedAt σ place (all_shapes procedures typed) → Entered from place
+  all_entered : (procedures : List Flow) (from place : ℕ) (typed : AreTyped procedures)
+      → RestOf p count from place procedures → ShapedAt σ place (all_shapes procedures typed) → Entered from place
   all_entered [] from place typed rest h = λ b q le first. absurd (none_after p count from place b q rest le first)
   all_entered (a ∷ later) from place typed rest h =
       let s = shaped place a later typed h in
-      one_entered a later from place typed rest s (all_entered later (suc from) (place + size a + 1) typed.1 (after_it p count from place a later rest) s.rest)
+      one_entered a later from place typed rest s (all_entered later (suc from) (place + size a + 1) typed.1
+      (after_it p count from place a later rest) s.rest)
 
   -- PLACES
 
@@ -80,13 +88,22 @@ module _ (p : Program) (σ : ℕ → Shape) (count : ℕ) where
     pub goes : (o : Operation) → slice_get p.code q ≡ Some o → goes_on o ≡ true → q < last
 
   return_fine : (q : ℕ) → σ q ≡ [] → FineAt p σ q Return
-  return_fine q here = record { result = []; finds = ap (shapes.after Return) here; shallow = rw here (omega arith); shallow_after = omega arith; goes = λ r f. elim f [ inl (g, at) ↦ absurd (cc g) | inr to ↦ absurd (cc to) ] }
+  return_fine q here = record {
+    result = [];
+    finds = ap (shapes.after Return) here;
+    shallow = rw here (omega arith);
+    shallow_after = omega arith;
+    goes = λ r f. elim f [ inl (g, at) ↦ absurd (cc g) | inr to ↦ absurd (cc to) ];
+  }
 
   -- the procedures from here on are counted
   abbrev Counted : (from place : ℕ) → List Flow → Type 0
   Counted from place procedures = (r : ℕ) → place ≤ r → count_by (λ f. leb f r) (first_places p) ≡ from + begun r (places_from place procedures)
 
-  module _ (known : count ≤ length (first_places p)) (there : 0 < count) (a : Flow) (later : List Flow) (from place : ℕ) (typed : AreTyped (a ∷ later)) (rest : RestOf p count from place (a ∷ later)) (h : Shaped place a later typed) (after : Entered (suc from) (place + size a + 1)) (counted : Counted from place (a ∷ later)) (inside : place + size a < length p.code) where
+  module _ (known : count ≤ length (first_places p)) (there : 0 < count) (a : Flow) (later : List Flow) (from place : ℕ)
+      (typed : AreTyped (a ∷ later)) (rest : RestOf p count from place (a ∷ later)) (h : Shaped place a later typed)
+      (after : Entered (suc from) (place + size a + 1)) (counted : Counted from place (a ∷ later))
+      (inside : place + size a < length p.code) where
     bounds : Bounds
     bounds = record { slots = p.slots; own = from; procedures = count }
 
@@ -106,8 +123,12 @@ module _ (p : Program) (σ : ℕ → Shape) (count : ℕ) where
       low = low;
       inside = inside;
       same = in_it;
-      fine = λ o at. flow_fine p σ bounds (place + size a + 1) after (block a) [] place [] [] [] typed.0 rest.sound.0 (omega arith) rest.stand.0 h.own h.end (λ n k e. absurd (cc e)) q o low high at;
-      within = λ o at. flow_within p bounds refl known (place + size a) inside (block a) [] place [] [] [] typed.0 rest.sound.0 rest.stand.0 (omega arith) (λ n k e. absurd (cc e)) q o low high at;
+      fine = λ o at.
+          flow_fine p σ bounds (place + size a + 1) after (block a) [] place [] [] [] typed.0 rest.sound.0 (omega arith)
+          rest.stand.0 h.own h.end (λ n k e. absurd (cc e)) q o low high at;
+      within = λ o at.
+          flow_within p bounds refl known (place + size a) inside (block a) [] place [] [] [] typed.0 rest.sound.0
+          rest.stand.0 (omega arith) (λ n k e. absurd (cc e)) q o low high at;
       goes = λ o at g. high;
     }
 
@@ -120,7 +141,13 @@ module _ (p : Program) (σ : ℕ → Shape) (count : ℕ) where
       inside = inside;
       same = in_it;
       fine = λ o at. subst (λ (x : Operation). FineAt p σ (place + size a) x) (is o at) (return_fine (place + size a) h.end);
-      within = λ o at. subst (λ (x : Operation). Within p from (place + size a) x) (is o at) (record { in_range = omega (arith, there, known); jumps = λ r to. absurd cc; calls = λ b e. absurd cc });
+      within = λ o at.
+          subst (λ (x : Operation). Within p from (place + size a) x) (is o at) (record {
+            in_range =
+                omega (arith, there, known);
+            jumps = λ r to. absurd cc;
+            calls = λ b e. absurd cc;
+          });
       goes = λ o at g. absurd (cc (is o at, g));
     }
       where
@@ -133,14 +160,19 @@ module _ (p : Program) (σ : ℕ → Shape) (count : ℕ) where
       | inr le ↦ let e : place + size a ≡ q = omega (arith, high, le) in subst PlaceIn e last_one
     ]
 
-  place_in : count ≤ length (first_places p) → 0 < count → (procedures : List Flow) (from place : ℕ) (typed : AreTyped procedures) → RestOf p count from place procedures → ShapedAt σ place (all_shapes procedures typed) → Counted from place procedures → place + whole_size procedures ≤ length p.code
+  place_in : count ≤ length (first_places p) → 0 < count
+      → (procedures : List Flow) (from place : ℕ) (typed : AreTyped procedures) → RestOf p count from place procedures
+      → ShapedAt σ place (all_shapes procedures typed) → Counted from place procedures
+      → place + whole_size procedures ≤ length p.code
       → (q : ℕ) → place ≤ q → q < place + whole_size procedures → PlaceIn q
   place_in known there [] from place typed rest h counted inside = λ q low high. absurd (omega (arith, low, high))
   place_in known there (a ∷ later) from place typed rest h counted inside =
       let s = shaped place a later typed h in
       let next = after_it p count from place a later rest in
       let entered = all_entered later (suc from) (place + size a + 1) typed.1 next s.rest in
-      let counted' : Counted (suc from) (place + size a + 1) later = λ r le. let b = begun_first r place a later (omega (arith, le)) in let c = counted r (omega (arith, le)) in omega (arith, b, c) in
+      let counted' : Counted (suc from) (place + size a + 1) later = λ r le. let b =
+      begun_first r place a later (omega (arith, le)) in let c = counted r (omega (arith, le)) in
+      omega (arith, b, c) in
       let tail = place_in known there later (suc from) (place + size a + 1) typed.1 next s.rest counted' (omega (arith, inside)) in
       λ q low high. elim (cases_lt q (place + size a + 1)) [
         | inl lt ↦ in_one known there a later from place typed rest s entered counted (omega (arith, inside)) q low lt
@@ -149,7 +181,9 @@ module _ (p : Program) (σ : ℕ → Shape) (count : ℕ) where
 
 -- THE PROGRAM
 
-module _ (p : Program) (procedures : List Flow) (are : AreProceduresOf p procedures) (typed : AreTyped procedures) (sound : AreSound p.slots (length procedures) 0 procedures) (slots : p.slots ≤ 64) (some : 1 ≤ length procedures) (few : length procedures ≤ 256) (enough : steps_by 0 procedures 0 ≤ p.budget) (small : p.budget ≤ 1000000) where
+module _ (p : Program) (procedures : List Flow) (are : AreProceduresOf p procedures) (typed : AreTyped procedures)
+    (sound : AreSound p.slots (length procedures) 0 procedures) (slots : p.slots ≤ 64) (some : 1 ≤ length procedures)
+    (few : length procedures ≤ 256) (enough : steps_by 0 procedures 0 ≤ p.budget) (small : p.budget ≤ 1000000) where
   count : ℕ
   count = length procedures
 
@@ -180,13 +214,15 @@ module _ (p : Program) (procedures : List Flow) (are : AreProceduresOf p procedu
 
   place : (q : ℕ) (o : Operation) → slice_get p.code q ≡ Some o → PlaceIn p σ count q
   place q o at =
-      place_in p σ count known some_count procedures 0 0 typed rest all_shaped counted (omega (arith, are.long)) q (omega arith) (omega (arith, are.long, slice_get_within p.code q o at))
+      place_in p σ count known some_count procedures 0 0 typed rest all_shaped counted (omega (arith, are.long)) q
+      (omega arith) (omega (arith, are.long, slice_get_within p.code q o at))
 
   fine : (q : ℕ) (o : Operation) → slice_get p.code q ≡ Some o → FineAt p σ q o
   fine q o at = (place q o at).fine o at
 
   in_range : All (InRange p) p.code
-  in_range = All-from_get_or (InRange p) p.code Stop (λ q lt. let at = slice_get-get_or p.code q Stop lt in ((place q (get_or p.code q Stop) at).within (get_or p.code q Stop) at).in_range)
+  in_range = All-from_get_or (InRange p) p.code Stop (λ q lt. let at = slice_get-get_or p.code q Stop lt in
+      ((place q (get_or p.code q Stop) at).within (get_or p.code q Stop) at).in_range)
 
   ranges : AreInRange p
   ranges = record {
@@ -251,7 +287,14 @@ module _ (p : Program) (procedures : List Flow) (are : AreProceduresOf p procedu
       σ,
       record {
         start = (all_entered p σ count procedures 0 0 typed rest all_shaped 0 0 (omega arith) begins).1;
-        each = λ q o reached at. let f = fine q o at in record { result = f.result; finds = f.finds; shallow = f.shallow; shallow_after = f.shallow_after; passed_on = λ r follows lt. (f.goes r follows).1 };
+        each = λ q o reached at. let f = fine q o at in record {
+          result = f.result;
+          finds = f.finds;
+          shallow =
+              f.shallow;
+          shallow_after = f.shallow_after;
+          passed_on = λ r follows lt. (f.goes r follows).1;
+        };
       },
     );
     inside = record { some = some_places; inside = stays p ranges never_on };

@@ -25,4 +25,5 @@ module _ (a : Flow) (own slot : ℕ) (call : Call) (once : Bool) (j : Inclusion)
   once_code marked = entered ∙ ap (λ (b : Bool). once_flow b slot (code_of_call own slot call)) marked
 
   pub once_long : once ≡ true → size a ≡ size (code_of_call own slot call) + 2
-  once_long marked = let e : size a ≡ size (once_flow true slot (code_of_call own slot call)) = ap (λ (b : Flow). size b) (once_code marked) in omega (arith, e)
+  once_long marked = let e : size a ≡ size (once_flow true slot (code_of_call own slot call)) =
+      ap (λ (b : Flow). size b) (once_code marked) in omega (arith, e)

@@ -1,5 +1,6 @@
 -- The code of tests, from the parts that were added.
-use Rattle.std.proofs.Common.{◌≡◌, ℕ, ◌+◌, ◌<◌, ◌≤◌, List, [], ◌∷◌, length, map, Bool, true, false, ◌||◌, cond, refl, sym, ap, ◌∙◌, subst, arith, drop, get_or, codes, Box, Vec, Global}
+use Rattle.std.proofs.Common.{◌≡◌, ℕ, ◌+◌, ◌<◌, ◌≤◌, List, [], ◌∷◌, length, map, Bool, true, false, ◌||◌, cond, refl}
+use Rattle.std.proofs.Common.{sym, ap, ◌∙◌, subst, arith, drop, get_or, codes, Box, Vec, Global}
 use Rattle.std.specs.List.{list_any}
 use Rattle.filing_image.specs.declared.instruction.Operation.TheVariants.{Join, Jump}
 use Rattle.filing_verify.specs.declared.kind.Kind.TheVariants.{Texts}
@@ -16,8 +17,10 @@ use Rattle.sieve_meaning.specs.declared.words.TestWord.{TestWord}
 use Rattle.sieve_meaning.specs.Words.{test_word}
 use Rattle.sieve_meaning.specs.declared.matching.Comparator.{Comparator}
 use Rattle.sieve_meaning.specs.declared.matching.MatchType.{MatchType}
-use Rattle.sieve_meaning.specs.Reading.{test_named, test_in, only_in, tests_in, row_in, string_lists, exists_of, header_of, has_tag, number_in, size_of}
-use Rattle.filing_flow.specs.Structure.{Flow, nothing, action, sequence, block, leave, leave_if, size, HasField, MatchKey, ValuesOf, JoinTwo, Push, PushNumber, PushSize, IsLess, Drop}
+use Rattle.sieve_meaning.specs.Reading.{test_named, test_in, only_in, tests_in, row_in, string_lists, exists_of}
+use Rattle.sieve_meaning.specs.Reading.{header_of, has_tag, number_in, size_of}
+use Rattle.filing_flow.specs.Structure.{Flow, nothing, action, sequence, block, leave, leave_if, size, HasField}
+use Rattle.filing_flow.specs.Structure.{MatchKey, ValuesOf, JoinTwo, Push, PushNumber, PushSize, IsLess, Drop}
 use Rattle.filing_flow.specs.Code.{end_at}
 use Rattle.filing_flow.specs.Types.{Shape, HasType}
 use Rattle.sieve_meaning.specs.Words.{same_word}
@@ -30,12 +33,18 @@ use Rattle.filing_gen.specs.Ends.{no_place, IsEnded}
 use Rattle.filing_gen.proofs.Names.{or_nothing, AreAsked, apart_from, once_turn, others_apart}
 use Rattle.filing_gen.proofs.EndedBlocks.{jumps_ended}
 use Rattle.filing_gen.proofs.Types.{keys_typed}
-use Rattle.filing_gen.proofs.Emitted.{emits_sequence, emits_assoc, emits_block, emits_nothing, action_emitted, leave_emitted, grows, Leads, leads_first, leads_more, leads_both, leads_last, turn, no_turn, To, Anywhere}
+use Rattle.filing_gen.proofs.Emitted.{emits_sequence, emits_assoc, emits_block, emits_nothing, action_emitted}
+use Rattle.filing_gen.proofs.Emitted.{leave_emitted, grows, Leads, leads_first, leads_more, leads_both, leads_last}
+use Rattle.filing_gen.proofs.Emitted.{turn, no_turn, To, Anywhere}
 
-pub flow-over : (args : List Argument) (n : ℕ) (longer : Bool) → longer ≡ has_tag (codes "over") args → longer ≡ true → n ≡ number_in args → sequence (action (PushNumber n)) (sequence (action PushSize) (action IsLess)) ≡ test_flow (size_of (has_tag (codes "over") args) (number_in args))
+pub flow-over : (args : List Argument) (n : ℕ) (longer : Bool) → longer ≡ has_tag (codes "over") args → longer ≡ true
+    → n ≡ number_in args → sequence (action (PushNumber n)) (sequence (action PushSize) (action IsLess))
+    ≡ test_flow (size_of (has_tag (codes "over") args) (number_in args))
 flow-over args n longer tagged is number = rw (← tagged, is, number) refl
 
-pub flow-under : (args : List Argument) (n : ℕ) (longer : Bool) → longer ≡ has_tag (codes "over") args → longer ≡ false → n ≡ number_in args → sequence (action PushSize) (sequence (action (PushNumber n)) (action IsLess)) ≡ test_flow (size_of (has_tag (codes "over") args) (number_in args))
+pub flow-under : (args : List Argument) (n : ℕ) (longer : Bool) → longer ≡ has_tag (codes "over") args → longer ≡ false
+    → n ≡ number_in args → sequence (action PushSize) (sequence (action (PushNumber n)) (action IsLess))
+    ≡ test_flow (size_of (has_tag (codes "over") args) (number_in args))
 flow-under args n longer tagged is number = rw (← tagged, is, number) refl
 
 -- LISTS OF TESTS
@@ -53,7 +62,9 @@ pub flow-listed : (b : Bool) (t : TestTree) (ts : List TestTree) → tests_flow 
 flow-listed b t ts = ap (λ (a : Flow). sequence (test_flow (test_in t)) (sequence (leave_if b 0) a)) (flow-row b ts)
 
 -- a test outside parentheses
-pub flow-one : (b : Box Test Global) (stop : Bool) → tests_flow stop (tests_in (inner_of (One b))) ≡ sequence (test_flow (test_in (test_of b.value))) (sequence (leave_if stop 0) nothing)
+pub flow-one : (b : Box Test Global) (stop : Bool)
+    → tests_flow stop (tests_in (inner_of (One b)))
+    ≡ sequence (test_flow (test_in (test_of b.value))) (sequence (leave_if stop 0) nothing)
 flow-one b stop = rw (inner_of-One b) refl
 
 -- TURNS OF LOOPS
@@ -63,7 +74,8 @@ abbrev pub Unknown : List ℕ → Type 0
 Unknown = To no_place
 
 -- The names so far, and what is left to be written.
-pub record Asked (old now : Output) (lowercase : List (Vec ℕ Global)) (rest : List (List ℕ)) (flow_of : List (List ℕ) → Flow) (whole : Flow) (Ends : List ℕ → Type 0) : Type 0 where
+pub record Asked (old now : Output) (lowercase : List (Vec ℕ Global)) (rest : List (List ℕ)) (flow_of : List (List ℕ)
+    → Flow) (whole : Flow) (Ends : List ℕ → Type 0) : Type 0 where
   pub seen : List (List ℕ)
   pub asked : AreAsked lowercase seen
   pub leads : Leads old now (flow_of (apart_from seen (each_once rest))) whole Ends
@@ -74,101 +86,168 @@ pub asked_first : (o : Output) (one : List (Vec ℕ Global)) (n : List ℕ) (ns 
 asked_first o one n ns flow_of Ends names = record {
   seen = n ∷ [];
   asked = λ m. names m ∙ sym (or_nothing (same_word n m));
-  leads = subst (λ (l : List (List ℕ)). Leads o o (flow_of l) (flow_of (others_once n ns)) Ends) (sym (others_apart n ns)) (leads_first o (flow_of (others_once n ns)) Ends);
+  leads = subst (λ (l : List (List ℕ)). Leads o o (flow_of l) (flow_of (others_once n ns)) Ends)
+      (sym (others_apart n ns)) (leads_first o (flow_of (others_once n ns)) Ends);
 }
 
-module _ (old now : Output) (before after : List (Vec ℕ Global)) (xs : List (List ℕ)) (i : ℕ) (x : List ℕ) (lt : i < length xs) (is : x ≡ get_or xs i x) (name : List ℕ) (named : name ≡ x) (flow_of : List (List ℕ) → Flow) (whole : Flow) (Ends : List ℕ → Type 0)
-    (names : (m : List ℕ) → has_name after m ≡ (same_word name m || has_name before m)) (h : Asked old now before (drop i xs) flow_of whole Ends) where
+module _ (old now : Output) (before after : List (Vec ℕ Global)) (xs : List (List ℕ)) (i : ℕ) (x : List ℕ)
+    (lt : i < length xs) (is : x ≡ get_or xs i x) (name : List ℕ) (named : name ≡ x) (flow_of : List (List ℕ)
+    → Flow) (whole : Flow) (Ends : List ℕ → Type 0)
+    (names : (m : List ℕ)
+    → has_name after m ≡ (same_word name m || has_name before m))
+    (h : Asked old now before (drop i xs) flow_of whole Ends) where
   asked_more : AreAsked after (x ∷ h.seen)
   asked_more m = names m ∙ ap (λ n. same_word n m || has_name before m) named ∙ ap (λ b. same_word x m || b) (h.asked m)
 
-  rest_is : (b : Bool) → has_name before name ≡ b → apart_from h.seen (each_once (drop i xs)) ≡ cond b (apart_from (x ∷ h.seen) (each_once (drop (i + 1) xs))) (x ∷ apart_from (x ∷ h.seen) (each_once (drop (i + 1) xs)))
+  rest_is : (b : Bool) → has_name before name ≡ b
+      → apart_from h.seen (each_once (drop i xs)) ≡ cond b (apart_from (x ∷ h.seen) (each_once (drop (i + 1) xs))) (x
+      ∷ apart_from (x ∷ h.seen) (each_once (drop (i + 1) xs)))
   rest_is b e =
       let there : list_any (λ k. same_word k x) h.seen ≡ b = sym (h.asked x) ∙ ap (has_name before) (sym named) ∙ e in
       ap (λ l. apart_from h.seen (each_once l)) (turn xs i x is lt) ∙ once_turn h.seen x (drop (i + 1) xs) b there
 
   -- a name that is among those before
   pub asked_before : has_name before name ≡ true → Asked old now after (drop (i + 1) xs) flow_of whole Ends
-  asked_before e = record { seen = x ∷ h.seen; asked = asked_more; leads = subst (λ (l : List (List ℕ)). Leads old now (flow_of l) whole Ends) (rest_is true e) h.leads }
+  asked_before e = record {
+    seen = x ∷ h.seen;
+    asked = asked_more;
+    leads =
+        subst (λ (l : List (List ℕ)). Leads old now (flow_of l) whole Ends) (rest_is true e) h.leads;
+  }
 
   -- a new name, and its code
   pub asked_now : has_name before name ≡ false → (new : Output)
-      → (Leads old now (flow_of (name ∷ apart_from (x ∷ h.seen) (each_once (drop (i + 1) xs)))) whole Ends → Leads old new (flow_of (apart_from (x ∷ h.seen) (each_once (drop (i + 1) xs)))) whole Ends)
+      → (Leads old now (flow_of (name ∷ apart_from (x ∷ h.seen) (each_once (drop (i + 1) xs)))) whole Ends
+      → Leads old new (flow_of (apart_from (x ∷ h.seen) (each_once (drop (i + 1) xs)))) whole Ends)
       → Asked old new after (drop (i + 1) xs) flow_of whole Ends
   asked_now e new go = record {
     seen = x ∷ h.seen;
     asked = asked_more;
-    leads = go (subst (λ (l : List (List ℕ)). Leads old now (flow_of l) whole Ends) (rest_is false e ∙ ap (λ n. n ∷ apart_from (x ∷ h.seen) (each_once (drop (i + 1) xs))) (sym named)) h.leads);
+    leads = go (subst (λ (l : List (List ℕ)). Leads old now (flow_of l) whole Ends) (rest_is false e
+        ∙ ap (λ n. n ∷ apart_from (x ∷ h.seen) (each_once (drop (i + 1) xs))) (sym named)) h.leads);
   }
 
   -- the room for a new name and the others
-  pub asked_room : has_name before name ≡ false → HasRoom old (size whole) → HasRoom now (size (flow_of (name ∷ apart_from (x ∷ h.seen) (each_once (drop (i + 1) xs)))))
+  pub asked_room : has_name before name ≡ false → HasRoom old (size whole)
+      → HasRoom now (size (flow_of (name ∷ apart_from (x ∷ h.seen) (each_once (drop (i + 1) xs)))))
   asked_room e room =
-      let same : size (flow_of (apart_from h.seen (each_once (drop i xs)))) ≡ size (flow_of (name ∷ apart_from (x ∷ h.seen) (each_once (drop (i + 1) xs)))) =
+      let same : size (flow_of (apart_from h.seen (each_once (drop i xs))))
+      ≡ size (flow_of (name ∷ apart_from (x ∷ h.seen) (each_once (drop (i + 1) xs)))) =
       ap (λ l. size (flow_of l)) (rest_is false e ∙ ap (λ n. n ∷ apart_from (x ∷ h.seen) (each_once (drop (i + 1) xs))) (sym named)) in
       (omega (arith, room.0, h.leads.code, same), omega (arith, room.1, h.leads.texts, same), omega (arith, room.2, h.leads.numbers, same))
 
-pub asked_last : (old now : Output) (lowercase : List (Vec ℕ Global)) (xs : List (List ℕ)) (i : ℕ) (flow_of : List (List ℕ) → Flow) (whole : Flow) (Ends : List ℕ → Type 0) → flow_of [] ≡ nothing → length xs ≤ i → Asked old now lowercase (drop i xs) flow_of whole Ends → (ends : List ℕ) → Ends ends → Emits old now whole ends
+pub asked_last : (old now : Output) (lowercase : List (Vec ℕ Global)) (xs : List (List ℕ)) (i : ℕ)
+    (flow_of : List (List ℕ) → Flow) (whole : Flow) (Ends : List ℕ → Type 0) → flow_of [] ≡ nothing → length xs ≤ i
+    → Asked old now lowercase (drop i xs) flow_of whole Ends → (ends : List ℕ) → Ends ends → Emits old now whole ends
 asked_last old now lowercase xs i flow_of whole Ends none le h ends there =
-    leads_last old now whole (flow_of (apart_from h.seen (each_once (drop i xs)))) Ends h.leads (ap (λ l. flow_of (apart_from h.seen (each_once l))) (no_turn xs i le) ∙ none) ends there
+    leads_last old now whole (flow_of (apart_from h.seen (each_once (drop i xs)))) Ends h.leads (ap (λ l.
+    flow_of (apart_from h.seen (each_once l))) (no_turn xs i le) ∙ none) ends there
 
-pub name_leads : (old now new : Output) (n : List ℕ) (ns : List (List ℕ)) (whole : Flow) → ((ends : List ℕ) → end_at ends 0 ≡ no_place → Emits now new (sequence (action (HasField n)) (leave_if false 0)) ends) → Leads old now (names_flow (n ∷ ns)) whole Unknown → Leads old new (names_flow ns) whole Unknown
-name_leads old now new n ns whole e h = leads_both old now new (action (HasField n)) (leave_if false 0) (names_flow ns) (names_flow (n ∷ ns)) whole Unknown (no_place ∷ []) refl h refl e
+pub name_leads : (old now new : Output) (n : List ℕ) (ns : List (List ℕ)) (whole : Flow)
+    → ((ends : List ℕ) → end_at ends 0 ≡ no_place
+    → Emits now new (sequence (action (HasField n)) (leave_if false 0)) ends)
+    → Leads old now (names_flow (n ∷ ns)) whole Unknown → Leads old new (names_flow ns) whole Unknown
+name_leads old now new n ns whole e h =
+    leads_both old now new (action (HasField n)) (leave_if false 0) (names_flow ns) (names_flow (n ∷ ns)) whole Unknown
+    (no_place ∷ []) refl h refl e
 
-pub value_leads : (old now mid new : Output) (n : List ℕ) (ns : List (List ℕ)) (whole : Flow) → ((ends : List ℕ) → Emits now mid (action (ValuesOf n)) ends) → Puts mid new Join → Leads old now (values_flow (n ∷ ns)) whole Anywhere → Leads old new (values_flow ns) whole Anywhere
+pub value_leads : (old now mid new : Output) (n : List ℕ) (ns : List (List ℕ)) (whole : Flow)
+    → ((ends : List ℕ) → Emits now mid (action (ValuesOf n)) ends) → Puts mid new Join
+    → Leads old now (values_flow (n ∷ ns)) whole Anywhere → Leads old new (values_flow ns) whole Anywhere
 value_leads old now mid new n ns whole e j h =
-    let one = leads_more old now mid (action (ValuesOf n)) (sequence (action JoinTwo) (values_flow ns)) (values_flow (n ∷ ns)) whole Anywhere [] tt h refl (λ ends there. e ends) in
-    leads_more old mid new (action JoinTwo) (values_flow ns) (sequence (action JoinTwo) (values_flow ns)) whole Anywhere [] tt one refl (λ ends there. action_emitted mid new Join JoinTwo j refl ends)
+    let one = leads_more old now mid (action (ValuesOf n)) (sequence (action JoinTwo) (values_flow ns))
+    (values_flow (n ∷ ns)) whole Anywhere [] tt h refl (λ ends there. e ends) in
+    leads_more old mid new (action JoinTwo) (values_flow ns) (sequence (action JoinTwo) (values_flow ns)) whole Anywhere
+    [] tt one refl (λ ends there. action_emitted mid new Join JoinTwo j refl ends)
 
-pub keys_turn : (old now new : Output) (xs : List (List ℕ)) (i : ℕ) (x : List ℕ) → i < length xs → x ≡ get_or xs i x → (whole : Flow) (key : List ℕ) → key ≡ x → (m : ℕ) → Leads old now (keys_flow m (drop i xs)) whole Unknown
-    → ((ends : List ℕ) → end_at ends 0 ≡ no_place → Emits now new (sequence (action (MatchKey m key)) (leave_if true 0)) ends) → Leads old new (keys_flow m (drop (i + 1) xs)) whole Unknown
+pub keys_turn : (old now new : Output) (xs : List (List ℕ)) (i : ℕ) (x : List ℕ) → i < length xs → x ≡ get_or xs i x
+    → (whole : Flow) (key : List ℕ) → key ≡ x → (m : ℕ) → Leads old now (keys_flow m (drop i xs)) whole Unknown
+    → ((ends : List ℕ) → end_at ends 0 ≡ no_place
+    → Emits now new (sequence (action (MatchKey m key)) (leave_if true 0)) ends)
+    → Leads old new (keys_flow m (drop (i + 1) xs)) whole Unknown
 keys_turn old now new xs i x lt is whole key named m h e =
-    leads_both old now new (action (MatchKey m x)) (leave_if true 0) (keys_flow m (drop (i + 1) xs)) _ whole Unknown (no_place ∷ []) refl h (ap (λ (ys : List (List ℕ)). keys_flow m ys) (turn xs i x is lt))
+    leads_both old now new (action (MatchKey m x)) (leave_if true 0) (keys_flow m (drop (i + 1) xs)) _ whole Unknown
+    (no_place ∷ []) refl h (ap (λ (ys : List (List ℕ)). keys_flow m ys) (turn xs i x is lt))
     (λ ends there. subst (λ (n : List ℕ). Emits now new (sequence (action (MatchKey m n)) (leave_if true 0)) ends) named (e ends there))
 
 pub tests_turn : (old now mid new : Output) (xs : List Test) (i : ℕ) (x : Test) → i < length xs → x ≡ get_or xs i x → (whole : Flow) (b : Bool)
-    → Leads old now (row_flow b (map test_of (drop i xs))) whole Unknown → ((ends : List ℕ) → Emits now mid (test_flow (test_in (test_of x))) ends) → ((ends : List ℕ) → end_at ends 0 ≡ no_place → Emits mid new (leave_if b 0) ends)
+    → Leads old now (row_flow b (map test_of (drop i xs))) whole Unknown
+    → ((ends : List ℕ) → Emits now mid (test_flow (test_in (test_of x))) ends)
+    → ((ends : List ℕ) → end_at ends 0 ≡ no_place → Emits mid new (leave_if b 0) ends)
     → Leads old new (row_flow b (map test_of (drop (i + 1) xs))) whole Unknown
 tests_turn old now mid new xs i x lt is whole b h a j =
     let rest = row_flow b (map test_of (drop (i + 1) xs)) in
-    let one = leads_more old now mid (test_flow (test_in (test_of x))) (sequence (leave_if b 0) rest) _ whole Unknown (no_place ∷ []) refl h (ap (λ (ys : List Test). row_flow b (map test_of ys)) (turn xs i x is lt)) (λ ends e. a ends) in
+    let one = leads_more old now mid (test_flow (test_in (test_of x))) (sequence (leave_if b 0) rest) _ whole Unknown
+    (no_place ∷ []) refl h (ap (λ (ys : List Test). row_flow b (map test_of ys)) (turn xs i x is lt)) (λ ends e.
+    a ends) in
     leads_more old mid new (leave_if b 0) rest _ whole Unknown (no_place ∷ []) refl one refl j
 
-pub one_emitted : (old mid new : Output) (x : Test) (b : Bool) → ((ends : List ℕ) → Emits old mid (test_flow (test_in (test_of x))) ends) → ((ends : List ℕ) → end_at ends 0 ≡ no_place → Emits mid new (leave_if b 0) ends) → (ends : List ℕ) → end_at ends 0 ≡ no_place → Emits old new (sequence (test_flow (test_in (test_of x))) (sequence (leave_if b 0) nothing)) ends
+pub one_emitted : (old mid new : Output) (x : Test) (b : Bool)
+    → ((ends : List ℕ) → Emits old mid (test_flow (test_in (test_of x))) ends)
+    → ((ends : List ℕ) → end_at ends 0 ≡ no_place → Emits mid new (leave_if b 0) ends) → (ends : List ℕ)
+    → end_at ends 0 ≡ no_place
+    → Emits old new (sequence (test_flow (test_in (test_of x))) (sequence (leave_if b 0) nothing)) ends
 one_emitted old mid new x b a j ends there =
-    emits_sequence old mid new (test_flow (test_in (test_of x))) (sequence (leave_if b 0) nothing) ends (a ends) (emits_sequence mid new new (leave_if b 0) nothing ends (j ends there) (emits_nothing new ends))
+    emits_sequence old mid new (test_flow (test_in (test_of x))) (sequence (leave_if b 0) nothing) ends (a ends)
+    (emits_sequence mid new new (leave_if b 0) nothing ends (j ends there) (emits_nothing new ends))
 
 -- FORMS OF TESTS
 
 -- code that was written with jumps out of it, then their place, and what follows
-pub either_emitted : (x o0 o1 o2 o3 o4 : Output) (a : Flow) (past out : Bool) (start jumped : ℕ) → jumped ≡ length o0.code.items + 2 → jumped ≤ no_place → start ≡ length x.code.items → ((around : List Shape) → HasType a ([] ∷ around) [] [])
-    → ((es : List ℕ) → end_at es 0 ≡ no_place → Emits x o0 a es) → IsEnded start jumped o0 o1 → ((ends : List ℕ) → Emits o1 o2 (action (Push past)) ends) → Puts o2 o3 (Jump (jumped + 1)) → ((ends : List ℕ) → Emits o3 o4 (action (Push out)) ends)
+pub either_emitted : (x o0 o1 o2 o3 o4 : Output) (a : Flow) (past out : Bool) (start jumped : ℕ)
+    → jumped ≡ length o0.code.items + 2 → jumped ≤ no_place → start ≡ length x.code.items
+    → ((around : List Shape) → HasType a ([] ∷ around) [] [])
+    → ((es : List ℕ) → end_at es 0 ≡ no_place → Emits x o0 a es) → IsEnded start jumped o0 o1
+    → ((ends : List ℕ) → Emits o1 o2 (action (Push past)) ends) → Puts o2 o3 (Jump (jumped + 1))
+    → ((ends : List ℕ) → Emits o3 o4 (action (Push out)) ends)
     → (ends : List ℕ) → Emits x o4 (either past out a) ends
 either_emitted x o0 o1 o2 o3 o4 a past out start jumped at most from typed e1 e2 e3 e4 e5 ends =
     let es = jumped ∷ (jumped + 1) ∷ ends in
     let long = (grows x o0 a (no_place ∷ []) (e1 (no_place ∷ []) refl)).code in
-    let known : Emits x o1 a es = jumps_ended x o0 o1 a jumped [] [] [] (typed []) (e1 (no_place ∷ []) refl) (omega (arith, at)) most (subst (λ (n : ℕ). IsEnded n jumped o0 o1) from e2) ((jumped + 1) ∷ ends) in
-    let tail : Emits o1 o3 (sequence (action (Push past)) (leave 1)) es = emits_sequence o1 o2 o3 (action (Push past)) (leave 1) es (e3 es) (leave_emitted o2 o3 (jumped + 1) 1 es e4 refl) in
+    let known : Emits x o1 a es =
+    jumps_ended x o0 o1 a jumped [] [] [] (typed []) (e1 (no_place ∷ []) refl) (omega (arith, at)) most
+    (subst (λ (n : ℕ). IsEnded n jumped o0 o1) from e2) ((jumped + 1) ∷ ends) in
+    let tail : Emits o1 o3 (sequence (action (Push past)) (leave 1)) es =
+    emits_sequence o1 o2 o3 (action (Push past)) (leave 1) es (e3 es)
+    (leave_emitted o2 o3 (jumped + 1) 1 es e4 refl) in
     let body = emits_sequence x o1 o3 a (sequence (action (Push past)) (leave 1)) es known tail in
     let first = emits_block x o3 (sequence a (sequence (action (Push past)) (leave 1))) ((jumped + 1) ∷ ends) jumped (omega (arith, at, long)) body in
-    emits_block x o4 (sequence (block (sequence a (sequence (action (Push past)) (leave 1)))) (action (Push out))) ends (jumped + 1) (omega (arith, at, long))
-    (emits_sequence x o3 o4 (block (sequence a (sequence (action (Push past)) (leave 1)))) (action (Push out)) ((jumped + 1) ∷ ends) first (e5 ((jumped + 1) ∷ ends)))
+    emits_block x o4 (sequence (block (sequence a (sequence (action (Push past)) (leave 1)))) (action (Push out))) ends
+    (jumped + 1) (omega (arith, at, long))
+    (emits_sequence x o3 o4 (block (sequence a (sequence (action (Push past)) (leave 1)))) (action (Push out))
+    ((jumped + 1) ∷ ends) first (e5 ((jumped + 1) ∷ ends)))
 
 -- the first name and the others
 pub names_emitted : (o0 o1 o2 : Output) (n : List ℕ) (ns : List (List ℕ))
-    → ((ends : List ℕ) → end_at ends 0 ≡ no_place → Emits o0 o1 (sequence (action (HasField n)) (leave_if false 0)) ends) → ((ends : List ℕ) → end_at ends 0 ≡ no_place → Emits o1 o2 (names_flow ns) ends)
+    → ((ends : List ℕ) → end_at ends 0 ≡ no_place
+    → Emits o0 o1 (sequence (action (HasField n)) (leave_if false 0)) ends)
+    → ((ends : List ℕ) → end_at ends 0 ≡ no_place → Emits o1 o2 (names_flow ns) ends)
     → (ends : List ℕ) → end_at ends 0 ≡ no_place → Emits o0 o2 (names_flow (n ∷ ns)) ends
-names_emitted o0 o1 o2 n ns e f ends there = emits_assoc o0 o2 (action (HasField n)) (leave_if false 0) (names_flow ns) ends (emits_sequence o0 o1 o2 (sequence (action (HasField n)) (leave_if false 0)) (names_flow ns) ends (e ends there) (f ends there))
+names_emitted o0 o1 o2 n ns e f ends there =
+    emits_assoc o0 o2 (action (HasField n)) (leave_if false 0) (names_flow ns) ends
+    (emits_sequence o0 o1 o2 (sequence (action (HasField n)) (leave_if false 0)) (names_flow ns) ends (e ends there)
+    (f ends there))
 
 -- the first key and the others
 pub keys_emitted : (o0 o1 o2 : Output) (a : ℕ) (k : List ℕ) (ks : List (List ℕ))
-    → ((ends : List ℕ) → end_at ends 0 ≡ no_place → Emits o0 o1 (sequence (action (MatchKey a k)) (leave_if true 0)) ends) → ((ends : List ℕ) → end_at ends 0 ≡ no_place → Emits o1 o2 (keys_flow a ks) ends)
+    → ((ends : List ℕ) → end_at ends 0 ≡ no_place
+    → Emits o0 o1 (sequence (action (MatchKey a k)) (leave_if true 0)) ends)
+    → ((ends : List ℕ) → end_at ends 0 ≡ no_place → Emits o1 o2 (keys_flow a ks) ends)
     → (ends : List ℕ) → end_at ends 0 ≡ no_place → Emits o0 o2 (keys_flow a (k ∷ ks)) ends
-keys_emitted o0 o1 o2 a k ks e f ends there = emits_assoc o0 o2 (action (MatchKey a k)) (leave_if true 0) (keys_flow a ks) ends (emits_sequence o0 o1 o2 (sequence (action (MatchKey a k)) (leave_if true 0)) (keys_flow a ks) ends (e ends there) (f ends there))
+keys_emitted o0 o1 o2 a k ks e f ends there =
+    emits_assoc o0 o2 (action (MatchKey a k)) (leave_if true 0) (keys_flow a ks) ends
+    (emits_sequence o0 o1 o2 (sequence (action (MatchKey a k)) (leave_if true 0)) (keys_flow a ks) ends (e ends there)
+    (f ends there))
 
-pub header_emitted : (o0 o1 o2 o3 o4 o5 : Output) (a : ℕ) (n : List ℕ) (ns : List (List ℕ)) (k : List ℕ) (ks : List (List ℕ)) (start found : ℕ) → start ≡ length o1.code.items → found ≡ length o2.code.items + 3 → found ≤ no_place
-    → ((ends : List ℕ) → Emits o0 o1 (sequence (action (ValuesOf n)) (values_flow ns)) ends) → ((ends : List ℕ) → end_at ends 0 ≡ no_place → Emits o1 o2 (keys_flow a (k ∷ ks)) ends) → IsEnded start found o2 o3
-    → ((ends : List ℕ) → end_at ends 1 ≡ found + 2 → Emits o3 o4 (sequence (action Drop) (sequence (action (Push false)) (leave 1))) ends) → ((ends : List ℕ) → Emits o4 o5 (sequence (action Drop) (action (Push true))) ends)
+pub header_emitted : (o0 o1 o2 o3 o4 o5 : Output) (a : ℕ) (n : List ℕ) (ns : List (List ℕ)) (k : List ℕ)
+    (ks : List (List ℕ)) (start found : ℕ) → start ≡ length o1.code.items → found ≡ length o2.code.items + 3
+    → found ≤ no_place
+    → ((ends : List ℕ) → Emits o0 o1 (sequence (action (ValuesOf n)) (values_flow ns)) ends)
+    → ((ends : List ℕ) → end_at ends 0 ≡ no_place → Emits o1 o2 (keys_flow a (k ∷ ks)) ends)
+    → IsEnded start found o2 o3
+    → ((ends : List ℕ) → end_at ends 1 ≡ found + 2
+    → Emits o3 o4 (sequence (action Drop) (sequence (action (Push false)) (leave 1))) ends)
+    → ((ends : List ℕ) → Emits o4 o5 (sequence (action Drop) (action (Push true))) ends)
     → (ends : List ℕ) → Emits o0 o5 (header_flow a n ns k ks) ends
 header_emitted o0 o1 o2 o3 o4 o5 a n ns k ks start found from at most e1 e2 e3 e4 e5 ends =
     let es = found ∷ (found + 2) ∷ ends in
@@ -178,23 +257,37 @@ header_emitted o0 o1 o2 o3 o4 o5 a n ns k ks start found from at most e1 e2 e3 e
     let matched = sequence (action Drop) (action (Push true)) in
     let long1 = (grows o0 o1 fv [] (e1 [])).code in
     let long2 = (grows o1 o2 fk (no_place ∷ []) (e2 (no_place ∷ []) refl)).code in
-    let keys : Emits o1 o3 fk es = jumps_ended o1 o2 o3 fk found (Texts ∷ []) (Texts ∷ []) (Texts ∷ []) (keys_typed a (k ∷ ks) []) (e2 (no_place ∷ []) refl) (omega (arith, at)) most (subst (λ (m : ℕ). IsEnded m found o2 o3) from e3) ((found + 2) ∷ ends) in
+    let keys : Emits o1 o3 fk es =
+    jumps_ended o1 o2 o3 fk found (Texts ∷ []) (Texts ∷ []) (Texts ∷ []) (keys_typed a (k ∷ ks) [])
+    (e2 (no_place ∷ []) refl) (omega (arith, at)) most (subst (λ (m : ℕ). IsEnded m found o2 o3) from e3)
+    ((found + 2) ∷ ends) in
     let body = emits_sequence o0 o1 o4 fv (sequence fk missed) es (e1 es) (emits_sequence o1 o3 o4 fk missed es keys (e4 es refl)) in
     let first = emits_block o0 o4 (sequence fv (sequence fk missed)) ((found + 2) ∷ ends) found (omega (arith, at, long1, long2)) body in
-    emits_block o0 o5 (sequence (block (sequence fv (sequence fk missed))) matched) ends (found + 2) (omega (arith, at, long1, long2)) (emits_sequence o0 o4 o5 (block (sequence fv (sequence fk missed))) matched ((found + 2) ∷ ends) first (e5 ((found + 2) ∷ ends)))
+    emits_block o0 o5 (sequence (block (sequence fv (sequence fk missed))) matched) ends (found + 2) (omega (
+      arith,
+      at,
+      long1,
+      long2,
+    )) (emits_sequence o0 o4 o5 (block (sequence fv (sequence fk missed))) matched ((found + 2)
+    ∷ ends) first (e5 ((found + 2) ∷ ends)))
 
 pub same_names : (n m : List ℕ) (ns ms : List (List ℕ)) → n ≡ m → ns ≡ ms → names_flow (n ∷ others_once n ns) ≡ names_flow (m ∷ others_once m ms)
 same_names n m ns ms e f = ap (λ (x : List ℕ). names_flow (x ∷ others_once x ns)) e ∙ ap (λ (x : List (List ℕ)). names_flow (m ∷ others_once m x)) f
 
-pub same_values : (n m : List ℕ) (ns ms : List (List ℕ)) → n ≡ m → ns ≡ ms → sequence (action (ValuesOf n)) (values_flow (others_once n ns)) ≡ sequence (action (ValuesOf m)) (values_flow (others_once m ms))
-same_values n m ns ms e f = ap (λ (x : List ℕ). sequence (action (ValuesOf x)) (values_flow (others_once x ns))) e ∙ ap (λ (x : List (List ℕ)). sequence (action (ValuesOf m)) (values_flow (others_once m x))) f
+pub same_values : (n m : List ℕ) (ns ms : List (List ℕ)) → n ≡ m → ns ≡ ms
+    → sequence (action (ValuesOf n)) (values_flow (others_once n ns))
+    ≡ sequence (action (ValuesOf m)) (values_flow (others_once m ms))
+same_values n m ns ms e f = ap (λ (x : List ℕ). sequence (action (ValuesOf x)) (values_flow (others_once x ns))) e
+    ∙ ap (λ (x : List (List ℕ)). sequence (action (ValuesOf m)) (values_flow (others_once m x))) f
 
 pub same_keys : (a : ℕ) (k j : List ℕ) (ks js : List (List ℕ)) → k ≡ j → ks ≡ js → keys_flow a (k ∷ ks) ≡ keys_flow a (j ∷ js)
 same_keys a k j ks js e f = ap (λ (x : List ℕ). keys_flow a (x ∷ ks)) e ∙ ap (λ (x : List (List ℕ)). keys_flow a (j ∷ x)) f
 
 -- HOW MANY OPERATIONS
 
-pub exists_size : (args : List Argument) (names : StringList) (more : List StringList) → string_lists false args ≡ names ∷ more → size (test_flow (exists_of (string_lists false args))) ≡ size (names_flow (each_once (strings_of names))) + 3
+pub exists_size : (args : List Argument) (names : StringList) (more : List StringList)
+    → string_lists false args ≡ names ∷ more → size (test_flow (exists_of (string_lists false args)))
+    ≡ size (names_flow (each_once (strings_of names))) + 3
 exists_size args names more lists = rw lists (omega arith)
 
 -- THE SAME CODE
@@ -203,11 +296,18 @@ pub emits_same : (x y : Output) (a b : Flow) → a ≡ b → ((ends : List ℕ) 
 emits_same x y a b same h ends = subst (λ (c : Flow). Emits x y c ends) same (h ends)
 
 -- the code of a test by its word
-pub word_flow : (t : Test) (w : TestWord) → test_word (out-Test t).name ≡ w → test_flow (test_named w (out-Test t).arguments (only_in (inner_of (out-Test t).tests)) (tests_in (inner_of (out-Test t).tests))) ≡ test_flow (test_in (test_of t))
+pub word_flow : (t : Test) (w : TestWord) → test_word (out-Test t).name ≡ w
+    → test_flow (test_named w (out-Test t).arguments (only_in (inner_of (out-Test t).tests))
+    (tests_in (inner_of (out-Test t).tests))) ≡ test_flow (test_in (test_of t))
 word_flow t w is =
     sym (ap (λ (k : TestTree). test_flow (test_in k)) (test_of-fields t)
-    ∙ ap (λ (v : TestWord). test_flow (test_named v (out-Test t).arguments (only_in (inner_of (out-Test t).tests)) (tests_in (inner_of (out-Test t).tests)))) is)
+    ∙ ap (λ (v : TestWord).
+    test_flow (test_named v (out-Test t).arguments (only_in (inner_of (out-Test t).tests))
+    (tests_in (inner_of (out-Test t).tests)))) is)
 
-pub header_same : (args rest : List Argument) (m : MatchType) (o : Comparator) (names keys : StringList) (more : List StringList) → string_lists false args ≡ names ∷ string_lists false rest → string_lists false rest ≡ keys ∷ more
-    → header_flow (comparison m o) (first_of names) (others_once (first_of names) (others_of names)) (first_of keys) (others_of keys) ≡ test_flow (header_of m o (string_lists false args))
+pub header_same : (args rest : List Argument) (m : MatchType) (o : Comparator) (names keys : StringList)
+    (more : List StringList) → string_lists false args ≡ names ∷ string_lists false rest
+    → string_lists false rest ≡ keys ∷ more
+    → header_flow (comparison m o) (first_of names) (others_once (first_of names) (others_of names)) (first_of keys)
+    (others_of keys) ≡ test_flow (header_of m o (string_lists false args))
 header_same args rest m o names keys more lists lists_after = rw (lists, lists_after) refl

@@ -34,7 +34,8 @@ has_operation p o h = let last = in_each p.procedures in omega (arith, last)
 of_version : (p : Program) → IsWell p → IsOfVersion (parts p)
 of_version p well =
     let IsOf : ℕ → Type 0 = λ op. op ≤ last_operation (version_of p.procedures) in
-    All-map (λ (i : Instruction). IsOf i.op) instruction_of p.code (All-weaker (InRange p) (λ o. IsOf (instruction_of o).op) (has_operation p) p.code well.in_range.each)
+    All-map (λ (i : Instruction). IsOf i.op) instruction_of p.code (All-weaker (InRange p) (λ o.
+    IsOf (instruction_of o).op) (has_operation p) p.code well.in_range.each)
 
 -- COUNTS
 

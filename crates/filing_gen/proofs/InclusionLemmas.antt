@@ -25,7 +25,8 @@ entered_is (Some y) passed true true x h = absurd (cc h)
 entered_is (Some y) passed true false x h = absurd (cc h)
 entered_is (Some y) passed false once x h = cc h
 
-code_called : (own slot left : ℕ) (number : Option ℕ) → sequence (action (SetMark slot)) (call_flow own number) ≡ code_of_call own slot (call_of (suc left) number)
+code_called : (own slot left : ℕ) (number : Option ℕ) → sequence (action (SetMark slot)) (call_flow own number)
+    ≡ code_of_call own slot (call_of (suc left) number)
 code_called own slot left None = refl
 code_called own slot left (Some n) = refl
 
@@ -45,7 +46,9 @@ module _ (l : Scripts) (main : List ScriptName) (later : List Procedure) (p : Pr
   entry_path paths zero x = 0
   entry_path paths (suc left) x = path_at paths (number_of lib later (record { script = x; left = left; chain = s ∷ p.chain }))
 
-  flow_told : (own : ℕ) (j : Judgement) → j ≡ judgement lib main p.chain i → calling_flow lib (slots_of l) main own later p i ≡ judgement_flow j i.once (slots_of l s) (call_entry lib (slots_of l) own later p.left p.chain s)
+  flow_told : (own : ℕ) (j : Judgement) → j ≡ judgement lib main p.chain i
+      → calling_flow lib (slots_of l) main own later p i
+      ≡ judgement_flow j i.once (slots_of l s) (call_entry lib (slots_of l) own later p.left p.chain s)
   flow_told own j is =
       flow_cases (lib.find s) (is_passed main i) (is_among p.chain s) i.once (slots_of l s) (call_entry lib (slots_of l) own later p.left p.chain s)
       ∙ ap (λ (k : Judgement). judgement_flow k i.once (slots_of l s) (call_entry lib (slots_of l) own later p.left p.chain s)) (sym is)
@@ -55,7 +58,8 @@ module _ (l : Scripts) (main : List ScriptName) (later : List Procedure) (p : Pr
   no_path (Fails fault) = refl
   no_path (Enters x) = refl
 
-  path_told : (paths : List ℕ) (left : ℕ) (j : Judgement) → j ≡ judgement lib main p.chain i → called_path lib later paths left p.chain i ≡ judgement_weight j (entry_path paths left)
+  path_told : (paths : List ℕ) (left : ℕ) (j : Judgement) → j ≡ judgement lib main p.chain i
+      → called_path lib later paths left p.chain i ≡ judgement_weight j (entry_path paths left)
   path_told paths zero j is = no_path j
   path_told paths (suc left) j is =
       weight_cases (lib.find s) (is_passed main i) (is_among p.chain s) i.once (entry_path paths (suc left))
@@ -78,7 +82,8 @@ module _ (l : Scripts) (main : List ScriptName) (later : List Procedure) (p : Pr
     fault_path paths = path_told paths p.left (Fails fault) is
 
   -- where a script is entered
-  module _ (numbers : List (Option ℕ)) (are : AreNumbers l later p numbers) (x : Commands) (is : Enters x ≡ judgement lib main p.chain i) (slot : ℕ) (at : slot ≡ slots_of l s) where
+  module _ (numbers : List (Option ℕ)) (are : AreNumbers l later p numbers) (x : Commands) (is : Enters x
+      ≡ judgement lib main p.chain i) (slot : ℕ) (at : slot ≡ slots_of l s) where
     abbrev number : Option ℕ
     number = number_at numbers slot
 

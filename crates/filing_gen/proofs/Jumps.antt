@@ -30,7 +30,8 @@ get_after (y ∷ xs) (suc p) zero x lt = absurd (omega (arith, lt))
 get_after (y ∷ xs) (suc p) (suc i) x lt = get_after xs p i x (omega (arith, lt))
 
 -- an operation before what was added
-pub emits_under : (x y : Output) (a : Flow) (ends : List ℕ) (p : ℕ) (o : Operation) → p < length x.code.items → Emits x y a ends → Emits (with_operation x p o) (with_operation y p o) a ends
+pub emits_under : (x y : Output) (a : Flow) (ends : List ℕ) (p : ℕ) (o : Operation) → p < length x.code.items
+    → Emits x y a ends → Emits (with_operation x p o) (with_operation y p o) a ends
 emits_under x y a ends p o lt h =
     let os = set y.code.items p o in
     let low : length (set x.code.items p o) ≡ length x.code.items = length-set x.code.items p o in
@@ -40,7 +41,9 @@ emits_under x y a ends p o lt h =
       code = ap (λ (l : List Operation). set l p o) h.code ∙ set-append_left x.code.items h.added p o lt;
       long = h.long;
       stands = subst (λ (n : ℕ). Stands (operands_of y) os a ends n) (sym low)
-          (stands_there (operands_of y) (operands_of y) (named_same (operands_of y)) y.code.items os (length x.code.items) (λ i k le at. get_after y.code.items p i o (omega (arith, lt, le)) ∙ at) a ends (length x.code.items) (omega arith) h.stands);
+          (stands_there (operands_of y) (operands_of y) (named_same (operands_of y)) y.code.items os
+          (length x.code.items) (λ i k le at. get_after y.code.items p i o (omega (arith, lt, le))
+          ∙ at) a ends (length x.code.items) (omega arith) h.stands);
     }
 
 -- JUMPS TO ONE END
@@ -63,7 +66,8 @@ module _ (end : ℕ) where
   jumps_last (q ∷ ps) p x = ap (λ (o : Output). with_operation o q (Jump end)) (jumps_last ps p x)
 
   -- jumps before what was added
-  pub emits_jumps : (ps : List ℕ) (x y : Output) (a : Flow) (ends : List ℕ) → All (λ p. p < length x.code.items) ps → Emits x y a ends → Emits (with_jumps end ps x) (with_jumps end ps y) a ends
+  pub emits_jumps : (ps : List ℕ) (x y : Output) (a : Flow) (ends : List ℕ) → All (λ p. p < length x.code.items) ps
+      → Emits x y a ends → Emits (with_jumps end ps x) (with_jumps end ps y) a ends
   emits_jumps [] x y a ends low h = h
   emits_jumps (p ∷ ps) x y a ends low h =
       let here : p < length x.code.items = All-head (λ q. q < length x.code.items) p ps low in

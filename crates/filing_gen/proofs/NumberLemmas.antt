@@ -21,7 +21,9 @@ module _ (l : Scripts) (later : List Procedure) (p : Procedure) where
   abbrev pub AreNumbersBelow : (slot : ℕ) → List (Option ℕ) → Type 0
   AreNumbersBelow slot numbers = (k : ℕ) → k < slot → IsNumber l later p k (number_at numbers k)
 
-  pub number_more : (numbers more : List (Option ℕ)) (n : Option ℕ) (slot : ℕ) → length numbers ≡ slot → AreNumbersBelow slot numbers → IsNumber l later p slot n → more ≡ numbers ++ n ∷ [] → AreNumbersBelow (slot + 1) more
+  pub number_more : (numbers more : List (Option ℕ)) (n : Option ℕ) (slot : ℕ) → length numbers ≡ slot
+      → AreNumbersBelow slot numbers → IsNumber l later p slot n → more ≡ numbers ++ n ∷ []
+      → AreNumbersBelow (slot + 1) more
   number_more numbers more n slot long below here is =
       subst (AreNumbersBelow (slot + 1)) (sym is)
       (below_more (λ k. IsNumber l later p k (number_at (numbers ++ n ∷ []) k)) slot

@@ -1,5 +1,7 @@
 -- Tables of path weights.
-use Rattle.std.proofs.Common.{◌≡◌, ℕ, zero, suc, ◌+◌, ◌<◌, ◌≤◌, ◌^◌, List, [], ◌∷◌, ◌-◌, length, map, take, drop, get_or, set, Bool, true, false, cond, Option, Some, None, refl, sym, ap, ◌∙◌, subst, arith}
+use Rattle.std.proofs.Common.{◌≡◌, ℕ, zero, suc, ◌+◌, ◌<◌, ◌≤◌, ◌^◌, List, [], ◌∷◌, ◌-◌, length, map, take, drop}
+use Rattle.std.proofs.Common.{get_or, set, Bool, true, false, cond, Option, Some, None, refl, sym, ap, ◌∙◌, subst}
+use Rattle.std.proofs.Common.{arith}
 use Rattle.std.specs.Prelude.{nat_lt, slice_index}
 use Rattle.std.specs.List.{All}
 use Rattle.std.proofs.lemmas.Bool.{ltb-false, lt-ltb, le-ltb}
@@ -51,18 +53,28 @@ known_at (w ∷ ws) zero h = refl
 known_at (w ∷ ws) (suc n) h = known_at ws n (omega (arith, h))
 
 -- the table of the weights of these procedures
-module _ (lib : Library) (ps : List code.Procedure) (table : List (Option ℕ)) (is : table ≡ map known_path (path_weights lib (map procedure_of ps))) where
+module _ (lib : Library) (ps : List code.Procedure) (table : List (Option ℕ)) (is : table
+    ≡ map known_path (path_weights lib (map procedure_of ps))) where
   pub table_at : (n : ℕ) → n < length ps → number_at table n ≡ known_path (slice_index (path_weights lib (map procedure_of ps)) n)
-  table_at n h = ap (λ (t : List (Option ℕ)). number_at t n) is ∙ known_at (path_weights lib (map procedure_of ps)) n (omega (arith, h, weights_long lib (map procedure_of ps), length-map ps procedure_of))
+  table_at n h = ap (λ (t : List (Option ℕ)). number_at t n) is
+      ∙ known_at (path_weights lib (map procedure_of ps)) n (omega (
+        arith,
+        h,
+        weights_long lib (map procedure_of ps),
+        length-map ps procedure_of,
+      ))
 
   first_of : (ws : List ℕ) (w : ℕ) (rest : List ℕ) → ws ≡ w ∷ rest → number_at (map known_path ws) 0 ≡ known_path w
   first_of ws w rest e = ap (λ (l : List ℕ). number_at (map known_path l) 0) e
 
   -- the main script's weight stands first
-  pub table_first : (known_as : Option (List ℕ)) (main : Commands) → map procedure_of ps ≡ procedures lib known_as main → number_at table 0 ≡ known_path (path_weight lib known_as main)
+  pub table_first : (known_as : Option (List ℕ)) (main : Commands) → map procedure_of ps ≡ procedures lib known_as main
+      → number_at table 0 ≡ known_path (path_weight lib known_as main)
   table_first known_as main are =
       ap (λ (t : List (Option ℕ)). number_at t 0) is
-      ∙ first_of (path_weights lib (map procedure_of ps)) (path_weight lib known_as main) (path_weights lib (after_main lib known_as main)) (ap (λ (l : List Procedure). path_weights lib l) are ∙ path_first lib known_as main)
+      ∙ first_of (path_weights lib (map procedure_of ps)) (path_weight lib known_as main)
+      (path_weights lib (after_main lib known_as main)) (ap (λ (l : List Procedure). path_weights lib l) are
+      ∙ path_first lib known_as main)
 
 -- ONE MORE PROCEDURE, FROM THE LAST ONE ON
 
@@ -81,14 +93,18 @@ drop_at [] m x h is = absurd (omega (arith, h))
 drop_at (y ∷ ys) zero x h is = ap (λ z. z ∷ ys) (sym is)
 drop_at (y ∷ ys) (suc m) x h is = drop_at ys m x (omega (arith, h)) is
 
-module _ (lib : Library) (ps : List code.Procedure) (table : List (Option ℕ)) (n : ℕ) (first : 0 < n) (inside : n ≤ length ps) (long : length table ≡ length ps) (known : drop n table ≡ map known_path (path_weights lib (map procedure_of (drop n ps)))) where
+module _ (lib : Library) (ps : List code.Procedure) (table : List (Option ℕ)) (n : ℕ) (first : 0 < n)
+    (inside : n ≤ length ps) (long : length table ≡ length ps) (known : drop n table
+    ≡ map known_path (path_weights lib (map procedure_of (drop n ps)))) where
   abbrev m : ℕ
   m = n - 1
 
   next : suc m ≡ n
   next = omega arith
 
-  pub weight_more : (p : code.Procedure) (path : Option ℕ) → p ≡ get_or ps m p → path ≡ known_path (path_from lib (map procedure_of (drop n ps)) (procedure_of p)) → drop m (set table m path) ≡ map known_path (path_weights lib (map procedure_of (drop m ps)))
+  pub weight_more : (p : code.Procedure) (path : Option ℕ) → p ≡ get_or ps m p
+      → path ≡ known_path (path_from lib (map procedure_of (drop n ps)) (procedure_of p))
+      → drop m (set table m path) ≡ map known_path (path_weights lib (map procedure_of (drop m ps)))
   weight_more p path at is =
       drop_set table m path (omega (arith, long, next))
       ∙ ap (λ (k : ℕ). path ∷ drop k table) next
@@ -105,12 +121,14 @@ all_drop P [] (suc i) h = h
 all_drop P (x ∷ xs) (suc i) h = all_drop P xs i (λ k d lt. h (suc k) d (omega (arith, lt)))
 
 module _ (l : Scripts) where
-  key_in : (ps : List code.Procedure) → HaveKeys l ps → (i : ℕ) (d : code.Procedure) → i < length ps → IsKeyOf l (get_or ps i d).key (procedure_of (get_or ps i d))
+  key_in : (ps : List code.Procedure) → HaveKeys l ps → (i : ℕ) (d : code.Procedure) → i < length ps
+      → IsKeyOf l (get_or ps i d).key (procedure_of (get_or ps i d))
   key_in [] h i d lt = absurd (omega (arith, lt))
   key_in (p ∷ later) h zero d lt = h.0
   key_in (p ∷ later) h (suc i) d lt = (h.1 i d (omega (arith, lt))).of
 
-  pub key_at : (ps : List code.Procedure) → HaveKeys l ps → (i : ℕ) (p : code.Procedure) → i < length ps → p ≡ get_or ps i p → IsKeyOf l p.key (procedure_of p)
+  pub key_at : (ps : List code.Procedure) → HaveKeys l ps → (i : ℕ) (p : code.Procedure) → i < length ps
+      → p ≡ get_or ps i p → IsKeyOf l p.key (procedure_of p)
   key_at ps h i p lt is = subst (λ (q : code.Procedure). IsKeyOf l q.key (procedure_of q)) (sym is) (key_in ps h i p lt)
 
   pub later_entered : (ps : List code.Procedure) → HaveKeys l ps → (i : ℕ) → All (IsEntered l) (drop (suc i) ps)

@@ -1,5 +1,7 @@
 -- Things that are added at the next place.
-use Rattle.std.proofs.Common.{◌≡◌, ◌⊎◌, ℕ, zero, suc, ◌+◌, ◌<◌, ◌^◌, List, [], ◌∷◌, length, map, get_or, All, Some, None, set, Vec, Ordering, Less, Equal, Greater, nat_cmp, inl, inr, refl, sym, ap, ◌∙◌, subst, arith}
+use Rattle.std.proofs.Common.{◌≡◌, ◌⊎◌, ℕ, zero, suc, ◌+◌, ◌<◌, ◌^◌, List, [], ◌∷◌, length, map, get_or, All, Some}
+use Rattle.std.proofs.Common.{None, set, Vec, Ordering, Less, Equal, Greater, nat_cmp, inl, inr, refl, sym, ap, ◌∙◌}
+use Rattle.std.proofs.Common.{subst, arith}
 use Rattle.std.specs.Prelude.{slice_get}
 use Rattle.std.specs.declared.alloc.Global.{Global}
 use Rattle.std.specs.Map.{lookup}
@@ -59,26 +61,37 @@ module _ {K A : Type 0} (view : K → A) where
     pub insert_there : (es : List (K × ℕ)) → lookup (is_at (cmp k)) es ≡ None → IsAmong (view k, v) (seen (insert_entry cmp es k v))
     insert_there [] none = inl refl
     insert_there (e ∷ es) none = by (cmp k e.0) refl (insert_there es) where
-      by : (o : Ordering) → cmp k e.0 ≡ o → (lookup (is_at (cmp k)) es ≡ None → IsAmong (view k, v) (seen (insert_entry cmp es k v))) → IsAmong (view k, v) (seen (match_ordering o ((k, v) ∷ e ∷ es) ((e.0, v) ∷ es) (e ∷ insert_entry cmp es k v)))
+      by : (o : Ordering) → cmp k e.0 ≡ o
+          → (lookup (is_at (cmp k)) es ≡ None → IsAmong (view k, v) (seen (insert_entry cmp es k v)))
+          → IsAmong (view k, v)
+          (seen (match_ordering o ((k, v) ∷ e ∷ es) ((e.0, v) ∷ es) (e ∷ insert_entry cmp es k v)))
       by Less is more = inl refl
       by Equal is more = let no : Some e.1 ≡ None = rw is at none in absurd (cc no)
       by Greater is more = inr (more (rw is at none))
 
-    pub insert_kept : (es : List (K × ℕ)) → lookup (is_at (cmp k)) es ≡ None → (x : A) (b : ℕ) → IsAmong (x, b) (seen es) → IsAmong (x, b) (seen (insert_entry cmp es k v))
+    pub insert_kept : (es : List (K × ℕ)) → lookup (is_at (cmp k)) es ≡ None → (x : A) (b : ℕ)
+        → IsAmong (x, b) (seen es) → IsAmong (x, b) (seen (insert_entry cmp es k v))
     insert_kept [] none x b h = absurd h
     insert_kept (e ∷ es) none x b h = by (cmp k e.0) refl h (λ missing. insert_kept es missing x b) where
-      by : (o : Ordering) → cmp k e.0 ≡ o → IsAmong (x, b) (seen (e ∷ es)) → (lookup (is_at (cmp k)) es ≡ None → IsAmong (x, b) (seen es) → IsAmong (x, b) (seen (insert_entry cmp es k v))) → IsAmong (x, b) (seen (match_ordering o ((k, v) ∷ e ∷ es) ((e.0, v) ∷ es) (e ∷ insert_entry cmp es k v)))
+      by : (o : Ordering) → cmp k e.0 ≡ o → IsAmong (x, b) (seen (e ∷ es))
+          → (lookup (is_at (cmp k)) es ≡ None → IsAmong (x, b) (seen es)
+          → IsAmong (x, b) (seen (insert_entry cmp es k v)))
+          → IsAmong (x, b) (seen (match_ordering o ((k, v) ∷ e ∷ es) ((e.0, v) ∷ es) (e ∷ insert_entry cmp es k v)))
       by Less is at more = inr at
       by Equal is at more = let no : Some e.1 ≡ None = rw is at none in absurd (cc no)
       by Greater is (inl here) more = inl here
       by Greater is (inr there) more = inr (more (rw is at none) there)
 
-    pub insert_only : (es : List (K × ℕ)) → lookup (is_at (cmp k)) es ≡ None → (x : A) (b : ℕ) → IsAmong (x, b) (seen (insert_entry cmp es k v)) → (◌≡◌ {A = A × ℕ} (view k, v) (x, b)) ⊎ IsAmong (x, b) (seen es)
+    pub insert_only : (es : List (K × ℕ)) → lookup (is_at (cmp k)) es ≡ None → (x : A) (b : ℕ)
+        → IsAmong (x, b) (seen (insert_entry cmp es k v))
+        → (◌≡◌ {A = A × ℕ} (view k, v) (x, b)) ⊎ IsAmong (x, b) (seen es)
     insert_only [] none x b (inl e) = inl e
     insert_only [] none x b (inr h) = absurd h
     insert_only (e ∷ es) none x b h = by (cmp k e.0) refl h (λ missing. insert_only es missing x b) where
       by : (o : Ordering) → cmp k e.0 ≡ o → IsAmong (x, b) (seen (match_ordering o ((k, v) ∷ e ∷ es) ((e.0, v) ∷ es) (e ∷ insert_entry cmp es k v)))
-          → (lookup (is_at (cmp k)) es ≡ None → IsAmong (x, b) (seen (insert_entry cmp es k v)) → (◌≡◌ {A = A × ℕ} (view k, v) (x, b)) ⊎ IsAmong (x, b) (seen es)) → (◌≡◌ {A = A × ℕ} (view k, v) (x, b)) ⊎ IsAmong (x, b) (seen (e ∷ es))
+          → (lookup (is_at (cmp k)) es ≡ None → IsAmong (x, b) (seen (insert_entry cmp es k v))
+          → (◌≡◌ {A = A × ℕ} (view k, v) (x, b)) ⊎ IsAmong (x, b) (seen es))
+          → (◌≡◌ {A = A × ℕ} (view k, v) (x, b)) ⊎ IsAmong (x, b) (seen (e ∷ es))
       by Less is (inl here) more = inl here
       by Less is (inr there) more = inr there
       by Equal is at more = let no : Some e.1 ≡ None = rw is at none in absurd (cc no)
@@ -88,7 +101,10 @@ module _ {K A : Type 0} (view : K → A) where
     pub insert_long : (es : List (K × ℕ)) → lookup (is_at (cmp k)) es ≡ None → length (insert_entry cmp es k v) ≡ length es + 1
     insert_long [] none = refl
     insert_long (e ∷ es) none = by (cmp k e.0) refl (insert_long es) where
-      by : (o : Ordering) → cmp k e.0 ≡ o → (lookup (is_at (cmp k)) es ≡ None → length (insert_entry cmp es k v) ≡ length es + 1) → length (match_ordering o ((k, v) ∷ e ∷ es) ((e.0, v) ∷ es) (e ∷ insert_entry cmp es k v)) ≡ length (e ∷ es) + 1
+      by : (o : Ordering) → cmp k e.0 ≡ o
+          → (lookup (is_at (cmp k)) es ≡ None → length (insert_entry cmp es k v) ≡ length es + 1)
+          → length (match_ordering o ((k, v) ∷ e ∷ es) ((e.0, v) ∷ es) (e ∷ insert_entry cmp es k v))
+          ≡ length (e ∷ es) + 1
       by Less is more = omega arith
       by Equal is more = let no : Some e.1 ≡ None = rw is at none in absurd (cc no)
       by Greater is more = let long = more (rw is at none) in omega (arith, long)
@@ -96,21 +112,51 @@ module _ {K A : Type 0} (view : K → A) where
 -- PLACES
 
 pub numbered_none : {A : Type 0} → IsNumbered {A = A} []
-numbered_none = record { inside = λ x b h. absurd h; each = λ b lt. absurd (omega (arith, lt)); one_thing = λ x y b h. absurd h; one_place = λ x b c h. absurd h }
+numbered_none = record {
+  inside = λ x b h. absurd h;
+  each = λ b lt. absurd (omega (arith, lt));
+  one_thing = λ x y b h.
+      absurd h;
+  one_place = λ x b c h. absurd h;
+}
 
 -- one more thing, at the next place
-pub numbered_more : {A : Type 0} (old new : List (A × ℕ)) (x : A) → IsNumbered old → ((b : ℕ) → IsAmong (x, b) old → ⊥) → length new ≡ length old + 1 → IsAmong (x, length old) new
-    → ((y : A) (b : ℕ) → IsAmong (y, b) old → IsAmong (y, b) new) → ((y : A) (b : ℕ) → IsAmong (y, b) new → (◌≡◌ {A = A × ℕ} (x, length old) (y, b)) ⊎ IsAmong (y, b) old) → IsNumbered new
+pub numbered_more : {A : Type 0} (old new : List (A × ℕ)) (x : A) → IsNumbered old → ((b : ℕ) → IsAmong (x, b) old → ⊥)
+    → length new ≡ length old + 1 → IsAmong (x, length old) new
+    → ((y : A) (b : ℕ) → IsAmong (y, b) old → IsAmong (y, b) new)
+    → ((y : A) (b : ℕ) → IsAmong (y, b) new → (◌≡◌ {A = A × ℕ} (x, length old) (y, b)) ⊎ IsAmong (y, b) old)
+    → IsNumbered new
 numbered_more {A} old new x h none long here kept only = record {
-  inside = λ y b at. elim (only y b at) [ inl e ↦ let p : length old ≡ b = ap (λ q. q.1) e in omega (arith, p, long) | inr was ↦ omega (arith, h.inside y b was, long) ];
-  each = λ b lt. elim (cases_lt b (length old)) [ inl below ↦ let (y, at) = h.each b below in (y, kept y b at) | inr le ↦ let p : length old ≡ b = omega (arith, le, lt, long) in (x, subst (λ n. IsAmong (x, n) new) p here) ];
+  inside = λ y b at. elim (only y b at) [
+    | inl e ↦ let p : length old ≡ b = ap (λ q. q.1) e in omega (arith, p, long)
+    | inr was ↦ omega (arith, h.inside y b was, long)
+  ];
+  each = λ b lt. elim (cases_lt b (length old)) [
+    | inl below ↦ let (y, at) = h.each b below in (y, kept y b at)
+    | inr le ↦ let p : length old ≡ b = omega (arith, le, lt, long) in (x, subst (λ n. IsAmong (x, n) new) p here)
+  ];
   one_thing = λ y z b at there. elim (only y b at) [
-    | inl e ↦ elim (only z b there) [ inl f ↦ sym (ap (λ q. q.0) e) ∙ ap (λ q. q.0) f | inr was ↦ let p : length old ≡ b = ap (λ q. q.1) e in absurd (omega (arith, p, h.inside z b was)) ]
-    | inr was ↦ elim (only z b there) [ inl f ↦ let p : length old ≡ b = ap (λ q. q.1) f in absurd (omega (arith, p, h.inside y b was)) | inr also ↦ h.one_thing y z b was also ]
+    | inl e ↦ elim (only z b there) [
+      | inl f ↦ sym (ap (λ q. q.0) e) ∙ ap (λ q. q.0) f
+      | inr was ↦ let p : length old ≡ b = ap (λ q. q.1) e in absurd (omega (arith, p, h.inside z b was))
+    ]
+    | inr was ↦ elim (only z b there) [
+      | inl f ↦ let p : length old ≡ b = ap (λ q. q.1) f in
+          absurd (omega (arith, p, h.inside y b was))
+      | inr also ↦ h.one_thing y z b was also
+    ]
   ];
   one_place = λ y b c at there. elim (only y b at) [
-    | inl e ↦ elim (only y c there) [ inl f ↦ sym (ap (λ q. q.1) e) ∙ ap (λ q. q.1) f | inr was ↦ let p : x ≡ y = ap (λ q. q.0) e in absurd (none c (subst (λ z. IsAmong (z, c) old) (sym p) was)) ]
-    | inr was ↦ elim (only y c there) [ inl f ↦ let p : x ≡ y = ap (λ q. q.0) f in absurd (none b (subst (λ z. IsAmong (z, b) old) (sym p) was)) | inr also ↦ h.one_place y b c was also ]
+    | inl e ↦ elim (only y c there) [
+      | inl f ↦ sym (ap (λ q. q.1) e) ∙ ap (λ q. q.1) f
+      | inr was ↦ let p : x ≡ y =
+          ap (λ q. q.0) e in absurd (none c (subst (λ z. IsAmong (z, c) old) (sym p) was))
+    ]
+    | inr was ↦ elim (only y c there) [
+      | inl f ↦ let p : x ≡ y = ap (λ q. q.0) f in
+          absurd (none b (subst (λ z. IsAmong (z, b) old) (sym p) was))
+      | inr also ↦ h.one_place y b c was also
+    ]
   ];
 }
 
@@ -124,17 +170,30 @@ module _ {K A : Type 0} (view : K → A) (cmp : K → K → Ordering) (k : K) (e
     pub admits : Admits (seen view es) (seen view new)
     pub only : (y : A) (b : ℕ) → IsAmong (y, b) (seen view new) → (◌≡◌ {A = A × ℕ} (view k, length es) (y, b)) ⊎ IsAmong (y, b) (seen view es)
 
-  pub came_in : (es new : List (K × ℕ)) → lookup (is_at (cmp k)) es ≡ None → new ≡ insert_entry cmp es k (length es) → IsNumbered (seen view es) → CameIn es new
+  pub came_in : (es new : List (K × ℕ)) → lookup (is_at (cmp k)) es ≡ None → new ≡ insert_entry cmp es k (length es)
+      → IsNumbered (seen view es) → CameIn es new
   came_in es new none is h =
       let n = length es in
       let inserted = insert_entry cmp es k n in
       let long : length (seen view es) ≡ length es = length-map es (λ e. (view e.0, e.1)) in
-      let grown : length (seen view inserted) ≡ length (seen view es) + 1 = length-map inserted (λ e. (view e.0, e.1)) ∙ insert_long view cmp k n es none ∙ ap (λ m. m + 1) (sym long) in
+      let grown : length (seen view inserted) ≡ length (seen view es) + 1 = length-map inserted (λ e. (view e.0, e.1))
+      ∙ insert_long view cmp k n es none ∙ ap (λ m. m + 1) (sym long) in
       let here : IsAmong (view k, n) (seen view inserted) = insert_there view cmp k n es none in
       let numbered : IsNumbered (seen view inserted) =
-      numbered_more (seen view es) (seen view inserted) (view k) h (λ b at. missing_there view (cmp k) (view k) equal es b none at) grown (subst (λ m. IsAmong (view k, m) (seen view inserted)) (sym long) here)
-      (λ y b at. insert_kept view cmp k n es none y b at) (λ y b at. subst (λ m. (◌≡◌ {A = A × ℕ} (view k, m) (y, b)) ⊎ IsAmong (y, b) (seen view es)) (sym long) (insert_only view cmp k n es none y b at)) in
-      subst (λ (l : List (K × ℕ)). CameIn es l) (sym is) (record { numbered = numbered; here = here; admits = record { kept = λ y b at. insert_kept view cmp k n es none y b at; few = omega (arith, grown) }; only = λ y b at. insert_only view cmp k n es none y b at })
+      numbered_more (seen view es) (seen view inserted) (view k) h (λ b at.
+      missing_there view (cmp k) (view k) equal es b none at) grown (subst (λ m.
+      IsAmong (view k, m) (seen view inserted)) (sym long) here)
+      (λ y b at. insert_kept view cmp k n es none y b at) (λ y b at.
+      subst (λ m. (◌≡◌ {A = A × ℕ} (view k, m) (y, b)) ⊎ IsAmong (y, b) (seen view es)) (sym long)
+      (insert_only view cmp k n es none y b at)) in
+      subst (λ (l : List (K × ℕ)). CameIn es l) (sym is) (record {
+        numbered = numbered;
+        here = here;
+        admits =
+            record { kept = λ y b at. insert_kept view cmp k n es none y b at; few = omega (arith, grown) };
+        only =
+            λ y b at. insert_only view cmp k n es none y b at;
+      })
 
 -- THE POOLS
 
@@ -147,22 +206,40 @@ equal_octets s t e = (Equal-is (slice_cmp nat_cmp s t)).0 (is_eq-slice_cmp s t �
 pub equal_numbers : (n m : ℕ) → m ≡ n → nat_cmp n m ≡ Equal
 equal_numbers n m e = sym (nat_cmp_is n m Equal (sym e))
 
-pub text_found : (text : List ℕ) (es : List (Vec ℕ Global × ℕ)) (b : ℕ) → lookup (is_at (λ (k : Vec ℕ Global). slice_cmp nat_cmp text k.items)) es ≡ Some b → IsAmong (text, b) (texts_in es)
-text_found text es b h = found_there (λ (k : Vec ℕ Global). k.items) (λ k. slice_cmp nat_cmp text k.items) text (λ k e. sym (exact_bytes text k.items e)) es b h
+pub text_found : (text : List ℕ) (es : List (Vec ℕ Global × ℕ)) (b : ℕ)
+    → lookup (is_at (λ (k : Vec ℕ Global). slice_cmp nat_cmp text k.items)) es ≡ Some b
+    → IsAmong (text, b) (texts_in es)
+text_found text es b h = found_there (λ (k : Vec ℕ Global). k.items) (λ k. slice_cmp nat_cmp text k.items) text (λ k e.
+    sym (exact_bytes text k.items e)) es b h
 
-pub text_missing : (text : List ℕ) (es : List (Vec ℕ Global × ℕ)) (b : ℕ) → lookup (is_at (λ (k : Vec ℕ Global). slice_cmp nat_cmp text k.items)) es ≡ None → IsAmong (text, b) (texts_in es) → ⊥
-text_missing text es b none at = missing_there (λ (k : Vec ℕ Global). k.items) (λ k. slice_cmp nat_cmp text k.items) text (λ k e. equal_octets text k.items e) es b none at
+pub text_missing : (text : List ℕ) (es : List (Vec ℕ Global × ℕ)) (b : ℕ)
+    → lookup (is_at (λ (k : Vec ℕ Global). slice_cmp nat_cmp text k.items)) es ≡ None → IsAmong (text, b) (texts_in es)
+    → ⊥
+text_missing text es b none at =
+    missing_there (λ (k : Vec ℕ Global). k.items) (λ k. slice_cmp nat_cmp text k.items) text (λ k e.
+    equal_octets text k.items e) es b none at
 
-pub text_came_in : (text : List ℕ) (key : Vec ℕ Global) (es new : List (Vec ℕ Global × ℕ)) → key.items ≡ text → lookup (is_at (λ (k : Vec ℕ Global). slice_cmp nat_cmp text k.items)) es ≡ None → new ≡ insert_entry cmp_texts es key (length es) → IsNumbered (texts_in es) → CameIn (λ (k : Vec ℕ Global). k.items) cmp_texts key (λ j e. equal_octets key.items j.items e) es new
+pub text_came_in : (text : List ℕ) (key : Vec ℕ Global) (es new : List (Vec ℕ Global × ℕ)) → key.items ≡ text
+    → lookup (is_at (λ (k : Vec ℕ Global). slice_cmp nat_cmp text k.items)) es ≡ None
+    → new ≡ insert_entry cmp_texts es key (length es) → IsNumbered (texts_in es)
+    → CameIn (λ (k : Vec ℕ Global). k.items) cmp_texts key (λ j e. equal_octets key.items j.items e) es new
 text_came_in text key es new same none is h =
-    came_in (λ (k : Vec ℕ Global). k.items) cmp_texts key (λ j e. equal_octets key.items j.items e) es new (subst (λ (t : List ℕ). lookup (is_at (λ (k : Vec ℕ Global). slice_cmp nat_cmp t k.items)) es ≡ None) (sym same) none) is h
+    came_in (λ (k : Vec ℕ Global). k.items) cmp_texts key (λ j e.
+    equal_octets key.items j.items e) es new (subst (λ (t : List ℕ).
+    lookup (is_at (λ (k : Vec ℕ Global). slice_cmp nat_cmp t k.items)) es ≡ None) (sym same) none) is h
 
 -- one more text
-pub texts_more : (text : List ℕ) (key : Vec ℕ Global) (place : ℕ) (es new : List (Vec ℕ Global × ℕ)) → key.items ≡ text → length text < 2 ^ 16 → AreTexts (texts_in es) → IsNumbered (texts_in new)
-    → ((t : List ℕ) (b : ℕ) → IsAmong (t, b) (texts_in new) → (◌≡◌ {A = List ℕ × ℕ} (key.items, place) (t, b)) ⊎ IsAmong (t, b) (texts_in es)) → AreTexts (texts_in new)
+pub texts_more : (text : List ℕ) (key : Vec ℕ Global) (place : ℕ) (es new : List (Vec ℕ Global × ℕ)) → key.items ≡ text
+    → length text < 2 ^ 16 → AreTexts (texts_in es) → IsNumbered (texts_in new)
+    → ((t : List ℕ) (b : ℕ) → IsAmong (t, b) (texts_in new)
+    → (◌≡◌ {A = List ℕ × ℕ} (key.items, place) (t, b)) ⊎ IsAmong (t, b) (texts_in es)) → AreTexts (texts_in new)
 texts_more text key place es new same small h numbered only =
     let IsSmall : List ℕ → Type 0 = λ t. length t < 2 ^ 16 in
-    record { numbered = numbered; short = λ t b at. elim (only t b at) [ inl e ↦ subst IsSmall (sym same ∙ ap (λ q. q.0) e) small | inr was ↦ h.short t b was ] }
+    record {
+      numbered = numbered;
+      short = λ t b at.
+          elim (only t b at) [ inl e ↦ subst IsSmall (sym same ∙ ap (λ q. q.0) e) small | inr was ↦ h.short t b was ];
+    }
 
 -- numbers are seen as they stand in the map
 numbers_are : (es : List (ℕ × ℕ)) → map (λ (e : ℕ × ℕ). (e.0, e.1)) es ≡ es
@@ -170,7 +247,9 @@ numbers_are [] = refl
 numbers_are (e ∷ es) = ap (λ l. e ∷ l) (numbers_are es)
 
 pub number_found : (n : ℕ) (es : List (ℕ × ℕ)) (b : ℕ) → lookup (is_at (nat_cmp n)) es ≡ Some b → IsAmong (n, b) es
-number_found n es b h = subst (λ (l : List (ℕ × ℕ)). IsAmong (n, b) l) (numbers_are es) (found_there (λ (k : ℕ). k) (nat_cmp n) n (λ k e. sym (exact_unsigned n k e)) es b h)
+number_found n es b h =
+    subst (λ (l : List (ℕ × ℕ)). IsAmong (n, b) l) (numbers_are es) (found_there (λ (k : ℕ). k) (nat_cmp n) n (λ k e.
+    sym (exact_unsigned n k e)) es b h)
 
 -- a number was added at the next place
 pub record NumberCameIn (n : ℕ) (es new : List (ℕ × ℕ)) : Type 0 where
@@ -178,13 +257,16 @@ pub record NumberCameIn (n : ℕ) (es new : List (ℕ × ℕ)) : Type 0 where
   pub here : IsAmong (n, length es) new
   pub admits : Admits es new
 
-pub number_came_in : (n : ℕ) (es new : List (ℕ × ℕ)) → lookup (is_at (nat_cmp n)) es ≡ None → new ≡ insert_entry nat_cmp es n (length es) → IsNumbered es → NumberCameIn n es new
+pub number_came_in : (n : ℕ) (es new : List (ℕ × ℕ)) → lookup (is_at (nat_cmp n)) es ≡ None
+    → new ≡ insert_entry nat_cmp es n (length es) → IsNumbered es → NumberCameIn n es new
 number_came_in n es new none is h =
-    let came = came_in (λ (k : ℕ). k) nat_cmp n (λ j e. equal_numbers n j e) es new none is (subst (λ (l : List (ℕ × ℕ)). IsNumbered l) (sym (numbers_are es)) h) in
+    let came = came_in (λ (k : ℕ). k) nat_cmp n (λ j e.
+    equal_numbers n j e) es new none is (subst (λ (l : List (ℕ × ℕ)). IsNumbered l) (sym (numbers_are es)) h) in
     record {
       numbered = subst (λ (l : List (ℕ × ℕ)). IsNumbered l) (numbers_are new) came.numbered;
       here = subst (λ (l : List (ℕ × ℕ)). IsAmong (n, length es) l) (numbers_are new) came.here;
-      admits = subst (λ (l : List (ℕ × ℕ)). Admits l new) (numbers_are es) (subst (λ (l : List (ℕ × ℕ)). Admits (map (λ (e : ℕ × ℕ). (e.0, e.1)) es) l) (numbers_are new) came.admits);
+      admits = subst (λ (l : List (ℕ × ℕ)). Admits l new) (numbers_are es) (subst (λ (l : List (ℕ × ℕ)).
+          Admits (map (λ (e : ℕ × ℕ). (e.0, e.1)) es) l) (numbers_are new) came.admits);
     }
 
 -- THE LIST
@@ -210,10 +292,12 @@ pub record IsPlaced {A : Type 0} (es rest : List (A × ℕ)) (xs : List A) : Typ
 pub placed_first : {A : Type 0} (es : List (A × ℕ)) (xs : List A) → length xs ≡ length es → IsPlaced es es xs
 placed_first es xs long = record { long = long; among = λ x b h. h; placed = λ x b h. inl h }
 
-pub placed_inside : {A : Type 0} (es rest : List (A × ℕ)) (xs : List A) (x : A) (b : ℕ) → IsNumbered es → IsPlaced es ((x, b) ∷ rest) xs → b < length xs
+pub placed_inside : {A : Type 0} (es rest : List (A × ℕ)) (xs : List A) (x : A) (b : ℕ) → IsNumbered es
+    → IsPlaced es ((x, b) ∷ rest) xs → b < length xs
 placed_inside es rest xs x b n h = omega (arith, h.long, n.inside x b (h.among x b (inl refl)))
 
-pub placed_turn : {A : Type 0} (es rest : List (A × ℕ)) (xs : List A) (x : A) (b : ℕ) → IsNumbered es → IsPlaced es ((x, b) ∷ rest) xs → length (set xs b x) ≡ length xs → IsPlaced es rest (set xs b x)
+pub placed_turn : {A : Type 0} (es rest : List (A × ℕ)) (xs : List A) (x : A) (b : ℕ) → IsNumbered es
+    → IsPlaced es ((x, b) ∷ rest) xs → length (set xs b x) ≡ length xs → IsPlaced es rest (set xs b x)
 placed_turn {A} es rest xs x b n h same = record {
   long = same ∙ h.long;
   among = λ y c at. h.among y c (inr at);
@@ -234,7 +318,8 @@ pub placed_last : {A : Type 0} (es : List (A × ℕ)) (xs : List A) → IsPlaced
 placed_last es xs h x b at = elim (h.placed x b at) [ inl left ↦ absurd left | inr is ↦ is ]
 
 -- nothing stands in the list twice
-pub placed_once : {A : Type 0} (es : List (A × ℕ)) (xs : List A) → IsNumbered es → IsPlaced es [] xs → (i j : ℕ) (x : A) → i < length xs → j < length xs → slice_get xs i ≡ Some x → slice_get xs j ≡ Some x → i ≡ j
+pub placed_once : {A : Type 0} (es : List (A × ℕ)) (xs : List A) → IsNumbered es → IsPlaced es [] xs → (i j : ℕ) (x : A)
+    → i < length xs → j < length xs → slice_get xs i ≡ Some x → slice_get xs j ≡ Some x → i ≡ j
 placed_once {A} es xs n h i j x lti ltj ati atj =
     let (y, here) = n.each i (omega (arith, lti, h.long)) in
     let (z, there) = n.each j (omega (arith, ltj, h.long)) in
@@ -245,13 +330,18 @@ placed_once {A} es xs n h i j x lti ltj ati atj =
     n.one_place x i j (subst (λ w. IsAmong (w, i) es) one here) (subst (λ w. IsAmong (w, j) es) two there)
 
 -- what the loops do
-pub text_placed : (es rest : List (Vec ℕ Global × ℕ)) (xs : List (Vec ℕ Global)) (k : Vec ℕ Global) (v : ℕ) → IsNumbered (texts_in es) → IsPlaced (texts_in es) (texts_in ((k, v) ∷ rest)) (octets_of xs) → IsPlaced (texts_in es) (texts_in rest) (octets_of (set xs v k))
+pub text_placed : (es rest : List (Vec ℕ Global × ℕ)) (xs : List (Vec ℕ Global)) (k : Vec ℕ Global) (v : ℕ)
+    → IsNumbered (texts_in es) → IsPlaced (texts_in es) (texts_in ((k, v) ∷ rest)) (octets_of xs)
+    → IsPlaced (texts_in es) (texts_in rest) (octets_of (set xs v k))
 text_placed es rest xs k v n h =
     subst (λ (l : List (List ℕ)). IsPlaced (texts_in es) (texts_in rest) l) (sym (map-set (λ (t : Vec ℕ Global). t.items) xs v k))
     (placed_turn (texts_in es) (texts_in rest) (octets_of xs) k.items v n h (length-set (octets_of xs) v k.items))
 
-pub text_inside : (es rest : List (Vec ℕ Global × ℕ)) (xs : List (Vec ℕ Global)) (k : Vec ℕ Global) (v : ℕ) → IsNumbered (texts_in es) → IsPlaced (texts_in es) (texts_in ((k, v) ∷ rest)) (octets_of xs) → v < length xs
-text_inside es rest xs k v n h = let inside = placed_inside (texts_in es) (texts_in rest) (octets_of xs) k.items v n h in omega (arith, inside, length-map xs (λ (t : Vec ℕ Global). t.items))
+pub text_inside : (es rest : List (Vec ℕ Global × ℕ)) (xs : List (Vec ℕ Global)) (k : Vec ℕ Global) (v : ℕ)
+    → IsNumbered (texts_in es) → IsPlaced (texts_in es) (texts_in ((k, v) ∷ rest)) (octets_of xs) → v < length xs
+text_inside es rest xs k v n h = let inside =
+    placed_inside (texts_in es) (texts_in rest) (octets_of xs) k.items v n h in
+    omega (arith, inside, length-map xs (λ (t : Vec ℕ Global). t.items))
 
 pub number_placed : (es rest : List (ℕ × ℕ)) (xs : List ℕ) (k v : ℕ) → IsNumbered es → IsPlaced es ((k, v) ∷ rest) xs → IsPlaced es rest (set xs v k)
 number_placed es rest xs k v n h = placed_turn es rest xs k v n h (length-set xs v k)

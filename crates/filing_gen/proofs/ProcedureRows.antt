@@ -31,7 +31,8 @@ discarding = library ((codes "x", command_then discard no_command) ∷ [])
 abbrev outer : Commands
 outer = command_then (included (codes "x")) no_command
 
-discard_is_called : shared_flows discarding first_slot None outer ≡ sequence (sequence (action (SetMark 0)) (action (CallTo 1))) nothing ∷ sequence (action SetCancelled) nothing ∷ []
+discard_is_called : shared_flows discarding first_slot None outer
+    ≡ sequence (sequence (action (SetMark 0)) (action (CallTo 1))) nothing ∷ sequence (action SetCancelled) nothing ∷ []
 unfolding procedures reaches
 discard_is_called = refl
 
@@ -49,7 +50,8 @@ abbrev ten : List ℕ → Commands
 ten name = command_then require (repeated 10 (included name))
 
 abbrev tens : Library
-tens = library ((codes "a", ten (codes "b")) ∷ (codes "b", ten (codes "c")) ∷ (codes "c", ten (codes "d")) ∷ (codes "d", ten (codes "e")) ∷ (codes "e", no_command) ∷ [])
+tens = library ((codes "a", ten (codes "b")) ∷ (codes "b", ten (codes "c")) ∷ (codes "c", ten (codes "d"))
+    ∷ (codes "d", ten (codes "e")) ∷ (codes "e", no_command) ∷ [])
 
 tens_begin : places_from 0 (shared_flows tens first_slot None (ten (codes "a"))) ≡ 0 ∷ 21 ∷ 42 ∷ 63 ∷ 84 ∷ 105 ∷ []
 unfolding procedures reaches

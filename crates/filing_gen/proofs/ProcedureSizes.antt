@@ -17,21 +17,27 @@ module _ (lib : Library) (slot : Slots) (main : List ScriptName) (own : ℕ) whe
   call_single None = refl
   call_single (Some n) = refl
 
-  entry_small : (later : List Procedure) (left : ℕ) (chain : List ScriptName) (s : ScriptName) (x : Commands) → size (call_entry lib slot own later left chain s x) ≤ 2 + 0
+  entry_small : (later : List Procedure) (left : ℕ) (chain : List ScriptName) (s : ScriptName) (x : Commands)
+      → size (call_entry lib slot own later left chain s x) ≤ 2 + 0
   entry_small later zero chain s x = omega arith
-  entry_small later (suc left) chain s x = let one = call_single (number_of lib later (record { script = x; left = left; chain = s ∷ chain })) in omega (arith, one)
+  entry_small later (suc left) chain s x = let one =
+      call_single (number_of lib later (record { script = x; left = left; chain = s ∷ chain })) in omega (arith, one)
 
   calling_small : (later : List Procedure) (p : Procedure) → IncludesSmall (calling_flow lib slot main own later p) (λ i. 0)
   calling_small later p i =
       let s = script_named i in
-      let h = including_small lib slot main p.chain (call_entry lib slot own later p.left p.chain s) (λ x. 0) i (entry_small later p.left p.chain s) in
+      let h = including_small lib slot main p.chain (call_entry lib slot own later p.left p.chain s) (λ x.
+      0) i (entry_small later p.left p.chain s) in
       let none = nothing_there (lib.find s) (is_among p.chain s) in
       omega (arith, h, none)
 
-  pub procedure_small : (later : List Procedure) (p : Procedure) → size (script_flow (calling_flow lib slot main own later p) p.script) + 1 ≤ own_weight p.script
-  procedure_small later p = let h = flow_small (calling_flow lib slot main own later p) (λ i. 0) (calling_small later p) 0 p.script in omega (arith, h)
+  pub procedure_small : (later : List Procedure) (p : Procedure)
+      → size (script_flow (calling_flow lib slot main own later p) p.script) + 1 ≤ own_weight p.script
+  procedure_small later p = let h = flow_small (calling_flow lib slot main own later p) (λ i.
+      0) (calling_small later p) 0 p.script in omega (arith, h)
 
 module _ (lib : Library) (slot : Slots) (main : List ScriptName) where
   pub procedures_small : (own : ℕ) (ps : List Procedure) → whole_size (procedure_flows lib slot main own ps) ≤ shared_weight ps
   procedures_small own [] = omega arith
-  procedures_small own (p ∷ ps) = let one = procedure_small lib slot main own ps p in let rest = procedures_small (suc own) ps in omega (arith, one, rest)
+  procedures_small own (p ∷ ps) = let one = procedure_small lib slot main own ps p in let rest =
+      procedures_small (suc own) ps in omega (arith, one, rest)

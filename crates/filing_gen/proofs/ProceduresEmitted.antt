@@ -1,5 +1,6 @@
 -- The code of all procedures, as it is written in turn.
-use Rattle.std.proofs.Common.{◌≡◌, ℕ, zero, suc, ◌+◌, ◌-◌, ◌<◌, ◌≤◌, ◌^◌, List, [], ◌∷◌, ◌++◌, length, map, take, drop, get_or, Some, refl, sym, ap, ◌∙◌, subst, arith}
+use Rattle.std.proofs.Common.{◌≡◌, ℕ, zero, suc, ◌+◌, ◌-◌, ◌<◌, ◌≤◌, ◌^◌, List, [], ◌∷◌, ◌++◌, length, map, take, drop}
+use Rattle.std.proofs.Common.{get_or, Some, refl, sym, ap, ◌∙◌, subst, arith}
 use Rattle.std.specs.Prelude.{slice_get}
 use Rattle.std.proofs.lemmas.List.{length-map, take_rest}
 use Rattle.std.proofs.lemmas.Grind.{common_steps}
@@ -56,12 +57,15 @@ module _ (lib : Library) (slot : Slots) (main : List ScriptName) (ps : List code
     a = flow_of own p
 
     afterwards : drop (suc own) (map procedure_of ps) ≡ map procedure_of (after own)
-    afterwards = drop_map procedure_of (suc own) ps ∙ ap (λ (k : ℕ). map procedure_of (drop k ps)) (next own) ∙ ap (map procedure_of) (sym (take_rest ps (own + 1)))
+    afterwards = drop_map procedure_of (suc own) ps ∙ ap (λ (k : ℕ). map procedure_of (drop k ps)) (next own)
+        ∙ ap (map procedure_of) (sym (take_rest ps (own + 1)))
 
     here : slice_get flows own ≡ Some a
     here =
         flow_at lib slot main 0 (map procedure_of ps) own (procedure_of p) (got_map procedure_of ps own p below is)
-        ∙ ap (λ (k : ℕ). Some (script_flow (calling_flow lib slot main k (drop (suc own) (map procedure_of ps)) (procedure_of p)) (procedure_of p).script)) (none_first own)
+        ∙ ap (λ (k : ℕ).
+        Some (script_flow (calling_flow lib slot main k (drop (suc own) (map procedure_of ps)) (procedure_of p))
+        (procedure_of p).script)) (none_first own)
         ∙ ap (λ (l : List Procedure). Some (script_flow (calling_flow lib slot main own l (procedure_of p)) (procedure_of p).script)) afterwards
 
     module _ (x : Output) (places : List ℕ) (has : HasProcedures x places (take own flows)) where
@@ -75,16 +79,28 @@ module _ (lib : Library) (slot : Slots) (main : List ScriptName) (ps : List code
         pub room_left : HasRoom x (size a + 1)
         room_left = (omega (arith, small, has.long), omega (arith, small, has.texts), omega (arith, small, has.numbers))
 
-      pub procedure_more : (y : Output) (more : List ℕ) → EmitsProcedure x y a → more ≡ places ++ length x.code.items ∷ [] → HasProcedures y more (take (own + 1) flows)
+      pub procedure_more : (y : Output) (more : List ℕ) → EmitsProcedure x y a → more ≡ places
+          ++ length x.code.items ∷ [] → HasProcedures y more (take (own + 1) flows)
       procedure_more y more e new =
           subst (λ (l : List ℕ). HasProcedures y l (take (own + 1) flows)) (sym new)
-          (subst (λ (fs : List Flow). HasProcedures y (places ++ length x.code.items ∷ []) fs) (sym (take_next flows own a here) ∙ ap (λ (k : ℕ). take k flows) (next own)) (one_more x y places (take own flows) a has e))
+          (subst (λ (fs : List Flow). HasProcedures y (places ++ length x.code.items ∷ []) fs)
+          (sym (take_next flows own a here)
+          ∙ ap (λ (k : ℕ). take k flows) (next own)) (one_more x y places (take own flows) a has e))
 
   pub none_written : (o : Output) → o.texts ≡ [] → o.numbers ≡ [] → o.code.items ≡ [] → HasProcedures o [] (take 0 flows)
-  none_written o texts numbers code = record { places = refl; stand = tt; long = ap length code; texts = omega (arith, ap length texts); numbers = omega (arith, ap length numbers) }
+  none_written o texts numbers code = record {
+    places = refl;
+    stand = tt;
+    long = ap length code;
+    texts =
+        omega (arith, ap length texts);
+    numbers = omega (arith, ap length numbers);
+  }
 
   pub all_written : (o : Output) (places : List ℕ) (own : ℕ) → length ps ≤ own → HasProcedures o places (take own flows) → IsSharedCode o places flows
   all_written o places own past was =
       let long = flows_long lib slot main 0 (map procedure_of ps) in
-      let has : HasProcedures o places flows = subst (HasProcedures o places) (all_taken flows own (omega (arith, past, long, length-map ps procedure_of))) was in
+      let has : HasProcedures o places flows =
+      subst (HasProcedures o places) (all_taken flows own (omega (arith, past, long, length-map ps procedure_of)))
+      was in
       record { places = has.places; stand = has.stand; long = has.long; texts = has.texts; numbers = has.numbers }

@@ -35,7 +35,9 @@ module _ (l : Scripts) (known_as : Option (List ℕ)) (main : Commands) where
     pub heavy_by_path : greatest_path < path_weight lib known_as main → is_too_heavy lib known_as main ≡ true
     heavy_by_path more = heavy_by_procedures lib known_as main over ∙ too_long (procedures lib known_as main) (path_weight lib known_as main) more
 
-  pub few_written : (ps : List code.Procedure) (o : Output) (places : List ℕ) → IsSharedCode o places (procedure_flows lib (slots_of l) (main_names known_as) 0 (map procedure_of ps)) → shared_weight (map procedure_of ps) ≤ greatest_weight → HasRoom o 0
+  pub few_written : (ps : List code.Procedure) (o : Output) (places : List ℕ)
+      → IsSharedCode o places (procedure_flows lib (slots_of l) (main_names known_as) 0 (map procedure_of ps))
+      → shared_weight (map procedure_of ps) ≤ greatest_weight → HasRoom o 0
   few_written ps o places written light =
       let small = procedures_small lib (slots_of l) (main_names known_as) 0 (map procedure_of ps) in
       (omega (arith, written.long, small, light), omega (arith, written.texts, small, light), omega (arith, written.numbers, small, light))
@@ -49,19 +51,43 @@ module _ (l : Scripts) (known_as : Option (List ℕ)) (main : Commands) where
 
     module _ (over : greatest_weight < linked_weight lib known_as main) where
       pub heavy_by_code : greatest_weight < shared_weight (map procedure_of ps) → is_too_heavy lib known_as main ≡ true
-      heavy_by_code more = heavy_by_procedures lib known_as main over ∙ too_heavy (procedures lib known_as main) (path_weight lib known_as main) (omega (arith, more, weighs))
+      heavy_by_code more = heavy_by_procedures lib known_as main over
+          ∙ too_heavy (procedures lib known_as main) (path_weight lib known_as main) (omega (arith, more, weighs))
 
-      pub light_by_all : length ps ≤ most_procedures → shared_weight (map procedure_of ps) ≤ greatest_weight → path_weight lib known_as main ≤ greatest_path → is_too_heavy lib known_as main ≡ false
+      pub light_by_all : length ps ≤ most_procedures → shared_weight (map procedure_of ps) ≤ greatest_weight
+          → path_weight lib known_as main ≤ greatest_path → is_too_heavy lib known_as main ≡ false
       light_by_all few light short =
-          heavy_by_procedures lib known_as main over ∙ not_beyond (procedures lib known_as main) (path_weight lib known_as main) (omega (arith, few, as_many)) (omega (arith, light, weighs)) short
+          heavy_by_procedures lib known_as main over
+          ∙ not_beyond (procedures lib known_as main) (path_weight lib known_as main) (omega (arith, few, as_many))
+          (omega (arith, light, weighs)) short
 
     module _ (count : ℕ) (has : HasSlots lib (slots_of l) count) (o : Output) (p : Program) (budget : ℕ) (places : List ℕ) where
-      pub shared_image : IsSharedCode o places (procedure_flows lib (slots_of l) (main_names known_as) 0 (map procedure_of ps)) → IsImageOf budget count (Some places) o p → (budget ≡ path_weight lib known_as main) × (budget ≤ greatest_path) → length ps ≤ most_procedures
+      pub shared_image : IsSharedCode o places (procedure_flows lib (slots_of l) (main_names known_as) 0
+          (map procedure_of ps)) → IsImageOf budget count (Some places) o p → (budget ≡ path_weight lib known_as main)
+          × (budget ≤ greatest_path) → length ps ≤ most_procedures
           → IsShared lib (slots_of l) count has known_as main p
       shared_image written made path few =
-          let code : IsSharedCode o places (shared_flows lib (slots_of l) known_as main) = subst (λ (qs : List Procedure). IsSharedCode o places (procedure_flows lib (slots_of l) (main_names known_as) 0 qs)) are.are written in
+          let code : IsSharedCode o places (shared_flows lib (slots_of l) known_as main) =
+          subst (λ (qs : List Procedure).
+          IsSharedCode o places (procedure_flows lib (slots_of l) (main_names known_as) 0 qs)) are.are written in
           shared_compiled lib (slots_of l) count has known_as main o p budget code.stand code.long
-          (subst (λ (ns : List ℕ). IsImageOf budget count (Some ns) o p) code.places made) path.0 (omega (arith, few, as_many)) (omega (arith, path.0, path.1))
+          (subst (λ (ns : List ℕ). IsImageOf budget count (Some ns) o p) code.places made) path.0 (omega (
+            arith,
+            few,
+            as_many,
+          )) (omega (arith, path.0, path.1))
 
-      pub compiled_image : greatest_weight < linked_weight lib known_as main → IsShared lib (slots_of l) count has known_as main p → IsCompiled lib known_as main p
-      compiled_image over s = record { version = (λ one. absurd (two_is_not_one p.procedures s.shared one), λ light. absurd (omega (arith, over, light))); budget = s.budget ∙ sym (budget_by_path lib known_as main over); well = s.well; outcomes = s.outcomes }
+      pub compiled_image : greatest_weight < linked_weight lib known_as main
+          → IsShared lib (slots_of l) count has known_as main p → IsCompiled lib known_as main p
+      compiled_image over s =
+          record {
+            version = (
+              λ one. absurd (two_is_not_one p.procedures s.shared one),
+              λ light.
+                  absurd (omega (arith, over, light)),
+            );
+            budget = s.budget ∙ sym (budget_by_path lib known_as main over);
+            well =
+                s.well;
+            outcomes = s.outcomes;
+          }

@@ -42,13 +42,19 @@ none_of a b d h k l = rw (h, k, l) refl
 
 module _ (ps : List Procedure) (path : ℕ) where
   pub too_many : most_procedures < length ps → is_beyond ps path ≡ true
-  too_many over = one_of (nat_lt most_procedures (length ps)) (nat_lt greatest_weight (shared_weight ps)) (nat_lt greatest_path path) (inl (lt-ltb most_procedures (length ps) over))
+  too_many over =
+      one_of (nat_lt most_procedures (length ps)) (nat_lt greatest_weight (shared_weight ps))
+      (nat_lt greatest_path path) (inl (lt-ltb most_procedures (length ps) over))
 
   pub too_heavy : greatest_weight < shared_weight ps → is_beyond ps path ≡ true
-  too_heavy over = one_of (nat_lt most_procedures (length ps)) (nat_lt greatest_weight (shared_weight ps)) (nat_lt greatest_path path) (inr (inl (lt-ltb greatest_weight (shared_weight ps) over)))
+  too_heavy over =
+      one_of (nat_lt most_procedures (length ps)) (nat_lt greatest_weight (shared_weight ps))
+      (nat_lt greatest_path path) (inr (inl (lt-ltb greatest_weight (shared_weight ps) over)))
 
   pub too_long : greatest_path < path → is_beyond ps path ≡ true
-  too_long over = one_of (nat_lt most_procedures (length ps)) (nat_lt greatest_weight (shared_weight ps)) (nat_lt greatest_path path) (inr (inr (lt-ltb greatest_path path over)))
+  too_long over =
+      one_of (nat_lt most_procedures (length ps)) (nat_lt greatest_weight (shared_weight ps))
+      (nat_lt greatest_path path) (inr (inr (lt-ltb greatest_path path over)))
 
   pub not_beyond : length ps ≤ most_procedures → shared_weight ps ≤ greatest_weight → path ≤ greatest_path → is_beyond ps path ≡ false
   not_beyond few light short =
@@ -58,12 +64,16 @@ module _ (ps : List Procedure) (path : ℕ) where
 -- PROGRAMS
 
 -- what was written is the program
-pub shared_program : (o : Output) (p : Program) (flows : List Flow) → ProceduresStand (operands_of o) o.code.items flows 0 → length o.code.items ≡ whole_size flows → (budget count : ℕ) → IsImageOf budget count (Some (places_from 0 flows)) o p → AreProceduresOf p flows
+pub shared_program : (o : Output) (p : Program) (flows : List Flow)
+    → ProceduresStand (operands_of o) o.code.items flows 0 → length o.code.items ≡ whole_size flows → (budget count : ℕ)
+    → IsImageOf budget count (Some (places_from 0 flows)) o p → AreProceduresOf p flows
 shared_program o p flows stand long budget count made =
     let named : Named (operands_of o) (places_in p.texts p.numbers) = record { text = made.text; number = made.number } in
     record {
       places = made.procedures_are;
-      stand = subst (λ (os : List Operation). ProceduresStand (places_in p.texts p.numbers) os flows 0) (sym made.code) (procedures_there (operands_of o) (places_in p.texts p.numbers) named o.code.items o.code.items (λ i x low at. at) flows 0 stand);
+      stand = subst (λ (os : List Operation). ProceduresStand (places_in p.texts p.numbers) os flows 0) (sym made.code)
+          (procedures_there (operands_of o) (places_in p.texts p.numbers) named o.code.items o.code.items (λ i x low at.
+          at) flows 0 stand);
       long = ap length made.code ∙ long;
     }
 
@@ -79,17 +89,25 @@ module _ (lib : Library) (slot : Slots) (count : ℕ) (has : HasSlots lib slot c
     pub well : IsWell p
     pub outcomes : (c : Facts) → (n : ℕ) × HasOutcome p c n (outcome_of (meaning c lib known_as main))
 
-  pub shared_compiled : (o : Output) (p : Program) (budget : ℕ) → ProceduresStand (operands_of o) o.code.items flows 0 → length o.code.items ≡ whole_size flows → IsImageOf budget count (Some (places_from 0 flows)) o p
-      → budget ≡ path_weight lib known_as main → length (procedures lib known_as main) ≤ most_procedures → path_weight lib known_as main ≤ greatest_path → IsShared p
+  pub shared_compiled : (o : Output) (p : Program) (budget : ℕ) → ProceduresStand (operands_of o) o.code.items flows 0
+      → length o.code.items ≡ whole_size flows → IsImageOf budget count (Some (places_from 0 flows)) o p
+      → budget ≡ path_weight lib known_as main → length (procedures lib known_as main) ≤ most_procedures
+      → path_weight lib known_as main ≤ greatest_path → IsShared p
   shared_compiled o p budget stand long made path few short =
       let are : AreProceduresOf p flows = shared_program o p flows stand long budget count made in
-      let sound : AreSound p.slots (length flows) 0 flows = subst (λ (k : ℕ). AreSound k (length flows) 0 flows) (sym made.slots) (shared_sound lib slot known_as main count has) in
+      let sound : AreSound p.slots (length flows) 0 flows =
+      subst (λ (k : ℕ). AreSound k (length flows) 0 flows) (sym made.slots)
+      (shared_sound lib slot known_as main count has) in
       let as_many = flows_long lib slot (main_names known_as) 0 (procedures lib known_as main) in
       record {
         shared = ap version_of made.procedures_are;
         budget = made.budget_is ∙ path;
         well =
-            typed_procedures_are_well p flows are (shared_typed lib slot known_as main) sound (omega (arith, made.slots, has.few)) (shared_first lib slot known_as main) (omega (arith, as_many, few))
+            typed_procedures_are_well p flows are (shared_typed lib slot known_as main) sound (omega (
+              arith,
+              made.slots,
+              has.few,
+            )) (shared_first lib slot known_as main) (omega (arith, as_many, few))
             (omega (arith, made.budget_is, path, shared_steps lib slot known_as main)) (omega (arith, made.budget_is, path, short));
         outcomes = has_outcome lib slot count has known_as main p are sound;
       }

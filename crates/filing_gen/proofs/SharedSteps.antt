@@ -1,9 +1,13 @@
 -- The steps of the first procedure are at most the path weight of the main script, where each call counts the steps of its
 -- procedure.
-use Rattle.std.proofs.Common.{◌≡◌, ℕ, zero, suc, ◌+◌, ◌*◌, ◌≤◌, List, [], ◌∷◌, length, Bool, true, false, cond, Option, Some, None, sym, ap, subst, arith}
+use Rattle.std.proofs.Common.{◌≡◌, ℕ, zero, suc, ◌+◌, ◌*◌, ◌≤◌, List, [], ◌∷◌, length, Bool, true, false, cond, Option}
+use Rattle.std.proofs.Common.{Some, None, sym, ap, subst, arith}
 use Rattle.std.specs.Prelude.{nat_eq, slice_index}
 use Rattle.std.proofs.lemmas.Bool.{eq-eqb, false_from_ne_true, eqb-true}
-use Rattle.sieve_meaning.specs.Program.{Test, always, negated, all_of, any_of, has_all, over, under, header, Tests, no_test, test_then, Include, Command, require, keep, discard, stop, return, file_into, branch, include, Commands, no_command, command_then, Branches, no_branch, otherwise, if_then}
+use Rattle.sieve_meaning.specs.Program.{Test, always, negated, all_of, any_of, has_all, over, under, header, Tests}
+use Rattle.sieve_meaning.specs.Program.{no_test, test_then, Include, Command, require, keep, discard, stop, return}
+use Rattle.sieve_meaning.specs.Program.{file_into, branch, include, Commands, no_command, command_then, Branches}
+use Rattle.sieve_meaning.specs.Program.{no_branch, otherwise, if_then}
 use Rattle.sieve_meaning.specs.Meaning.{ScriptName, script_named, is_among, main_names, Library}
 use Rattle.sieve_meaning.specs.Weight.{test_weight, tests_weight, weight, weight_one, branches_weight, unless_missing, unless_active}
 use Rattle.sieve_meaning.specs.Procedures.{Procedure, procedures, path_weight}
@@ -79,64 +83,88 @@ module _ (calls : ℕ → ℕ) where
   once_steps true slot n a h = omega (arith, h)
   once_steps false slot n a h = omega (arith, h)
 
-  active_steps : (active once : Bool) (a : Flow) (n : ℕ) → flow_steps calls a ≤ 4 + n → flow_steps calls (active_flow active once a) ≤ 4 + unless_active active n
+  active_steps : (active once : Bool) (a : Flow) (n : ℕ) → flow_steps calls a ≤ 4 + n
+      → flow_steps calls (active_flow active once a) ≤ 4 + unless_active active n
   active_steps true true a n h = omega arith
   active_steps true false a n h = omega arith
   active_steps false once a n h = h
 
-  found_steps : (o : Option Commands) (passed : Bool) (go : Commands → Flow) (w : Commands → ℕ) → ((x : Commands) → flow_steps calls (go x) ≤ 4 + w x) → flow_steps calls (found_flow o passed go) ≤ 4 + unless_missing o w
+  found_steps : (o : Option Commands) (passed : Bool) (go : Commands → Flow) (w : Commands → ℕ)
+      → ((x : Commands) → flow_steps calls (go x) ≤ 4 + w x)
+      → flow_steps calls (found_flow o passed go) ≤ 4 + unless_missing o w
   found_steps None true go w h = omega arith
   found_steps None false go w h = omega arith
   found_steps (Some x) passed go w h = h x
 
   -- where an entry takes at most two steps and what it adds to the path
-  including_steps : (lib : Library) (slot : Slots) (main chain : List ScriptName) (a : Commands → Flow) (w : Commands → ℕ) (i : Include) → ((x : Commands) → flow_steps calls (a x) ≤ 2 + w x)
-      → flow_steps calls (including_flow lib slot main chain a i) ≤ 4 + unless_missing (lib.find (script_named i)) (λ script. unless_active (is_among chain (script_named i)) (w script))
-  including_steps lib slot main chain a w i h =
-      found_steps (lib.find (script_named i)) (is_passed main i) (λ script. active_flow (is_among chain (script_named i)) i.once (once_flow i.once (slot (script_named i)) (a script)))
+  including_steps : (lib : Library) (slot : Slots) (main chain : List ScriptName) (a : Commands → Flow) (w : Commands
+      → ℕ) (i : Include) → ((x : Commands) → flow_steps calls (a x) ≤ 2 + w x)
+      → flow_steps calls (including_flow lib slot main chain a i) ≤ 4 + unless_missing (lib.find (script_named i))
       (λ script. unless_active (is_among chain (script_named i)) (w script))
-      (λ x. active_steps (is_among chain (script_named i)) i.once (once_flow i.once (slot (script_named i)) (a x)) (w x) (omega (arith, once_steps i.once (slot (script_named i)) (2 + w x) (a x) (h x))))
+  including_steps lib slot main chain a w i h =
+      found_steps (lib.find (script_named i)) (is_passed main i) (λ script.
+      active_flow (is_among chain (script_named i)) i.once (once_flow i.once (slot (script_named i)) (a script)))
+      (λ script. unless_active (is_among chain (script_named i)) (w script))
+      (λ x. active_steps (is_among chain (script_named i)) i.once (once_flow i.once (slot (script_named i)) (a x)) (w x)
+      (omega (arith, once_steps i.once (slot (script_named i)) (2 + w x) (a x) (h x))))
 
   -- PROCEDURES
 
-  module _ (lib : Library) (slot : Slots) (main : List ScriptName) (own : ℕ) (later : List Procedure) (paths : List ℕ) (within : (n : ℕ) → calls (own + suc n) ≤ slice_index paths n) where
+  module _ (lib : Library) (slot : Slots) (main : List ScriptName) (own : ℕ) (later : List Procedure) (paths : List ℕ)
+      (within : (n : ℕ) → calls (own + suc n) ≤ slice_index paths n) where
     call_steps : (number : Option ℕ) → flow_steps calls (call_flow own number) ≤ 1 + path_at paths number
     call_steps None = omega arith
     call_steps (Some n) = omega (arith, within n)
 
-    marked_steps : (slot : ℕ) (number : Option ℕ) → flow_steps calls (sequence (action (SetMark slot)) (call_flow own number)) ≤ 2 + path_at paths number
+    marked_steps : (slot : ℕ) (number : Option ℕ)
+        → flow_steps calls (sequence (action (SetMark slot)) (call_flow own number)) ≤ 2 + path_at paths number
     marked_steps slot number = let one = call_steps number in omega (arith, one)
 
     entry_steps : (left : ℕ) (chain : List ScriptName) (i : Include)
-        → flow_steps calls (including_flow lib slot main chain (call_entry lib slot own later left chain (script_named i)) i) ≤ 4 + called_path lib later paths left chain i
+        → flow_steps calls
+        (including_flow lib slot main chain (call_entry lib slot own later left chain (script_named i)) i) ≤ 4 +
+        called_path lib later paths left chain i
     entry_steps zero chain i =
         let h = including_steps lib slot main chain (call_entry lib slot own later zero chain (script_named i)) (λ x. 0) i (λ x. omega arith) in
         omega (arith, h, nothing_there (lib.find (script_named i)) (is_among chain (script_named i)))
     entry_steps (suc left) chain i =
-        including_steps lib slot main chain (call_entry lib slot own later (suc left) chain (script_named i)) _ i (λ x. marked_steps (slot (script_named i)) _)
+        including_steps lib slot main chain (call_entry lib slot own later (suc left) chain (script_named i)) _ i (λ x.
+        marked_steps (slot (script_named i)) _)
 
-    procedure_steps : (p : Procedure) → flow_steps calls (script_flow (calling_flow lib slot main own later p) p.script) ≤ weight (called_path lib later paths p.left p.chain) p.script
-    procedure_steps p = script_steps (calling_flow lib slot main own later p) (called_path lib later paths p.left p.chain) (λ i. entry_steps p.left p.chain i) 0 p.script
+    procedure_steps : (p : Procedure)
+        → flow_steps calls (script_flow (calling_flow lib slot main own later p) p.script) ≤ weight
+        (called_path lib later paths p.left p.chain) p.script
+    procedure_steps p =
+        script_steps (calling_flow lib slot main own later p) (called_path lib later paths p.left p.chain) (λ i.
+        entry_steps p.left p.chain i) 0 p.script
 
 module _ (lib : Library) (slot : Slots) (main : List ScriptName) where
   -- each procedure takes at most its path weight
-  steps_within : (own : ℕ) (ps : List Procedure) (n : ℕ) → steps_by own (procedure_flows lib slot main own ps) (own + n) ≤ slice_index (path_weights lib ps) n
+  steps_within : (own : ℕ) (ps : List Procedure) (n : ℕ)
+      → steps_by own (procedure_flows lib slot main own ps) (own + n) ≤ slice_index (path_weights lib ps) n
   steps_within own [] n = omega arith
   steps_within own (p ∷ later) zero =
       let calls = steps_by (suc own) (procedure_flows lib slot main (suc own) later) in
       let a = script_flow (calling_flow lib slot main own later p) p.script in
       let is : nat_eq (own + 0) own ≡ true = eq-eqb (own + 0) own (omega arith) in
-      let h = procedure_steps calls lib slot main own later (path_weights lib later) (λ m. let k = steps_within (suc own) later m in subst (λ (b : ℕ). calls b ≤ slice_index (path_weights lib later) m) (omega arith) k) p in
-      subst (λ (b : Bool). cond b (flow_steps calls a + 1) (calls (own + 0)) ≤ weight (called_path lib later (path_weights lib later) p.left p.chain) p.script + 1) (sym is) (omega (arith, h))
+      let h = procedure_steps calls lib slot main own later (path_weights lib later) (λ m. let k =
+      steps_within (suc own) later m in
+      subst (λ (b : ℕ). calls b ≤ slice_index (path_weights lib later) m) (omega arith) k) p in
+      subst (λ (b : Bool).
+      cond b (flow_steps calls a + 1) (calls (own + 0)) ≤ weight
+      (called_path lib later (path_weights lib later) p.left p.chain) p.script + 1) (sym is) (omega (arith, h))
   steps_within own (p ∷ later) (suc n) =
       let calls = steps_by (suc own) (procedure_flows lib slot main (suc own) later) in
       let a = script_flow (calling_flow lib slot main own later p) p.script in
-      let other : nat_eq (own + suc n) own ≡ false = false_from_ne_true (nat_eq (own + suc n) own) (λ h. absurd (let same = eqb-true (own + suc n) own h in omega (arith, same))) in
+      let other : nat_eq (own + suc n) own ≡ false =
+      false_from_ne_true (nat_eq (own + suc n) own) (λ h.
+      absurd (let same = eqb-true (own + suc n) own h in omega (arith, same))) in
       let h = steps_within (suc own) later n in
       subst (λ (b : Bool). cond b (flow_steps calls a + 1) (calls (own + suc n)) ≤ slice_index (path_weights lib later) n) (sym other)
       (subst (λ (b : ℕ). calls b ≤ slice_index (path_weights lib later) n) (omega arith) h)
 
-pub shared_steps : (lib : Library) (slot : Slots) (known_as : Option (List ℕ)) (main : Commands) → steps_by 0 (shared_flows lib slot known_as main) 0 ≤ path_weight lib known_as main
+pub shared_steps : (lib : Library) (slot : Slots) (known_as : Option (List ℕ)) (main : Commands)
+    → steps_by 0 (shared_flows lib slot known_as main) 0 ≤ path_weight lib known_as main
 shared_steps lib slot known_as main =
     let first = ap (λ (ws : List ℕ). slice_index ws 0) (path_first lib known_as main) in
     let h = steps_within lib slot (main_names known_as) 0 (procedures lib known_as main) 0 in

@@ -11,22 +11,29 @@ use Rattle.filing_gen.proofs.ProcedureSizes.{procedures_small}
 use Rattle.filing_gen.proofs.ProcedureTypes.{procedures_typed, procedures_sound}
 
 -- the code of each procedure
-pub flows_long : (lib : Library) (slot : Slots) (main : List ScriptName) (own : ℕ) (ps : List Procedure) → length (procedure_flows lib slot main own ps) ≡ length ps
+pub flows_long : (lib : Library) (slot : Slots) (main : List ScriptName) (own : ℕ) (ps : List Procedure)
+    → length (procedure_flows lib slot main own ps) ≡ length ps
 flows_long lib slot main own [] = refl
 flows_long lib slot main own (p ∷ ps) = ap suc (flows_long lib slot main (suc own) ps)
 
 module _ (lib : Library) (slot : Slots) (known_as : Option (List ℕ)) (main : Commands) where
   -- the main script is there
   pub shared_first : 1 ≤ length (shared_flows lib slot known_as main)
-  shared_first = omega (arith, flows_long lib slot (main_names known_as) 0 (procedures lib known_as main), ap (λ (ps : List Procedure). length ps) (procedures_are lib known_as main))
+  shared_first = omega (
+    arith,
+    flows_long lib slot (main_names known_as) 0 (procedures lib known_as main),
+    ap (λ (ps : List Procedure). length ps) (procedures_are lib known_as main),
+  )
 
   pub shared_typed : AreTyped (shared_flows lib slot known_as main)
   shared_typed = procedures_typed lib slot (main_names known_as) 0 (procedures lib known_as main)
 
-  pub shared_sound : (count : ℕ) → HasSlots lib slot count → AreSound count (length (shared_flows lib slot known_as main)) 0 (shared_flows lib slot known_as main)
+  pub shared_sound : (count : ℕ) → HasSlots lib slot count
+      → AreSound count (length (shared_flows lib slot known_as main)) 0 (shared_flows lib slot known_as main)
   shared_sound count has =
       let as_many = flows_long lib slot (main_names known_as) 0 (procedures lib known_as main) in
-      procedures_sound lib slot (main_names known_as) count (length (shared_flows lib slot known_as main)) 0 (procedures lib known_as main) has (omega (arith, as_many))
+      procedures_sound lib slot (main_names known_as) count (length (shared_flows lib slot known_as main)) 0
+      (procedures lib known_as main) has (omega (arith, as_many))
 
   pub shared_small : whole_size (shared_flows lib slot known_as main) ≤ shared_weight (procedures lib known_as main)
   shared_small = procedures_small lib slot (main_names known_as) 0 (procedures lib known_as main)

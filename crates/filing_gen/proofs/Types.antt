@@ -7,7 +7,10 @@ use Rattle.sieve_meaning.specs.declared.matching.Comparator.{Comparator}
 use Rattle.sieve_meaning.specs.declared.matching.Comparator.TheVariants as comparators
 use Rattle.sieve_meaning.specs.declared.matching.MatchType.{MatchType}
 use Rattle.sieve_meaning.specs.declared.matching.MatchType.TheVariants as match_types
-use Rattle.sieve_meaning.specs.Program.{Test, always, negated, all_of, any_of, has_all, over, under, header, Tests, no_test, test_then, Include, Command, require, keep, discard, stop, return, file_into, branch, include, Commands, no_command, command_then, Branches, no_branch, otherwise, if_then}
+use Rattle.sieve_meaning.specs.Program.{Test, always, negated, all_of, any_of, has_all, over, under, header, Tests}
+use Rattle.sieve_meaning.specs.Program.{no_test, test_then, Include, Command, require, keep, discard, stop, return}
+use Rattle.sieve_meaning.specs.Program.{file_into, branch, include, Commands, no_command, command_then, Branches}
+use Rattle.sieve_meaning.specs.Program.{no_branch, otherwise, if_then}
 use Rattle.sieve_meaning.specs.Weight.{test_weight, tests_weight, weight, weight_one, branches_weight}
 use Rattle.filing_gen.specs.Names.{each_once, others_once}
 use Rattle.filing_gen.proofs.Names.{once_fewer, others_fewer}
@@ -28,11 +31,15 @@ pub names_typed : (ns : List (List ℕ)) (es : List Shape) → HasType (names_fl
 names_typed [] es = refl
 names_typed (n ∷ ns) es = (Truth ∷ [], (refl, omega arith, omega arith), ([], (refl, omega arith, refl), names_typed ns es))
 
-either_typed : (past out : Bool) (a : Flow) (es : List Shape) → HasType a ([] ∷ (Truth ∷ []) ∷ es) [] [] → HasType (either past out a) es [] (Truth ∷ [])
+either_typed : (past out : Bool) (a : Flow) (es : List Shape) → HasType a ([] ∷ (Truth ∷ []) ∷ es) [] []
+    → HasType (either past out a) es [] (Truth ∷ [])
 either_typed past out a es d = ([], ([], d, (Truth ∷ [], (refl, omega arith, omega arith), (omega arith, refl))), (refl, omega arith, omega arith))
 
 header_typed : (a : ℕ) (n : List ℕ) (ns ks : List (List ℕ)) (es : List Shape)
-    → HasType (block (sequence (block (sequence (sequence (action (ValuesOf n)) (values_flow ns)) (sequence (keys_flow a ks) (sequence (action Drop) (sequence (action (Push false)) (leave 1)))))) (sequence (action Drop) (action (Push true))))) es [] (Truth ∷ [])
+    → HasType (block
+    (sequence (block (sequence (sequence (action (ValuesOf n)) (values_flow ns))
+    (sequence (keys_flow a ks) (sequence (action Drop) (sequence (action (Push false)) (leave 1))))))
+    (sequence (action Drop) (action (Push true))))) es [] (Truth ∷ [])
 header_typed a n ns ks es = (
   Texts ∷ [],
   (
@@ -54,8 +61,24 @@ mutual
   test_typed (all_of ts) es = either_typed true false (tests_flow false ts) es (tests_typed false ts ((Truth ∷ []) ∷ es))
   test_typed (any_of ts) es = either_typed false true (tests_flow true ts) es (tests_typed true ts ((Truth ∷ []) ∷ es))
   test_typed (has_all ns) es = either_typed true false (names_flow (each_once ns)) es (names_typed (each_once ns) ((Truth ∷ []) ∷ es))
-  test_typed (over n) es = (Count ∷ [], (refl, omega arith, omega arith), (Count ∷ Count ∷ [], (refl, omega arith, omega arith), (refl, omega arith, omega arith)))
-  test_typed (under n) es = (Count ∷ [], (refl, omega arith, omega arith), (Count ∷ Count ∷ [], (refl, omega arith, omega arith), (refl, omega arith, omega arith)))
+  test_typed (over n) es = (
+    Count ∷ [],
+    (refl, omega arith, omega arith),
+    (
+      Count ∷ Count ∷ [],
+      (refl, omega arith, omega arith),
+      (refl, omega arith, omega arith),
+    ),
+  )
+  test_typed (under n) es = (
+    Count ∷ [],
+    (refl, omega arith, omega arith),
+    (
+      Count ∷ Count ∷ [],
+      (refl, omega arith, omega arith),
+      (refl, omega arith, omega arith),
+    ),
+  )
   test_typed (header m c n ns k ks) es = header_typed (comparison m c) n (others_once n ns) (k ∷ ks) es
 
   pub tests_typed : (b : Bool) (ts : Tests) (es : List Shape) → HasType (tests_flow b ts) ([] ∷ es) [] []
@@ -84,8 +107,15 @@ module _ (g : Include → Flow) (typed : IncludesTyped g) where
     branches_typed : (n : ℕ) (bs : Branches) (es : List Shape) → shape_at es n ≡ Some [] → HasType (branches_flow g (suc n) bs) ([] ∷ es) [] []
     branches_typed n no_branch es at = refl
     branches_typed n (otherwise xs) es at = flow_typed (suc n) xs ([] ∷ es) at
-    branches_typed n (if_then t xs bs) es at =
-        ([], (Truth ∷ [], test_typed t ([] ∷ [] ∷ es), ([], (refl, omega arith, refl), ([], flow_typed (suc (suc n)) xs ([] ∷ [] ∷ es) at, (omega arith, refl)))), branches_typed n bs es at)
+    branches_typed n (if_then t xs bs) es at = (
+      [],
+      (
+        Truth ∷ [],
+        test_typed t ([] ∷ [] ∷ es),
+        ([], (refl, omega arith, refl), ([], flow_typed (suc (suc n)) xs ([] ∷ [] ∷ es) at, (omega arith, refl))),
+      ),
+      branches_typed n bs es at,
+    )
 
 -- SIZES
 
@@ -176,7 +206,16 @@ module _ (bounds : Bounds) where
     test_sound (has_all ns) = ((names_sound (each_once ns), (tt, tt)), tt)
     test_sound (over n) = (tt, (tt, tt))
     test_sound (under n) = (tt, (tt, tt))
-    test_sound (header m c n ns k ks) = (((tt, values_sound (others_once n ns)), (keys_sound (comparison m c) (comparison_sound m c) (k ∷ ks), (tt, (tt, tt)))), (tt, tt))
+    test_sound (header m c n ns k ks) = (
+      (
+        (tt, values_sound (others_once n ns)),
+        (
+          keys_sound (comparison m c) (comparison_sound m c) (k ∷ ks),
+          (tt, (tt, tt)),
+        ),
+      ),
+      (tt, tt),
+    )
 
     tests_sound : (b : Bool) (ts : Tests) → IsSound bounds (tests_flow b ts)
     tests_sound b no_test = tt

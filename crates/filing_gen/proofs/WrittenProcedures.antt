@@ -1,5 +1,6 @@
 -- The code of procedures, written one after the other.
-use Rattle.std.proofs.Common.{◌≡◌, ℕ, zero, suc, ◌+◌, ◌≤◌, List, [], ◌∷◌, ◌++◌, Some, length, take, drop, sym, ap, ◌∙◌, subst, arith, append_assoc, length-append}
+use Rattle.std.proofs.Common.{◌≡◌, ℕ, zero, suc, ◌+◌, ◌≤◌, List, [], ◌∷◌, ◌++◌, Some, length, take, drop, sym, ap, ◌∙◌}
+use Rattle.std.proofs.Common.{subst, arith, append_assoc, length-append}
 use Rattle.std.specs.Prelude.{slice_get}
 use Rattle.filing_image.specs.declared.instruction.Operation.{Operation}
 use Rattle.filing_image.specs.declared.instruction.Operation.TheVariants.{Return}
@@ -31,7 +32,8 @@ whole_append : (done : List Flow) (a : Flow) → whole_size (done ++ a ∷ []) �
 whole_append [] a = omega arith
 whole_append (b ∷ done) a = omega (arith, whole_append done a)
 
-places_append : (place : ℕ) (done : List Flow) (a : Flow) → places_from place (done ++ a ∷ []) ≡ places_from place done ++ (place + whole_size done) ∷ []
+places_append : (place : ℕ) (done : List Flow) (a : Flow) → places_from place (done ++ a ∷ []) ≡ places_from place done
+    ++ (place + whole_size done) ∷ []
 places_append place [] a = ap (λ (n : ℕ). n ∷ []) (omega arith)
 places_append place (b ∷ done) a =
     ap (λ (ns : List ℕ). place ∷ ns) (places_append (place + size b + 1) done a)
@@ -44,7 +46,8 @@ whole_later (b ∷ flows) (suc i) a at = omega (arith, whole_later flows i a at)
 
 -- CODE
 
-pub procedures_there : (n m : Operands) → Named n m → (os ps : List Operation) → SameFrom 0 os ps → (flows : List Flow) (place : ℕ) → ProceduresStand n os flows place → ProceduresStand m ps flows place
+pub procedures_there : (n m : Operands) → Named n m → (os ps : List Operation) → SameFrom 0 os ps
+    → (flows : List Flow) (place : ℕ) → ProceduresStand n os flows place → ProceduresStand m ps flows place
 procedures_there n m named os ps same [] place h = tt
 procedures_there n m named os ps same (a ∷ later) place h = (
   stands_there n m named os ps 0 same (block a) [] place (omega arith) h.0,
@@ -53,13 +56,19 @@ procedures_there n m named os ps same (a ∷ later) place h = (
 )
 
 module _ (n : Operands) (os : List Operation) (a : Flow) where
-  stand_append : (done : List Flow) (place : ℕ) → ProceduresStand n os done place → Stands n os (block a) [] (place + whole_size done) → slice_get os (place + whole_size done + size a) ≡ Some Return → ProceduresStand n os (done ++ a ∷ []) place
+  stand_append : (done : List Flow) (place : ℕ) → ProceduresStand n os done place
+      → Stands n os (block a) [] (place + whole_size done)
+      → slice_get os (place + whole_size done + size a) ≡ Some Return → ProceduresStand n os (done ++ a ∷ []) place
   stand_append [] place h body end =
       let here : place + 0 ≡ place = omega arith in
       (subst (λ (k : ℕ). Stands n os (block a) [] k) here body, subst (λ (k : ℕ). slice_get os (k + size a) ≡ Some Return) here end, tt)
   stand_append (b ∷ done) place h body end =
-      let here : place + (size b + 1 + whole_size done) ≡ place + size b + 1 + whole_size done = omega arith in
-      (h.0, h.1, stand_append done (place + size b + 1) h.2 (subst (λ (k : ℕ). Stands n os (block a) [] k) here body) (subst (λ (k : ℕ). slice_get os (k + size a) ≡ Some Return) here end))
+      let here : place + (size b + 1 + whole_size done) ≡ place + size b + 1 + whole_size done = omega arith in (
+        h.0,
+        h.1,
+        stand_append done (place + size b + 1) h.2 (subst (λ (k : ℕ). Stands n os (block a) [] k) here body)
+            (subst (λ (k : ℕ). slice_get os (k + size a) ≡ Some Return) here end),
+      )
 
 -- the code of the procedure, and after it its end
 pub procedure_emitted : (x m y : Output) (a : Flow) → Emits x m (block a) [] → Puts m y Return → EmitsProcedure x y a
@@ -83,16 +92,20 @@ pub record HasProcedures (o : Output) (first_places : List ℕ) (procedures : Li
   pub numbers : length o.numbers ≤ whole_size procedures
 
 -- one more was written
-pub one_more : (x y : Output) (first_places : List ℕ) (done : List Flow) (a : Flow) → HasProcedures x first_places done → EmitsProcedure x y a → HasProcedures y (first_places ++ length x.code.items ∷ []) (done ++ a ∷ [])
+pub one_more : (x y : Output) (first_places : List ℕ) (done : List Flow) (a : Flow) → HasProcedures x first_places done
+    → EmitsProcedure x y a → HasProcedures y (first_places ++ length x.code.items ∷ []) (done ++ a ∷ [])
 one_more x y first_places done a h e =
     let at : 0 + whole_size done ≡ length x.code.items = omega (arith, h.long) in
     let n = operands_of y in
     let os = y.code.items in
     record {
-      places = ap (λ (ns : List ℕ). ns ++ length x.code.items ∷ []) h.places ∙ ap (λ (k : ℕ). places_from 0 done ++ k ∷ []) (sym at) ∙ sym (places_append 0 done a);
+      places = ap (λ (ns : List ℕ). ns ++ length x.code.items ∷ []) h.places
+          ∙ ap (λ (k : ℕ). places_from 0 done ++ k ∷ []) (sym at) ∙ sym (places_append 0 done a);
       stand =
-          stand_append n os a done 0 (procedures_there (operands_of x) n (named_by x y (size a) e.keeps) x.code.items os (same_front x.code.items e.added os e.code) done 0 h.stand)
-          (subst (λ (k : ℕ). Stands n os (block a) [] k) (sym at) e.stands) (subst (λ (k : ℕ). slice_get os (k + size a) ≡ Some Return) (sym at) e.ends);
+          stand_append n os a done 0 (procedures_there (operands_of x) n (named_by x y (size a) e.keeps) x.code.items os
+          (same_front x.code.items e.added os e.code) done 0 h.stand)
+          (subst (λ (k : ℕ). Stands n os (block a) [] k) (sym at) e.stands) (subst (λ (k : ℕ).
+          slice_get os (k + size a) ≡ Some Return) (sym at) e.ends);
       long = ap length e.code ∙ length-append x.code.items e.added ∙ omega (arith, whole_append done a, h.long, e.long);
       texts = omega (arith, whole_append done a, h.texts, e.keeps.texts);
       numbers = omega (arith, whole_append done a, h.numbers, e.keeps.numbers);
@@ -100,7 +113,9 @@ one_more x y first_places done a h e =
 
 module _ (lib : Library) (slot : Slots) (main : List ScriptName) where
   -- the code of the procedure with a number, which calls those after it
-  pub flow_at : (own : ℕ) (ps : List Procedure) (i : ℕ) (p : Procedure) → slice_get ps i ≡ Some p → slice_get (procedure_flows lib slot main own ps) i ≡ Some (script_flow (calling_flow lib slot main (own + i) (drop (suc i) ps) p) p.script)
+  pub flow_at : (own : ℕ) (ps : List Procedure) (i : ℕ) (p : Procedure) → slice_get ps i ≡ Some p
+      → slice_get (procedure_flows lib slot main own ps) i
+      ≡ Some (script_flow (calling_flow lib slot main (own + i) (drop (suc i) ps) p) p.script)
   flow_at own [] i p at = absurd (cc at)
   flow_at own (q ∷ ps) zero p at =
       ap (λ (r : Procedure). Some (script_flow (calling_flow lib slot main own ps r) r.script)) (some_is q p at)

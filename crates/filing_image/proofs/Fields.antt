@@ -1,9 +1,12 @@
 -- A field that is read is the field that was written, and what was written is read again.
-use Rattle.std.proofs.Common.{◌≡◌, ℕ, ◌+◌, ◌^◌, ◌%◌, ◌<◌, ◌≤◌, Bool, true, false, cond, ltb, List, [], ◌∷◌, ◌++◌, length, get_or, take, drop, Option, Some, None, refl, sym, ap, subst, ◌∙◌, append_assoc, arith, inl, inr}
+use Rattle.std.proofs.Common.{◌≡◌, ℕ, ◌+◌, ◌^◌, ◌%◌, ◌<◌, ◌≤◌, Bool, true, false, cond, ltb, List, [], ◌∷◌, ◌++◌}
+use Rattle.std.proofs.Common.{length, get_or, take, drop, Option, Some, None, refl, sym, ap, subst, ◌∙◌, append_assoc}
+use Rattle.std.proofs.Common.{arith, inl, inr}
 use Rattle.std.specs.Int.{Width, w8, w16, w32, w64, byte_len, from_be_bytes, to_be_bytes}
 use Rattle.std.proofs.lemmas.Bool.{cases_lt, ltb-false, le-ltb}
 use Rattle.std.proofs.lemmas.List.{take_at, drop_at, take-append-drop, length-append, length-take, get_or-drop, get_or-take, get_or_past}
-use Rattle.std.proofs.lemmas.Nat.{be_bytes_2, be_bytes_4, be_bytes_8, from_be_bytes-to_be_bytes_2, from_be_bytes-to_be_bytes_4, from_be_bytes-to_be_bytes_8}
+use Rattle.std.proofs.lemmas.Nat.{be_bytes_2, be_bytes_4, be_bytes_8, from_be_bytes-to_be_bytes_2}
+use Rattle.std.proofs.lemmas.Nat.{from_be_bytes-to_be_bytes_4, from_be_bytes-to_be_bytes_8}
 use Rattle.filing_image.specs.declared.instruction.Instruction.{Instruction}
 use Rattle.filing_image.specs.Spelling.{text, instruction, FitsInstruction}
 use Rattle.filing_image.specs.Reading.{◌>>=◌, number_at, text_at, instruction_at}
@@ -94,16 +97,26 @@ wide64 = record {
   below = λ octets fits. omega (arith, fits 0, fits 1, fits 2, fits 3, fits 4, fits 5, fits 6, fits 7);
 }
 
-pub number_takes : (w : Width) (limit : ℕ) (wide : IsWide w limit) (octets : List ℕ) (x : ℕ × List ℕ) → IsBytes octets → number_at w octets ≡ Some x → Takes octets (to_be_bytes w x.0) x.1 × (x.0 < limit)
+pub number_takes : (w : Width) (limit : ℕ) (wide : IsWide w limit) (octets : List ℕ) (x : ℕ × List ℕ) → IsBytes octets
+    → number_at w octets ≡ Some x → Takes octets (to_be_bytes w x.0) x.1 × (x.0 < limit)
 number_takes w limit wide octets x fits e =
     let g = guard_some (ltb (length octets) (byte_len w)) (from_be_bytes w (take (byte_len w) octets), drop (byte_len w) octets) x e in
     let long : byte_len w ≤ length octets = ltb-false _ _ g.0 in
     let n-is : from_be_bytes w (take (byte_len w) octets) ≡ x.0 = ap (λ (p : ℕ × List ℕ). p.0) g.1 in
     let rest-is : drop (byte_len w) octets ≡ x.1 = ap (λ (p : ℕ × List ℕ). p.1) g.1 in
-    let front : to_be_bytes w x.0 ≡ take (byte_len w) octets = rw (← n-is) (wide.back (take (byte_len w) octets) (omega (arith, length-take (byte_len w) octets)) (IsBytes-take (byte_len w) octets fits)) in
-    (record { parts = rw (front, ← rest-is) (sym (take-append-drop (byte_len w) octets)); rest_fits = rw (← rest-is) (IsBytes-drop (byte_len w) octets fits) }, rw (← n-is) (wide.below (take (byte_len w) octets) (IsBytes-take (byte_len w) octets fits)))
+    let front : to_be_bytes w x.0 ≡ take (byte_len w) octets =
+    rw (← n-is) (wide.back (take (byte_len w) octets) (omega (arith, length-take (byte_len w) octets))
+    (IsBytes-take (byte_len w) octets fits)) in (
+      record {
+        parts = rw (front, ← rest-is) (sym (take-append-drop (byte_len w) octets));
+        rest_fits =
+            rw (← rest-is) (IsBytes-drop (byte_len w) octets fits);
+      },
+      rw (← n-is) (wide.below (take (byte_len w) octets) (IsBytes-take (byte_len w) octets fits)),
+    )
 
-pub number_again : (w : Width) (limit : ℕ) (wide : IsWide w limit) (n : ℕ) (rest : List ℕ) → n < limit → number_at w (to_be_bytes w n ++ rest) ≡ Some (n, rest)
+pub number_again : (w : Width) (limit : ℕ) (wide : IsWide w limit) (n : ℕ) (rest : List ℕ) → n < limit
+    → number_at w (to_be_bytes w n ++ rest) ≡ Some (n, rest)
 number_again w limit wide n rest lt =
     let len = wide.len n in
     let long : ltb (length (to_be_bytes w n ++ rest)) (byte_len w) ≡ false = le-ltb _ _ (omega (arith, length-append (to_be_bytes w n) rest)) in
@@ -111,7 +124,8 @@ number_again w limit wide n rest lt =
 
 -- ---- texts
 
-pub text_takes : (octets : List ℕ) (x : List ℕ × List ℕ) → IsBytes octets → text_at octets ≡ Some x → Takes octets (text x.0) x.1 × (length x.0 < 2 ^ 16)
+pub text_takes : (octets : List ℕ) (x : List ℕ × List ℕ) → IsBytes octets → text_at octets ≡ Some x
+    → Takes octets (text x.0) x.1 × (length x.0 < 2 ^ 16)
 unfolding text_at
 text_takes octets x fits e =
     let b = bind_some (number_at w16 octets) (λ n. cond (ltb (length n.1) n.0) None (Some (take n.0 n.1, drop n.0 n.1))) x e in
@@ -120,16 +134,26 @@ text_takes octets x fits e =
     let g = guard_some (ltb (length n.1) n.0) (take n.0 n.1, drop n.0 n.1) x b.2 in
     let long : n.0 ≤ length n.1 = ltb-false _ _ g.0 in
     let len : length (take n.0 n.1) ≡ n.0 = omega (arith, length-take n.0 n.1) in
-    let second : Takes n.1 (take n.0 n.1) (drop n.0 n.1) = record { parts = sym (take-append-drop n.0 n.1); rest_fits = IsBytes-drop n.0 n.1 t.0.rest_fits } in
+    let second : Takes n.1 (take n.0 n.1) (drop n.0 n.1) = record {
+      parts = sym (take-append-drop n.0 n.1);
+      rest_fits =
+          IsBytes-drop n.0 n.1 t.0.rest_fits;
+    } in
     let both = Takes-then octets (to_be_bytes w16 n.0) n.1 (take n.0 n.1) (drop n.0 n.1) t.0 second in
-    let whole : Takes octets (text (take n.0 n.1)) (drop n.0 n.1) = subst (λ (k : ℕ). Takes octets (to_be_bytes w16 k ++ take n.0 n.1) (drop n.0 n.1)) (sym len) both in
+    let whole : Takes octets (text (take n.0 n.1)) (drop n.0 n.1) =
+    subst (λ (k : ℕ). Takes octets (to_be_bytes w16 k ++ take n.0 n.1) (drop n.0 n.1)) (sym len) both in
     subst (λ (p : List ℕ × List ℕ). Takes octets (text p.0) p.1 × (length p.0 < 2 ^ 16)) g.1 (whole, omega (arith, t.1))
 
 pub text_again : (octets rest : List ℕ) → length octets < 2 ^ 16 → text_at (text octets ++ rest) ≡ Some (octets, rest)
 unfolding text_at
 text_again octets rest lt =
     let long : ltb (length (octets ++ rest)) (length octets) ≡ false = le-ltb _ _ (omega (arith, length-append octets rest)) in
-    rw (number_again w16 (2 ^ 16) wide16 (length octets) (octets ++ rest) lt, long, take_at octets rest (length octets) refl, drop_at octets rest (length octets) refl) refl
+    rw (
+      number_again w16 (2 ^ 16) wide16 (length octets) (octets ++ rest) lt,
+      long,
+      take_at octets rest (length octets) refl,
+      drop_at octets rest (length octets) refl,
+    ) refl
 
 -- ---- instructions
 
@@ -142,7 +166,8 @@ with_a op a = number_at w16 a.1 >>= with_b op a.0
 abbrev with_op : ℕ × List ℕ → Option (Instruction × List ℕ)
 with_op op = number_at w8 op.1 >>= with_a op.0
 
-pub instruction_takes : (octets : List ℕ) (x : Instruction × List ℕ) → IsBytes octets → instruction_at octets ≡ Some x → Takes octets (instruction x.0) x.1 × FitsInstruction x.0
+pub instruction_takes : (octets : List ℕ) (x : Instruction × List ℕ) → IsBytes octets → instruction_at octets ≡ Some x
+    → Takes octets (instruction x.0) x.1 × FitsInstruction x.0
 unfolding instruction_at
 instruction_takes octets x fits e =
     let op = bind_some (number_at w8 octets) with_op x e in
@@ -154,11 +179,20 @@ instruction_takes octets x fits e =
     let e12 = Takes-then op.0.1 (to_be_bytes w8 a.0.0) a.0.1 (to_be_bytes w16 b.0.0) b.0.1 t1.0 t2.0 in
     let e02 = Takes-then octets (to_be_bytes w8 op.0.0) op.0.1 (to_be_bytes w8 a.0.0 ++ to_be_bytes w16 b.0.0) b.0.1 t0.0 e12 in
     let made : Instruction × List ℕ = (record { op = op.0.0; a = a.0.0; b = b.0.0 }, b.0.1) in
-    subst (λ (y : Instruction × List ℕ). Takes octets (instruction y.0) y.1 × FitsInstruction y.0) (some_is made x b.2) (e02, record { op = t0.1; a = t1.1; b = t2.1 })
+    subst (λ (y : Instruction × List ℕ). Takes octets (instruction y.0) y.1
+    × FitsInstruction y.0) (some_is made x b.2) (e02, record { op = t0.1; a = t1.1; b = t2.1 })
 
 pub instruction_again : (i : Instruction) (rest : List ℕ) → FitsInstruction i → instruction_at (instruction i ++ rest) ≡ Some (i, rest)
 unfolding instruction_at
 instruction_again i rest fits =
-    bind_is (number_at w8 (instruction i ++ rest)) with_op (i.op, to_be_bytes w8 i.a ++ (to_be_bytes w16 i.b ++ rest)) (number_again w8 (2 ^ 8) wide8 i.op (to_be_bytes w8 i.a ++ (to_be_bytes w16 i.b ++ rest)) fits.op)
-    ∙ bind_is (number_at w8 (to_be_bytes w8 i.a ++ (to_be_bytes w16 i.b ++ rest))) (with_a i.op) (i.a, to_be_bytes w16 i.b ++ rest) (number_again w8 (2 ^ 8) wide8 i.a (to_be_bytes w16 i.b ++ rest) fits.a)
+    bind_is (number_at w8 (instruction i ++ rest)) with_op (
+      i.op,
+      to_be_bytes w8 i.a
+          ++ (to_be_bytes w16 i.b ++ rest),
+    ) (number_again w8 (2 ^ 8) wide8 i.op (to_be_bytes w8 i.a
+    ++ (to_be_bytes w16 i.b ++ rest)) fits.op)
+    ∙ bind_is (number_at w8 (to_be_bytes w8 i.a ++ (to_be_bytes w16 i.b ++ rest))) (with_a i.op) (
+      i.a,
+      to_be_bytes w16 i.b ++ rest,
+    ) (number_again w8 (2 ^ 8) wide8 i.a (to_be_bytes w16 i.b ++ rest) fits.a)
     ∙ bind_is (number_at w16 (to_be_bytes w16 i.b ++ rest)) (with_b i.op i.a) (i.b, rest) (number_again w16 (2 ^ 16) wide16 i.b rest fits.b)

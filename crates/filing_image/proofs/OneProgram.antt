@@ -2,7 +2,10 @@
 use Rattle.std.proofs.Common.{◌≡◌, ℕ, cond, eqb, List, [], ◌∷◌, ◌++◌, map, Some, None, refl, sym, ap, subst, ◌∙◌}
 use Rattle.filing_image.specs.declared.instruction.Instruction.{Instruction}
 use Rattle.filing_image.specs.declared.instruction.Operation.{Operation}
-use Rattle.filing_image.specs.declared.instruction.Operation.TheVariants.{PushTrue, PushFalse, Not, Values, Join, Match, Pop, Exists, Size, Number, Less, Jump, JumpIf, JumpUnless, Marked, Mark, File, Keep, Discard, Stop, Fault, Call, Return}
+use Rattle.filing_image.specs.declared.instruction.Operation.TheVariants.{PushTrue, PushFalse, Not, Values, Join, Match}
+use Rattle.filing_image.specs.declared.instruction.Operation.TheVariants.{Pop, Exists, Size, Number, Less, Jump, JumpIf}
+use Rattle.filing_image.specs.declared.instruction.Operation.TheVariants.{JumpUnless, Marked, Mark, File, Keep, Discard}
+use Rattle.filing_image.specs.declared.instruction.Operation.TheVariants.{Stop, Fault, Call, Return}
 use Rattle.filing_image.specs.Program.{Program, Parts, parts, instruction_of}
 use Rattle.filing_image.specs.Spelling.{spelling, Fits}
 use Rattle.filing_image.specs.Reading.{parts_at, all_of}
@@ -52,19 +55,37 @@ operations_are (o ∷ code) =
 
 -- the program with these parts
 program : Parts → Program
-program x = record { budget = x.budget; texts = x.texts; numbers = x.numbers; slots = x.slots; procedures = x.procedures; code = map operation x.instructions }
+program x = record {
+  budget = x.budget;
+  texts = x.texts;
+  numbers = x.numbers;
+  slots = x.slots;
+  procedures =
+      x.procedures;
+  code = map operation x.instructions;
+}
 
 program_is : (p : Program) → program (parts p) ≡ p
 unfolding program
-program_is p = ap (λ (code : List Operation). record { budget = p.budget; texts = p.texts; numbers = p.numbers; slots = p.slots; procedures = p.procedures; code = code }) (operations_are p.code)
+program_is p =
+    ap (λ (code : List Operation). record {
+      budget = p.budget;
+      texts = p.texts;
+      numbers = p.numbers;
+      slots = p.slots;
+      procedures = p.procedures;
+      code = code;
+    }) (operations_are p.code)
 
 pub one_program : (p q : Program) → parts p ≡ parts q → p ≡ q
 one_program p q e = sym (program_is p) ∙ ap program e ∙ program_is q
 
 -- where two spellings and what follows them are the same octets, the programs are the same, and so is what follows
-pub one_start : (p q : Program) (x y : List ℕ) → Fits (parts p) → Fits (parts q) → spelling (parts p) ++ x ≡ spelling (parts q) ++ y → (p ≡ q) × (x ≡ y)
+pub one_start : (p q : Program) (x y : List ℕ) → Fits (parts p) → Fits (parts q) → spelling (parts p)
+    ++ x ≡ spelling (parts q) ++ y → (p ≡ q) × (x ≡ y)
 one_start p q x y fits_p fits_q e =
-    let read : Some (parts p, x) ≡ Some (parts q, y) = sym (parts_again (parts p) x fits_p.octets) ∙ ap parts_at e ∙ parts_again (parts q) y fits_q.octets in
+    let read : Some (parts p, x) ≡ Some (parts q, y) = sym (parts_again (parts p) x fits_p.octets) ∙ ap parts_at e
+    ∙ parts_again (parts q) y fits_q.octets in
     let same : (parts p, x) ≡ (parts q, y) = some_is (parts p, x) (parts q, y) read in
     (one_program p q (ap (λ (z : Parts × List ℕ). z.0) same), ap (λ (z : Parts × List ℕ). z.1) same)
 

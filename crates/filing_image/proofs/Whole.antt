@@ -1,5 +1,6 @@
 -- The two laws of an image's octets: what is read is spelled so, and what is spelled so is read.
-use Rattle.std.proofs.Common.{◌≡◌, ℕ, suc, ◌^◌, ◌<◌, Bool, true, false, cond, eqb, ◌&&◌, List, [], ◌∷◌, ◌++◌, length, All, Option, Some, None, refl, sym, ap, subst, ◌∙◌, append_assoc, arith, inl, inr, ◌⊎◌}
+use Rattle.std.proofs.Common.{◌≡◌, ℕ, suc, ◌^◌, ◌<◌, Bool, true, false, cond, eqb, ◌&&◌, List, [], ◌∷◌, ◌++◌, length}
+use Rattle.std.proofs.Common.{All, Option, Some, None, refl, sym, ap, subst, ◌∙◌, append_assoc, arith, inl, inr, ◌⊎◌}
 use Rattle.std.specs.List.{flat_map}
 use Rattle.std.specs.Int.{w16, w32, w64, to_be_bytes}
 use Rattle.std.proofs.lemmas.Bool.{eqb-true, and_parts}
@@ -10,8 +11,12 @@ use Rattle.filing_image.specs.declared.version.Version.{Version}
 use Rattle.filing_image.specs.declared.version.Version.TheVariants.{One, Two}
 use Rattle.filing_image.specs.Program.{Parts, version_of, firsts_of}
 use Rattle.filing_image.specs.Spelling.{mark, text, instruction, procedure_count, procedures, spelling, FitsInstruction, FitsOctets}
-use Rattle.filing_image.specs.Reading.{◌>>=◌, number_at, text_at, instruction_at, many_at, version_of_octet, version_and_rest, procedure_count_at, procedures_at, Counts, counts_at, parts_at, all_of}
-use Rattle.filing_image.proofs.Fields.{IsBytes, bind_some, bind_is, some_is, Takes, Takes-then, wide16, wide32, wide64, number_takes, number_again, text_takes, text_again, instruction_takes, instruction_again}
+use Rattle.filing_image.specs.Reading.{◌>>=◌, number_at, text_at, instruction_at, many_at, version_of_octet}
+use Rattle.filing_image.specs.Reading.{version_and_rest, procedure_count_at, procedures_at, Counts, counts_at, parts_at}
+use Rattle.filing_image.specs.Reading.{all_of}
+use Rattle.filing_image.proofs.Fields.{IsBytes, bind_some, bind_is, some_is, Takes, Takes-then, wide16, wide32, wide64}
+use Rattle.filing_image.proofs.Fields.{number_takes, number_again, text_takes, text_again, instruction_takes}
+use Rattle.filing_image.proofs.Fields.{instruction_again}
 use Rattle.filing_image.proofs.Many.{many_takes, many_again}
 
 -- ---- the mark
@@ -55,7 +60,12 @@ mark_takes (a ∷ b ∷ c ∷ d ∷ octets) x fits e =
     let v = bind_some (version_of_octet d) (with_rest octets) x g.1 in
     let marks : 0x53 ∷ 0x46 ∷ 0x49 ∷ d ∷ [] ≡ mark v.0 = told_is d v.0 v.1 in
     let front : a ∷ b ∷ c ∷ d ∷ octets ≡ 0x53 ∷ 0x46 ∷ 0x49 ∷ d ∷ octets = cc (a-is, b-is, c-is) in
-    let here : Takes (a ∷ b ∷ c ∷ d ∷ octets) (mark v.0) octets = record { parts = front ∙ ap (λ (m : List ℕ). m ++ octets) marks; rest_fits = λ i. fits (suc (suc (suc (suc i)))) } in
+    let here : Takes (a ∷ b ∷ c ∷ d ∷ octets) (mark v.0) octets =
+    record {
+      parts = front ∙ ap (λ (m : List ℕ). m ++ octets) marks;
+      rest_fits = λ i.
+          fits (suc (suc (suc (suc i))));
+    } in
     let made : Version × List ℕ = (v.0, octets) in
     subst (λ (y : Version × List ℕ). Takes (a ∷ b ∷ c ∷ d ∷ octets) (mark y.0) y.1) (some_is made x v.2) here
 
@@ -89,38 +99,59 @@ counted_procedures n = Some (Some n.0, n.1)
 abbrev some_procedures : List ℕ × List ℕ → Option (Option (List ℕ) × List ℕ)
 some_procedures x = Some (Some x.0, x.1)
 
-procedure_count_takes : (v : Version) (octets : List ℕ) (x : Option ℕ × List ℕ) → IsBytes octets → procedure_count_at v octets ≡ Some x → Takes octets (count_of x.0) x.1 × FitsCount x.0 × (version_with x.0 ≡ v)
+procedure_count_takes : (v : Version) (octets : List ℕ) (x : Option ℕ × List ℕ) → IsBytes octets
+    → procedure_count_at v octets ≡ Some x → Takes octets (count_of x.0) x.1 × FitsCount x.0 × (version_with x.0 ≡ v)
 unfolding procedure_count_at
 procedure_count_takes One octets x fits e =
     let made : Option ℕ × List ℕ = (None, octets) in
-    subst (λ (y : Option ℕ × List ℕ). Takes octets (count_of y.0) y.1 × FitsCount y.0 × (version_with y.0 ≡ One)) (some_is made x e) (record { parts = refl; rest_fits = fits }, tt, refl)
+    subst (λ (y : Option ℕ × List ℕ). Takes octets (count_of y.0) y.1 × FitsCount y.0
+    × (version_with y.0 ≡ One)) (some_is made x e) (record { parts = refl; rest_fits = fits }, tt, refl)
 procedure_count_takes Two octets x fits e =
     let a = bind_some (number_at w16 octets) counted_procedures x e in
     let t = number_takes w16 (2 ^ 16) wide16 octets a.0 fits a.1 in
     let made : Option ℕ × List ℕ = (Some a.0.0, a.0.1) in
-    subst (λ (y : Option ℕ × List ℕ). Takes octets (count_of y.0) y.1 × FitsCount y.0 × (version_with y.0 ≡ Two)) (some_is made x a.2) (t.0, t.1, refl)
+    subst (λ (y : Option ℕ × List ℕ). Takes octets (count_of y.0) y.1 × FitsCount y.0
+    × (version_with y.0 ≡ Two)) (some_is made x a.2) (t.0, t.1, refl)
 
 procedure_count_again : (n : Option ℕ) (rest : List ℕ) → FitsCount n → procedure_count_at (version_with n) (count_of n ++ rest) ≡ Some (n, rest)
 unfolding procedure_count_at
 procedure_count_again None rest fits = refl
-procedure_count_again (Some n) rest fits = bind_is (number_at w16 (to_be_bytes w16 n ++ rest)) counted_procedures (n, rest) (number_again w16 (2 ^ 16) wide16 n rest fits)
+procedure_count_again (Some n) rest fits = bind_is (number_at w16 (to_be_bytes w16 n ++ rest)) counted_procedures (
+  n,
+  rest,
+) (number_again w16 (2 ^ 16) wide16 n rest fits)
 
-procedures_take : (n : Option ℕ) (octets : List ℕ) (x : Option (List ℕ) × List ℕ) → IsBytes octets → procedures_at n octets ≡ Some x → Takes octets (procedures x.0) x.1 × (length_of x.0 ≡ n) × All (λ f. f < 2 ^ 16) (firsts_of x.0)
+procedures_take : (n : Option ℕ) (octets : List ℕ) (x : Option (List ℕ) × List ℕ) → IsBytes octets
+    → procedures_at n octets ≡ Some x → Takes octets (procedures x.0) x.1 × (length_of x.0 ≡ n)
+    × All (λ f. f < 2 ^ 16) (firsts_of x.0)
 unfolding procedures_at
 procedures_take None octets x fits e =
     let made : Option (List ℕ) × List ℕ = (None, octets) in
-    subst (λ (y : Option (List ℕ) × List ℕ). Takes octets (procedures y.0) y.1 × (length_of y.0 ≡ None) × All (λ f. f < 2 ^ 16) (firsts_of y.0)) (some_is made x e) (record { parts = refl; rest_fits = fits }, refl, All-from_recursion (λ f. f < 2 ^ 16) [] tt)
+    subst (λ (y : Option (List ℕ) × List ℕ). Takes octets (procedures y.0) y.1 × (length_of y.0 ≡ None)
+    × All (λ f. f < 2 ^ 16) (firsts_of y.0)) (some_is made x e) (
+      record { parts = refl; rest_fits = fits },
+      refl,
+      All-from_recursion (λ f. f < 2 ^ 16) [] tt,
+    )
 procedures_take (Some n) octets x fits e =
     let a = bind_some (many_at (number_at w16) n octets) some_procedures x e in
     let t = many_takes (number_at w16) (to_be_bytes w16) (λ k. k < 2 ^ 16) (number_takes w16 (2 ^ 16) wide16) n octets a.0 fits a.1 in
     let made : Option (List ℕ) × List ℕ = (Some a.0.0, a.0.1) in
-    subst (λ (y : Option (List ℕ) × List ℕ). Takes octets (procedures y.0) y.1 × (length_of y.0 ≡ Some n) × All (λ f. f < 2 ^ 16) (firsts_of y.0)) (some_is made x a.2) (t.0, ap Some t.1, All-from_recursion (λ k. k < 2 ^ 16) a.0.0 t.2)
+    subst (λ (y : Option (List ℕ) × List ℕ). Takes octets (procedures y.0) y.1 × (length_of y.0 ≡ Some n)
+    × All (λ f. f < 2 ^ 16) (firsts_of y.0)) (some_is made x a.2) (
+      t.0,
+      ap Some t.1,
+      All-from_recursion (λ k. k < 2 ^ 16) a.0.0 t.2,
+    )
 
-procedures_again : (firsts : Option (List ℕ)) (rest : List ℕ) → All (λ f. f < 2 ^ 16) (firsts_of firsts) → procedures_at (length_of firsts) (procedures firsts ++ rest) ≡ Some (firsts, rest)
+procedures_again : (firsts : Option (List ℕ)) (rest : List ℕ) → All (λ f. f < 2 ^ 16) (firsts_of firsts)
+    → procedures_at (length_of firsts) (procedures firsts ++ rest) ≡ Some (firsts, rest)
 unfolding procedures_at
 procedures_again None rest fits = refl
 procedures_again (Some firsts) rest fits =
-    bind_is (many_at (number_at w16) (length firsts) (flat_map (to_be_bytes w16) firsts ++ rest)) some_procedures (firsts, rest) (many_again (number_at w16) (to_be_bytes w16) (λ k. k < 2 ^ 16) (number_again w16 (2 ^ 16) wide16) firsts rest (recursion_from_All (λ k. k < 2 ^ 16) firsts fits))
+    bind_is (many_at (number_at w16) (length firsts) (flat_map (to_be_bytes w16) firsts ++ rest)) some_procedures
+    (firsts, rest) (many_again (number_at w16) (to_be_bytes w16) (λ k.
+    k < 2 ^ 16) (number_again w16 (2 ^ 16) wide16) firsts rest (recursion_from_All (λ k. k < 2 ^ 16) firsts fits))
 
 count_is : (firsts : Option (List ℕ)) → procedure_count firsts ≡ count_of (length_of firsts)
 count_is None = refl
@@ -137,7 +168,18 @@ fits_count (Some firsts) fits = fits
 -- ---- the counts
 
 abbrev counted : ℕ → ℕ → ℕ → Option ℕ → ℕ × List ℕ → Option (Counts × List ℕ)
-counted texts numbers slots procedures instructions = Some (record { texts = texts; numbers = numbers; slots = slots; procedures = procedures; instructions = instructions.0 }, instructions.1)
+counted texts numbers slots procedures instructions =
+    Some (
+      record {
+        texts = texts;
+        numbers = numbers;
+        slots = slots;
+        procedures = procedures;
+        instructions =
+            instructions.0;
+      },
+      instructions.1,
+    )
 
 abbrev after_procedures : ℕ → ℕ → ℕ → Option ℕ × List ℕ → Option (Counts × List ℕ)
 after_procedures texts numbers slots procedures = number_at w16 procedures.1 >>= counted texts numbers slots procedures.0
@@ -152,7 +194,9 @@ abbrev after_text_count : Version → ℕ × List ℕ → Option (Counts × List
 after_text_count v texts = number_at w16 texts.1 >>= after_number_count v texts.0
 
 abbrev counts : Counts → List ℕ
-counts x = to_be_bytes w16 x.texts ++ (to_be_bytes w16 x.numbers ++ (to_be_bytes w16 x.slots ++ (count_of x.procedures ++ to_be_bytes w16 x.instructions)))
+counts x = to_be_bytes w16 x.texts
+    ++ (to_be_bytes w16 x.numbers
+    ++ (to_be_bytes w16 x.slots ++ (count_of x.procedures ++ to_be_bytes w16 x.instructions)))
 
 record FitsCounts (x : Counts) : Type 0 where
   texts : x.texts < 2 ^ 16
@@ -161,7 +205,8 @@ record FitsCounts (x : Counts) : Type 0 where
   procedures : FitsCount x.procedures
   instructions : x.instructions < 2 ^ 16
 
-counts_take : (v : Version) (octets : List ℕ) (x : Counts × List ℕ) → IsBytes octets → counts_at v octets ≡ Some x → Takes octets (counts x.0) x.1 × FitsCounts x.0 × (version_with x.0.procedures ≡ v)
+counts_take : (v : Version) (octets : List ℕ) (x : Counts × List ℕ) → IsBytes octets → counts_at v octets ≡ Some x
+    → Takes octets (counts x.0) x.1 × FitsCounts x.0 × (version_with x.0.procedures ≡ v)
 unfolding counts_at
 counts_take v octets x fits e =
     let a = bind_some (number_at w16 octets) (after_text_count v) x e in
@@ -177,9 +222,15 @@ counts_take v octets x fits e =
     let e34 = Takes-then c.0.1 (count_of p.0.0) p.0.1 (to_be_bytes w16 d.0.0) d.0.1 t3.0 t4.0 in
     let e24 = Takes-then b.0.1 (to_be_bytes w16 c.0.0) c.0.1 (count_of p.0.0 ++ to_be_bytes w16 d.0.0) d.0.1 t2.0 e34 in
     let e14 = Takes-then a.0.1 (to_be_bytes w16 b.0.0) b.0.1 (to_be_bytes w16 c.0.0 ++ (count_of p.0.0 ++ to_be_bytes w16 d.0.0)) d.0.1 t1.0 e24 in
-    let e04 = Takes-then octets (to_be_bytes w16 a.0.0) a.0.1 (to_be_bytes w16 b.0.0 ++ (to_be_bytes w16 c.0.0 ++ (count_of p.0.0 ++ to_be_bytes w16 d.0.0))) d.0.1 t0.0 e14 in
+    let e04 = Takes-then octets (to_be_bytes w16 a.0.0) a.0.1 (to_be_bytes w16 b.0.0
+    ++ (to_be_bytes w16 c.0.0 ++ (count_of p.0.0 ++ to_be_bytes w16 d.0.0))) d.0.1 t0.0 e14 in
     let made : Counts × List ℕ = (record { texts = a.0.0; numbers = b.0.0; slots = c.0.0; procedures = p.0.0; instructions = d.0.0 }, d.0.1) in
-    subst (λ (y : Counts × List ℕ). Takes octets (counts y.0) y.1 × FitsCounts y.0 × (version_with y.0.procedures ≡ v)) (some_is made x d.2) (e04, record { texts = t0.1; numbers = t1.1; slots = t2.1; procedures = t3.1; instructions = t4.1 }, t3.2)
+    subst (λ (y : Counts × List ℕ). Takes octets (counts y.0) y.1 × FitsCounts y.0
+    × (version_with y.0.procedures ≡ v)) (some_is made x d.2) (
+      e04,
+      record { texts = t0.1; numbers = t1.1; slots = t2.1; procedures = t3.1; instructions = t4.1 },
+      t3.2,
+    )
 
 counts_again : (x : Counts) (rest : List ℕ) → FitsCounts x → counts_at (version_with x.procedures) (counts x ++ rest) ≡ Some (x, rest)
 unfolding counts_at
@@ -190,18 +241,37 @@ counts_again x rest fits =
     let r2 : List ℕ = to_be_bytes w16 x.slots ++ r3 in
     let r1 : List ℕ = to_be_bytes w16 x.numbers ++ r2 in
     let r0 : List ℕ = to_be_bytes w16 x.texts ++ r1 in
-    let regrouped : counts x ++ rest ≡ r0 = ap (λ (r : List ℕ). to_be_bytes w16 x.texts ++ (to_be_bytes w16 x.numbers ++ (to_be_bytes w16 x.slots ++ r))) (append_assoc (count_of x.procedures) (to_be_bytes w16 x.instructions) rest) in
+    let regrouped : counts x ++ rest ≡ r0 = ap (λ (r : List ℕ). to_be_bytes w16 x.texts
+    ++ (to_be_bytes w16 x.numbers ++ (to_be_bytes w16 x.slots ++ r)))
+    (append_assoc (count_of x.procedures) (to_be_bytes w16 x.instructions) rest) in
     ap (counts_at v) regrouped
     ∙ bind_is (number_at w16 r0) (after_text_count v) (x.texts, r1) (number_again w16 (2 ^ 16) wide16 x.texts r1 fits.texts)
     ∙ bind_is (number_at w16 r1) (after_number_count v x.texts) (x.numbers, r2) (number_again w16 (2 ^ 16) wide16 x.numbers r2 fits.numbers)
     ∙ bind_is (number_at w16 r2) (after_slots v x.texts x.numbers) (x.slots, r3) (number_again w16 (2 ^ 16) wide16 x.slots r3 fits.slots)
-    ∙ bind_is (procedure_count_at v r3) (after_procedures x.texts x.numbers x.slots) (x.procedures, r4) (procedure_count_again x.procedures r4 fits.procedures)
-    ∙ bind_is (number_at w16 r4) (counted x.texts x.numbers x.slots x.procedures) (x.instructions, rest) (number_again w16 (2 ^ 16) wide16 x.instructions rest fits.instructions)
+    ∙ bind_is (procedure_count_at v r3) (after_procedures x.texts x.numbers x.slots) (
+      x.procedures,
+      r4,
+    ) (procedure_count_again x.procedures r4 fits.procedures)
+    ∙ bind_is (number_at w16 r4) (counted x.texts x.numbers x.slots x.procedures) (
+      x.instructions,
+      rest,
+    ) (number_again w16 (2 ^ 16) wide16 x.instructions rest fits.instructions)
 
 -- ---- the parts
 
 abbrev made_of : ℕ → Counts → List (List ℕ) → List ℕ → Option (List ℕ) → List Instruction × List ℕ → Option (Parts × List ℕ)
-made_of budget c texts numbers procedures instructions = Some (record { budget = budget; texts = texts; numbers = numbers; slots = c.slots; procedures = procedures; instructions = instructions.0 }, instructions.1)
+made_of budget c texts numbers procedures instructions =
+    Some (
+      record {
+        budget = budget;
+        texts = texts;
+        numbers = numbers;
+        slots = c.slots;
+        procedures = procedures;
+        instructions = instructions.0;
+      },
+      instructions.1,
+    )
 
 abbrev after_firsts : ℕ → Counts → List (List ℕ) → List ℕ → Option (List ℕ) × List ℕ → Option (Parts × List ℕ)
 after_firsts budget c texts numbers procedures = many_at instruction_at c.instructions procedures.1 >>= made_of budget c texts numbers procedures.0
@@ -222,22 +292,51 @@ abbrev after_mark : Version × List ℕ → Option (Parts × List ℕ)
 after_mark v = number_at w32 v.1 >>= after_budget v.0
 
 abbrev body : List (List ℕ) → List ℕ → Option (List ℕ) → List Instruction → List ℕ
-body texts numbers firsts instructions = flat_map text texts ++ (flat_map (to_be_bytes w64) numbers ++ (procedures firsts ++ flat_map instruction instructions))
+body texts numbers firsts instructions = flat_map text texts
+    ++ (flat_map (to_be_bytes w64) numbers ++ (procedures firsts ++ flat_map instruction instructions))
 
 -- a spelling with a given version and given counts
 abbrev spelled : Version → ℕ → Counts → List (List ℕ) → List ℕ → Option (List ℕ) → List Instruction → List ℕ
 spelled v budget c texts numbers firsts instructions = mark v ++ (to_be_bytes w32 budget ++ (counts c ++ body texts numbers firsts instructions))
 
 abbrev counts_of : Parts → Counts
-counts_of p = record { texts = length p.texts; numbers = length p.numbers; slots = p.slots; procedures = length_of p.procedures; instructions = length p.instructions }
+counts_of p = record {
+  texts = length p.texts;
+  numbers = length p.numbers;
+  slots = p.slots;
+  procedures =
+      length_of p.procedures;
+  instructions = length p.instructions;
+}
 
-counts_are : (c : Counts) (p : Parts) → c.texts ≡ length p.texts → c.numbers ≡ length p.numbers → c.slots ≡ p.slots → c.procedures ≡ length_of p.procedures → c.instructions ≡ length p.instructions → c ≡ counts_of p
+counts_are : (c : Counts) (p : Parts) → c.texts ≡ length p.texts → c.numbers ≡ length p.numbers → c.slots ≡ p.slots
+    → c.procedures ≡ length_of p.procedures → c.instructions ≡ length p.instructions → c ≡ counts_of p
 counts_are c p a b s f d =
     ap (λ (k : ℕ). record { texts = k; numbers = c.numbers; slots = c.slots; procedures = c.procedures; instructions = c.instructions }) a
     ∙ ap (λ (k : ℕ). record { texts = length p.texts; numbers = k; slots = c.slots; procedures = c.procedures; instructions = c.instructions }) b
-    ∙ ap (λ (k : ℕ). record { texts = length p.texts; numbers = length p.numbers; slots = k; procedures = c.procedures; instructions = c.instructions }) s
-    ∙ ap (λ (k : Option ℕ). record { texts = length p.texts; numbers = length p.numbers; slots = p.slots; procedures = k; instructions = c.instructions }) f
-    ∙ ap (λ (k : ℕ). record { texts = length p.texts; numbers = length p.numbers; slots = p.slots; procedures = length_of p.procedures; instructions = k }) d
+    ∙ ap (λ (k : ℕ). record {
+      texts = length p.texts;
+      numbers = length p.numbers;
+      slots = k;
+      procedures = c.procedures;
+      instructions = c.instructions;
+    }) s
+    ∙ ap (λ (k : Option ℕ). record {
+      texts = length p.texts;
+      numbers = length p.numbers;
+      slots = p.slots;
+      procedures =
+          k;
+      instructions = c.instructions;
+    }) f
+    ∙ ap (λ (k : ℕ). record {
+      texts = length p.texts;
+      numbers = length p.numbers;
+      slots = p.slots;
+      procedures =
+          length_of p.procedures;
+      instructions = k;
+    }) d
 
 -- the spelling of parts, whose count of procedures is by cases
 spelling_by : (firsts : Option (List ℕ)) (budget texts numbers slots instructions rest : List ℕ)
@@ -246,9 +345,14 @@ spelling_by : (firsts : Option (List ℕ)) (budget texts numbers slots instructi
 spelling_by None budget texts numbers slots instructions rest = simp append_assoc
 spelling_by (Some firsts) budget texts numbers slots instructions rest = simp append_assoc
 
-spelling_is : (p : Parts) → spelling p ≡ spelled (version_with (length_of p.procedures)) p.budget (counts_of p) p.texts p.numbers p.procedures p.instructions
+spelling_is : (p : Parts)
+    → spelling p ≡ spelled (version_with (length_of p.procedures)) p.budget (counts_of p) p.texts p.numbers p.procedures
+    p.instructions
 unfolding spelling
-spelling_is p = spelling_by p.procedures (to_be_bytes w32 p.budget) (to_be_bytes w16 (length p.texts)) (to_be_bytes w16 (length p.numbers)) (to_be_bytes w16 p.slots) (to_be_bytes w16 (length p.instructions)) (body p.texts p.numbers p.procedures p.instructions)
+spelling_is p =
+    spelling_by p.procedures (to_be_bytes w32 p.budget) (to_be_bytes w16 (length p.texts))
+    (to_be_bytes w16 (length p.numbers)) (to_be_bytes w16 p.slots) (to_be_bytes w16 (length p.instructions))
+    (body p.texts p.numbers p.procedures p.instructions)
 
 pub parts_take : (octets : List ℕ) (x : Parts × List ℕ) → IsBytes octets → parts_at octets ≡ Some x → Takes octets (spelling x.0) x.1 × FitsOctets x.0
 unfolding parts_at
@@ -265,20 +369,39 @@ parts_take octets x fits e =
     let t1 = number_takes w32 (2 ^ 32) wide32 m.0.1 b.0 t0.rest_fits b.1 in
     let t2 = counts_take v b.0.1 c.0 t1.0.rest_fits c.1 in
     let t3 = many_takes text_at text (λ s. length s < 2 ^ 16) text_takes c.0.0.texts c.0.1 t.0 t2.0.rest_fits t.1 in
-    let t4 = many_takes (number_at w64) (to_be_bytes w64) (λ k. k < 2 ^ 64) (number_takes w64 (2 ^ 64) wide64) c.0.0.numbers t.0.1 n.0 t3.0.rest_fits n.1 in
+    let t4 = many_takes (number_at w64) (to_be_bytes w64) (λ k.
+    k < 2 ^ 64) (number_takes w64 (2 ^ 64) wide64) c.0.0.numbers t.0.1 n.0 t3.0.rest_fits n.1 in
     let t5 = procedures_take c.0.0.procedures n.0.1 f.0 t4.0.rest_fits f.1 in
     let t6 = many_takes instruction_at instruction FitsInstruction instruction_takes c.0.0.instructions f.0.1 i.0 t5.0.rest_fits i.1 in
     let e56 = Takes-then n.0.1 (procedures f.0.0) f.0.1 (flat_map instruction i.0.0) i.0.1 t5.0 t6.0 in
     let e46 = Takes-then t.0.1 (flat_map (to_be_bytes w64) n.0.0) n.0.1 (procedures f.0.0 ++ flat_map instruction i.0.0) i.0.1 t4.0 e56 in
-    let e36 = Takes-then c.0.1 (flat_map text t.0.0) t.0.1 (flat_map (to_be_bytes w64) n.0.0 ++ (procedures f.0.0 ++ flat_map instruction i.0.0)) i.0.1 t3.0 e46 in
+    let e36 = Takes-then c.0.1 (flat_map text t.0.0) t.0.1 (flat_map (to_be_bytes w64) n.0.0
+    ++ (procedures f.0.0 ++ flat_map instruction i.0.0)) i.0.1 t3.0 e46 in
     let e26 = Takes-then b.0.1 (counts c.0.0) c.0.1 (body t.0.0 n.0.0 f.0.0 i.0.0) i.0.1 t2.0 e36 in
     let e16 = Takes-then m.0.1 (to_be_bytes w32 b.0.0) b.0.1 (counts c.0.0 ++ body t.0.0 n.0.0 f.0.0 i.0.0) i.0.1 t1.0 e26 in
-    let e06 : Takes octets (spelled v b.0.0 c.0.0 t.0.0 n.0.0 f.0.0 i.0.0) i.0.1 = Takes-then octets (mark v) m.0.1 (to_be_bytes w32 b.0.0 ++ (counts c.0.0 ++ body t.0.0 n.0.0 f.0.0 i.0.0)) i.0.1 t0 e16 in
-    let made : Parts × List ℕ = (record { budget = b.0.0; texts = t.0.0; numbers = n.0.0; slots = c.0.0.slots; procedures = f.0.0; instructions = i.0.0 }, i.0.1) in
+    let e06 : Takes octets (spelled v b.0.0 c.0.0 t.0.0 n.0.0 f.0.0 i.0.0) i.0.1 =
+    Takes-then octets (mark v) m.0.1 (to_be_bytes w32 b.0.0
+    ++ (counts c.0.0 ++ body t.0.0 n.0.0 f.0.0 i.0.0)) i.0.1 t0 e16 in
+    let made : Parts
+    × List ℕ = (
+      record {
+        budget = b.0.0;
+        texts = t.0.0;
+        numbers = n.0.0;
+        slots = c.0.0.slots;
+        procedures = f.0.0;
+        instructions = i.0.0;
+      },
+      i.0.1,
+    ) in
     let same : c.0.0 ≡ counts_of made.0 = counts_are c.0.0 made.0 (sym t3.1) (sym t4.1) refl (sym t5.1) (sym t6.1) in
     let version : v ≡ version_with (length_of f.0.0) = sym t2.2 ∙ ap version_with (sym t5.1) in
-    let told : spelled v b.0.0 c.0.0 t.0.0 n.0.0 f.0.0 i.0.0 ≡ spelled (version_with (length_of f.0.0)) b.0.0 c.0.0 t.0.0 n.0.0 f.0.0 i.0.0 = ap (λ (w : Version). spelled w b.0.0 c.0.0 t.0.0 n.0.0 f.0.0 i.0.0) version in
-    let counted_so : spelled (version_with (length_of f.0.0)) b.0.0 c.0.0 t.0.0 n.0.0 f.0.0 i.0.0 ≡ spelling made.0 = ap (λ (k : Counts). spelled (version_with (length_of f.0.0)) b.0.0 k t.0.0 n.0.0 f.0.0 i.0.0) same ∙ sym (spelling_is made.0) in
+    let told : spelled v b.0.0 c.0.0 t.0.0 n.0.0 f.0.0 i.0.0
+    ≡ spelled (version_with (length_of f.0.0)) b.0.0 c.0.0 t.0.0 n.0.0 f.0.0 i.0.0 =
+    ap (λ (w : Version). spelled w b.0.0 c.0.0 t.0.0 n.0.0 f.0.0 i.0.0) version in
+    let counted_so : spelled (version_with (length_of f.0.0)) b.0.0 c.0.0 t.0.0 n.0.0 f.0.0 i.0.0 ≡ spelling made.0 =
+    ap (λ (k : Counts). spelled (version_with (length_of f.0.0)) b.0.0 k t.0.0 n.0.0 f.0.0 i.0.0) same
+    ∙ sym (spelling_is made.0) in
     let whole : Takes octets (spelling made.0) i.0.1 = subst (λ (s : List ℕ). Takes octets s i.0.1) (told ∙ counted_so) e06 in
     let fine : FitsOctets made.0 = record {
       short = record {
@@ -308,24 +431,52 @@ parts_again p rest fits =
     let r2 : List ℕ = counts c ++ r3 in
     let r1 : List ℕ = to_be_bytes w32 p.budget ++ r2 in
     let tail : body p.texts p.numbers p.procedures p.instructions ++ rest ≡ r3 =
-    append_assoc (flat_map text p.texts) (flat_map (to_be_bytes w64) p.numbers ++ (procedures p.procedures ++ flat_map instruction p.instructions)) rest
-    ∙ ap (λ (t : List ℕ). flat_map text p.texts ++ t) (append_assoc (flat_map (to_be_bytes w64) p.numbers) (procedures p.procedures ++ flat_map instruction p.instructions) rest)
-    ∙ ap (λ (t : List ℕ). flat_map text p.texts ++ (flat_map (to_be_bytes w64) p.numbers ++ t)) (append_assoc (procedures p.procedures) (flat_map instruction p.instructions) rest) in
+    append_assoc (flat_map text p.texts) (flat_map (to_be_bytes w64) p.numbers
+    ++ (procedures p.procedures ++ flat_map instruction p.instructions)) rest
+    ∙ ap (λ (t : List ℕ). flat_map text p.texts
+    ++ t) (append_assoc (flat_map (to_be_bytes w64) p.numbers) (procedures p.procedures
+    ++ flat_map instruction p.instructions) rest)
+    ∙ ap (λ (t : List ℕ). flat_map text p.texts
+    ++ (flat_map (to_be_bytes w64) p.numbers
+    ++ t)) (append_assoc (procedures p.procedures) (flat_map instruction p.instructions) rest) in
     let whole : (mark v ++ (to_be_bytes w32 p.budget ++ (counts c ++ body p.texts p.numbers p.procedures p.instructions))) ++ rest ≡ mark v ++ r1 =
     append_assoc (mark v) (to_be_bytes w32 p.budget ++ (counts c ++ body p.texts p.numbers p.procedures p.instructions)) rest
     ∙ ap (λ (t : List ℕ). mark v ++ t) (append_assoc (to_be_bytes w32 p.budget) (counts c ++ body p.texts p.numbers p.procedures p.instructions) rest)
-    ∙ ap (λ (t : List ℕ). mark v ++ (to_be_bytes w32 p.budget ++ t)) (append_assoc (counts c) (body p.texts p.numbers p.procedures p.instructions) rest)
+    ∙ ap (λ (t : List ℕ). mark v
+    ++ (to_be_bytes w32 p.budget
+    ++ t)) (append_assoc (counts c) (body p.texts p.numbers p.procedures p.instructions) rest)
     ∙ ap (λ (t : List ℕ). mark v ++ (to_be_bytes w32 p.budget ++ (counts c ++ t))) tail in
     let regrouped : spelling p ++ rest ≡ mark v ++ r1 = ap (λ (s : List ℕ). s ++ rest) (spelling_is p) ∙ whole in
-    let fits_counts : FitsCounts c = record { texts = fits.short.text_count; numbers = fits.short.number_count; slots = fits.slots; procedures = count_fits p.procedures fits.short.procedure_count; instructions = fits.short.instruction_count } in
+    let fits_counts : FitsCounts c = record {
+      texts = fits.short.text_count;
+      numbers = fits.short.number_count;
+      slots =
+          fits.slots;
+      procedures = count_fits p.procedures fits.short.procedure_count;
+      instructions =
+          fits.short.instruction_count;
+    } in
     ap parts_at regrouped
     ∙ bind_is (version_and_rest (mark v ++ r1)) after_mark (v, r1) (mark_again v r1)
     ∙ bind_is (number_at w32 r1) (after_budget v) (p.budget, r2) (number_again w32 (2 ^ 32) wide32 p.budget r2 fits.budget)
     ∙ bind_is (counts_at v r2) (after_counts p.budget) (c, r3) (counts_again c r3 fits_counts)
-    ∙ bind_is (many_at text_at (length p.texts) r3) (after_texts p.budget c) (p.texts, r4) (many_again text_at text (λ s. length s < 2 ^ 16) text_again p.texts r4 (recursion_from_All (λ s. length s < 2 ^ 16) p.texts fits.short.texts))
-    ∙ bind_is (many_at (number_at w64) (length p.numbers) r4) (after_numbers p.budget c p.texts) (p.numbers, r5) (many_again (number_at w64) (to_be_bytes w64) (λ k. k < 2 ^ 64) (number_again w64 (2 ^ 64) wide64) p.numbers r5 (recursion_from_All (λ k. k < 2 ^ 64) p.numbers fits.numbers))
-    ∙ bind_is (procedures_at (length_of p.procedures) r5) (after_firsts p.budget c p.texts p.numbers) (p.procedures, r6) (procedures_again p.procedures r6 fits.firsts)
-    ∙ bind_is (many_at instruction_at (length p.instructions) r6) (made_of p.budget c p.texts p.numbers p.procedures) (p.instructions, rest) (many_again instruction_at instruction FitsInstruction instruction_again p.instructions rest (recursion_from_All FitsInstruction p.instructions fits.instructions))
+    ∙ bind_is (many_at text_at (length p.texts) r3) (after_texts p.budget c) (
+      p.texts,
+      r4,
+    ) (many_again text_at text (λ s. length s < 2 ^ 16) text_again p.texts r4 (recursion_from_All (λ s.
+    length s < 2 ^ 16) p.texts fits.short.texts))
+    ∙ bind_is (many_at (number_at w64) (length p.numbers) r4) (after_numbers p.budget c p.texts) (
+      p.numbers,
+      r5,
+    ) (many_again (number_at w64) (to_be_bytes w64) (λ k. k < 2 ^ 64) (number_again w64 (2 ^ 64) wide64) p.numbers
+    r5 (recursion_from_All (λ k. k < 2 ^ 64) p.numbers fits.numbers))
+    ∙ bind_is (procedures_at (length_of p.procedures) r5) (after_firsts p.budget c p.texts p.numbers) (
+      p.procedures,
+      r6,
+    ) (procedures_again p.procedures r6 fits.firsts)
+    ∙ bind_is (many_at instruction_at (length p.instructions) r6) (made_of p.budget c p.texts p.numbers p.procedures)
+    (p.instructions, rest) (many_again instruction_at instruction FitsInstruction instruction_again p.instructions
+    rest (recursion_from_All FitsInstruction p.instructions fits.instructions))
 
 -- ---- all of the octets
 

@@ -6,7 +6,8 @@ use Rattle.filing_image.specs.declared.instruction.Operation.{Operation}
 use Rattle.filing_image.specs.declared.instruction.Operation.TheVariants.{Stop}
 use Rattle.filing_image.specs.Program.{instruction_of}
 
-pub no_code : (is : List Instruction) (k : ℕ) (d : Instruction) → k < length is → ((o : Operation) → instruction_of o ≢ get_or is k d) → (code : List Operation) → map instruction_of code ≡ is → ⊥
+pub no_code : (is : List Instruction) (k : ℕ) (d : Instruction) → k < length is
+    → ((o : Operation) → instruction_of o ≢ get_or is k d) → (code : List Operation) → map instruction_of code ≡ is → ⊥
 no_code is k d lt none code e =
     let n : k < length code = omega (arith, ap length e, length-map code instruction_of) in
     none (get_or code k Stop) (sym (get_or-map instruction_of code k Stop d n) ∙ ap (λ (l : List Instruction). get_or l k d) e)

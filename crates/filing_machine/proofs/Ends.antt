@@ -42,11 +42,14 @@ module _ (p : Program) (c : Facts) (well : IsWell p) where
   ends_within = by_run (after_steps p c p.budget) refl
 
 -- a machine that has ended is at the end of its run
-pub ends_here : (p : Program) (c : Facts) (m : Snapshot) (fault : Option RunFault) → m.progress ≡ Ended fault → Stands p c m → Ends p c m.steps fault (state c m.at)
+pub ends_here : (p : Program) (c : Facts) (m : Snapshot) (fault : Option RunFault) → m.progress ≡ Ended fault
+    → Stands p c m → Ends p c m.steps fault (state c m.at)
 ends_here p c m fault ended stands = record {
   over = sym stands.on_run ∙ ap (λ (progress : Progress). run_at progress (state c m.at)) ended;
   going = stands.going;
 }
 
-pub outcome_here : (p : Program) (c : Facts) (m : Snapshot) (fault : Option RunFault) (o : Outcome) → m.progress ≡ Ended fault → o ≡ outcome_at fault m.at.filed m.at.kept m.at.cancelled → Stands p c m → HasOutcome p c m.steps o
+pub outcome_here : (p : Program) (c : Facts) (m : Snapshot) (fault : Option RunFault) (o : Outcome)
+    → m.progress ≡ Ended fault → o ≡ outcome_at fault m.at.filed m.at.kept m.at.cancelled → Stands p c m
+    → HasOutcome p c m.steps o
 outcome_here p c m fault o ended e stands = (fault, state c m.at, ends_here p c m fault ended stands, sym e)

@@ -1,5 +1,6 @@
 -- The first element of a list that passes a test.
-use Rattle.std.proofs.Common.{◌≡◌, ◌<◌, ◌+◌, ◌∷◌, [], ℕ, List, Bool, true, false, cond, Some, None, is_some, IfSome, ◌||◌, map, take, drop, length, get_or, refl, ap, sym, ◌∙◌}
+use Rattle.std.proofs.Common.{◌≡◌, ◌<◌, ◌+◌, ◌∷◌, [], ℕ, List, Bool, true, false, cond, Some, None, is_some, IfSome}
+use Rattle.std.proofs.Common.{◌||◌, map, take, drop, length, get_or, refl, ap, sym, ◌∙◌}
 use Rattle.std.specs.List.{find, list_any}
 use Rattle.std.specs.Option.{option_or}
 use Rattle.std.proofs.Common.{take-append-drop}
@@ -24,16 +25,21 @@ module _ {X : Type 0} (p : X → Bool) where
       by false e rest = rest
 
   -- none of the first ones passes, and the next one neither
-  pub find_none_more : (xs : List X) (k : ℕ) (d : X) → k < length xs → find p (take k xs) ≡ None → p (get_or xs k d) ≡ false → find p (take (k + 1) xs) ≡ None
+  pub find_none_more : (xs : List X) (k : ℕ) (d : X) → k < length xs → find p (take k xs) ≡ None
+      → p (get_or xs k d) ≡ false → find p (take (k + 1) xs) ≡ None
   find_none_more xs k d lt none e =
-      ap (find p) (take_more xs k d lt) ∙ find-append p (take k xs) _ ∙ ap (λ o. option_or o (find p (get_or xs k d ∷ []))) none ∙ ap (λ b. cond b (Some (get_or xs k d)) None) e
+      ap (find p) (take_more xs k d lt) ∙ find-append p (take k xs) _
+      ∙ ap (λ o. option_or o (find p (get_or xs k d ∷ []))) none ∙ ap (λ b. cond b (Some (get_or xs k d)) None) e
 
   -- none of the first ones passes, and the next one does
-  pub find_here : (xs : List X) (k : ℕ) (d : X) → k < length xs → find p (take k xs) ≡ None → p (get_or xs k d) ≡ true → find p xs ≡ Some (get_or xs k d)
+  pub find_here : (xs : List X) (k : ℕ) (d : X) → k < length xs → find p (take k xs) ≡ None → p (get_or xs k d) ≡ true
+      → find p xs ≡ Some (get_or xs k d)
   find_here xs k d lt none e =
       let up_to : find p (take (k + 1) xs) ≡ Some (get_or xs k d) =
-      ap (find p) (take_more xs k d lt) ∙ find-append p (take k xs) _ ∙ ap (λ o. option_or o (find p (get_or xs k d ∷ []))) none ∙ ap (λ b. cond b (Some (get_or xs k d)) None) e in
-      ap (find p) (sym (take-append-drop (k + 1) xs)) ∙ find-append p (take (k + 1) xs) (drop (k + 1) xs) ∙ ap (λ o. option_or o (find p (drop (k + 1) xs))) up_to
+      ap (find p) (take_more xs k d lt) ∙ find-append p (take k xs) _
+      ∙ ap (λ o. option_or o (find p (get_or xs k d ∷ []))) none ∙ ap (λ b. cond b (Some (get_or xs k d)) None) e in
+      ap (find p) (sym (take-append-drop (k + 1) xs)) ∙ find-append p (take (k + 1) xs) (drop (k + 1) xs)
+      ∙ ap (λ o. option_or o (find p (drop (k + 1) xs))) up_to
 
 pub any_of_map : {X Y : Type 0} (p : Y → Bool) (f : X → Y) (xs : List X) → list_any p (map f xs) ≡ list_any (λ x. p (f x)) xs
 any_of_map p f [] = refl

@@ -50,7 +50,9 @@ ready p c m well running stands =
     }
 
 -- it was at a place at each step below n, and at n, and so below n + 1
-pub one_more : (p : Program) (c : Facts) (n : ℕ) (u : State) → At u ≡ after_steps p c n → ((k : ℕ) → k < n → (t : State) × (after_steps p c k ≡ At t)) → (k : ℕ) → k < n + 1 → (t : State) × (after_steps p c k ≡ At t)
+pub one_more : (p : Program) (c : Facts) (n : ℕ) (u : State) → At u ≡ after_steps p c n
+    → ((k : ℕ) → k < n → (t : State) × (after_steps p c k ≡ At t)) → (k : ℕ) → k < n + 1 → (t : State)
+    × (after_steps p c k ≡ At t)
 one_more p c n u e before k lt =
     elim (cases_lt k n) [
       | inl less ↦ before k less

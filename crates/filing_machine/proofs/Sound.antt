@@ -1,11 +1,16 @@
 -- The run of a verified program never traps, and ends within its budget.
-use Rattle.std.proofs.Common.{◌≡◌, ◌≢◌, ℕ, zero, suc, ◌+◌, ◌<◌, ◌≤◌, List, [], ◌∷◌, ◌++◌, length, Bool, true, false, not, ◌||◌, cond, max, Option, Some, None, refl, sym, ap, ◌∙◌, subst, arith, inl, inr, ◌⊎◌, get_or}
+use Rattle.std.proofs.Common.{◌≡◌, ◌≢◌, ℕ, zero, suc, ◌+◌, ◌<◌, ◌≤◌, List, [], ◌∷◌, ◌++◌, length, Bool, true, false}
+use Rattle.std.proofs.Common.{not, ◌||◌, cond, max, Option, Some, None, refl, sym, ap, ◌∙◌, subst, arith, inl, inr, ◌⊎◌}
+use Rattle.std.proofs.Common.{get_or}
 use Rattle.std.specs.Prelude.{slice_get, nat_lt, nat_eq}
 use Rattle.std.proofs.lemmas.Bool.{le-ltb, lt-ltb, le-leb}
 use Rattle.std.proofs.lemmas.Option.{slice_get-get_or, same_Some}
 use Rattle.std.proofs.lemmas.List.Elements.{All-get_or}
 use Rattle.filing_image.specs.declared.instruction.Operation.{Operation}
-use Rattle.filing_image.specs.declared.instruction.Operation.TheVariants.{PushTrue, PushFalse, Not, Values, Join, Match, Pop, Exists, Size, Number, Less, Jump, JumpIf, JumpUnless, Marked, Mark, File, Keep, Discard, Stop, Fault, Call, Return}
+use Rattle.filing_image.specs.declared.instruction.Operation.TheVariants.{PushTrue, PushFalse, Not, Values, Join, Match}
+use Rattle.filing_image.specs.declared.instruction.Operation.TheVariants.{Pop, Exists, Size, Number, Less, Jump, JumpIf}
+use Rattle.filing_image.specs.declared.instruction.Operation.TheVariants.{JumpUnless, Marked, Mark, File, Keep, Discard}
+use Rattle.filing_image.specs.declared.instruction.Operation.TheVariants.{Stop, Fault, Call, Return}
 use Rattle.filing_image.specs.Program.{Program, first_places, firsts_of}
 use Rattle.filing_verify.specs.declared.kind.Kind.{Kind}
 use Rattle.filing_verify.specs.declared.kind.Kind.TheVariants.{Truth, Texts, Count}
@@ -20,7 +25,9 @@ use Rattle.sieve_meaning.specs.RunFaults.{fault_of}
 use Rattle.sieve_meaning.proofs.RunFaultLemmas.{fault_between}
 use Rattle.sieve_meaning.specs.Case.{Facts}
 use Rattle.sieve_meaning.specs.Truth.{has_field}
-use Rattle.filing_table.specs.Machine.{Entry, T, L, N, State, values_of, Run, At, Over, Trap, with_stack, with_named, only_if, jump, file, enter, go_back, on_stack, act, at_place, start, step, after_steps}
+use Rattle.filing_table.specs.Machine.{Entry, T, L, N, State, values_of, Run, At, Over, Trap, with_stack, with_named}
+use Rattle.filing_table.specs.Machine.{only_if, jump, file, enter, go_back, on_stack, act, at_place, start, step}
+use Rattle.filing_table.specs.Machine.{after_steps}
 
 pub kind : Entry → Kind
 kind (T b) = Truth
@@ -63,14 +70,16 @@ Does p o s r (At s') = Moves p o s r s' ⊎ (Enters p o s s' ⊎ GoesBack o s s'
 Does p o s r (Over f s') = Unit {0}
 Does p o s r Trap = ⊥
 
-stacked : (p : Program) (o : Operation) (s : State) (es : List Entry) (r : List Kind) → goes_on o ≡ true → is_call o ≡ false → Some (kinds es) ≡ Some r → length r ≤ 32 → Does p o s r (with_stack s es)
+stacked : (p : Program) (o : Operation) (s : State) (es : List Entry) (r : List Kind) → goes_on o ≡ true
+    → is_call o ≡ false → Some (kinds es) ≡ Some r → length r ≤ 32 → Does p o s r (with_stack s es)
 unfolding Does
 stacked p o s es r g plain e fits =
     let same : kinds es ≡ r = cc in
     let small : nat_lt 32 (length es) ≡ false = le-ltb _ _ (omega (arith, length-kinds es, ap length same)) in
     rw small (inl (record { follows = inl (g, refl); kinds = same; calls = refl; plain = plain }))
 
-named : {A : Type 0} (p : Program) (o : Operation) (s : State) (r : List Kind) (xs : List A) (b : ℕ) (go : A → Run) → b < length xs → ((x : A) → Does p o s r (go x)) → Does p o s r (with_named (slice_get xs b) go)
+named : {A : Type 0} (p : Program) (o : Operation) (s : State) (r : List Kind) (xs : List A) (b : ℕ) (go : A → Run)
+    → b < length xs → ((x : A) → Does p o s r (go x)) → Does p o s r (with_named (slice_get xs b) go)
 named p o s r [] b go lt h = absurd (omega arith)
 named p o s r (x ∷ xs) zero go lt h = h x
 named p o s r (x ∷ xs) (suc b) go lt h = named p o s r xs b go (omega arith) h
@@ -79,24 +88,36 @@ only : (p : Program) (o : Operation) (s : State) (r : List Kind) (b : Bool) (x :
 only p o s r true x e h = h
 only p o s r false x e h = absurd cc
 
-jumped : (p : Program) (o : Operation) (s : State) (es : List Entry) (r : List Kind) (b : ℕ) (t : Bool) → goes_on o ≡ true → is_call o ≡ false → target p o ≡ Some b → Some (kinds es) ≡ Some r → Does p o s r (jump s es t b)
+jumped : (p : Program) (o : Operation) (s : State) (es : List Entry) (r : List Kind) (b : ℕ) (t : Bool)
+    → goes_on o ≡ true → is_call o ≡ false → target p o ≡ Some b → Some (kinds es) ≡ Some r
+    → Does p o s r (jump s es t b)
 unfolding Does
 jumped p o s es r b true g plain to e = inl (record { follows = inr to; kinds = cc; calls = refl; plain = plain })
 jumped p o s es r b false g plain to e = inl (record { follows = inl (g, refl); kinds = cc; calls = refl; plain = plain })
 
-filed : (p : Program) (o : Operation) (s : State) (r : List Kind) (c : Facts) (a : ℕ) (path : List ℕ) → goes_on o ≡ true → is_call o ≡ false → Some (kinds s.stack) ≡ Some r → Does p o s r (file c s a path)
+filed : (p : Program) (o : Operation) (s : State) (r : List Kind) (c : Facts) (a : ℕ) (path : List ℕ) → goes_on o ≡ true
+    → is_call o ≡ false → Some (kinds s.stack) ≡ Some r → Does p o s r (file c s a path)
 unfolding Does
-filed p o s r c a path g plain e = elim (c.is_open path) as (λ b. Does p o s r (cond b (At (record s { place = s.place + 1; filed = insert_path path s.filed; cancelled = s.cancelled || nat_eq a 0 })) (Over (Some ClassNotOpen) s))) [
-  | true ↦ inl (record { follows = inl (g, refl); kinds = cc; calls = refl; plain = plain })
-  | false ↦ tt
-]
+filed p o s r c a path g plain e =
+    elim (c.is_open path) as (λ b.
+    Does p o s r (cond b (At (record s {
+      place = s.place + 1;
+      filed = insert_path path s.filed;
+      cancelled =
+          s.cancelled || nat_eq a 0;
+    })) (Over (Some ClassNotOpen) s))) [
+      | true ↦ inl (record { follows = inl (g, refl); kinds = cc; calls = refl; plain = plain })
+      | false ↦ tt
+    ]
 
-failed : (p : Program) (o : Operation) (s : State) (r : List Kind) (x : Option RunFault) (fault : RunFault) → x ≡ Some fault → Does p o s r (with_named x (λ f. Over (Some f) s))
+failed : (p : Program) (o : Operation) (s : State) (r : List Kind) (x : Option RunFault) (fault : RunFault)
+    → x ≡ Some fault → Does p o s r (with_named x (λ f. Over (Some f) s))
 unfolding Does
 failed p o s r None fault e = absurd cc
 failed p o s r (Some f) fault e = tt
 
-entered : (p : Program) (b : ℕ) (s : State) (r : List Kind) (x : Option ℕ) → first_place p b ≡ x → b < length (first_places p) → s.stack ≡ [] → Does p (Call b) s r (with_named x (enter s))
+entered : (p : Program) (b : ℕ) (s : State) (r : List Kind) (x : Option ℕ) → first_place p b ≡ x
+    → b < length (first_places p) → s.stack ≡ [] → Does p (Call b) s r (with_named x (enter s))
 unfolding Does kinds
 entered p b s r None e lt bare = let there = slice_get-get_or (first_places p) b 0 lt in absurd (cc (there, e))
 entered p b s r (Some f) e lt bare = inr (inl (record { number = b; is = refl; first = e; kinds = ap kinds bare; calls = refl }))
@@ -106,7 +127,8 @@ unfolding Does kinds
 came_back p s r [] e bare = tt
 came_back p s r (place ∷ others) e bare = inr (inr (record { is = refl; kinds = ap kinds bare; calls = e }))
 
-acts : (p : Program) (c : Facts) (o : Operation) (s : State) (es : List Entry) (r : List Kind) → s.stack ≡ es → after o (kinds es) ≡ Some r → length r ≤ 32 → InRange p o → Does p o s r (on_stack p c o s es)
+acts : (p : Program) (c : Facts) (o : Operation) (s : State) (es : List Entry) (r : List Kind) → s.stack ≡ es
+    → after o (kinds es) ≡ Some r → length r ≤ 32 → InRange p o → Does p o s r (on_stack p c o s es)
 unfolding Does kinds kind
 acts p c PushTrue s es r same e fits range = stacked p PushTrue s (T true ∷ es) r refl refl e fits
 acts p c PushFalse s es r same e fits range = stacked p PushFalse s (T false ∷ es) r refl refl e fits
@@ -114,7 +136,9 @@ acts p c Not s [] r same e fits range = absurd cc
 acts p c Not s (T b ∷ es) r same e fits range = stacked p Not s (T (not b) ∷ es) r refl refl e fits
 acts p c Not s (L b ∷ es) r same e fits range = absurd cc
 acts p c Not s (N b ∷ es) r same e fits range = absurd cc
-acts p c (Values b) s es r same e fits range = named p (Values b) s r p.texts b _ range (λ name. stacked p (Values b) s (L (values_of c name) ∷ es) r refl refl e fits)
+acts p c (Values b) s es r same e fits range =
+    named p (Values b) s r p.texts b _ range (λ name.
+    stacked p (Values b) s (L (values_of c name) ∷ es) r refl refl e fits)
 acts p c Join s (L ys ∷ L xs ∷ es) r same e fits range = stacked p Join s (L (xs ++ ys) ∷ es) r refl refl e fits
 acts p c Join s [] r same e fits range = absurd cc
 acts p c Join s (T b ∷ es) r same e fits range = absurd cc
@@ -122,13 +146,17 @@ acts p c Join s (N b ∷ es) r same e fits range = absurd cc
 acts p c Join s (L b ∷ []) r same e fits range = absurd cc
 acts p c Join s (L b ∷ T d ∷ es) r same e fits range = absurd cc
 acts p c Join s (L b ∷ N d ∷ es) r same e fits range = absurd cc
-acts p c (Match a b) s (L xs ∷ es) r same e fits range = only p (Match a b) s r _ _ (le-leb _ _ range.0) (named p (Match a b) s r p.texts b _ range.1 (λ key. stacked p (Match a b) s (T _ ∷ L xs ∷ es) r refl refl e fits))
+acts p c (Match a b) s (L xs ∷ es) r same e fits range =
+    only p (Match a b) s r _ _ (le-leb _ _ range.0) (named p (Match a b) s r p.texts b _ range.1 (λ key.
+    stacked p (Match a b) s (T _ ∷ L xs ∷ es) r refl refl e fits))
 acts p c (Match a b) s [] r same e fits range = absurd cc
 acts p c (Match a b) s (T d ∷ es) r same e fits range = absurd cc
 acts p c (Match a b) s (N d ∷ es) r same e fits range = absurd cc
 acts p c Pop s (d ∷ es) r same e fits range = stacked p Pop s es r refl refl e fits
 acts p c Pop s [] r same e fits range = absurd cc
-acts p c (Exists b) s es r same e fits range = named p (Exists b) s r p.texts b _ range (λ name. stacked p (Exists b) s (T (has_field c name) ∷ es) r refl refl e fits)
+acts p c (Exists b) s es r same e fits range =
+    named p (Exists b) s r p.texts b _ range (λ name.
+    stacked p (Exists b) s (T (has_field c name) ∷ es) r refl refl e fits)
 acts p c Size s es r same e fits range = stacked p Size s (N c.size ∷ es) r refl refl e fits
 acts p c (Number b) s es r same e fits range = named p (Number b) s r p.numbers b _ range (λ n. stacked p (Number b) s (N n ∷ es) r refl refl e fits)
 acts p c Less s (N y ∷ N x ∷ es) r same e fits range = stacked p Less s (T (nat_lt x y) ∷ es) r refl refl e fits
@@ -148,12 +176,24 @@ acts p c (JumpUnless b) s [] r same e fits range = absurd cc
 acts p c (JumpUnless b) s (L d ∷ es) r same e fits range = absurd cc
 acts p c (JumpUnless b) s (N d ∷ es) r same e fits range = absurd cc
 acts p c (Marked b) s es r same e fits range = only p (Marked b) s r _ _ (lt-ltb _ _ range) (stacked p (Marked b) s (T _ ∷ es) r refl refl e fits)
-acts p c (Mark b) s es r same e fits range = only p (Mark b) s r _ _ (lt-ltb _ _ range) (inl (record { follows = inl (refl, refl); kinds = ap kinds same ∙ same_Some _ _ e; calls = refl; plain = refl }))
-acts p c (File a b) s es r same e fits range = only p (File a b) s r _ _ (le-leb _ _ range.0) (named p (File a b) s r p.texts b _ range.1 (λ path. filed p (File a b) s r c a path refl refl (ap Some (ap kinds same) ∙ e)))
-acts p c Keep s es r same e fits range = (inl (record { follows = inl (refl, refl); kinds = ap kinds same ∙ same_Some _ _ e; calls = refl; plain = refl }))
-acts p c Discard s es r same e fits range = (inl (record { follows = inl (refl, refl); kinds = ap kinds same ∙ same_Some _ _ e; calls = refl; plain = refl }))
+acts p c (Mark b) s es r same e fits range =
+    only p (Mark b) s r _ _ (lt-ltb _ _ range) (inl (record {
+      follows = inl (refl, refl);
+      kinds = ap kinds same
+          ∙ same_Some _ _ e;
+      calls = refl;
+      plain = refl;
+    }))
+acts p c (File a b) s es r same e fits range =
+    only p (File a b) s r _ _ (le-leb _ _ range.0) (named p (File a b) s r p.texts b _ range.1 (λ path.
+    filed p (File a b) s r c a path refl refl (ap Some (ap kinds same) ∙ e)))
+acts p c Keep s es r same e fits range =
+    (inl (record { follows = inl (refl, refl); kinds = ap kinds same ∙ same_Some _ _ e; calls = refl; plain = refl }))
+acts p c Discard s es r same e fits range =
+    (inl (record { follows = inl (refl, refl); kinds = ap kinds same ∙ same_Some _ _ e; calls = refl; plain = refl }))
 acts p c Stop s es r same e fits range = tt
-acts p c (Fault a) s es r same e fits range = let (fault, is) = fault_between a range.0 range.1 in only p (Fault a) s r _ _ (le-leb _ _ range.0) (failed p (Fault a) s r (fault_of a) fault is)
+acts p c (Fault a) s es r same e fits range = let (fault, is) = fault_between a range.0 range.1 in
+    only p (Fault a) s r _ _ (le-leb _ _ range.0) (failed p (Fault a) s r (fault_of a) fault is)
 acts p c (Call b) s [] r same e fits range = entered p b s r (first_place p b) refl range same
 acts p c (Call b) s (d ∷ es) r same e fits range = absurd cc
 acts p c Return s [] r same e fits range = came_back p s r s.calls refl same
@@ -165,11 +205,13 @@ acts p c Return s (d ∷ es) r same e fits range = absurd cc
 step_cost : (p : Program) (cost : ℕ → ℕ) (o : Operation) (i q : ℕ) → is_call o ≡ false → Follows p o i q → 1 + cost q ≤ cost_by p cost i o
 step_cost p cost o i q plain (inl (g, e)) =
     let n : next_cost (goes_on o) i cost ≡ cost q = rw (g, e) refl in
-    let t : together (is_call o) (next_cost (goes_on o) i cost) (target_cost (target p o) cost) ≡ max (next_cost (goes_on o) i cost) (target_cost (target p o) cost) = rw plain refl in
+    let t : together (is_call o) (next_cost (goes_on o) i cost) (target_cost (target p o) cost)
+    ≡ max (next_cost (goes_on o) i cost) (target_cost (target p o) cost) = rw plain refl in
     omega arith
 step_cost p cost o i q plain (inr to) =
     let n : target_cost (target p o) cost ≡ cost q = rw to refl in
-    let t : together (is_call o) (next_cost (goes_on o) i cost) (target_cost (target p o) cost) ≡ max (next_cost (goes_on o) i cost) (target_cost (target p o) cost) = rw plain refl in
+    let t : together (is_call o) (next_cost (goes_on o) i cost) (target_cost (target p o) cost)
+    ≡ max (next_cost (goes_on o) i cost) (target_cost (target p o) cost) = rw plain refl in
     omega arith
 
 call_cost : (p : Program) (cost : ℕ → ℕ) (b i f : ℕ) → first_place p b ≡ Some f → cost_by p cost i (Call b) ≡ 1 + (cost (i + 1) + cost f)
@@ -295,7 +337,9 @@ module _ (p : Program) (c : Facts) (well : IsWell p) where
       spent_enters None paths path = (s.place, path, (operation, here, to_first))
       spent_enters (Some firsts) (cost, are, enough) spent =
           let paid : cost s.place ≡ cost_by p cost s.place operation = are s.place operation k.reached here in
-          let call : cost_by p cost s.place operation ≡ 1 + (cost (s.place + 1) + cost s'.place) = ap (λ (o : Operation). cost_by p cost s.place o) d.is ∙ call_cost p cost d.number s.place s'.place d.first in
+          let call : cost_by p cost s.place operation ≡ 1 + (cost (s.place + 1) + cost s'.place) =
+          ap (λ (o : Operation). cost_by p cost s.place o) d.is
+          ∙ call_cost p cost d.number s.place s'.place d.first in
           let more : total cost s'.calls ≡ cost (s.place + 1) + total cost s.calls = ap (total cost) d.calls in
           omega arith
 
@@ -327,7 +371,8 @@ module _ (p : Program) (c : Facts) (well : IsWell p) where
 
       spent_back : (x : Option (List ℕ)) (e : Suffices p x) → p.procedures ≡ x → Spent x e n s → Spent x e (suc n) s'
       unfolding Spent total
-      spent_back None paths none path = let no : length (first_places p) ≡ 0 = ap (λ (y : Option (List ℕ)). length (firsts_of y)) none in absurd (omega (arith, some_calls, no))
+      spent_back None paths none path = let no : length (first_places p) ≡ 0 =
+          ap (λ (y : Option (List ℕ)). length (firsts_of y)) none in absurd (omega (arith, some_calls, no))
       spent_back (Some firsts) (cost, are, enough) some spent =
           let paid : cost s.place ≡ cost_by p cost s.place operation = are s.place operation k.reached here in
           let one : cost_by p cost s.place operation ≡ 1 = ap (λ (o : Operation). cost_by p cost s.place o) d.is in

@@ -1,5 +1,6 @@
 -- A program of one instruction that ends the run may run.
-use Rattle.std.proofs.Common.{◌≡◌, ◌<◌, ◌≤◌, ◌+◌, ◌^◌, [], ◌∷◌, ℕ, zero, suc, refl, arith, ap, ◌∙◌, sym, subst, inl, inr, true, false, Option, Some, None}
+use Rattle.std.proofs.Common.{◌≡◌, ◌<◌, ◌≤◌, ◌+◌, ◌^◌, [], ◌∷◌, ℕ, zero, suc, refl, arith, ap, ◌∙◌, sym, subst, inl}
+use Rattle.std.proofs.Common.{inr, true, false, Option, Some, None}
 use Rattle.std.specs.Prelude.{slice_get, ◌⊎◌, slice_index_or}
 use Rattle.filing_image.specs.declared.instruction.Operation.{Operation}
 use Rattle.filing_image.specs.declared.instruction.Operation.TheVariants.{Call}
@@ -21,8 +22,26 @@ pub record EndsRun (o : Operation) : Type 0 where
   pub in_range : InRange (alone o) o
 
 ends : (o : Operation) → IsEnd o → EndsRun o
-ends o (inl e) = let P : Operation → Type 0 = EndsRun in subst P (sym e) (record { stops = refl; jumps_not = refl; goes_nowhere = refl; no_call = refl; leaves = refl; in_range = tt })
-ends o (inr e) = let P : Operation → Type 0 = EndsRun in subst P (sym e) (record { stops = refl; jumps_not = refl; goes_nowhere = refl; no_call = refl; leaves = refl; in_range = (omega arith, omega arith) })
+ends o (inl e) = let P : Operation
+    → Type 0 = EndsRun in
+    subst P (sym e) (record {
+      stops = refl;
+      jumps_not = refl;
+      goes_nowhere = refl;
+      no_call = refl;
+      leaves = refl;
+      in_range = tt;
+    })
+ends o (inr e) = let P : Operation
+    → Type 0 = EndsRun in
+    subst P (sym e) (record {
+      stops = refl;
+      jumps_not = refl;
+      goes_nowhere = refl;
+      no_call = refl;
+      leaves = refl;
+      in_range = (omega arith, omega arith);
+    })
 
 only : (o q : Operation) (p : ℕ) → slice_get (o ∷ []) p ≡ Some q → q ≡ o
 only o q zero e = sym (some_is o q e)

@@ -15,15 +15,22 @@ pub meaning_at : (name : List ℕ) (es : List NamedScript) → option_map meanin
 meaning_at name [] = refl
 meaning_at name (e ∷ es) = go _ refl (meaning_at name es)
   where
-    go : (b : Bool) → bytes_eq e.name name ≡ b → option_map meaning_of (script_under name es) ≡ script_at name (meanings_of es) → option_map meaning_of (script_under name (e ∷ es)) ≡ script_at name (meanings_of (e ∷ es))
+    go : (b : Bool) → bytes_eq e.name name ≡ b
+        → option_map meaning_of (script_under name es) ≡ script_at name (meanings_of es)
+        → option_map meaning_of (script_under name (e ∷ es)) ≡ script_at name (meanings_of (e ∷ es))
     go true is rest = rw is refl
     go false is rest = rw is rest
 
-pub meanings_put : (name : List ℕ) (script : Script) (es : List NamedScript) → meanings_of (with_entry (record { name = name; script = script }) es) ≡ put_script name (meaning_of script) (meanings_of es)
+pub meanings_put : (name : List ℕ) (script : Script) (es : List NamedScript)
+    → meanings_of (with_entry (record { name = name; script = script }) es)
+    ≡ put_script name (meaning_of script) (meanings_of es)
 meanings_put name script [] = refl
 meanings_put name script (e ∷ es) = go _ refl (meanings_put name script es)
   where
-    go : (b : Bool) → bytes_eq e.name name ≡ b → meanings_of (with_entry (record { name = name; script = script }) es) ≡ put_script name (meaning_of script) (meanings_of es) → meanings_of (with_entry (record { name = name; script = script }) (e ∷ es)) ≡ put_script name (meaning_of script) (meanings_of (e ∷ es))
+    go : (b : Bool) → bytes_eq e.name name ≡ b → meanings_of (with_entry (record { name = name; script = script }) es)
+        ≡ put_script name (meaning_of script) (meanings_of es)
+        → meanings_of (with_entry (record { name = name; script = script }) (e ∷ es))
+        ≡ put_script name (meaning_of script) (meanings_of (e ∷ es))
     go true is rest = rw is refl
     go false is rest = rw is (ap (λ more. (e.name, meaning_of e.script) ∷ more) rest)
 
@@ -42,7 +49,9 @@ no_room es name h = record { full = as_many es ∙ h.full; missing = sym (meanin
 pub no_room_kept : (es : List NamedScript) (name : List ℕ) → HasNoRoom (meanings_of es) name → kept.HasNoRoom es name
 no_room_kept es name h = record { full = sym (as_many es) ∙ h.full; missing = missing (script_under name es) (meaning_at name es ∙ h.missing) }
 
-found_in : (l : Scripts) (s : ScriptName) (global : Bool) → option_map meaning_of (script_under s.name (location_of global l)) ≡ script_at s.name (location global (meanings_of l.personal) (meanings_of l.global))
+found_in : (l : Scripts) (s : ScriptName) (global : Bool)
+    → option_map meaning_of (script_under s.name (location_of global l))
+    ≡ script_at s.name (location global (meanings_of l.personal) (meanings_of l.global))
 found_in l s true = meaning_at s.name l.global
 found_in l s false = meaning_at s.name l.personal
 

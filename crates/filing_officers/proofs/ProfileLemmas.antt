@@ -1,5 +1,7 @@
 -- A map of profiles and the settings that it shows.
-use Rattle.std.proofs.Common.{◌≡◌, ℕ, ◌+◌, min, Bool, true, false, cond, List, [], ◌∷◌, length, Option, Some, None, is_some, option_map, Result, Ok, Err, OnOk, OnErr, Vec, Global, Ordering, Less, Equal, Greater, nat_cmp, refl, sym, ap, ◌∙◌, subst, arith}
+use Rattle.std.proofs.Common.{◌≡◌, ℕ, ◌+◌, min, Bool, true, false, cond, List, [], ◌∷◌, length, Option, Some, None}
+use Rattle.std.proofs.Common.{is_some, option_map, Result, Ok, Err, OnOk, OnErr, Vec, Global, Ordering, Less, Equal}
+use Rattle.std.proofs.Common.{Greater, nat_cmp, refl, sym, ap, ◌∙◌, subst, arith}
 use Rattle.std.proofs.Math.Path.{fun_ext}
 use Rattle.std.proofs.lemmas.Map.Text.{is_eq-slice_cmp}
 use Rattle.std.proofs.lemmas.Slice.Eq.{bytes_eq-Decides}
@@ -35,7 +37,9 @@ abbrev pub cmp_names : Vec ℕ Global → Vec ℕ Global → Ordering
 cmp_names x y = slice_cmp nat_cmp x.items y.items
 
 module _ (name : List ℕ) where
-  or_new : (b : Bool) (e : Vec ℕ Global × Profile) (rest : Option Profile) (o : Officer) (p : Profile) → (rest ≡ Some p → o ≡ officer_of (settings_of p)) → cond b (Some e.1) rest ≡ Some p → cond b (officer_of (settings_of e.1)) o ≡ officer_of (settings_of p)
+  or_new : (b : Bool) (e : Vec ℕ Global × Profile) (rest : Option Profile) (o : Officer) (p : Profile)
+      → (rest ≡ Some p → o ≡ officer_of (settings_of p)) → cond b (Some e.1) rest ≡ Some p
+      → cond b (officer_of (settings_of e.1)) o ≡ officer_of (settings_of p)
   or_new true e rest o p ih h = let same : e.1 ≡ p = cc in ap (λ (x : Profile). officer_of (settings_of x)) same
   or_new false e rest o p ih h = ih h
 
@@ -43,9 +47,13 @@ module _ (name : List ℕ) where
   pub found_is : (es : Entries) (p : Profile) → lookup (is_at (compare name)) es ≡ Some p → officer_in es name ≡ officer_of (settings_of p)
   found_is [] p h = absurd (cc h)
   found_is (e ∷ es) p h =
-      or_new (bytes_eq name e.0.items) e (lookup (is_at (compare name)) es) (officer_in es name) p (found_is es p) (subst (λ (b : Bool). cond b (Some e.1) (lookup (is_at (compare name)) es) ≡ Some p) (is_eq-slice_cmp name e.0.items) h)
+      or_new (bytes_eq name e.0.items) e (lookup (is_at (compare name)) es) (officer_in es name) p (found_is es p)
+      (subst (λ (b : Bool). cond b (Some e.1) (lookup (is_at (compare name)) es)
+      ≡ Some p) (is_eq-slice_cmp name e.0.items) h)
 
-  none_or : (b : Bool) (e : Vec ℕ Global × Profile) (rest : Option Profile) (o : Officer) → (rest ≡ None → o ≡ new_officer) → cond b (Some e.1) rest ≡ None → cond b (officer_of (settings_of e.1)) o ≡ new_officer
+  none_or : (b : Bool) (e : Vec ℕ Global × Profile) (rest : Option Profile) (o : Officer)
+      → (rest ≡ None → o ≡ new_officer) → cond b (Some e.1) rest ≡ None
+      → cond b (officer_of (settings_of e.1)) o ≡ new_officer
   none_or true e rest o ih h = absurd (cc h)
   none_or false e rest o ih h = ih h
 
@@ -53,7 +61,9 @@ module _ (name : List ℕ) where
   pub missing_is : (es : Entries) → lookup (is_at (compare name)) es ≡ None → officer_in es name ≡ new_officer
   missing_is [] h = refl
   missing_is (e ∷ es) h =
-      none_or (bytes_eq name e.0.items) e (lookup (is_at (compare name)) es) (officer_in es name) (missing_is es) (subst (λ (b : Bool). cond b (Some e.1) (lookup (is_at (compare name)) es) ≡ None) (is_eq-slice_cmp name e.0.items) h)
+      none_or (bytes_eq name e.0.items) e (lookup (is_at (compare name)) es) (officer_in es name) (missing_is es)
+      (subst (λ (b : Bool). cond b (Some e.1) (lookup (is_at (compare name)) es)
+      ≡ None) (is_eq-slice_cmp name e.0.items) h)
 
 same_name : (a b : List ℕ) → bytes_eq a b ≡ true → a ≡ b
 same_name a b h = (bytes_eq-Decides a b).0 h
@@ -75,7 +85,8 @@ module _ (edition : ℕ) (globals : List NamedScript) where
   found_keeps test [] p k h = absurd (cc h)
   found_keeps test (e ∷ es) p k h = found_or (test e.0) e.1 p (lookup test es) k.0 (found_keeps test es p k.1) h
 
-  set_or : (b : Bool) (e : Vec ℕ Global × Profile) (es new : Entries) (w : Profile) → Keeps w → AllKeep (e ∷ es) → AllKeep new → AllKeep (cond b ((e.0, w) ∷ es) (e ∷ new))
+  set_or : (b : Bool) (e : Vec ℕ Global × Profile) (es new : Entries) (w : Profile) → Keeps w → AllKeep (e ∷ es)
+      → AllKeep new → AllKeep (cond b ((e.0, w) ∷ es) (e ∷ new))
   set_or true e es new w k all rest = (k, all.1)
   set_or false e es new w k all rest = (all.0, rest)
 
@@ -83,24 +94,30 @@ module _ (edition : ℕ) (globals : List NamedScript) where
   set_keeps test [] w all k = tt
   set_keeps test (e ∷ es) w all k = set_or (test e.0) e es (set_value test es w) w k all (set_keeps test es w all.1 k)
 
-  put_or : (o : Ordering) (e : Vec ℕ Global × Profile) (es new : Entries) (k : Vec ℕ Global) (v : Profile) → Keeps v → AllKeep (e ∷ es) → AllKeep new → AllKeep (match_ordering o ((k, v) ∷ e ∷ es) ((e.0, v) ∷ es) (e ∷ new))
+  put_or : (o : Ordering) (e : Vec ℕ Global × Profile) (es new : Entries) (k : Vec ℕ Global) (v : Profile) → Keeps v
+      → AllKeep (e ∷ es) → AllKeep new → AllKeep (match_ordering o ((k, v) ∷ e ∷ es) ((e.0, v) ∷ es) (e ∷ new))
   put_or Less e es new k v h all rest = (h, all)
   put_or Equal e es new k v h all rest = (h, all.1)
   put_or Greater e es new k v h all rest = (all.0, rest)
 
-  pub insert_keeps : (cmp : Vec ℕ Global → Vec ℕ Global → Ordering) (es : Entries) (k : Vec ℕ Global) (v : Profile) → AllKeep es → Keeps v → AllKeep (insert_entry cmp es k v)
+  pub insert_keeps : (cmp : Vec ℕ Global → Vec ℕ Global → Ordering) (es : Entries) (k : Vec ℕ Global) (v : Profile)
+      → AllKeep es → Keeps v → AllKeep (insert_entry cmp es k v)
   insert_keeps cmp [] k v all h = (h, tt)
   insert_keeps cmp (e ∷ es) k v all h = put_or (cmp k e.0) e es (insert_entry cmp es k v) k v h all (insert_keeps cmp es k v all.1 h)
 
 -- SETTINGS
 
-same_or : (b : Bool) (e : Vec ℕ Global × Profile) (es new : Entries) (rest : Option Profile) (p w : Profile) → settings_of w ≡ settings_of p → (rest ≡ Some p → settings_in new ≡ settings_in es) → cond b (Some e.1) rest ≡ Some p
+same_or : (b : Bool) (e : Vec ℕ Global × Profile) (es new : Entries) (rest : Option Profile) (p w : Profile)
+    → settings_of w ≡ settings_of p → (rest ≡ Some p → settings_in new ≡ settings_in es)
+    → cond b (Some e.1) rest ≡ Some p
     → settings_in (cond b ((e.0, w) ∷ es) (e ∷ new)) ≡ settings_in (e ∷ es)
-same_or true e es new rest p w s ih h = let was : e.1 ≡ p = cc in ap (λ (x : Settings). (e.0.items, x) ∷ settings_in es) (s ∙ ap settings_of (sym was))
+same_or true e es new rest p w s ih h = let was : e.1 ≡ p = cc in
+    ap (λ (x : Settings). (e.0.items, x) ∷ settings_in es) (s ∙ ap settings_of (sym was))
 same_or false e es new rest p w s ih h = ap (λ (xs : List (List ℕ × Settings)). (e.0.items, settings_of e.1) ∷ xs) (ih h)
 
 -- a profile that is replaced by one with the same settings
-pub set_same : (test : Vec ℕ Global → Bool) (es : Entries) (p w : Profile) → lookup test es ≡ Some p → settings_of w ≡ settings_of p → settings_in (set_value test es w) ≡ settings_in es
+pub set_same : (test : Vec ℕ Global → Bool) (es : Entries) (p w : Profile) → lookup test es ≡ Some p
+    → settings_of w ≡ settings_of p → settings_in (set_value test es w) ≡ settings_in es
 set_same test [] p w h s = refl
 set_same test (e ∷ es) p w h s = same_or (test e.0) e es (set_value test es w) (lookup test es) p w s (λ k. set_same test es p w k s) h
 
@@ -110,7 +127,9 @@ module _ (name n : List ℕ) where
 
   -- the first test says whether the entry has the name, the second whether it has n, the third whether the two are
   -- equal
-  set_at : (a b : Bool) (e : Vec ℕ Global × Profile) (es new : Entries) (rest : Option Profile) (p w : Profile) → bytes_eq name e.0.items ≡ a → bytes_eq n name ≡ b → (rest ≡ Some p → officer_in new n ≡ With b w es) → cond a (Some e.1) rest ≡ Some p
+  set_at : (a b : Bool) (e : Vec ℕ Global × Profile) (es new : Entries) (rest : Option Profile) (p w : Profile)
+      → bytes_eq name e.0.items ≡ a → bytes_eq n name ≡ b → (rest ≡ Some p → officer_in new n ≡ With b w es)
+      → cond a (Some e.1) rest ≡ Some p
       → officer_in (cond a ((e.0, w) ∷ es) (e ∷ new)) n ≡ With b w (e ∷ es)
   set_at true true e es new rest p w is same ih h =
       let here : bytes_eq n e.0.items ≡ true = ap (bytes_eq n) (sym (same_name name e.0.items is)) ∙ same in
@@ -123,15 +142,19 @@ module _ (name n : List ℕ) where
       rw apart (ih h)
   set_at false false e es new rest p w is same ih h = ap (cond (bytes_eq n e.0.items) (officer_of (settings_of e.1))) (ih h)
 
-  set_gives : (es : Entries) (p w : Profile) → lookup (is_at (compare name)) es ≡ Some p → officer_in (set_value (is_at (compare name)) es w) n ≡ With (bytes_eq n name) w es
+  set_gives : (es : Entries) (p w : Profile) → lookup (is_at (compare name)) es ≡ Some p
+      → officer_in (set_value (is_at (compare name)) es w) n ≡ With (bytes_eq n name) w es
   set_gives [] p w h = absurd (cc h)
   set_gives (e ∷ es) p w h =
       let at = is_eq-slice_cmp name e.0.items in
-      subst (λ (a : Bool). officer_in (cond a ((e.0, w) ∷ es) (e ∷ set_value (is_at (compare name)) es w)) n ≡ With (bytes_eq n name) w (e ∷ es)) (sym at)
-      (set_at (bytes_eq name e.0.items) (bytes_eq n name) e es (set_value (is_at (compare name)) es w) (lookup (is_at (compare name)) es) p w refl refl (set_gives es p w)
+      subst (λ (a : Bool). officer_in (cond a ((e.0, w) ∷ es) (e ∷ set_value (is_at (compare name)) es w)) n
+      ≡ With (bytes_eq n name) w (e ∷ es)) (sym at)
+      (set_at (bytes_eq name e.0.items) (bytes_eq n name) e es (set_value (is_at (compare name)) es w)
+      (lookup (is_at (compare name)) es) p w refl refl (set_gives es p w)
       (subst (λ (a : Bool). cond a (Some e.1) (lookup (is_at (compare name)) es) ≡ Some p) at h))
 
-  insert_at : (o : Ordering) (e : Vec ℕ Global × Profile) (es new : Entries) (k : Vec ℕ Global) (v : Profile) → slice_cmp nat_cmp k.items e.0.items ≡ o → k.items ≡ name → officer_in new n ≡ With (bytes_eq n name) v es
+  insert_at : (o : Ordering) (e : Vec ℕ Global × Profile) (es new : Entries) (k : Vec ℕ Global) (v : Profile)
+      → slice_cmp nat_cmp k.items e.0.items ≡ o → k.items ≡ name → officer_in new n ≡ With (bytes_eq n name) v es
       → officer_in (match_ordering o ((k, v) ∷ e ∷ es) ((e.0, v) ∷ es) (e ∷ new)) n ≡ With (bytes_eq n name) v (e ∷ es)
   insert_at Less e es new k v is key ih = rw key refl
   insert_at Equal e es new k v is key ih =
@@ -139,20 +162,27 @@ module _ (name n : List ℕ) where
       let same : e.0.items ≡ name = sym (same_name k.items e.0.items at) ∙ key in
       rw same (go (bytes_eq n name))
     where
-      go : (b : Bool) → cond b (officer_of (settings_of v)) (officer_in es n) ≡ cond b (officer_of (settings_of v)) (cond b (officer_of (settings_of e.1)) (officer_in es n))
+      go : (b : Bool) → cond b (officer_of (settings_of v)) (officer_in es n)
+          ≡ cond b (officer_of (settings_of v)) (cond b (officer_of (settings_of e.1)) (officer_in es n))
       go true = refl
       go false = refl
   insert_at Greater e es new k v is key ih =
-      let at : bytes_eq name e.0.items ≡ false = ap (λ (x : List ℕ). bytes_eq x e.0.items) (sym key) ∙ sym (is_eq-slice_cmp k.items e.0.items) ∙ ap is_eq is in
+      let at : bytes_eq name e.0.items ≡ false = ap (λ (x : List ℕ). bytes_eq x e.0.items) (sym key)
+      ∙ sym (is_eq-slice_cmp k.items e.0.items) ∙ ap is_eq is in
       rw ih (go (bytes_eq n e.0.items) (bytes_eq n name) refl refl at)
     where
-      go : (a b : Bool) → bytes_eq n e.0.items ≡ a → bytes_eq n name ≡ b → bytes_eq name e.0.items ≡ false → cond a (officer_of (settings_of e.1)) (With b v es) ≡ With b v (e ∷ es)
-      go true true is same at = absurd (let other : bytes_eq n e.0.items ≡ false = ap (λ (x : List ℕ). bytes_eq x e.0.items) (same_name n name same) ∙ at in let f : true ≡ false = sym is ∙ other in cc)
+      go : (a b : Bool) → bytes_eq n e.0.items ≡ a → bytes_eq n name ≡ b → bytes_eq name e.0.items ≡ false
+          → cond a (officer_of (settings_of e.1)) (With b v es) ≡ With b v (e ∷ es)
+      go true true is same at =
+          absurd (let other : bytes_eq n e.0.items ≡ false =
+          ap (λ (x : List ℕ). bytes_eq x e.0.items) (same_name n name same) ∙ at in let f : true ≡ false = sym is
+          ∙ other in cc)
       go true false is same at = rw is refl
       go false true is same at = refl
       go false false is same at = rw is refl
 
-  insert_gives : (es : Entries) (k : Vec ℕ Global) (v : Profile) → k.items ≡ name → officer_in (insert_entry cmp_names es k v) n ≡ With (bytes_eq n name) v es
+  insert_gives : (es : Entries) (k : Vec ℕ Global) (v : Profile) → k.items ≡ name
+      → officer_in (insert_entry cmp_names es k v) n ≡ With (bytes_eq n name) v es
   insert_gives [] k v key = rw key refl
   insert_gives (e ∷ es) k v key = insert_at (slice_cmp nat_cmp k.items e.0.items) e es _ k v refl key (insert_gives es k v key)
 
@@ -163,18 +193,23 @@ module _ (name n : List ℕ) where
 -- CHANGES
 
 -- the profile that was found is changed
-pub changed_there : (name : List ℕ) (es new : Entries) (p w : Profile) (o : Officer) → lookup (is_at (compare name)) es ≡ Some p → new ≡ set_value (is_at (compare name)) es w → w.kept ≡ None → officer_of (settings_of w) ≡ o → ChangesOnly es new name o
+pub changed_there : (name : List ℕ) (es new : Entries) (p w : Profile) (o : Officer)
+    → lookup (is_at (compare name)) es ≡ Some p → new ≡ set_value (is_at (compare name)) es w → w.kept ≡ None
+    → officer_of (settings_of w) ≡ o → ChangesOnly es new name o
 changed_there name es new p w o found is void has = record {
-  officers = λ n. ap (λ (x : Entries). officer_in x n) is ∙ set_gives name n es p w found ∙ ap (λ (x : Officer). cond (bytes_eq n name) x (officer_in es n)) has;
+  officers = λ n. ap (λ (x : Entries). officer_in x n) is ∙ set_gives name n es p w found
+      ∙ ap (λ (x : Officer). cond (bytes_eq n name) x (officer_in es n)) has;
   images = λ edition globals all.
       let keeps = subst (λ (k : Option KeptImage). KeepsCurrent edition globals (settings_of w) k) (sym void) tt in
       subst (λ (x : Entries). AllKeepCurrent edition globals x) (sym is) (set_keeps edition globals (is_at (compare name)) es w all keeps);
 }
 
 -- an officer is added
-pub changed_new : (name : List ℕ) (es new : Entries) (k : Vec ℕ Global) (v : Profile) (o : Officer) → k.items ≡ name → new ≡ insert_entry cmp_names es k v → v.kept ≡ None → officer_of (settings_of v) ≡ o → ChangesOnly es new name o
+pub changed_new : (name : List ℕ) (es new : Entries) (k : Vec ℕ Global) (v : Profile) (o : Officer) → k.items ≡ name
+    → new ≡ insert_entry cmp_names es k v → v.kept ≡ None → officer_of (settings_of v) ≡ o → ChangesOnly es new name o
 changed_new name es new k v o key is void has = record {
-  officers = λ n. ap (λ (x : Entries). officer_in x n) is ∙ insert_gives name n es k v key ∙ ap (λ (x : Officer). cond (bytes_eq n name) x (officer_in es n)) has;
+  officers = λ n. ap (λ (x : Entries). officer_in x n) is ∙ insert_gives name n es k v key
+      ∙ ap (λ (x : Officer). cond (bytes_eq n name) x (officer_in es n)) has;
   images = λ edition globals all.
       let keeps = subst (λ (i : Option KeptImage). KeepsCurrent edition globals (settings_of v) i) (sym void) tt in
       subst (λ (x : Entries). AllKeepCurrent edition globals x) (sym is) (insert_keeps edition globals cmp_names es k v all keeps);
@@ -191,25 +226,32 @@ pub no_program_known : (o : Officer) → o ≡ new_officer → o ≡ with_progra
 no_program_known o is = is ∙ ap (λ (x : Officer). with_program x no_program) (sym is)
 
 -- a profile with a program
-pub program_set : (p w : Profile) (o : Officer) (a : Active) → o ≡ officer_of (settings_of p) → w ≡ record p { active = a; kept = None } → officer_of (settings_of w) ≡ with_program o (active_of a)
+pub program_set : (p w : Profile) (o : Officer) (a : Active) → o ≡ officer_of (settings_of p)
+    → w ≡ record p { active = a; kept = None } → officer_of (settings_of w) ≡ with_program o (active_of a)
 program_set p w o a is e = ap (λ (x : Profile). officer_of (settings_of x)) e ∙ ap (λ (x : Officer). with_program x (active_of a)) (sym is)
 
 -- the office after an officer has changed
-pub office_changed : (name : List ℕ) (g : List NamedScript) (es new : Entries) (r : Register) (f : List (List ℕ × Settings) → Officer) → record { globals = g; officers = settings_in es } ≡ r → ChangesOnly es new name (f (settings_in es)) → (a : Archive)
+pub office_changed : (name : List ℕ) (g : List NamedScript) (es new : Entries) (r : Register) (f : List (List ℕ
+    × Settings) → Officer) → record { globals = g; officers = settings_in es } ≡ r
+    → ChangesOnly es new name (f (settings_in es)) → (a : Archive)
     → office_of a (record { globals = g; officers = settings_in new }) ≡ with_officer (office_of a r) name (f r.officers)
 office_changed name g es new r f view h a =
     subst (λ (x : Register). office_of a (record { globals = g; officers = settings_in new }) ≡ with_officer (office_of a x) name (f x.officers)) view
     (ap (λ (os : List ℕ → Officer). record { archive = a; globals = meanings_of g; officers = os }) (fun_ext h.officers))
 
 -- the office after the global scripts have changed
-pub office_shared : (g new : List NamedScript) (xs : List (List ℕ × Settings)) (r : Register) (name : List ℕ) (main : Commands) → record { globals = g; officers = xs } ≡ r → meanings_of new ≡ put_script name main (meanings_of g) → (a : Archive) → office_of a (record { globals = new; officers = xs }) ≡ with_global_script (office_of a r) name main
+pub office_shared : (g new : List NamedScript) (xs : List (List ℕ × Settings)) (r : Register) (name : List ℕ)
+    (main : Commands) → record { globals = g; officers = xs } ≡ r
+    → meanings_of new ≡ put_script name main (meanings_of g) → (a : Archive)
+    → office_of a (record { globals = new; officers = xs }) ≡ with_global_script (office_of a r) name main
 office_shared g new xs r name main view h a =
     subst (λ (x : Register). office_of a (record { globals = new; officers = xs }) ≡ with_global_script (office_of a x) name main) view
     (ap (λ (gs : List (List ℕ × Commands)). record { archive = a; globals = gs; officers = λ n. officer_at n xs }) h)
 
 -- EDITIONS
 
-later_or : (edition next : ℕ) (globals new : List NamedScript) (s : Settings) (kept : Option KeptImage) → next ≡ min (edition + 1) last_edition → KeepsCurrent edition globals s kept → KeepsCurrent next new s kept
+later_or : (edition next : ℕ) (globals new : List NamedScript) (s : Settings) (kept : Option KeptImage)
+    → next ≡ min (edition + 1) last_edition → KeepsCurrent edition globals s kept → KeepsCurrent next new s kept
 later_or edition next globals new s None is k = tt
 later_or edition next globals new s (Some i) is k =
     let early = k.so_far in
@@ -221,9 +263,13 @@ later_or edition next globals new s (Some i) is k =
     }
 
 -- at the next edition no kept image is of that edition
-pub later : (edition next : ℕ) (globals new : List NamedScript) (es : Entries) → next ≡ min (edition + 1) last_edition → AllKeepCurrent edition globals es → AllKeepCurrent next new es
+pub later : (edition next : ℕ) (globals new : List NamedScript) (es : Entries) → next ≡ min (edition + 1) last_edition
+    → AllKeepCurrent edition globals es → AllKeepCurrent next new es
 later edition next globals new [] is all = tt
-later edition next globals new (e ∷ es) is all = (later_or edition next globals new (settings_of e.1) e.1.kept is all.0, later edition next globals new es is all.1)
+later edition next globals new (e ∷ es) is all = (
+  later_or edition next globals new (settings_of e.1) e.1.kept is all.0,
+  later edition next globals new es is all.1,
+)
 
 -- RESULTS
 

@@ -1,5 +1,7 @@
 -- Days of words, and the texts of days.
-use Rattle.std.proofs.Common.{◌≡◌, ℕ, ◌<◌, ◌≤◌, ◌++◌, List, [], append_assoc, Bool, true, false, Option, Some, None, take, drop, refl, sym, ap, ◌∙◌, arith, subst, FitsSigned, w8, w16, Result, Ok, Err, ℤ, pos, negsuc, ◌≤ℤ◌, ◌<ℤ◌, unsigned_abs, decimal, codes}
+use Rattle.std.proofs.Common.{◌≡◌, ℕ, ◌<◌, ◌≤◌, ◌++◌, List, [], append_assoc, Bool, true, false, Option, Some, None}
+use Rattle.std.proofs.Common.{take, drop, refl, sym, ap, ◌∙◌, arith, subst, FitsSigned, w8, w16, Result, Ok, Err, ℤ}
+use Rattle.std.proofs.Common.{pos, negsuc, ◌≤ℤ◌, ◌<ℤ◌, unsigned_abs, decimal, codes}
 use Rattle.std.specs.Prelude.{if◌then◌else◌, ◌&&◌, nat_le, IsOk, IfOk, ◌↔◌}
 use Rattle.std.proofs.lemmas.Bool.{false≢true}
 use Rattle.std.proofs.lemmas.Bool.Decides.{nat_tests}
@@ -21,9 +23,13 @@ use Rattle.filing_session.specs.Dates.{has_dashes, civil_from, is_real, real_day
 
 pub no_dashes : (word : List ℕ) → has_dashes word ≡ false → None ≡ day_of word
 unfolding day_of
-no_dashes word h = λ i. real_day (if (sym h) i then civil_from (number_in 9999 (take 4 word)) (number_in 12 (take 2 (drop 5 word))) (number_in 31 (take 2 (drop 8 word))) else None)
+no_dashes word h = λ i.
+    real_day (if (sym h) i then civil_from (number_in 9999 (take 4 word)) (number_in 12 (take 2 (drop 5 word)))
+    (number_in 31 (take 2 (drop 8 word))) else None)
 
-pub day_read : (word : List ℕ) (y m d : Option ℕ) → has_dashes word ≡ true → y ≡ number_in 9999 (take 4 word) → m ≡ number_in 12 (take 2 (drop 5 word)) → d ≡ number_in 31 (take 2 (drop 8 word)) → real_day (civil_from y m d) ≡ day_of word
+pub day_read : (word : List ℕ) (y m d : Option ℕ) → has_dashes word ≡ true → y ≡ number_in 9999 (take 4 word)
+    → m ≡ number_in 12 (take 2 (drop 5 word)) → d ≡ number_in 31 (take 2 (drop 8 word))
+    → real_day (civil_from y m d) ≡ day_of word
 unfolding day_of
 day_read word y m d h year month day = λ i. real_day (if (sym h) i then civil_from (year i) (month i) (day i) else None)
 
@@ -47,8 +53,11 @@ real_parts : (y m d : ℕ) → is_real (date_of y m d) ≡ true → IsDate (pos 
 real_parts y m d h =
     let a = year_in y m d h in
     let b = month_in y m d h in
-    let e = day_in y m d h in
-    ((omega (arith, signed_arith), omega (arith, signed_arith)), (omega (arith, signed_arith), omega (arith, signed_arith)), (omega (arith, signed_arith), omega (arith, signed_arith)))
+    let e = day_in y m d h in (
+      (omega (arith, signed_arith), omega (arith, signed_arith)),
+      (omega (arith, signed_arith), omega (arith, signed_arith)),
+      (omega (arith, signed_arith), omega (arith, signed_arith)),
+    )
 
 parts_real : (y m d : ℕ) → 1970 ≤ y → IsDate (pos y) (pos m) (pos d) → is_real (date_of y m d) ≡ true
 parts_real y m d low h =
@@ -57,7 +66,11 @@ parts_real y m d low h =
     let e : m ≤ 12 = let x = h.1.1 in omega (arith, signed_arith) in
     let f : 1 ≤ d = let x = h.2.0 in omega (arith, signed_arith) in
     let g : d ≤ days_in_month (pos y) m = let x = h.2.1 in omega (arith, signed_arith) in
-    all_real (nat_le 1970 y) (nat_le y 9999) (nat_le 1 m) (nat_le m 12) (nat_le 1 d) (nat_le d (days_in_month (pos y) m)) (grind (arith, nat_tests)) (grind (arith, nat_tests)) (grind (arith, nat_tests)) (grind (arith, nat_tests)) (grind (arith, nat_tests)) (fits d (days_in_month (pos y) m) g)
+    all_real (nat_le 1970 y) (nat_le y 9999) (nat_le 1 m) (nat_le m 12) (nat_le 1 d)
+    (nat_le d (days_in_month (pos y) m)) (grind (arith, nat_tests)) (grind (arith, nat_tests)) (grind (
+      arith,
+      nat_tests,
+    )) (grind (arith, nat_tests)) (grind (arith, nat_tests)) (fits d (days_in_month (pos y) m) g)
   where
     fits : (a b : ℕ) → a ≤ b → nat_le a b ≡ true
     fits a b h = grind (arith, nat_tests)
@@ -72,7 +85,8 @@ unreal y m d none = go (is_real (date_of y m d)) refl
     go true e = absurd (none (real_parts y m d e))
     go false e = λ i. if (sym e) i then Some (number_of (date_of y m d)) else None
 
-real : (y m d : ℕ) (date : Date) → 1970 ≤ y → IsDate (pos y) (pos m) (pos d) → IsYmd (pos y) (pos m) (pos d) date → Some (number_of_day date) ≡ real_day (Some (date_of y m d))
+real : (y m d : ℕ) (date : Date) → 1970 ≤ y → IsDate (pos y) (pos m) (pos d) → IsYmd (pos y) (pos m) (pos d) date
+    → Some (number_of_day date) ≡ real_day (Some (date_of y m d))
 real y m d date low is ymd =
     let month : date.month ≡ m = let x = ymd.1 in omega (arith, signed_arith) in
     let day : date.day ≡ d = let x = ymd.2 in omega (arith, signed_arith) in
@@ -81,12 +95,17 @@ real y m d date low is ymd =
 
 -- the same by what the calendar makes of the parts
 civil_parts : (y m d : ℕ) (y' m' d' : ℤ) → y' ≡ pos y → m' ≡ pos m → d' ≡ pos d → IsDate y' m' d' → IsDate (pos y) (pos m) (pos d)
-civil_parts y m d y' m' d' ey em ed is = subst (λ z. IsDate z (pos m) (pos d)) ey (subst (λ z. IsDate y' z (pos d)) em (subst (λ z. IsDate y' m' z) ed is))
+civil_parts y m d y' m' d' ey em ed is =
+    subst (λ z. IsDate z (pos m) (pos d)) ey (subst (λ z. IsDate y' z (pos d)) em (subst (λ z. IsDate y' m' z) ed is))
 
 parts_civil : (y m d : ℕ) (y' m' d' : ℤ) → y' ≡ pos y → m' ≡ pos m → d' ≡ pos d → IsDate (pos y) (pos m) (pos d) → IsDate y' m' d'
-parts_civil y m d y' m' d' ey em ed is = subst (λ z. IsDate y' m' z) (sym ed) (subst (λ z. IsDate y' z (pos d)) (sym em) (subst (λ z. IsDate z (pos m) (pos d)) (sym ey) is))
+parts_civil y m d y' m' d' ey em ed is =
+    subst (λ z. IsDate y' m' z) (sym ed) (subst (λ z.
+    IsDate y' z (pos d)) (sym em) (subst (λ z. IsDate z (pos m) (pos d)) (sym ey) is))
 
-pub made : {E : Type 0} (r : Result Date E) (y m d : ℕ) (y' m' d' : ℤ) (date : Date) → 1970 ≤ y → y' ≡ pos y → m' ≡ pos m → d' ≡ pos d → (IsOk r ↔ IsDate y' m' d') → IfOk r (IsYmd y' m' d') → r ≡ Ok date → Some (number_of_day date) ≡ real_day (Some (date_of y m d))
+pub made : {E : Type 0} (r : Result Date E) (y m d : ℕ) (y' m' d' : ℤ) (date : Date) → 1970 ≤ y → y' ≡ pos y
+    → m' ≡ pos m → d' ≡ pos d → (IsOk r ↔ IsDate y' m' d') → IfOk r (IsYmd y' m' d') → r ≡ Ok date
+    → Some (number_of_day date) ≡ real_day (Some (date_of y m d))
 made {E} r y m d y' m' d' date low ey em ed iff ymd e =
     let Fits : Result Date E → Type 0 = λ x. IsOk x ↔ IsDate y' m' d' in
     let Parts : Result Date E → Type 0 = λ x. IfOk x (IsYmd y' m' d') in
@@ -94,12 +113,14 @@ made {E} r y m d y' m' d' date low ey em ed iff ymd e =
     let parts : IsYmd y' m' d' date = subst Parts e ymd in
     real y m d date low (civil_parts y m d y' m' d' ey em ed is) (parts.0 ∙ ey, parts.1 ∙ em, parts.2 ∙ ed)
 
-pub made_none : {E : Type 0} (r : Result Date E) (y m d : ℕ) (y' m' d' : ℤ) (f : E) → y' ≡ pos y → m' ≡ pos m → d' ≡ pos d → (IsOk r ↔ IsDate y' m' d') → r ≡ Err f → None ≡ real_day (Some (date_of y m d))
+pub made_none : {E : Type 0} (r : Result Date E) (y m d : ℕ) (y' m' d' : ℤ) (f : E) → y' ≡ pos y → m' ≡ pos m
+    → d' ≡ pos d → (IsOk r ↔ IsDate y' m' d') → r ≡ Err f → None ≡ real_day (Some (date_of y m d))
 made_none {E} r y m d y' m' d' f ey em ed iff e =
     let Fits : Result Date E → Type 0 = λ x. IsOk x ↔ IsDate y' m' d' in
     unreal y m d (λ is. false≢true ((subst Fits e iff).1 (parts_civil y m d y' m' d' ey em ed is)))
 
-pub made_year : {E : Type 0} (r : Result Date E) (y : ℕ) (y' m' d' : ℤ) (date : Date) → 1970 ≤ y → y' ≡ pos y → IfOk r (IsYmd y' m' d') → r ≡ Ok date → pos 1970 ≤ℤ date.year
+pub made_year : {E : Type 0} (r : Result Date E) (y : ℕ) (y' m' d' : ℤ) (date : Date) → 1970 ≤ y → y' ≡ pos y
+    → IfOk r (IsYmd y' m' d') → r ≡ Ok date → pos 1970 ≤ℤ date.year
 made_year {E} r y y' m' d' date low ey ymd e =
     let Parts : Result Date E → Type 0 = λ x. IfOk x (IsYmd y' m' d') in
     let year : date.year ≡ pos y = (subst Parts e ymd).0 ∙ ey in
@@ -125,15 +146,21 @@ year_from : (d : Date) → pos 0 ≤ℤ epoch_day d → pos 1970 ≤ℤ d.year
 year_from d low = by_lt_z d.year (pos 1970) (λ lt. absurd (let x = before_zero d lt in omega (arith, signed_arith))) (λ ge. ge)
 
 -- the text of a day is that of its date
-pub day_text : (d : Date) → IsBetween (pos 0) (pos 2932896) (epoch_day d) → day_octets (number_of_day d) ≡ decimal (unsigned_abs d.year) ++ codes "-" ++ two_digits d.month ++ codes "-" ++ two_digits d.day
+pub day_text : (d : Date) → IsBetween (pos 0) (pos 2932896) (epoch_day d)
+    → day_octets (number_of_day d) ≡ decimal (unsigned_abs d.year) ++ codes "-" ++ two_digits d.month ++ codes "-"
+    ++ two_digits d.day
 unfolding day_octets
 day_text d range = ap civil_octets (civil_is d (number_of_day d) (year_from d range.0) (natural (epoch_day d) range.0))
 
 -- the pieces of a date, one after the other
-pub date_pieces : (y m d a b tm td nl dash : List ℕ) → a ++ m ≡ dash ++ tm → b ++ d ≡ dash ++ td → y ++ (a ++ (m ++ (b ++ (d ++ (nl ++ []))))) ≡ y ++ dash ++ tm ++ dash ++ td ++ nl
+pub date_pieces : (y m d a b tm td nl dash : List ℕ) → a ++ m ≡ dash ++ tm → b ++ d ≡ dash ++ td → y
+    ++ (a ++ (m ++ (b ++ (d ++ (nl ++ []))))) ≡ y ++ dash ++ tm ++ dash ++ td ++ nl
 date_pieces y m d a b tm td nl dash e f =
-    let last : b ++ (d ++ (nl ++ [])) ≡ dash ++ (td ++ nl) = sym (append_assoc b d (nl ++ [])) ∙ ap (λ s. s ++ (nl ++ [])) f ∙ append_assoc dash td (nl ++ []) ∙ ap (λ s. dash ++ (td ++ s)) (append-nil nl) in
-    let middle : a ++ (m ++ (dash ++ (td ++ nl))) ≡ dash ++ (tm ++ (dash ++ (td ++ nl))) = sym (append_assoc a m (dash ++ (td ++ nl))) ∙ ap (λ s. s ++ (dash ++ (td ++ nl))) e ∙ append_assoc dash tm (dash ++ (td ++ nl)) in
+    let last : b ++ (d ++ (nl ++ [])) ≡ dash ++ (td ++ nl) = sym (append_assoc b d (nl ++ []))
+    ∙ ap (λ s. s ++ (nl ++ [])) f ∙ append_assoc dash td (nl ++ []) ∙ ap (λ s. dash ++ (td ++ s)) (append-nil nl) in
+    let middle : a ++ (m ++ (dash ++ (td ++ nl))) ≡ dash ++ (tm ++ (dash ++ (td ++ nl))) =
+    sym (append_assoc a m (dash ++ (td ++ nl))) ∙ ap (λ s. s ++ (dash ++ (td ++ nl))) e
+    ∙ append_assoc dash tm (dash ++ (td ++ nl)) in
     let whole : y ++ dash ++ tm ++ dash ++ td ++ nl ≡ y ++ (dash ++ (tm ++ (dash ++ (td ++ nl)))) = simp append_assoc in
     ap (λ s. y ++ (a ++ (m ++ s))) last ∙ ap (λ s. y ++ s) middle ∙ sym whole
 

@@ -17,7 +17,8 @@ space_at text = cond (nat_lt (word_length text) (length text)) (Some (word_lengt
 one_word : (text : List ℕ) → length text ≤ word_length text → words_of text ≡ text ∷ []
 one_word [] h = refl
 one_word (x ∷ text) h =
-    elim (x == 32) as (λ b. suc (length text) ≤ (if not b then 1 + word_length text else 0) → cond b ([] ∷ words_of text) (onto_first x (words_of text)) ≡ (x ∷ text) ∷ []) [
+    elim (x == 32) as (λ b. suc (length text) ≤ (if not b then 1 + word_length text else 0)
+    → cond b ([] ∷ words_of text) (onto_first x (words_of text)) ≡ (x ∷ text) ∷ []) [
       | true ↦ λ n. absurd (omega (arith, n))
       | false ↦ λ n. rw (one_word text (omega (arith, n))) refl
     ] h

@@ -1,5 +1,6 @@
 -- Octets that are held.
-use Rattle.std.proofs.Common.{◌≡◌, ℕ, ◌+◌, ◌-◌, ◌≤◌, ◌++◌, [], ◌∷◌, List, Bool, true, false, length, take, drop, codes, arith, ap, sym, ◌∙◌, refl, append_assoc, length-append}
+use Rattle.std.proofs.Common.{◌≡◌, ℕ, ◌+◌, ◌-◌, ◌≤◌, ◌++◌, [], ◌∷◌, List, Bool, true, false, length, take, drop, codes}
+use Rattle.std.proofs.Common.{arith, ap, sym, ◌∙◌, refl, append_assoc, length-append}
 use Rattle.std.specs.Prelude.{◌||◌, slice_range}
 use Rattle.std.proofs.lemmas.Bool.{false≢true}
 use borrow.Rule.Slice.PartMut.{put_mid}
@@ -17,9 +18,11 @@ pub part_length : (octets : List ℕ) (start end : ℕ) → start ≤ end → en
 part_length octets start end below within = omega (arith, length-take (end - start) (drop start octets), length-drop start octets)
 
 -- what a buffer holds once octets are put behind its end
-pub held_more : (octets ys : List ℕ) (start end n k : ℕ) → start ≤ end → end ≤ length octets → length ys ≡ n → slice_range (put_mid end k octets ys) start (end + n) ≡ slice_range octets start end ++ ys
+pub held_more : (octets ys : List ℕ) (start end n k : ℕ) → start ≤ end → end ≤ length octets → length ys ≡ n
+    → slice_range (put_mid end k octets ys) start (end + n) ≡ slice_range octets start end ++ ys
 held_more octets ys start end n k below within size =
-    let part : take (end + n) (put_mid end k octets ys) ≡ take end octets ++ ys = take-put_mid end k octets ys (end + n) (ap (λ m. end + m) (sym size)) within in
+    let part : take (end + n) (put_mid end k octets ys) ≡ take end octets
+    ++ ys = take-put_mid end k octets ys (end + n) (ap (λ m. end + m) (sym size)) within in
     let whole : end + n ≡ start + (end + n - start) = omega (arith, below) in
     let first : end ≡ start + (end - start) = omega (arith, below) in
     let fits : start ≤ length (take end octets) = omega (arith, length-take end octets, below, within) in
@@ -44,9 +47,11 @@ part_line n octets none =
     (sym (list_any-append _ (take n octets) (drop n octets)) ∙ ap has_line_end (take-append-drop n octets) ∙ none)
 
 -- no line ends in what is held, once octets that end none are held too
-pub no_line_more : (held octets new : List ℕ) (n : ℕ) → has_line_end held ≡ false → has_line_end octets ≡ false → new ≡ held ++ take n octets → has_line_end new ≡ false
+pub no_line_more : (held octets new : List ℕ) (n : ℕ) → has_line_end held ≡ false → has_line_end octets ≡ false
+    → new ≡ held ++ take n octets → has_line_end new ≡ false
 no_line_more held octets new n none ends is =
-    ap has_line_end is ∙ list_any-append _ held (take n octets) ∙ both (has_line_end held) (has_line_end (take n octets)) none (part_line n octets ends).0
+    ap has_line_end is ∙ list_any-append _ held (take n octets)
+    ∙ both (has_line_end held) (has_line_end (take n octets)) none (part_line n octets ends).0
 
 -- and none once octets are let go
 pub no_line_left : (held new : List ℕ) (n : ℕ) → has_line_end held ≡ false → new ≡ drop n held → has_line_end new ≡ false
@@ -57,10 +62,12 @@ none_behind : (sent held before : List ℕ) → sent ++ held ≡ before ++ 10 �
 none_behind sent [] before e none = refl
 none_behind sent (x ∷ xs) before e none =
     let k : ℕ = length before - length sent in
-    let sizes : length sent + length (x ∷ xs) ≡ length before + 1 = sym (length-append sent (x ∷ xs)) ∙ ap length e ∙ length-append before (10 ∷ []) in
+    let sizes : length sent + length (x ∷ xs) ≡ length before + 1 = sym (length-append sent (x ∷ xs)) ∙ ap length e
+    ∙ length-append before (10 ∷ []) in
     let place : length before ≡ length sent + k = omega (arith, sizes) in
     let last : 10 ∷ [] ≡ drop k (x ∷ xs) =
-    sym (drop-append_seam before (10 ∷ [])) ∙ ap (drop (length before)) (sym e) ∙ ap (λ m. drop m (sent ++ x ∷ xs)) place ∙ drop-append-add sent (x ∷ xs) k in
+    sym (drop-append_seam before (10 ∷ [])) ∙ ap (drop (length before)) (sym e)
+    ∙ ap (λ m. drop m (sent ++ x ∷ xs)) place ∙ drop-append-add sent (x ∷ xs) k in
     absurd (false≢true (sym (ap has_line_end last ∙ (part_line k (x ∷ xs) none).1)))
 
 ending_line : (e : SessionEnd) → (first : List ℕ) × (ending_octets e ≡ first ++ 10 ∷ [])

@@ -25,23 +25,28 @@ pub joins : (old xs mid ys new : List ℕ) → mid ≡ old ++ xs → IsAfter mid
 joins old xs mid ys new e b =
     (length xs + b.0, b.1 ∙ ap (λ s. s ++ take b.0 ys) e ∙ append_assoc old xs (take b.0 ys) ∙ ap (λ s. old ++ s) (sym (take-append-add xs ys b.0)))
 
-pub writes_after : (r : Result (Unit {0}) WriteFault) (old xs mid ys new : List ℕ) → mid ≡ old ++ xs → Writes r mid ys new → Writes r old (xs ++ ys) new
+pub writes_after : (r : Result (Unit {0}) WriteFault) (old xs mid ys new : List ℕ) → mid ≡ old ++ xs
+    → Writes r mid ys new → Writes r old (xs ++ ys) new
 writes_after (Ok u) old xs mid ys new e w = w ∙ ap (λ s. s ++ ys) e ∙ append_assoc old xs ys
 writes_after (Err f) old xs mid ys new e w = joins old xs mid ys new e w
 
 drop_next : {X : Type 0} (xs : List X) (i : ℕ) (d : X) → i < length xs → drop i xs ≡ get_or xs i d ∷ drop (i + 1) xs
 drop_next xs i d h = rw add-one (drop-cons xs i d h)
 
-flat_map_at : {X : Type 0} (f : X → List ℕ) (xs : List X) (i : ℕ) (d : X) → i < length xs → flat_map f xs ≡ flat_map f (take i xs) ++ (f (get_or xs i d) ++ flat_map f (drop (i + 1) xs))
+flat_map_at : {X : Type 0} (f : X → List ℕ) (xs : List X) (i : ℕ) (d : X) → i < length xs
+    → flat_map f xs ≡ flat_map f (take i xs) ++ (f (get_or xs i d) ++ flat_map f (drop (i + 1) xs))
 flat_map_at f xs i d h =
-    ap (flat_map f) (sym (take-append-drop i xs)) ∙ flat_map-append f (take i xs) (drop i xs) ∙ ap (λ s. flat_map f (take i xs) ++ flat_map f s) (drop_next xs i d h)
+    ap (flat_map f) (sym (take-append-drop i xs)) ∙ flat_map-append f (take i xs) (drop i xs)
+    ∙ ap (λ s. flat_map f (take i xs) ++ flat_map f s) (drop_next xs i d h)
 
 -- a prefix of the octets of the next element
-pub after_next : {X : Type 0} (f : X → List ℕ) (xs : List X) (i : ℕ) (d : X) (old mid new : List ℕ) → i < length xs → mid ≡ old ++ flat_map f (take i xs) → IsAfter mid (f (get_or xs i d)) new → IsAfter old (flat_map f xs) new
+pub after_next : {X : Type 0} (f : X → List ℕ) (xs : List X) (i : ℕ) (d : X) (old mid new : List ℕ) → i < length xs
+    → mid ≡ old ++ flat_map f (take i xs) → IsAfter mid (f (get_or xs i d)) new → IsAfter old (flat_map f xs) new
 after_next f xs i d old mid new h e b =
     let P : List ℕ → Type 0 = λ s. IsAfter old s new in
     subst P (sym (flat_map_at f xs i d h))
-    (joins old (flat_map f (take i xs)) mid (f (get_or xs i d) ++ flat_map f (drop (i + 1) xs)) new e (extends mid (f (get_or xs i d)) (flat_map f (drop (i + 1) xs)) new b))
+    (joins old (flat_map f (take i xs)) mid (f (get_or xs i d)
+    ++ flat_map f (drop (i + 1) xs)) new e (extends mid (f (get_or xs i d)) (flat_map f (drop (i + 1) xs)) new b))
 
 pub as_fault : (r : Result (Unit {0}) WriteFault) (old xs new : List ℕ) → IsErr r → IsAfter old xs new → Writes r old xs new
 as_fault (Err f) old xs new is b = b

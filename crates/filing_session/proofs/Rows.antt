@@ -107,14 +107,16 @@ ended_told : reply_octets (ended 9) ≡ codes "ended 9\n"
 unfolding digits
 ended_told = refl
 
-records_told : reply_octets (captured (Some ClassNotOpen) (record { number = 1; path = codes "unfiled"; due = None } ∷ [])) ≡ codes "fault 1\nrecord 1 class unfiled due never\n"
+records_told : reply_octets (captured (Some ClassNotOpen) (record { number = 1; path = codes "unfiled"; due = None }
+    ∷ [])) ≡ codes "fault 1\nrecord 1 class unfiled due never\n"
 unfolding digits
 records_told = refl
 
 nothing_filed : reply_octets (captured None []) ≡ codes "discarded\n"
 nothing_filed = refl
 
-list_told : reply_octets (listed (record { number = 1; path = codes "tax"; due = Some (pos 20041) } ∷ [])) ≡ codes "record 1 class tax due 2024-11-14\nok\n"
+list_told : reply_octets (listed (record { number = 1; path = codes "tax"; due = Some (pos 20041) } ∷ []))
+    ≡ codes "record 1 class tax due 2024-11-14\nok\n"
 unfolding day_octets digits
 list_told = refl
 

@@ -13,7 +13,8 @@ unfolding left_by
 left_none input = refl
 
 -- after an item: what is left of the rest
-pub left_more : (i : ℕ) (input : List ℕ) (item : Item) (rest : List ℕ) → i < 1000000 → start_of input ≡ Got item rest → left_by (1000000 - i) input ≡ left_by (1000000 - (i + 1)) rest
+pub left_more : (i : ℕ) (input : List ℕ) (item : Item) (rest : List ℕ) → i < 1000000 → start_of input ≡ Got item rest
+    → left_by (1000000 - i) input ≡ left_by (1000000 - (i + 1)) rest
 left_more i input item rest h e =
     ap (λ n. left_by n input) (one_less i h) ∙ left_step (1000000 - (i + 1)) input ∙ ap (λ x. left_after x (λ y. left_by (1000000 - (i + 1)) y)) e
 

@@ -61,7 +61,8 @@ module _ (p : Program) (c : Facts) where
         | inr ge ↦ let same : k ≡ n = omega arith in (u, ap (after_steps p c) same ∙ e)
       ]
 
-  at_step : (n : ℕ) (t : State) (r : Run) → after_steps p c n ≡ r → step p c r ≡ At t → ((u : State) → after_steps p c n ≡ At u → WasAt n) → WasAt (suc n)
+  at_step : (n : ℕ) (t : State) (r : Run) → after_steps p c n ≡ r → step p c r ≡ At t
+      → ((u : State) → after_steps p c n ≡ At u → WasAt n) → WasAt (suc n)
   at_step n t (At u) e last before = one_more n u e (before u e)
   at_step n t (Over f u) e last before = absurd (over_is_not_at f u t last)
   at_step n t Trap e last before = absurd (trap_is_not_at t last)
@@ -75,7 +76,8 @@ module _ (p : Program) (c : Facts) where
   abbrev pub EndsSo : Option RunFault → State → Type 0
   EndsSo f s = (m : ℕ) × Ends p c m f s
 
-  last_end : (n : ℕ) (f : Option RunFault) (s : State) (r : Run) → after_steps p c n ≡ r → step p c r ≡ Over f s → (after_steps p c n ≡ Over f s → EndsSo f s) → EndsSo f s
+  last_end : (n : ℕ) (f : Option RunFault) (s : State) (r : Run) → after_steps p c n ≡ r → step p c r ≡ Over f s
+      → (after_steps p c n ≡ Over f s → EndsSo f s) → EndsSo f s
   last_end n f s (At u) e last before = (suc n, record { over = ap (step p c) e ∙ last; going = one_more n u e (at_before n u e) })
   last_end n f s (Over g u) e last before = before (e ∙ last)
   last_end n f s Trap e last before = absurd (trap_is_not_over f s last)

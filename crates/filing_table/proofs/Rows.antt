@@ -3,7 +3,10 @@ use Rattle.std.proofs.Common.{◌≡◌, ℕ, List, [], ◌∷◌, ◌++◌, len
 use Rattle.std.specs.Prelude.{replicate}
 use Rattle.std.specs.Str.{bytes_eq}
 use Rattle.filing_image.specs.declared.instruction.Operation.{Operation}
-use Rattle.filing_image.specs.declared.instruction.Operation.TheVariants.{PushTrue, PushFalse, Not, Values, Join, Match, Pop, Exists, Size, Number, Less, Jump, JumpIf, JumpUnless, Marked, Mark, File, Keep, Discard, Stop, Fault, Call, Return}
+use Rattle.filing_image.specs.declared.instruction.Operation.TheVariants.{PushTrue, PushFalse, Not, Values, Join, Match}
+use Rattle.filing_image.specs.declared.instruction.Operation.TheVariants.{Pop, Exists, Size, Number, Less, Jump, JumpIf}
+use Rattle.filing_image.specs.declared.instruction.Operation.TheVariants.{JumpUnless, Marked, Mark, File, Keep, Discard}
+use Rattle.filing_image.specs.declared.instruction.Operation.TheVariants.{Stop, Fault, Call, Return}
 use Rattle.filing_image.specs.Program.{Program}
 use Rattle.class_paths.specs.Path.{unfiled}
 use Rattle.sieve_meaning.specs.declared.outcome.Outcome.{Outcome}
@@ -18,10 +21,22 @@ field name value = record { name = name; value = value }
 
 -- two fields of one name in other letters, ten octets, and the class `a` open
 abbrev facts : Facts
-facts = record { size = 10; fields = field (codes "To") (codes "x") ∷ field (codes "From") (codes "yb") ∷ field (codes "TO") (codes "z") ∷ []; is_open = bytes_eq (codes "a") }
+facts = record {
+  size = 10;
+  fields = field (codes "To") (codes "x") ∷ field (codes "From") (codes "yb")
+      ∷ field (codes "TO") (codes "z") ∷ [];
+  is_open = bytes_eq (codes "a");
+}
 
 abbrev program : List Operation → Program
-program code = record { budget = 100; texts = codes "to" ∷ codes "Z" ∷ codes "a" ∷ codes "b" ∷ codes "from" ∷ []; numbers = 10 ∷ 9 ∷ []; slots = 2; procedures = None; code = code }
+program code = record {
+  budget = 100;
+  texts = codes "to" ∷ codes "Z" ∷ codes "a" ∷ codes "b" ∷ codes "from" ∷ [];
+  numbers = 10 ∷ 9 ∷ [];
+  slots = 2;
+  procedures = None;
+  code = code;
+}
 
 -- the topmost entries first
 abbrev stack_of : Run → List Entry

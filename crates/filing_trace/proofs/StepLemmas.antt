@@ -1,5 +1,6 @@
 -- One more step that is recorded.
-use Rattle.std.proofs.Common.{◌≡◌, ℕ, zero, suc, ◌+◌, true, List, [], ◌∷◌, ◌++◌, length, Some, IfSome, is_some, slice_get, refl, sym, ap, subst, ◌∙◌, arith}
+use Rattle.std.proofs.Common.{◌≡◌, ℕ, zero, suc, ◌+◌, true, List, [], ◌∷◌, ◌++◌, length, Some, IfSome, is_some}
+use Rattle.std.proofs.Common.{slice_get, refl, sym, ap, subst, ◌∙◌, arith}
 use Rattle.std.specs.Option.{unwrap_or}
 use Rattle.filing_image.specs.Program.{Program}
 use Rattle.sieve_meaning.specs.Case.{Facts}
@@ -21,7 +22,10 @@ here : (p : Program) (c : Facts) (m : Snapshot) → Stands p c m → state_of (a
 here p c m stands = ap state_of (sym stands.on_run) ∙ standing_at m.progress (state c m.at)
 
 -- what is read from the machine before a step and after it
-pub step_is_told : (p : Program) (c : Facts) (m n : Snapshot) (x : Step) → Stands p c m → Stands p c n → n.steps ≡ m.steps + 1 → x.place ≡ m.at.place → x.top ≡ top_of_stack (state c n.at).stack → is_some x.matched ≡ finds p (state c m.at) → IfSome x.matched (λ f. is_found_by p c m.at.place f ≡ true) → IsStepRecord p c m.steps x
+pub step_is_told : (p : Program) (c : Facts) (m n : Snapshot) (x : Step) → Stands p c m → Stands p c n
+    → n.steps ≡ m.steps + 1 → x.place ≡ m.at.place → x.top ≡ top_of_stack (state c n.at).stack
+    → is_some x.matched ≡ finds p (state c m.at) → IfSome x.matched (λ f. is_found_by p c m.at.place f ≡ true)
+    → IsStepRecord p c m.steps x
 step_is_told p c m n x before after one place top found matched = record {
   place = place ∙ ap (λ (s : State). s.place) (sym (here p c m before));
   top = top ∙ ap (λ (s : State). top_of_stack s.stack) (sym (here p c n after)) ∙ ap (λ k. top_of_stack (state_of (after_steps p c k)).stack) one;
@@ -30,7 +34,9 @@ step_is_told p c m n x before after one place top found matched = record {
 }
 
 -- what holds of each element by its place, and of one added at the end, holds of all
-pub one_more : (P : ℕ → Step → Type 0) (xs : List Step) (x : Step) → ((k : ℕ) (s : Step) → slice_get xs k ≡ Some s → P k s) → P (length xs) x → (k : ℕ) (s : Step) → slice_get (xs ++ x ∷ []) k ≡ Some s → P k s
+pub one_more : (P : ℕ → Step → Type 0) (xs : List Step) (x : Step)
+    → ((k : ℕ) (s : Step) → slice_get xs k ≡ Some s → P k s) → P (length xs) x → (k : ℕ) (s : Step)
+    → slice_get (xs ++ x ∷ []) k ≡ Some s → P k s
 one_more P [] x old new zero s e = let is : x ≡ s = ap (λ o. unwrap_or o x) e in subst (P 0) is new
 one_more P [] x old new (suc k) s e = absurd (cc e)
 one_more P (y ∷ ys) x old new zero s e = old zero s e

@@ -30,7 +30,9 @@ module _ (program : Program) (firsts : List ℕ) (some : program.procedures ≡ 
   greatest_two : greatest_budget program.procedures ≡ 1000000
   greatest_two = ap greatest_budget some
 
-  pub two_within : ((cost : ℕ → ℕ) × AreCosts program cost) → ((cost : ℕ → ℕ) → AreCosts program cost → c ≡ min (cost 0) too_much) → IsBetween c program.budget 1000000 → IsWithin program
+  pub two_within : ((cost : ℕ → ℕ) × AreCosts program cost)
+      → ((cost : ℕ → ℕ) → AreCosts program cost → c ≡ min (cost 0) too_much) → IsBetween c program.budget 1000000
+      → IsWithin program
   two_within (cost, are) is b =
       let e : c ≡ min (cost 0) too_much = is cost are in
       let le : c ≤ program.budget = b.2 in

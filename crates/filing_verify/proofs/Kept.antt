@@ -1,11 +1,15 @@
 -- In version 1 the rules accept and refuse as the rules before there were procedures.
-use Rattle.std.proofs.Common.{◌≡◌, ℕ, zero, suc, ◌+◌, ◌-◌, ◌<◌, ◌≤◌, List, [], ◌∷◌, length, leb, get_or, Some, None, refl, sym, ap, ◌∙◌, subst, arith, inl, inr}
+use Rattle.std.proofs.Common.{◌≡◌, ℕ, zero, suc, ◌+◌, ◌-◌, ◌<◌, ◌≤◌, List, [], ◌∷◌, length, leb, get_or, Some, None}
+use Rattle.std.proofs.Common.{refl, sym, ap, ◌∙◌, subst, arith, inl, inr}
 use Rattle.std.specs.Prelude.{slice_get, ◌↔◌}
 use Rattle.std.specs.List.{count_by}
 use Rattle.std.proofs.lemmas.Bool.{cases_lt}
 use Rattle.filing_image.specs.Program.{Program, first_places, firsts_of}
 use Rattle.filing_image.specs.declared.instruction.Operation.{Operation}
-use Rattle.filing_image.specs.declared.instruction.Operation.TheVariants.{PushTrue, PushFalse, Not, Values, Join, Match, Pop, Exists, Size, Number, Less, Jump, JumpIf, JumpUnless, Marked, Mark, File, Keep, Discard, Stop, Fault, Call, Return}
+use Rattle.filing_image.specs.declared.instruction.Operation.TheVariants.{PushTrue, PushFalse, Not, Values, Join, Match}
+use Rattle.filing_image.specs.declared.instruction.Operation.TheVariants.{Pop, Exists, Size, Number, Less, Jump, JumpIf}
+use Rattle.filing_image.specs.declared.instruction.Operation.TheVariants.{JumpUnless, Marked, Mark, File, Keep, Discard}
+use Rattle.filing_image.specs.declared.instruction.Operation.TheVariants.{Stop, Fault, Call, Return}
 use Rattle.filing_verify.specs.declared.kind.Kind.{Kind}
 use Rattle.filing_verify.specs.declared.kind.Kind.TheVariants.{Truth, Texts, Count}
 use Rattle.filing_verify.specs.declared.fault.VerifyFault.{VerifyFault}
@@ -195,7 +199,9 @@ module _ (p : Program) (none : p.procedures ≡ None) where
     stays_to h = record { some = h.some; inside = never }
       where
         never : (i : ℕ) → one.IsReached p i → one.Leads p i (length p.code) → ⊥
-        never i r (o, at, inl (g, e)) = let lt = (h.inside i (length p.code) (reached_from i r) (o, at, inl (goes_is o (old_at i o at) ∙ g, e))).0 in omega arith
+        never i r (o, at, inl (g, e)) = let lt =
+            (h.inside i (length p.code) (reached_from i r) (o, at, inl (goes_is o (old_at i o at) ∙ g, e))).0 in
+            omega arith
         never i r (o, at, inr to) = let lt = (h.inside i (length p.code) (reached_from i r) (o, at, inr (jump_is o ∙ to))).0 in omega arith
 
     stays_from : one.StaysInside p → StaysInside p

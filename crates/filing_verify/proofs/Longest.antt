@@ -1,5 +1,6 @@
 -- The longest path, from the last place to the first.
-use Rattle.std.proofs.Common.{◌≡◌, ℕ, zero, suc, ◌+◌, ◌-◌, ◌<◌, ◌≤◌, List, length, Bool, true, false, Option, Some, None, refl, sym, ap, ◌∙◌, subst, arith, inl, inr, ◌⊎◌, set}
+use Rattle.std.proofs.Common.{◌≡◌, ℕ, zero, suc, ◌+◌, ◌-◌, ◌<◌, ◌≤◌, List, length, Bool, true, false, Option, Some}
+use Rattle.std.proofs.Common.{None, refl, sym, ap, ◌∙◌, subst, arith, inl, inr, ◌⊎◌, set}
 use Rattle.std.specs.Prelude.{slice_get, slice_index_or}
 use Rattle.std.proofs.Math.ListN.{length-set}
 use Rattle.std.proofs.lemmas.List.{get_or-set_same, get_or-set_other, get_or_past}
@@ -22,11 +23,14 @@ module _ (program : Program) (o : Operation) (p : ℕ) (costs : List ℕ) where
       let n : by_target (target program o) costs ≡ at costs q = rw to refl in
       omega arith
 
-  next_is : (g : Bool) → goes_on o ≡ g → (by_next (goes_on o) p costs ≡ 0) ⊎ (Follows program o p (p + 1) × (by_next (goes_on o) p costs ≡ at costs (p + 1)))
+  next_is : (g : Bool) → goes_on o ≡ g → (by_next (goes_on o) p costs ≡ 0) ⊎ (Follows program o p (p + 1)
+      × (by_next (goes_on o) p costs ≡ at costs (p + 1)))
   next_is true e = inr (inl (e, refl), rw e refl)
   next_is false e = inl (rw e refl)
 
-  target_is : (t : Option ℕ) → target program o ≡ t → (by_target (target program o) costs ≡ 0) ⊎ ((q : ℕ) × Follows program o p q × (by_target (target program o) costs ≡ at costs q))
+  target_is : (t : Option ℕ) → target program o ≡ t
+      → (by_target (target program o) costs ≡ 0) ⊎ ((q : ℕ) × Follows program o p q
+      × (by_target (target program o) costs ≡ at costs q))
   target_is None e = inl (rw e refl)
   target_is (Some q) e = inr (q, inr e, rw e refl)
 
@@ -91,7 +95,8 @@ module _ (program : Program) (i : ℕ) (costs : List ℕ) (forward : GoesOnward 
           let lt : i < q = later i q (omega arith) reached (o, here, f) in
           elim (cases_lt q (length program.code)) [
             | inl a ↦ let b = so_far.small q a in omega arith
-            | inr b ↦ let z : at costs q ≡ 0 = get_or_past costs q 0 (omega (arith, so_far.long)) in omega (arith, slice_get_within program.code i o here)
+            | inr b ↦ let z : at costs q ≡ 0 = get_or_past costs q 0 (omega (arith, so_far.long)) in
+                omega (arith, slice_get_within program.code i o here)
           ]
     ]
 
@@ -164,7 +169,8 @@ module _ (program : Program) (costs : List ℕ) (all : Costs program 0 costs) wh
   pub most : (n q : ℕ) → Path program n q → q < length program.code → n + 1 ≤ at costs 0
   most n q path lt = let a = along n q path lt in let b = all.some q (omega arith) lt (n, path) in omega arith
 
-  goes_on_to : (k n p : ℕ) → Path program n p → p < length program.code → at costs p ≡ suc k → (m q : ℕ) × Path program m q × (q < length program.code) × (m ≡ n + k)
+  goes_on_to : (k n p : ℕ) → Path program n p → p < length program.code → at costs p ≡ suc k → (m q : ℕ)
+      × Path program m q × (q < length program.code) × (m ≡ n + k)
   goes_on_to zero n p path lt e = (n, p, path, lt, omega arith)
   goes_on_to (suc k) n p path lt e = elim (all.attained p (omega arith) lt (n, path)) [
     | inl one ↦ absurd (omega arith)

@@ -1,5 +1,6 @@
 -- Marks are passed on to the successors.
-use Rattle.std.proofs.Common.{◌≡◌, ℕ, zero, suc, ◌+◌, ◌<◌, List, [], ◌∷◌, length, Bool, true, false, Option, Some, None, refl, sym, ap, ◌∙◌, subst, arith, inl, inr, ◌⊎◌}
+use Rattle.std.proofs.Common.{◌≡◌, ℕ, zero, suc, ◌+◌, ◌<◌, List, [], ◌∷◌, length, Bool, true, false, Option, Some, None}
+use Rattle.std.proofs.Common.{refl, sym, ap, ◌∙◌, subst, arith, inl, inr, ◌⊎◌}
 use Rattle.std.specs.Prelude.{slice_get, slice_set}
 use Rattle.std.proofs.Math.ListN.{length-set}
 use Rattle.std.proofs.lemmas.Option.{slice_get_within}
@@ -52,7 +53,8 @@ target_made : (g : Bool) (b p : ℕ) (ms : List Bool) → b < length ms → IsMa
 target_made true b p ms lt = kept (slice_set ms b true) (p + 1) b (made ms b lt)
 target_made false b p ms lt = made ms b lt
 
-only_these : (g : Bool) (t : Option ℕ) (p : ℕ) (ms : List Bool) (q : ℕ) → IsMarked (with_next g p (with_target t ms)) q → IsMarked ms q ⊎ (((g ≡ true) × (q ≡ p + 1)) ⊎ (t ≡ Some q))
+only_these : (g : Bool) (t : Option ℕ) (p : ℕ) (ms : List Bool) (q : ℕ) → IsMarked (with_next g p (with_target t ms)) q
+    → IsMarked ms q ⊎ (((g ≡ true) × (q ≡ p + 1)) ⊎ (t ≡ Some q))
 only_these true None p ms q h = elim (was ms (p + 1) q h) [ inl a ↦ inl a | inr e ↦ inr (inl (refl, e)) ]
 only_these false None p ms q h = inl h
 only_these true (Some b) p ms q h =
@@ -62,7 +64,8 @@ only_these true (Some b) p ms q h =
     ]
 only_these false (Some b) p ms q h = elim (was ms b q h) [ inl a ↦ inl a | inr e ↦ inr (inr (ap Some (sym e))) ]
 
-follows_made : (g : Bool) (t : Option ℕ) (p : ℕ) (ms : List Bool) (q : ℕ) → q < length ms → ((g ≡ true) × (q ≡ p + 1)) ⊎ (t ≡ Some q) → IsMarked (with_next g p (with_target t ms)) q
+follows_made : (g : Bool) (t : Option ℕ) (p : ℕ) (ms : List Bool) (q : ℕ) → q < length ms
+    → ((g ≡ true) × (q ≡ p + 1)) ⊎ (t ≡ Some q) → IsMarked (with_next g p (with_target t ms)) q
 follows_made g t p ms q lt (inl (e, at)) =
     rw (e, at) (next_made t p ms (omega arith))
 follows_made g t p ms q lt (inr e) =

@@ -1,5 +1,7 @@
 -- Procedures begin at places that ascend: which of them a place is in.
-use Rattle.std.proofs.Common.{◌≡◌, ℕ, zero, suc, ◌+◌, ◌-◌, ◌<◌, ◌≤◌, Bool, true, false, cond, eqb, leb, List, [], ◌∷◌, length, get_or, Option, Some, None, refl, sym, ap, eq-eqb, ◌∙◌, subst, arith, inl, inr, ◌⊎◌}
+use Rattle.std.proofs.Common.{◌≡◌, ℕ, zero, suc, ◌+◌, ◌-◌, ◌<◌, ◌≤◌, Bool, true, false, cond, eqb, leb, List, [], ◌∷◌}
+use Rattle.std.proofs.Common.{length, get_or, Option, Some, None, refl, sym, ap, eq-eqb, ◌∙◌, subst, arith, inl, inr}
+use Rattle.std.proofs.Common.{◌⊎◌}
 use Rattle.std.specs.Prelude.{slice_get}
 use Rattle.std.specs.List.{count_by}
 use Rattle.std.specs.List.Sorted.{IsPartitionedBy, IsPartitionPoint}
@@ -87,14 +89,17 @@ counts_before p (x ∷ xs) (suc b) asc lt less =
     ]
 
 -- what a search by halves finds: the numbers below index i are at most p, and those from i on are above it
-counted_to : (p : ℕ) (fs : List ℕ) (i : ℕ) → i ≤ length fs → ((k : ℕ) → k < i → get_or fs k 0 ≤ p) → ((k : ℕ) → i ≤ k → k < length fs → p < get_or fs k 0) → begun p fs ≡ i
+counted_to : (p : ℕ) (fs : List ℕ) (i : ℕ) → i ≤ length fs → ((k : ℕ) → k < i → get_or fs k 0 ≤ p)
+    → ((k : ℕ) → i ≤ k → k < length fs → p < get_or fs k 0) → begun p fs ≡ i
 unfolding begun
 counted_to p [] i le low high = omega arith
 counted_to p (x ∷ xs) zero le low high =
-    let rest : begun p xs ≡ 0 = counted_to p xs zero (omega arith) (λ k lt. absurd (omega arith)) (λ k from lt. high (suc k) (omega arith) (omega arith)) in
+    let rest : begun p xs ≡ 0 = counted_to p xs zero (omega arith) (λ k lt. absurd (omega arith)) (λ k from lt.
+    high (suc k) (omega arith) (omega arith)) in
     passed p x (begun p xs) (high zero (omega arith) (omega arith)) ∙ rest
 counted_to p (x ∷ xs) (suc i) le low high =
-    let rest : begun p xs ≡ i = counted_to p xs i (omega arith) (λ k lt. low (suc k) (omega arith)) (λ k from lt. high (suc k) (omega arith) (omega arith)) in
+    let rest : begun p xs ≡ i = counted_to p xs i (omega arith) (λ k lt. low (suc k) (omega arith)) (λ k from lt.
+    high (suc k) (omega arith) (omega arith)) in
     let more : begun p (x ∷ xs) ≡ 1 + begun p xs = counted p x (begun p xs) (low zero (omega arith)) in
     omega arith
 
@@ -112,11 +117,16 @@ pub are_partitioned : (p : Program) (t : ℕ) → HasProcedures p p.procedures �
 are_partitioned p t h =
     let fs = first_places p in
     let asc = ascending p p.procedures h in
-    IsPartitionedBy-leb (λ f. f) fs t (IsNonDecreasingBy-from_all_adjacent (λ f. f) fs (λ k d lt. let less = asc k lt in omega (arith, get_or_default_zero fs k d (omega arith), get_or_default_zero fs (k + 1) d lt, less)))
+    IsPartitionedBy-leb (λ f. f) fs t (IsNonDecreasingBy-from_all_adjacent (λ f. f) fs (λ k d lt. let less = asc k lt in
+    omega (arith, get_or_default_zero fs k d (omega arith), get_or_default_zero fs (k + 1) d lt, less)))
 
 -- where the search ends, as the number of procedures that begin at or before a place
-pub begun_at : (p : Program) (t i : ℕ) → i ≤ length (first_places p) → IsPartitionPoint (λ f. leb f t ≡ true) (λ f. leb f t ≡ false) (first_places p) i → i ≡ count_by (λ f. leb f t) (first_places p)
-begun_at p t i le point = sym (counted_to t (first_places p) i le (λ k lt. leb-true _ _ (point.0 k 0 (omega arith) lt)) (λ k from lt. leb-false _ _ (point.1 k 0 from lt))) ∙ begun_is t (first_places p)
+pub begun_at : (p : Program) (t i : ℕ) → i ≤ length (first_places p)
+    → IsPartitionPoint (λ f. leb f t ≡ true) (λ f. leb f t ≡ false) (first_places p) i
+    → i ≡ count_by (λ f. leb f t) (first_places p)
+begun_at p t i le point =
+    sym (counted_to t (first_places p) i le (λ k lt. leb-true _ _ (point.0 k 0 (omega arith) lt)) (λ k from lt.
+    leb-false _ _ (point.1 k 0 from lt))) ∙ begun_is t (first_places p)
 
 -- the code of version 1 is one piece
 pub one_piece : (program : Program) → program.procedures ≡ None → (p : ℕ) → procedure_of program p ≡ 0
@@ -136,7 +146,8 @@ module _ (program : Program) (in_range : AreInRange program) where
     there = slice_get_within (first_places program) b f first
 
     is_first : f ≡ get_or (first_places program) b 0
-    is_first = let e = slice_get-get_or (first_places program) b 0 there in let s : Some f ≡ Some (get_or (first_places program) b 0) = sym first ∙ e in cc
+    is_first = let e = slice_get-get_or (first_places program) b 0 there in
+        let s : Some f ≡ Some (get_or (first_places program) b 0) = sym first ∙ e in cc
 
     some_begun : (p : ℕ) → 0 < begun p (first_places program)
     some_begun p =
@@ -182,7 +193,8 @@ module _ (program : Program) (in_range : AreInRange program) where
       omega (arith, most, count_by-le-length (λ f. leb f p) (first_places program))
 
   -- a jump names its target, and a call enters a procedure
-  pub by_kind : (o : Operation) (q : ℕ) → target program o ≡ Some q → (jump_target o ≡ Some q) ⊎ ((b : ℕ) × (o ≡ Call b) × (first_place program b ≡ Some q))
+  pub by_kind : (o : Operation) (q : ℕ) → target program o ≡ Some q
+      → (jump_target o ≡ Some q) ⊎ ((b : ℕ) × (o ≡ Call b) × (first_place program b ≡ Some q))
   by_kind (Call b) q e = inr (b, refl, e)
   by_kind o q e = inl e
 
@@ -217,7 +229,9 @@ module _ (program : Program) (in_range : AreInRange program) where
   jump_within o q h e = absurd cc
 
   -- where no place runs on into another procedure, or past the end
-  pub stays : ((p : ℕ) → p < length program.code → IsReached program p → RunsOn program p → ⊥) → (p q : ℕ) → IsReached program p → Continues program p q → (q < length program.code) × (procedure_of program q ≡ procedure_of program p)
+  pub stays : ((p : ℕ) → p < length program.code → IsReached program p → RunsOn program p → ⊥) → (p q : ℕ)
+      → IsReached program p → Continues program p q → (q < length program.code)
+      × (procedure_of program q ≡ procedure_of program p)
   stays never p q reached (o, at, inl (g, e)) =
       let within = slice_get_within program.code p o at in
       let there : p + 1 < length program.code = elim (cases_lt (p + 1) (length program.code)) [
@@ -229,7 +243,13 @@ module _ (program : Program) (in_range : AreInRange program) where
     where
       same_by : (b : Bool) → eqb (procedure_of program (p + 1)) (procedure_of program p) ≡ b → procedure_of program (p + 1) ≡ procedure_of program p
       same_by true t = eqb-true (procedure_of program (p + 1)) (procedure_of program p) t
-      same_by false t = absurd (never p (slice_get_within program.code p o at) reached (record { operation = o; here = at; goes = g; out = λ h. let y = eq-eqb (procedure_of program (p + 1)) (procedure_of program p) h.1 in absurd cc }))
+      same_by false t =
+          absurd (never p (slice_get_within program.code p o at) reached (record {
+            operation = o;
+            here = at;
+            goes = g;
+            out = λ h. let y = eq-eqb (procedure_of program (p + 1)) (procedure_of program p) h.1 in absurd cc;
+          }))
   stays never p q reached (o, at, inr to) = (jump_within o q (in_range_at p o at) to, in_range.jumps p q o at to)
 
   pub leads_inside : StaysInside program → LeadsInside program

@@ -25,7 +25,8 @@ abbrev worked : Program
 worked = calling 4 Discard Return
 
 -- its octets: the mark, the budget, five counts, two first places, four instructions
-octets : spelling (parts worked) ≡ 0x53 ∷ 0x46 ∷ 0x49 ∷ 0x32 ∷ 0 ∷ 0 ∷ 0 ∷ 4 ∷ 0 ∷ 0 ∷ 0 ∷ 0 ∷ 0 ∷ 0 ∷ 0 ∷ 2 ∷ 0 ∷ 4 ∷ 0 ∷ 0 ∷ 0 ∷ 2 ∷ 0x16 ∷ 0 ∷ 0 ∷ 1 ∷ 0x14 ∷ 0 ∷ 0 ∷ 0 ∷ 0x13 ∷ 0 ∷ 0 ∷ 0 ∷ 0x17 ∷ 0 ∷ 0 ∷ 0 ∷ []
+octets : spelling (parts worked) ≡ 0x53 ∷ 0x46 ∷ 0x49 ∷ 0x32 ∷ 0 ∷ 0 ∷ 0 ∷ 4 ∷ 0 ∷ 0 ∷ 0 ∷ 0 ∷ 0 ∷ 0 ∷ 0 ∷ 2 ∷ 0 ∷ 4 ∷ 0
+    ∷ 0 ∷ 0 ∷ 2 ∷ 0x16 ∷ 0 ∷ 0 ∷ 1 ∷ 0x14 ∷ 0 ∷ 0 ∷ 0 ∷ 0x13 ∷ 0 ∷ 0 ∷ 0 ∷ 0x17 ∷ 0 ∷ 0 ∷ 0 ∷ []
 unfolding spelling
 octets = refl
 
@@ -108,13 +109,21 @@ module _ (budget : ℕ) (d : Operation) (d_leaves : after d [] ≡ Some []) wher
     λ i. [],
     record {
       start = refl;
-      each = λ i o reached at. record { result = []; finds = leaves i o at; shallow = omega arith; shallow_after = omega arith; passed_on = λ q f lt. refl };
+      each = λ i o reached at. record {
+        result = [];
+        finds = leaves i o at;
+        shallow = omega arith;
+        shallow_after =
+            omega arith;
+        passed_on = λ q f lt. refl;
+      };
     },
   )
 
 -- ---- inside its procedures
 
-inside : (budget i q : ℕ) → Continues (calling budget Discard Return) i q → (q < 4) × (procedure_of (calling budget Discard Return) q ≡ procedure_of (calling budget Discard Return) i)
+inside : (budget i q : ℕ) → Continues (calling budget Discard Return) i q → (q < 4)
+    × (procedure_of (calling budget Discard Return) q ≡ procedure_of (calling budget Discard Return) i)
 inside budget i q (o, at, inr to) = absurd (no_jump budget Discard Return refl refl i q o at to)
 inside budget zero q (o, at, inl (g, e)) = rw e (omega arith, refl)
 inside budget (suc zero) q (o, at, inl (g, e)) = let f = same_way Stop o at in absurd cc

@@ -1,5 +1,6 @@
 -- Costs, from the last place to the first.
-use Rattle.std.proofs.Common.{◌≡◌, ℕ, suc, ◌+◌, ◌<◌, ◌≤◌, Bool, true, false, cond, eqb, List, length, Option, Some, None, refl, sym, ap, ◌∙◌, subst, arith, inl, inr, ◌⊎◌, set, eq-eqb}
+use Rattle.std.proofs.Common.{◌≡◌, ℕ, suc, ◌+◌, ◌<◌, ◌≤◌, Bool, true, false, cond, eqb, List, length, Option, Some}
+use Rattle.std.proofs.Common.{None, refl, sym, ap, ◌∙◌, subst, arith, inl, inr, ◌⊎◌, set, eq-eqb}
 use Rattle.std.specs.Prelude.{slice_get, min}
 use Rattle.std.proofs.Math.ListN.{length-set}
 use Rattle.std.proofs.lemmas.List.{get_or-set_same, get_or-set_other, get_or_past}
@@ -22,11 +23,13 @@ same_target None c d h = refl
 same_target (Some q) c d h = h q refl
 
 -- the costs of the successors decide
-pub same_cost : (program : Program) (o : Operation) (p : ℕ) (c d : ℕ → ℕ) → ((q : ℕ) → Follows program o p q → c q ≡ d q) → cost_by program c p o ≡ cost_by program d p o
+pub same_cost : (program : Program) (o : Operation) (p : ℕ) (c d : ℕ → ℕ)
+    → ((q : ℕ) → Follows program o p q → c q ≡ d q) → cost_by program c p o ≡ cost_by program d p o
 same_cost program o p c d h =
     let next = same_next (goes_on o) p c d (λ g. h (p + 1) (inl (g, refl))) in
     let to = same_target (target program o) c d (λ q t. h q (inr t)) in
-    ap (λ (x : ℕ). 1 + together (is_call o) x (target_cost (target program o) c)) next ∙ ap (λ (y : ℕ). 1 + together (is_call o) (next_cost (goes_on o) p d) y) to
+    ap (λ (x : ℕ). 1 + together (is_call o) x (target_cost (target program o) c)) next
+    ∙ ap (λ (y : ℕ). 1 + together (is_call o) (next_cost (goes_on o) p d) y) to
 
 capped_next : (g : Bool) (p t : ℕ) (c d : ℕ → ℕ) → (g ≡ true → c (p + 1) ≡ min (d (p + 1)) t) → next_cost g p c ≡ min (next_cost g p d) t
 capped_next true p t c d h = h refl
@@ -41,7 +44,9 @@ capped true x y u v t e f = omega arith
 capped false x y u v t e f = omega arith
 
 -- costs up to a number, by costs up to it
-pub capped_cost : (program : Program) (o : Operation) (p t : ℕ) (c d : ℕ → ℕ) → ((q : ℕ) → Follows program o p q → c q ≡ min (d q) t) → min (cost_by program c p o) t ≡ min (cost_by program d p o) t
+pub capped_cost : (program : Program) (o : Operation) (p t : ℕ) (c d : ℕ → ℕ)
+    → ((q : ℕ) → Follows program o p q → c q ≡ min (d q) t)
+    → min (cost_by program c p o) t ≡ min (cost_by program d p o) t
 capped_cost program o p t c d h =
     capped (is_call o) (next_cost (goes_on o) p c) (target_cost (target program o) c) (next_cost (goes_on o) p d) (target_cost (target program o) d) t
     (capped_next (goes_on o) p t c d (λ g. h (p + 1) (inl (g, refl))))
@@ -50,7 +55,8 @@ capped_cost program o p t c d h =
 -- ---- one place after another
 
 -- before the first place is looked at, and nothing is known
-pub begins : (program : Program) (costs : List ℕ) (n : ℕ) → n ≡ length program.code → length costs ≡ length program.code → ((k : ℕ) → k < length program.code → cost_in costs k ≡ 0) → Costing program n costs
+pub begins : (program : Program) (costs : List ℕ) (n : ℕ) → n ≡ length program.code → length costs ≡ length program.code
+    → ((k : ℕ) → k < length program.code → cost_in costs k ≡ 0) → Costing program n costs
 begins program costs n many long zero = record {
   long = long;
   small = λ k. elim (cases_lt k (length program.code)) [
@@ -61,7 +67,8 @@ begins program costs n many long zero = record {
   are = λ cost from p le lt r. absurd (omega arith);
 }
 
-module _ (program : Program) (i : ℕ) (costs : List ℕ) (onward : GoesOnward program) (inside : LeadsInside program) (so_far : Costing program (i + 1) costs) where
+module _ (program : Program) (i : ℕ) (costs : List ℕ) (onward : GoesOnward program) (inside : LeadsInside program)
+    (so_far : Costing program (i + 1) costs) where
   onto : (p : ℕ) → i ≤ p → (i + 1 ≤ p) ⊎ (p ≡ i)
   onto p le = elim (cases_lt i p) [ inl a ↦ inl (omega arith) | inr b ↦ inr (omega arith) ]
 
@@ -72,8 +79,17 @@ module _ (program : Program) (i : ℕ) (costs : List ℕ) (onward : GoesOnward p
   unreached never = record {
     long = so_far.long;
     small = so_far.small;
-    there = (so_far.there.0, λ p o le r at. elim (onto p le) [ inl a ↦ so_far.there.1 p o a r at | inr e ↦ absurd (never (subst (IsReached program) e r)) ]);
-    are = λ cost from p le lt r. elim (onto p le) [ inl a ↦ so_far.are cost (fewer cost from) p a lt r | inr e ↦ absurd (never (subst (IsReached program) e r)) ];
+    there = (
+      so_far.there.0,
+      λ p o le r at. elim (onto p le) [
+        | inl a ↦ so_far.there.1 p o a r at
+        | inr e ↦ absurd (never (subst (IsReached program) e r))
+      ],
+    );
+    are = λ cost from p le lt r. elim (onto p le) [
+      | inl a ↦ so_far.are cost (fewer cost from) p a lt r
+      | inr e ↦ absurd (never (subst (IsReached program) e r))
+    ];
   }
 
   module _ (o : Operation) (here : slice_get program.code i ≡ Some o) (reached : IsReached program i) where
@@ -100,7 +116,8 @@ module _ (program : Program) (i : ℕ) (costs : List ℕ) (onward : GoesOnward p
     unfolding new
     new_other k lt = other_by k (eqb k i) refl (λ e. omega arith)
 
-    new_follows : (p : ℕ) (x : Operation) → i ≤ p → IsReached program p → slice_get program.code p ≡ Some x → cost_by program old p x ≡ cost_by program new p x
+    new_follows : (p : ℕ) (x : Operation) → i ≤ p → IsReached program p → slice_get program.code p ≡ Some x
+        → cost_by program old p x ≡ cost_by program new p x
     new_follows p x le r at = same_cost program x p old new (λ q f. sym (new_other q (later p q x le r at f)))
 
     was : AreCostsFrom program (i + 1) old
@@ -112,7 +129,8 @@ module _ (program : Program) (i : ℕ) (costs : List ℕ) (onward : GoesOnward p
       | inl a ↦ new_other p (omega arith) ∙ was p x a r at ∙ new_follows p x le r at
       | inr e ↦
           let same : x ≡ o = cc (at, here, ap (slice_get program.code) e) in
-          ap new e ∙ new_here ∙ ap (λ (k : ℕ). cost_by program old k o) (sym e) ∙ ap (λ (y : Operation). cost_by program old p y) (sym same) ∙ new_follows p x le r at
+          ap new e ∙ new_here ∙ ap (λ (k : ℕ). cost_by program old k o) (sym e)
+          ∙ ap (λ (y : Operation). cost_by program old p y) (sym same) ∙ new_follows p x le r at
     ]
 
     v : ℕ
@@ -137,7 +155,9 @@ module _ (program : Program) (i : ℕ) (costs : List ℕ) (onward : GoesOnward p
     v_is : (cost : ℕ → ℕ) → AreCostsFrom program i cost → v ≡ min (cost i) too_much
     unfolding v
     v_is cost from =
-        capped_cost program o i too_much (cost_in costs) cost (λ q f. so_far.are cost (fewer cost from) q (omega (arith, later i q o (omega arith) reached here f)) (inside i q reached (o, here, f)) (goes_to q f))
+        capped_cost program o i too_much (cost_in costs) cost (λ q f.
+        so_far.are cost (fewer cost from) q (omega (arith, later i q o (omega arith) reached here f))
+        (inside i q reached (o, here, f)) (goes_to q f))
         ∙ ap (λ (n : ℕ). min n too_much) (sym (from i o (omega arith) reached here))
       where
         goes_to : (q : ℕ) → Follows program o i q → IsReached program q

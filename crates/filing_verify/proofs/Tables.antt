@@ -1,5 +1,6 @@
 -- Shapes are passed on to the successors.
-use Rattle.std.proofs.Common.{◌≡◌, ℕ, zero, suc, ◌+◌, ◌<◌, ◌≤◌, List, [], length, reverse, true, Option, Some, None, sym, ap, ◌∙◌, subst, arith, inl, inr, ◌⊎◌}
+use Rattle.std.proofs.Common.{◌≡◌, ℕ, zero, suc, ◌+◌, ◌<◌, ◌≤◌, List, [], length, reverse, true, Option, Some, None}
+use Rattle.std.proofs.Common.{sym, ap, ◌∙◌, subst, arith, inl, inr, ◌⊎◌}
 use Rattle.std.specs.Prelude.{slice_get}
 use Rattle.std.proofs.lemmas.List.{reverse-reverse}
 use Rattle.std.proofs.lemmas.Option.{slice_get_within, slice_get_past}
@@ -19,7 +20,8 @@ Table = List (Option (List Kind))
 
 -- ---- one place after another
 
-module _ (program : Program) (o : Operation) (p b : ℕ) (r : List Kind) (to : target program o ≡ Some b) (old mid : Table) (first : Takes old (λ q. q ≡ b) r mid) where
+module _ (program : Program) (o : Operation) (p b : ℕ) (r : List Kind) (to : target program o
+    ≡ Some b) (old mid : Table) (first : Takes old (λ q. q ≡ b) r mid) where
   pub takes_both : (new : Table) → Takes mid (λ q. (goes_on o ≡ true) × (q ≡ p + 1)) r new → Takes old (Follows program o p) r new
   takes_both new second = record {
     long = second.long ∙ first.long;
@@ -116,8 +118,17 @@ module _ (program : Program) (i : ℕ) (table : Table) (forward : GoesOnward pro
             | inr e ↦
                 let h' : Has table i js = subst (λ (k : ℕ). Has table k js) e (old_one p js lt h) in
                 let same : o' ≡ o = cc (at', at, ap (slice_get program.code) e) in
-                let js-is : js ≡ ks = cc (h', here) in
-                (r, rw (same, js-is) finds, shallow, λ q f within. takes.offered q (subst (λ (x : Operation). Follows program x i q) same (subst (λ (k : ℕ). Follows program o' k q) e f)) (omega (arith, so_far.long)))
+                let js-is : js ≡ ks = cc (h', here) in (
+                  r,
+                  rw (same, js-is) finds,
+                  shallow,
+                  λ q f within.
+                      takes.offered q (subst (λ (x : Operation).
+                      Follows program x i q) same (subst (λ (k : ℕ). Follows program o' k q) e f)) (omega (
+                        arith,
+                        so_far.long,
+                      )),
+                )
           ];
         }
 

@@ -1,12 +1,14 @@
 -- What a piece adds to a header.
-use Rattle.std.proofs.Common.{◌≡◌, ◌≢◌, ℕ, suc, ◌+◌, ◌-◌, ◌<◌, true, false, List, [], ◌∷◌, ◌++◌, length, refl, sym, ap, ◌∙◌, arith, ◌⊎◌, inl, inr, append_assoc}
+use Rattle.std.proofs.Common.{◌≡◌, ◌≢◌, ℕ, suc, ◌+◌, ◌-◌, ◌<◌, true, false, List, [], ◌∷◌, ◌++◌, length, refl, sym, ap}
+use Rattle.std.proofs.Common.{◌∙◌, arith, ◌⊎◌, inl, inr, append_assoc}
 use Rattle.std.proofs.lemmas.List.{append-nil, length-append, get_or_at, get_or-append-add}
 use Rattle.std.specs.Prelude.{nat_lt}
 use Rattle.std.specs.List.{concat, filter_map}
 use Rattle.mail_head.specs.Lines.{header_of, logical_lines}
 use Rattle.mail_head.specs.Fields.{field_of, fields_of}
 use Rattle.mail_head.specs.Pieces.{header_octets, at_line_start}
-use Rattle.mail_head.proofs.PieceLemmas.{NoEnd, NoEnd-get, header_of-open, header_of-lf, header_of-crlf, concat-append, Rest, unended, lf, crlf, Cut, cut}
+use Rattle.mail_head.proofs.PieceLemmas.{NoEnd, NoEnd-get, header_of-open, header_of-lf, header_of-crlf, concat-append}
+use Rattle.mail_head.proofs.PieceLemmas.{Rest, unended, lf, crlf, Cut, cut}
 
 -- whole lines at the front stay
 Cut-octets : (bs : List ℕ) (c : Cut bs) (q : List ℕ) → header_octets (c.lead ++ q) ≡ c.lead ++ header_octets q
@@ -22,7 +24,8 @@ by_state rest (lf r e) = inr (λ q. ap (λ x. header_of (x ++ q)) e ∙ header_o
 by_state rest (crlf r e) = inr (λ q. ap (λ x. header_of (x ++ q)) e ∙ header_of-crlf (r ++ q), rw e (grind arith))
 
 Ended-octets : (bs : List ℕ) (c : Cut bs) → Ended c.rest → (q : List ℕ) → header_octets (bs ++ q) ≡ c.lead
-Ended-octets bs c h q = ap (λ x. header_octets (x ++ q)) c.joined ∙ ap header_octets (append_assoc c.lead c.rest q) ∙ Cut-octets bs c (c.rest ++ q) ∙ ap (λ x. c.lead ++ concat x) (h.0 q) ∙ append-nil c.lead
+Ended-octets bs c h q = ap (λ x. header_octets (x ++ q)) c.joined ∙ ap header_octets (append_assoc c.lead c.rest q)
+    ∙ Cut-octets bs c (c.rest ++ q) ∙ ap (λ x. c.lead ++ concat x) (h.0 q) ∙ append-nil c.lead
 
 Open-octets : (bs : List ℕ) (c : Cut bs) → NoEnd c.rest → header_octets bs ≡ bs
 Open-octets bs c h = ap header_octets c.joined ∙ Cut-octets bs c c.rest ∙ ap (λ x. c.lead ++ x) (header_of-open c.rest h) ∙ sym c.joined
@@ -37,7 +40,9 @@ whole_or_ended : (bs : List ℕ) (c : Cut bs) → NoEnd c.rest ⊎ Ended c.rest 
 whole_or_ended bs c (inl h) = inl (Open-octets bs c h)
 whole_or_ended bs c (inr h) =
     let octets : header_octets bs ≡ c.lead = ap header_octets (sym (append-nil bs)) ∙ Ended-octets bs c h [] in
-    let lines : header_of bs ≡ header_of c.lead = ap header_of c.joined ∙ c.lines c.rest ∙ ap (λ x. header_of c.lead ++ x) (ap header_of (sym (append-nil c.rest)) ∙ h.0 []) ∙ append-nil (header_of c.lead) in
+    let lines : header_of bs ≡ header_of c.lead = ap header_of c.joined ∙ c.lines c.rest
+    ∙ ap (λ x. header_of c.lead ++ x) (ap header_of (sym (append-nil c.rest)) ∙ h.0 [])
+    ∙ append-nil (header_of c.lead) in
     inr (record {
       shorter = rw octets (omega (arith, ap length c.joined, length-append c.lead c.rest, h.1));
       stays = λ q. Ended-octets bs c h q ∙ sym octets;
@@ -67,7 +72,8 @@ pub fields_of-kept : (bs : List ℕ) → fields_of (header_octets bs) ≡ fields
 unfolding fields_of
 fields_of-kept bs = at (header_whole_or_ended bs)
   where
-    at : (header_octets bs ≡ bs) ⊎ IsEnded bs → filter_map field_of (logical_lines (header_of (header_octets bs))) ≡ filter_map field_of (logical_lines (header_of bs))
+    at : (header_octets bs ≡ bs) ⊎ IsEnded bs → filter_map field_of (logical_lines (header_of (header_octets bs)))
+        ≡ filter_map field_of (logical_lines (header_of bs))
     at (inl e) = ap (λ x. filter_map field_of (logical_lines (header_of x))) e
     at (inr e) = ap (λ x. filter_map field_of (logical_lines x)) e.fields
 
@@ -89,7 +95,8 @@ line_start_of lead (inr (front, e)) =
 
 -- octets that all belong to the header
 abbrev pub IsOpen : List ℕ → Type 0
-IsOpen kept = (lead : List ℕ) × (rest : List ℕ) × (kept ≡ lead ++ rest) × ((q : List ℕ) → header_octets (lead ++ q) ≡ lead ++ header_octets q) × (at_line_start lead ≡ true) × NoEnd rest
+IsOpen kept = (lead : List ℕ) × (rest : List ℕ) × (kept ≡ lead ++ rest)
+    × ((q : List ℕ) → header_octets (lead ++ q) ≡ lead ++ header_octets q) × (at_line_start lead ≡ true) × NoEnd rest
 
 pub open_of : (kept : List ℕ) → header_octets kept ≡ kept → IsOpen kept
 open_of kept e =
@@ -103,7 +110,8 @@ open_of kept e =
         absurd (omega (arith, ap length octets, ap length e, ap length c.joined, length-append c.lead c.rest, h.1))
 
 -- a piece after a line's start
-pub part_at_line_start : (kept piece : List ℕ) → at_line_start kept ≡ true → header_octets kept ≡ kept → header_octets (kept ++ piece) ≡ kept ++ header_octets piece
+pub part_at_line_start : (kept piece : List ℕ) → at_line_start kept ≡ true → header_octets kept ≡ kept
+    → header_octets (kept ++ piece) ≡ kept ++ header_octets piece
 part_at_line_start kept piece start e = at (open_of kept e)
   where
     at : IsOpen kept → header_octets (kept ++ piece) ≡ kept ++ header_octets piece

@@ -1,10 +1,13 @@
 -- The first line of a text, and what follows it.
-use Rattle.std.proofs.Common.{◌≡◌, ◌≢◌, ℕ, zero, suc, ◌+◌, ◌-◌, ◌<◌, ◌≤◌, Bool, true, false, cond, eqb, List, [], ◌∷◌, ◌++◌, length, take, drop, refl, sym, get_or, drop-cons, Some, None, ◌∙◌, ◌⊎◌, inl, inr, arith, ne_eqb, eqb-true, eq-eqb}
+use Rattle.std.proofs.Common.{◌≡◌, ◌≢◌, ℕ, zero, suc, ◌+◌, ◌-◌, ◌<◌, ◌≤◌, Bool, true, false, cond, eqb, List, [], ◌∷◌}
+use Rattle.std.proofs.Common.{◌++◌, length, take, drop, refl, sym, get_or, drop-cons, Some, None, ◌∙◌, ◌⊎◌, inl, inr}
+use Rattle.std.proofs.Common.{arith, ne_eqb, eqb-true, eq-eqb}
 use Rattle.std.proofs.Math.Seq.{take-add, take-length}
 use Rattle.std.proofs.lemmas.List.{drop_all, length-drop, drop-drop}
 use Rattle.std.specs.Prelude.{nat_lt, IsTrue}
 use Rattle.memchr.specs.Find.{IsFirstByte, is_byte}
-use Rattle.mail_head.specs.Lines.{into_first, raw_lines, line_len, without_last, without_end, header_lines, header_of, logical_from, logical_lines, begins_blank, is_blank}
+use Rattle.mail_head.specs.Lines.{into_first, raw_lines, line_len, without_last, without_end, header_lines, header_of}
+use Rattle.mail_head.specs.Lines.{logical_from, logical_lines, begins_blank, is_blank}
 
 -- the first line ends after the first LF
 pub line_len_at : (bs : List ℕ) (k : ℕ) → k < length bs → get_or bs k 0 ≡ 10 → ((j : ℕ) → j < k → get_or bs j 0 ≢ 10) → line_len bs ≡ k + 1
@@ -27,12 +30,17 @@ line_len_none (b ∷ bs) before =
 
 -- what a search for an LF says about the first line
 pub line_len_found : (bs : List ℕ) (k : ℕ) → IsFirstByte (is_byte 10) bs (Some k) → k + 1 ≡ line_len bs
-line_len_found bs k (first, at) = sym (line_len_at bs k first.high (eqb-true (get_or bs k 0) 10 at) (λ j below same. first.before j (omega arith) below (eq-eqb (get_or bs j 0) 10 same)))
+line_len_found bs k (first, at) =
+    sym (line_len_at bs k first.high (eqb-true (get_or bs k 0) 10 at) (λ j below same.
+    first.before j (omega arith) below (eq-eqb (get_or bs j 0) 10 same)))
 
 pub line_len_unfound : (bs : List ℕ) → IsFirstByte (is_byte 10) bs None → length bs ≡ line_len bs
 line_len_unfound bs none = sym (line_len_none bs (λ j below same. none j (omega arith) below (eq-eqb (get_or bs j 0) 10 same)))
 
-lines_at : (t : Bool) (b : ℕ) (bs : List ℕ) → (bs ≡ []) ⊎ (raw_lines bs ≡ take (line_len bs) bs ∷ raw_lines (drop (line_len bs) bs)) → cond t ((b ∷ []) ∷ raw_lines bs) (into_first b (raw_lines bs)) ≡ take (cond t 1 (suc (line_len bs))) (b ∷ bs) ∷ raw_lines (drop (cond t 1 (suc (line_len bs))) (b ∷ bs))
+lines_at : (t : Bool) (b : ℕ) (bs : List ℕ)
+    → (bs ≡ []) ⊎ (raw_lines bs ≡ take (line_len bs) bs ∷ raw_lines (drop (line_len bs) bs))
+    → cond t ((b ∷ []) ∷ raw_lines bs) (into_first b (raw_lines bs)) ≡ take (cond t 1 (suc (line_len bs))) (b ∷ bs)
+    ∷ raw_lines (drop (cond t 1 (suc (line_len bs))) (b ∷ bs))
 unfolding raw_lines line_len
 lines_at true b bs h = refl
 lines_at false b bs (inl e) = rw e refl
@@ -49,7 +57,8 @@ header_step true l ls rest = (λ h. refl, λ h. absurd cc)
 header_step false l ls rest = (λ h. absurd cc, λ h. refl)
 
 -- a header's first line
-pub header_of-some : (bs : List ℕ) → nat_lt 0 (length (without_end (take (line_len bs) bs))) ≡ true → header_of bs ≡ take (line_len bs) bs ∷ header_of (drop (line_len bs) bs)
+pub header_of-some : (bs : List ℕ) → nat_lt 0 (length (without_end (take (line_len bs) bs))) ≡ true
+    → header_of bs ≡ take (line_len bs) bs ∷ header_of (drop (line_len bs) bs)
 unfolding header_lines line_len
 header_of-some [] h = absurd cc
 header_of-some (b ∷ bs) h = rw (raw_lines_first b bs) ((header_step _ _ _ []).0 h)
@@ -110,7 +119,8 @@ blank_is : (b : ℕ) → is_blank b ≡ true → (eqb b 10 ≡ false) × (eqb b 
 blank_is b h = (grind arith, grind arith)
 
 -- a line that begins with a blank belongs to the logical line
-blank_first : (b : ℕ) (bs : List ℕ) → is_blank b ≡ true → header_of (b ∷ bs) ≡ take (line_len (b ∷ bs)) (b ∷ bs) ∷ header_of (drop (line_len (b ∷ bs)) (b ∷ bs))
+blank_first : (b : ℕ) (bs : List ℕ) → is_blank b ≡ true → header_of (b ∷ bs) ≡ take (line_len (b ∷ bs)) (b ∷ bs)
+    ∷ header_of (drop (line_len (b ∷ bs)) (b ∷ bs))
 unfolding line_len
 blank_first b bs h =
     let no = blank_is b h in
@@ -125,12 +135,16 @@ unfolding line_len
 begins_first b bs = begins_take (eqb b 10) (line_len bs) b bs
 
 -- the next line belongs to the logical line
-continued : (begun : List ℕ) (bs : List ℕ) → begins_blank bs ≡ true → logical_from begun (header_of bs) ≡ logical_from (begun ++ take (line_len bs) bs) (header_of (drop (line_len bs) bs))
+continued : (begun : List ℕ) (bs : List ℕ) → begins_blank bs ≡ true
+    → logical_from begun (header_of bs) ≡ logical_from (begun
+    ++ take (line_len bs) bs) (header_of (drop (line_len bs) bs))
 unfolding logical_from
 continued begun [] h = absurd cc
 continued begun (b ∷ bs) h = rw (blank_first b bs h, begins_first b bs, h) refl
 
-complete_at : (t : Bool) (begun : List ℕ) (b : ℕ) (bs : List ℕ) → nat_lt 0 (length (without_end (take (line_len (b ∷ bs)) (b ∷ bs)))) ≡ t → is_blank b ≡ false → logical_from begun (header_of (b ∷ bs)) ≡ begun ∷ logical_lines (header_of (b ∷ bs))
+complete_at : (t : Bool) (begun : List ℕ) (b : ℕ) (bs : List ℕ)
+    → nat_lt 0 (length (without_end (take (line_len (b ∷ bs)) (b ∷ bs)))) ≡ t → is_blank b ≡ false
+    → logical_from begun (header_of (b ∷ bs)) ≡ begun ∷ logical_lines (header_of (b ∷ bs))
 unfolding logical_from logical_lines
 complete_at true begun b bs e h = rw (header_of-some (b ∷ bs) e, begins_first b bs, h) refl
 complete_at false begun b bs e h = rw (header_of-none (b ∷ bs) e) refl
@@ -147,7 +161,8 @@ begins_drop bs n d h = rw (drop-cons bs n d) refl
 pub begins_past : (bs : List ℕ) (n : ℕ) → length bs ≤ n → begins_blank (drop n bs) ≡ false
 begins_past bs n h = rw (drop_all n bs h) refl
 
-first_at : (t : Bool) (bs : List ℕ) → nat_lt 0 (length (without_end (take (line_len bs) bs))) ≡ t → header_of bs ≢ [] → logical_lines (header_of bs) ≡ logical_from (take (line_len bs) bs) (header_of (drop (line_len bs) bs))
+first_at : (t : Bool) (bs : List ℕ) → nat_lt 0 (length (without_end (take (line_len bs) bs))) ≡ t → header_of bs ≢ []
+    → logical_lines (header_of bs) ≡ logical_from (take (line_len bs) bs) (header_of (drop (line_len bs) bs))
 unfolding logical_lines
 first_at true bs e h = rw (header_of-some bs e) refl
 first_at false bs e h = absurd (h (header_of-none bs e))
@@ -155,7 +170,8 @@ first_at false bs e h = absurd (h (header_of-none bs e))
 pub Begun-first : (bs : List ℕ) (n : ℕ) → header_of bs ≢ [] → n ≡ line_len bs → n ≤ length bs → 0 < n → Begun bs n
 Begun-first bs n h e w p = record { some = p; within = w; same = rw e (first_at _ bs refl h) }
 
-pub Begun-more : (bs : List ℕ) (n m : ℕ) → Begun bs n → n < length bs → is_blank (get_or bs n 0) ≡ true → m ≡ line_len (drop n bs) → m ≤ length (drop n bs) → Begun bs (n + m)
+pub Begun-more : (bs : List ℕ) (n m : ℕ) → Begun bs n → n < length bs → is_blank (get_or bs n 0) ≡ true
+    → m ≡ line_len (drop n bs) → m ≤ length (drop n bs) → Begun bs (n + m)
 Begun-more bs n m b h k e w =
     let blank : begins_blank (drop n bs) ≡ true = begins_drop bs n 0 h ∙ k in
     record {
@@ -164,7 +180,8 @@ Begun-more bs n m b h k e w =
       same = rw (take-add n m bs, ← (drop-drop m n bs), e) (b.same ∙ continued (take n bs) (drop n bs) blank);
     }
 
-pub Begun-done : (bs : List ℕ) (n : ℕ) → Begun bs n → begins_blank (drop n bs) ≡ false → logical_lines (header_of bs) ≡ take n bs ∷ logical_lines (header_of (drop n bs))
+pub Begun-done : (bs : List ℕ) (n : ℕ) → Begun bs n → begins_blank (drop n bs) ≡ false
+    → logical_lines (header_of bs) ≡ take n bs ∷ logical_lines (header_of (drop n bs))
 Begun-done bs n b h = b.same ∙ complete (take n bs) (drop n bs) h
 
 pub header_some : (bs : List ℕ) → header_of bs ≢ [] → 0 < length bs

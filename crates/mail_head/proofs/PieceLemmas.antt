@@ -1,5 +1,6 @@
 -- The header of a message that comes in pieces.
-use Rattle.std.proofs.Common.{◌≡◌, ℕ, zero, suc, ◌+◌, ◌-◌, ◌≤◌, Bool, true, false, cond, eqb, List, [], ◌∷◌, ◌++◌, length, take, refl, sym, ap, ◌∙◌, arith, get_or, ◌⊎◌, inl, inr, append_assoc, eqb-true}
+use Rattle.std.proofs.Common.{◌≡◌, ℕ, zero, suc, ◌+◌, ◌-◌, ◌≤◌, Bool, true, false, cond, eqb, List, [], ◌∷◌, ◌++◌}
+use Rattle.std.proofs.Common.{length, take, refl, sym, ap, ◌∙◌, arith, get_or, ◌⊎◌, inl, inr, append_assoc, eqb-true}
 use Rattle.std.proofs.lemmas.List.{append-nil, length-append, take_at, get_or_at, length-take}
 use Rattle.std.specs.Prelude.{nat_lt, ◌&&◌}
 use Rattle.std.specs.List.{concat}
@@ -93,7 +94,8 @@ without_end-open t h = rw (NoEnd-get t (length t - 1) h, and-false (nat_lt 0 (le
 pub header_of-open : (t : List ℕ) → NoEnd t → concat (header_of t) ≡ t
 unfolding header_lines raw_lines
 header_of-open [] h = refl
-header_of-open (b ∷ t) h = let some : nat_lt 0 (length (b ∷ t)) ≡ true = grind arith in rw (raw_lines_open b t h, without_end-open (b ∷ t) h, some) (append-nil (b ∷ t))
+header_of-open (b ∷ t) h = let some : nat_lt 0 (length (b ∷ t)) ≡ true = grind arith in
+    rw (raw_lines_open b t h, without_end-open (b ∷ t) h, some) (append-nil (b ∷ t))
 
 pub header_of-lf : (r : List ℕ) → header_of (10 ∷ r) ≡ []
 unfolding header_lines raw_lines
@@ -135,7 +137,8 @@ cut_none bs state = record {
   state = state;
 }
 
-ends_line : (t lead : List ℕ) → (lead ≡ []) ⊎ ((front : List ℕ) × (lead ≡ front ++ 10 ∷ [])) → (t ++ 10 ∷ lead ≡ []) ⊎ ((front : List ℕ) × (t ++ 10 ∷ lead ≡ front ++ 10 ∷ []))
+ends_line : (t lead : List ℕ) → (lead ≡ []) ⊎ ((front : List ℕ) × (lead ≡ front ++ 10 ∷ []))
+    → (t ++ 10 ∷ lead ≡ []) ⊎ ((front : List ℕ) × (t ++ 10 ∷ lead ≡ front ++ 10 ∷ []))
 ends_line t lead (inl e) = inr (t, rw e refl)
 ends_line t lead (inr e) = inr (t ++ 10 ∷ e.0, ap (λ xs. t ++ 10 ∷ xs) e.1 ∙ sym (append_assoc t (10 ∷ e.0) (10 ∷ [])))
 
@@ -148,7 +151,8 @@ cut_more bs t r e h k c =
       lead = t ++ 10 ∷ c.lead;
       rest = c.rest;
       joined = e ∙ ap (λ xs. t ++ 10 ∷ xs) c.joined ∙ sym (first c.rest);
-      lines = λ q. ap header_of (first q) ∙ header_of-line t (c.lead ++ q) h k ∙ ap (λ x. (t ++ 10 ∷ []) ∷ x) (c.lines q) ∙ ap (λ x. x ++ header_of q) (sym (header_of-line t c.lead h k));
+      lines = λ q. ap header_of (first q) ∙ header_of-line t (c.lead ++ q) h k
+          ∙ ap (λ x. (t ++ 10 ∷ []) ∷ x) (c.lines q) ∙ ap (λ x. x ++ header_of q) (sym (header_of-line t c.lead h k));
       octets = ap concat (header_of-line t c.lead h k) ∙ ap (λ x. (t ++ 10 ∷ []) ++ x) c.octets ∙ front;
       line_start = ends_line t c.lead c.line_start;
       state = c.state;
@@ -160,7 +164,8 @@ Shorter n = (r : List ℕ) → length r ≤ n → Cut r
 cut_text : (n : ℕ) → Shorter n → (bs t r : List ℕ) → bs ≡ t ++ 10 ∷ r → NoEnd t → HasText t → length bs ≤ suc n → Cut bs
 cut_text n more bs t r e k text h = cut_more bs t r e k text (more r (omega (arith, length-append t (10 ∷ r), ap length e)))
 
-cut_one : (n : ℕ) → Shorter n → (bs : List ℕ) (b : ℕ) (r : List ℕ) (t : Bool) → eqb b 13 ≡ t → bs ≡ b ∷ 10 ∷ r → NoEnd (b ∷ []) → length bs ≤ suc n → Cut bs
+cut_one : (n : ℕ) → Shorter n → (bs : List ℕ) (b : ℕ) (r : List ℕ) (t : Bool) → eqb b 13 ≡ t → bs ≡ b ∷ 10 ∷ r
+    → NoEnd (b ∷ []) → length bs ≤ suc n → Cut bs
 cut_one n more bs b r true e f k h = cut_none bs (crlf r (f ∙ ap (λ x. x ∷ 10 ∷ r) (eqb-true b 13 e)))
 cut_one n more bs b r false e f k h = cut_text n more bs (b ∷ []) r f k (HasText-one b e) h
 

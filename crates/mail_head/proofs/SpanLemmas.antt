@@ -1,5 +1,7 @@
 -- The computed fields of a message are those of the spans that it is cut into.
-use Rattle.std.proofs.Common.{◌≡◌, ℕ, suc, ◌+◌, ◌-◌, ◌<◌, Bool, true, false, cond, eqb, List, [], ◌∷◌, ◌++◌, length, take, drop, refl, sym, ap, ◌∙◌, subst, arith, inl, inr, ◌⊎◌, Option, Some, None, append_assoc, eqb-true, eq-eqb, lt-ltb, ltb-true}
+use Rattle.std.proofs.Common.{◌≡◌, ℕ, suc, ◌+◌, ◌-◌, ◌<◌, Bool, true, false, cond, eqb, List, [], ◌∷◌, ◌++◌, length}
+use Rattle.std.proofs.Common.{take, drop, refl, sym, ap, ◌∙◌, subst, arith, inl, inr, ◌⊎◌, Option, Some, None}
+use Rattle.std.proofs.Common.{append_assoc, eqb-true, eq-eqb, lt-ltb, ltb-true}
 use Rattle.std.proofs.Math.Seq.{take-append_seam}
 use Rattle.std.proofs.lemmas.List.{append-nil, length-append, take-append-drop}
 use Rattle.std.proofs.lemmas.List.Folds.{concat-append, length-prefix_len}
@@ -8,7 +10,9 @@ use Rattle.std.specs.Prelude.{nat_lt, slice_index, not, ◌&&◌, ◌==◌}
 use Rattle.std.specs.List.{list_all, concat, prefix_len, filter_map, cons_option}
 use Rattle.mail_head.specs.Lines.{is_blank, into_first, raw_lines, without_last, without_end, header_lines, begins_blank, logical_from, logical_lines}
 use Rattle.mail_head.specs.Fields.{is_name_octet, begins_with, field_of, fields_of}
-use Rattle.mail_head.specs.Spans.{not_lf, LinesOf, no_lines, last_line, whole_line, has_octets, begins_empty, IsHeader, begins_anew, LogicalOf, no_logical, logical, EndsIn, IsEnd, IsField, FieldsAmong, no_fields, field, passed, AreFields, FieldsLaw}
+use Rattle.mail_head.specs.Spans.{not_lf, LinesOf, no_lines, last_line, whole_line, has_octets, begins_empty, IsHeader}
+use Rattle.mail_head.specs.Spans.{begins_anew, LogicalOf, no_logical, logical, EndsIn, IsEnd, IsField, FieldsAmong}
+use Rattle.mail_head.specs.Spans.{no_fields, field, passed, AreFields, FieldsLaw}
 
 no_equation : true ≡ false → ⊥
 no_equation e = absurd cc
@@ -26,7 +30,8 @@ lines_from [] = no_lines
 lines_from (b ∷ bs) = by (eqb b 10) refl (lines_from bs)
   where
     by : (t : Bool) → eqb b 10 ≡ t → LinesOf bs (raw_lines bs) → LinesOf (b ∷ bs) (cond t ((b ∷ []) ∷ raw_lines bs) (into_first b (raw_lines bs)))
-    by true e h = let P : ℕ → Type 0 = λ x. LinesOf (x ∷ bs) ((x ∷ []) ∷ raw_lines bs) in subst P (sym (eqb-true b 10 e)) (whole_line [] bs (raw_lines bs) refl h)
+    by true e h = let P : ℕ → Type 0 = λ x. LinesOf (x ∷ bs) ((x ∷ []) ∷ raw_lines bs) in
+        subst P (sym (eqb-true b 10 e)) (whole_line [] bs (raw_lines bs) refl h)
     by false e h = into b (ap not e) h
 
 line_last : (b : ℕ) (bs : List ℕ) → list_all not_lf (b ∷ bs) ≡ true → raw_lines (b ∷ bs) ≡ (b ∷ bs) ∷ []
@@ -34,14 +39,16 @@ unfolding raw_lines
 line_last b [] h = ap (λ t. cond t ((b ∷ []) ∷ []) ((b ∷ []) ∷ [])) (not-true (eqb b 10) (and_parts (not_lf b) true h).0)
 line_last b (c ∷ cs) h =
     let parts = and_parts (not_lf b) (list_all not_lf (c ∷ cs)) h in
-    ap (λ t. cond t ((b ∷ []) ∷ raw_lines (c ∷ cs)) (into_first b (raw_lines (c ∷ cs)))) (not-true (eqb b 10) parts.0) ∙ ap (into_first b) (line_last c cs parts.1)
+    ap (λ t. cond t ((b ∷ []) ∷ raw_lines (c ∷ cs)) (into_first b (raw_lines (c ∷ cs)))) (not-true (eqb b 10) parts.0)
+    ∙ ap (into_first b) (line_last c cs parts.1)
 
 line_whole : (octets rest : List ℕ) → list_all not_lf octets ≡ true → raw_lines (octets ++ 10 ∷ rest) ≡ (octets ++ 10 ∷ []) ∷ raw_lines rest
 unfolding raw_lines
 line_whole [] rest h = refl
 line_whole (b ∷ octets) rest h =
     let parts = and_parts (not_lf b) (list_all not_lf octets) h in
-    ap (λ t. cond t ((b ∷ []) ∷ raw_lines (octets ++ 10 ∷ rest)) (into_first b (raw_lines (octets ++ 10 ∷ rest)))) (not-true (eqb b 10) parts.0) ∙ ap (into_first b) (line_whole octets rest parts.1)
+    ap (λ t. cond t ((b ∷ []) ∷ raw_lines (octets ++ 10 ∷ rest)) (into_first b (raw_lines (octets ++ 10 ∷ rest))))
+    (not-true (eqb b 10) parts.0) ∙ ap (into_first b) (line_whole octets rest parts.1)
 
 no_raw_lines : raw_lines [] ≡ []
 unfolding raw_lines
@@ -60,7 +67,13 @@ header_from [] = record { rest = []; cut = refl; some = refl; ends = refl }
 header_from (line ∷ lines) = by (has_octets line) refl (header_from lines)
   where
     by : (t : Bool) → has_octets line ≡ t → IsHeader lines (header_lines lines) → IsHeader (line ∷ lines) (cond t (line ∷ header_lines lines) [])
-    by true e h = record { rest = h.rest; cut = ap (λ x. line ∷ x) h.cut; some = and_from (has_octets line) (list_all has_octets (header_lines lines)) e h.some; ends = h.ends }
+    by true e h = record {
+      rest = h.rest;
+      cut = ap (λ x. line ∷ x) h.cut;
+      some =
+          and_from (has_octets line) (list_all has_octets (header_lines lines)) e h.some;
+      ends = h.ends;
+    }
     by false e h = record { rest = line ∷ lines; cut = refl; some = refl; ends = ap not e }
 
 header_is : (header rest : List (List ℕ)) → list_all has_octets header ≡ true → begins_empty rest ≡ true → header_lines (header ++ rest) ≡ header
@@ -76,7 +89,8 @@ header_to lines header h = ap header_lines h.cut ∙ header_is header h.rest h.s
 
 -- logical lines
 
-all_more : (folded : List (List ℕ)) (line : List ℕ) → list_all begins_blank folded ≡ true → begins_blank line ≡ true → list_all begins_blank (folded ++ line ∷ []) ≡ true
+all_more : (folded : List (List ℕ)) (line : List ℕ) → list_all begins_blank folded ≡ true → begins_blank line ≡ true
+    → list_all begins_blank (folded ++ line ∷ []) ≡ true
 all_more [] line h e = and_from (begins_blank line) true e refl
 all_more (f ∷ folded) line h e =
     let parts = and_parts (begins_blank f) (list_all begins_blank folded) h in
@@ -85,10 +99,14 @@ all_more (f ∷ folded) line h e =
 abbrev Begun : List ℕ → List (List ℕ) → List (List ℕ) → Type 0
 Begun line folded lines = LogicalOf (line ∷ (folded ++ lines)) (logical_from (line ++ concat folded) lines)
 
-one_more : (line : List ℕ) (folded : List (List ℕ)) (next : List ℕ) (lines : List (List ℕ)) → Begun line (folded ++ next ∷ []) lines → LogicalOf (line ∷ (folded ++ next ∷ lines)) (logical_from ((line ++ concat folded) ++ next) lines)
+one_more : (line : List ℕ) (folded : List (List ℕ)) (next : List ℕ) (lines : List (List ℕ))
+    → Begun line (folded ++ next ∷ []) lines
+    → LogicalOf (line ∷ (folded ++ next ∷ lines)) (logical_from ((line ++ concat folded) ++ next) lines)
 one_more line folded next lines h =
-    let joined : concat (folded ++ next ∷ []) ≡ concat folded ++ next = concat-append folded (next ∷ []) ∙ ap (λ x. concat folded ++ x) (append-nil next) in
-    let begun : line ++ concat (folded ++ next ∷ []) ≡ (line ++ concat folded) ++ next = ap (λ x. line ++ x) joined ∙ sym (append_assoc line (concat folded) next) in
+    let joined : concat (folded ++ next ∷ []) ≡ concat folded ++ next = concat-append folded (next ∷ [])
+    ∙ ap (λ x. concat folded ++ x) (append-nil next) in
+    let begun : line ++ concat (folded ++ next ∷ []) ≡ (line ++ concat folded) ++ next = ap (λ x. line ++ x) joined
+    ∙ sym (append_assoc line (concat folded) next) in
     let P : List (List ℕ) → Type 0 = λ x. LogicalOf (line ∷ x) (logical_from (line ++ concat (folded ++ next ∷ [])) lines) in
     let Q : List ℕ → Type 0 = λ x. LogicalOf (line ∷ (folded ++ next ∷ lines)) (logical_from x lines) in
     subst Q begun (subst P (append_assoc folded (next ∷ []) lines) h)
@@ -98,7 +116,10 @@ unfolding logical_from
 joined_from [] line folded h = logical line folded [] [] h refl no_logical
 joined_from (next ∷ lines) line folded h = by (begins_blank next) refl (λ more k. joined_from lines line more k) (joined_from lines next [] refl)
   where
-    by : (t : Bool) → begins_blank next ≡ t → ((more : List (List ℕ)) → list_all begins_blank more ≡ true → Begun line more lines) → Begun next [] lines → LogicalOf (line ∷ (folded ++ next ∷ lines)) (cond t (logical_from ((line ++ concat folded) ++ next) lines) ((line ++ concat folded) ∷ logical_from next lines))
+    by : (t : Bool) → begins_blank next ≡ t → ((more : List (List ℕ)) → list_all begins_blank more ≡ true
+        → Begun line more lines) → Begun next [] lines
+        → LogicalOf (line ∷ (folded ++ next ∷ lines)) (cond t (logical_from ((line ++ concat folded)
+        ++ next) lines) ((line ++ concat folded) ∷ logical_from next lines))
     by true e more anew = one_more line folded next lines (more (folded ++ next ∷ []) (all_more folded next h e))
     by false e more anew =
         let P : List ℕ → Type 0 = λ x. LogicalOf (next ∷ lines) (logical_from x lines) in
@@ -107,15 +128,21 @@ joined_from (next ∷ lines) line folded h = by (begins_blank next) refl (λ mor
 logical_all : (lines : List (List ℕ)) → LogicalOf lines (logical_lines lines)
 unfolding logical_lines
 logical_all [] = no_logical
-logical_all (line ∷ lines) = let P : List ℕ → Type 0 = λ x. LogicalOf (line ∷ lines) (logical_from x lines) in subst P (append-nil line) (joined_from lines line [] refl)
+logical_all (line ∷ lines) = let P : List ℕ → Type 0 = λ x. LogicalOf (line ∷ lines) (logical_from x lines) in
+    subst P (append-nil line) (joined_from lines line [] refl)
 
-joined_to : (folded : List (List ℕ)) (begun : List ℕ) (rest : List (List ℕ)) → list_all begins_blank folded ≡ true → begins_anew rest ≡ true → logical_from begun (folded ++ rest) ≡ (begun ++ concat folded) ∷ logical_lines rest
+joined_to : (folded : List (List ℕ)) (begun : List ℕ) (rest : List (List ℕ)) → list_all begins_blank folded ≡ true
+    → begins_anew rest ≡ true → logical_from begun (folded ++ rest) ≡ (begun ++ concat folded) ∷ logical_lines rest
 unfolding logical_from logical_lines
 joined_to [] begun [] h anew = ap (λ x. x ∷ []) (sym (append-nil begun))
-joined_to [] begun (line ∷ lines) h anew = ap (λ t. cond t (logical_from (begun ++ line) lines) (begun ∷ logical_from line lines)) (not-true (begins_blank line) anew) ∙ ap (λ x. x ∷ logical_from line lines) (sym (append-nil begun))
+joined_to [] begun (line ∷ lines) h anew =
+    ap (λ t. cond t (logical_from (begun ++ line) lines) (begun ∷ logical_from line lines))
+    (not-true (begins_blank line) anew) ∙ ap (λ x. x ∷ logical_from line lines) (sym (append-nil begun))
 joined_to (f ∷ folded) begun rest h anew =
     let parts = and_parts (begins_blank f) (list_all begins_blank folded) h in
-    ap (λ t. cond t (logical_from (begun ++ f) (folded ++ rest)) (begun ∷ logical_from f (folded ++ rest))) parts.0 ∙ joined_to folded (begun ++ f) rest parts.1 anew ∙ ap (λ x. x ∷ logical_lines rest) (append_assoc begun f (concat folded))
+    ap (λ t. cond t (logical_from (begun ++ f) (folded ++ rest)) (begun ∷ logical_from f (folded ++ rest))) parts.0
+    ∙ joined_to folded (begun ++ f) rest parts.1 anew
+    ∙ ap (λ x. x ∷ logical_lines rest) (append_assoc begun f (concat folded))
 
 no_logical_lines : logical_lines [] ≡ []
 unfolding logical_lines
@@ -127,7 +154,8 @@ some_logical_lines line lines = refl
 
 logical_to : {lines more : List (List ℕ)} → LogicalOf lines more → logical_lines lines ≡ more
 logical_to no_logical = no_logical_lines
-logical_to (logical line folded rest more h anew k) = some_logical_lines line (folded ++ rest) ∙ joined_to folded line rest h anew ∙ ap (λ x. (line ++ concat folded) ∷ x) (logical_to k)
+logical_to (logical line folded rest more h anew k) = some_logical_lines line (folded ++ rest)
+    ∙ joined_to folded line rest h anew ∙ ap (λ x. (line ++ concat folded) ∷ x) (logical_to k)
 
 -- line ends
 
@@ -144,19 +172,25 @@ less_one front b = omega (arith, length-append front (b ∷ []))
 test_at : (front : List ℕ) (b c : ℕ) → test c (front ++ b ∷ []) ≡ eqb b c
 test_at front b c =
     let some : nat_lt 0 (length (front ++ b ∷ [])) ≡ true = lt-ltb 0 (length (front ++ b ∷ [])) (omega (arith, length-append front (b ∷ []))) in
-    ap (λ t. t && (slice_index (front ++ b ∷ []) (length (front ++ b ∷ []) - 1) == c)) some ∙ ap (λ k. slice_index (front ++ b ∷ []) k == c) (less_one front b) ∙ ap (λ x. x == c) (last_at front b)
+    ap (λ t. t && (slice_index (front ++ b ∷ []) (length (front ++ b ∷ []) - 1) == c)) some
+    ∙ ap (λ k. slice_index (front ++ b ∷ []) k == c) (less_one front b) ∙ ap (λ x. x == c) (last_at front b)
 
 cut_last : (front : List ℕ) (b : ℕ) → take (length (front ++ b ∷ []) - 1) (front ++ b ∷ []) ≡ front
 cut_last front b = ap (λ k. take k (front ++ b ∷ [])) (less_one front b) ∙ take-append_seam front (b ∷ [])
 
 -- the last octet is cut off where it is c
 without_it : (front : List ℕ) (c : ℕ) → without_last c (front ++ c ∷ []) ≡ front
-without_it front c = ap (λ t. cond t (take (length (front ++ c ∷ []) - 1) (front ++ c ∷ [])) (front ++ c ∷ [])) (test_at front c c ∙ eq-eqb c c refl) ∙ cut_last front c
+without_it front c =
+    ap (λ t. cond t (take (length (front ++ c ∷ []) - 1) (front ++ c ∷ [])) (front ++ c ∷ [])) (test_at front c c
+    ∙ eq-eqb c c refl) ∙ cut_last front c
 
 pub without_lf : (front : List ℕ) → without_end (front ++ 10 ∷ []) ≡ without_last 13 front
-without_lf front = ap (λ t. cond t (without_last 13 (without_last 10 (front ++ 10 ∷ []))) (front ++ 10 ∷ [])) (test_at front 10 10) ∙ ap (without_last 13) (without_it front 10)
+without_lf front =
+    ap (λ t. cond t (without_last 13 (without_last 10 (front ++ 10 ∷ []))) (front ++ 10 ∷ [])) (test_at front 10 10)
+    ∙ ap (without_last 13) (without_it front 10)
 
-last_cons : (x : ℕ) (bs : List ℕ) → (bs ≡ []) ⊎ ((front : List ℕ) × (b : ℕ) × (bs ≡ front ++ b ∷ [])) → (front : List ℕ) × (b : ℕ) × (x ∷ bs ≡ front ++ b ∷ [])
+last_cons : (x : ℕ) (bs : List ℕ) → (bs ≡ []) ⊎ ((front : List ℕ) × (b : ℕ) × (bs ≡ front ++ b ∷ [])) → (front : List ℕ)
+    × (b : ℕ) × (x ∷ bs ≡ front ++ b ∷ [])
 last_cons x bs (inl e) = ([], x, ap (λ y. x ∷ y) e)
 last_cons x bs (inr (front, b, e)) = (x ∷ front, b, ap (λ y. x ∷ y) e)
 
@@ -185,9 +219,12 @@ test_no c bs no_end = elim (ends_or c bs) [
 ]
 
 end_to : (body end : List ℕ) → IsEnd body end → without_end (body ++ end) ≡ body
-end_to body end (inl (e, no_end)) = ap (λ x. without_end (body ++ x)) e ∙ ap without_end (append-nil body) ∙ ap (λ t. cond t (without_last 13 (without_last 10 body)) body) (test_no 10 body no_end)
-end_to body end (inr (inl (e, no_end))) = ap (λ x. without_end (body ++ x)) e ∙ without_lf body ∙ ap (λ t. cond t (take (length body - 1) body) body) (test_no 13 body no_end)
-end_to body end (inr (inr e)) = ap (λ x. without_end (body ++ x)) e ∙ ap without_end (sym (append_assoc body (13 ∷ []) (10 ∷ []))) ∙ without_lf (body ++ 13 ∷ []) ∙ without_it body 13
+end_to body end (inl (e, no_end)) = ap (λ x. without_end (body ++ x)) e ∙ ap without_end (append-nil body)
+    ∙ ap (λ t. cond t (without_last 13 (without_last 10 body)) body) (test_no 10 body no_end)
+end_to body end (inr (inl (e, no_end))) = ap (λ x. without_end (body ++ x)) e ∙ without_lf body
+    ∙ ap (λ t. cond t (take (length body - 1) body) body) (test_no 13 body no_end)
+end_to body end (inr (inr e)) = ap (λ x. without_end (body ++ x)) e
+    ∙ ap without_end (sym (append_assoc body (13 ∷ []) (10 ∷ []))) ∙ without_lf (body ++ 13 ∷ []) ∙ without_it body 13
 
 abbrev Ended : List ℕ → Type 0
 Ended text = (body : List ℕ) × (end : List ℕ) × (text ≡ body ++ end) × IsEnd body end
@@ -232,18 +269,29 @@ blank_is_no_name b h = elim (cases_Bool (eqb b 32)) [
   ]
 ]
 
-name_run : (name blanks tail : List ℕ) → list_all is_name_octet name ≡ true → list_all is_blank blanks ≡ true → prefix_len is_name_octet (name ++ (blanks ++ 58 ∷ tail)) ≡ length name
+name_run : (name blanks tail : List ℕ) → list_all is_name_octet name ≡ true → list_all is_blank blanks ≡ true
+    → prefix_len is_name_octet (name ++ (blanks ++ 58 ∷ tail)) ≡ length name
 name_run name [] tail h k = run_stops is_name_octet name 58 tail h refl
-name_run name (b ∷ blanks) tail h k = run_stops is_name_octet name b (blanks ++ 58 ∷ tail) h (blank_is_no_name b (and_parts (is_blank b) (list_all is_blank blanks) k).0)
+name_run name (b ∷ blanks) tail h k = run_stops is_name_octet name b (blanks
+    ++ 58 ∷ tail) h (blank_is_no_name b (and_parts (is_blank b) (list_all is_blank blanks) k).0)
 
-field_written : (name blanks tail : List ℕ) → 0 < length name → list_all is_name_octet name ≡ true → list_all is_blank blanks ≡ true → field_of (name ++ (blanks ++ 58 ∷ tail)) ≡ Some (name, without_end tail)
+field_written : (name blanks tail : List ℕ) → 0 < length name → list_all is_name_octet name ≡ true
+    → list_all is_blank blanks ≡ true → field_of (name ++ (blanks ++ 58 ∷ tail)) ≡ Some (name, without_end tail)
 unfolding field_of
 field_written name blanks tail some h k =
     let named : nat_lt 0 (length name) ≡ true = lt-ltb 0 (length name) some in
-    rw (name_run name blanks tail h k, take-append_seam name (blanks ++ 58 ∷ tail), drop_run name (blanks ++ 58 ∷ tail), run_stops is_blank blanks 58 tail k refl, drop_run blanks (58 ∷ tail), named) refl
+    rw (
+      name_run name blanks tail h k,
+      take-append_seam name (blanks ++ 58 ∷ tail),
+      drop_run name (blanks ++ 58 ∷ tail),
+      run_stops is_blank blanks 58 tail k refl,
+      drop_run blanks (58 ∷ tail),
+      named,
+    ) refl
 
 field_to : (line name body : List ℕ) → IsField line name body → field_of line ≡ Some (name, body)
-field_to line name body h = ap field_of h.joined ∙ field_written name h.blanks (body ++ h.end) h.some h.octets h.blank ∙ ap (λ x. Some (name, x)) (end_to body h.end h.ends)
+field_to line name body h = ap field_of h.joined ∙ field_written name h.blanks (body ++ h.end) h.some h.octets h.blank
+    ∙ ap (λ x. Some (name, x)) (end_to body h.end h.ends)
 
 chosen_pair : {X Y : Type 0} (t : Bool) (x : X) (y : Y) (p : X × Y) → cond t (Some (x, y)) None ≡ Some p → (t ≡ true) × (x ≡ p.0) × (y ≡ p.1)
 chosen_pair true x y p h = (refl, cc, cc)
@@ -253,7 +301,10 @@ colon_first : (bs : List ℕ) → begins_with 58 bs ≡ true → bs ≡ 58 ∷ d
 colon_first [] h = absurd cc
 colon_first (b ∷ bs) h = ap (λ x. x ∷ bs) (eqb-true b 58 h)
 
-field_is : (line name body tail : List ℕ) → name ≡ take (prefix_len is_name_octet line) line → nat_lt 0 (prefix_len is_name_octet line) ≡ true → drop (prefix_len is_blank (drop (prefix_len is_name_octet line) line)) (drop (prefix_len is_name_octet line) line) ≡ 58 ∷ tail → without_end tail ≡ body → IsField line name body
+field_is : (line name body tail : List ℕ) → name ≡ take (prefix_len is_name_octet line) line
+    → nat_lt 0 (prefix_len is_name_octet line) ≡ true
+    → drop (prefix_len is_blank (drop (prefix_len is_name_octet line) line)) (drop (prefix_len is_name_octet line) line)
+    ≡ 58 ∷ tail → without_end tail ≡ body → IsField line name body
 field_is line name body tail en some er eb =
     let n = prefix_len is_name_octet line in
     let after = drop n line in
@@ -267,7 +318,8 @@ field_is line name body tail en some er eb =
     record {
       blanks = take k after;
       end = ended.1;
-      joined = sym (take-append-drop n line) ∙ ap (λ x. x ++ after) (sym en) ∙ ap (λ x. name ++ x) (following ∙ ap (λ x. take k after ++ 58 ∷ x) (ended.2 ∙ ap (λ x. x ++ ended.1) same));
+      joined = sym (take-append-drop n line) ∙ ap (λ x. x ++ after) (sym en)
+          ∙ ap (λ x. name ++ x) (following ∙ ap (λ x. take k after ++ 58 ∷ x) (ended.2 ∙ ap (λ x. x ++ ended.1) same));
       some = omega (arith, long, ltb-true 0 n some);
       octets = subst Q (sym en) (run_passes is_name_octet line);
       blank = run_passes is_blank after;
@@ -288,7 +340,8 @@ fields_from : (lines : List (List ℕ)) → FieldsAmong lines (filter_map field_
 fields_from [] = no_fields
 fields_from (line ∷ lines) = by (field_of line) refl (fields_from lines)
   where
-    by : (o : Option (List ℕ × List ℕ)) → field_of line ≡ o → FieldsAmong lines (filter_map field_of lines) → FieldsAmong (line ∷ lines) (cons_option o (filter_map field_of lines))
+    by : (o : Option (List ℕ × List ℕ)) → field_of line ≡ o → FieldsAmong lines (filter_map field_of lines)
+        → FieldsAmong (line ∷ lines) (cons_option o (filter_map field_of lines))
     by (Some (name, body)) e h = field line name body lines (filter_map field_of lines) (field_from line name body e) h
     by None e h = passed line lines (filter_map field_of lines) (λ name body k. none_some (name, body) (sym e ∙ field_to line name body k)) h
       where
@@ -301,14 +354,25 @@ not_field line (Some (name, body)) e h = absurd (h name body (field_from line na
 
 fields_to : {lines : List (List ℕ)} {fields : List (List ℕ × List ℕ)} → FieldsAmong lines fields → filter_map field_of lines ≡ fields
 fields_to no_fields = refl
-fields_to (field line name body lines fields h more) = ap (λ o. cons_option o (filter_map field_of lines)) (field_to line name body h) ∙ ap (λ x. (name, body) ∷ x) (fields_to more)
-fields_to (passed line lines fields h more) = ap (λ o. cons_option o (filter_map field_of lines)) (not_field line (field_of line) refl h) ∙ fields_to more
+fields_to (field line name body lines fields h more) =
+    ap (λ o. cons_option o (filter_map field_of lines)) (field_to line name body h)
+    ∙ ap (λ x. (name, body) ∷ x) (fields_to more)
+fields_to (passed line lines fields h more) =
+    ap (λ o. cons_option o (filter_map field_of lines)) (not_field line (field_of line) refl h) ∙ fields_to more
 
 -- a message
 
 computed_are_fields : (message : List ℕ) → AreFields message (fields_of message)
 unfolding fields_of
-computed_are_fields message = (raw_lines message, header_lines (raw_lines message), logical_lines (header_lines (raw_lines message)), lines_from message, header_from (raw_lines message), logical_all (header_lines (raw_lines message)), fields_from (logical_lines (header_lines (raw_lines message))))
+computed_are_fields message = (
+  raw_lines message,
+  header_lines (raw_lines message),
+  logical_lines (header_lines (raw_lines message)),
+  lines_from message,
+  header_from (raw_lines message),
+  logical_all (header_lines (raw_lines message)),
+  fields_from (logical_lines (header_lines (raw_lines message))),
+)
 
 are_computed : (message : List ℕ) (fields : List (List ℕ × List ℕ)) → AreFields message fields → fields ≡ fields_of message
 unfolding fields_of
@@ -318,4 +382,8 @@ are_computed message fields (lines, header, joined, of_lines, is_header, of_logi
     sym (ap (filter_map field_of) joined_same ∙ fields_to among)
 
 pub fields_law : FieldsLaw
-fields_law message fields = (λ e. let P : List (List ℕ × List ℕ) → Type 0 = λ x. AreFields message x in subst P (sym e) (computed_are_fields message), are_computed message fields)
+fields_law message fields = (
+  λ e. let P : List (List ℕ × List ℕ) → Type 0 = λ x. AreFields message x in
+      subst P (sym e) (computed_are_fields message),
+  are_computed message fields,
+)

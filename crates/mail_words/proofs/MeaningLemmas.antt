@@ -1,5 +1,7 @@
 -- The computed meaning of a word is what the word means.
-use Rattle.std.proofs.Common.{◌≡◌, ℕ, zero, suc, ◌+◌, ◌*◌, ◌<◌, ◌≤◌, Bool, true, false, cond, eqb, List, [], ◌∷◌, refl, sym, ap, ◌∙◌, subst, arith, inl, inr, Option, Some, None, ◌↔◌, eqb-true, eq-eqb, ne_eqb, leb-true}
+use Rattle.std.proofs.Common.{◌≡◌, ℕ, zero, suc, ◌+◌, ◌*◌, ◌<◌, ◌≤◌, Bool, true, false, cond, eqb, List, [], ◌∷◌, refl}
+use Rattle.std.proofs.Common.{sym, ap, ◌∙◌, subst, arith, inl, inr, Option, Some, None, ◌↔◌, eqb-true, eq-eqb, ne_eqb}
+use Rattle.std.proofs.Common.{leb-true}
 use Rattle.std.proofs.lemmas.Bool.{cases_Bool, and_parts}
 use Rattle.std.specs.Prelude.{option_map, option_and_then, nat_le, not, ◌==◌}
 use Rattle.std.specs.List.{list_all}
@@ -27,11 +29,14 @@ other b c differs is = no_equation (sym (eq-eqb b c is) ∙ differs)
 
 -- Q text, read from the front
 
-itself_or_space : (b : ℕ) (text octets : List ℕ) (t : Bool) → eqb b 95 ≡ t → eqb b 61 ≡ false → QText text octets → QText (b ∷ text) (cond t 32 b ∷ octets)
-itself_or_space b text octets true space differs h = let P : ℕ → Type 0 = λ x. QText (x ∷ text) (32 ∷ octets) in subst P (sym (eqb-true b 95 space)) (q_space text octets h)
+itself_or_space : (b : ℕ) (text octets : List ℕ) (t : Bool) → eqb b 95 ≡ t → eqb b 61 ≡ false → QText text octets
+    → QText (b ∷ text) (cond t 32 b ∷ octets)
+itself_or_space b text octets true space differs h = let P : ℕ → Type 0 = λ x. QText (x ∷ text) (32 ∷ octets) in
+    subst P (sym (eqb-true b 95 space)) (q_space text octets h)
 itself_or_space b text octets false space differs h = q_itself b text octets (other b 61 differs) (other b 95 space) h
 
-plain_is : (b : ℕ) (text octets : List ℕ) → eqb b 61 ≡ false → q_octets Plain (b ∷ text) ≡ Some octets → ((more : List ℕ) → q_octets Plain text ≡ Some more → QText text more) → QText (b ∷ text) octets
+plain_is : (b : ℕ) (text octets : List ℕ) → eqb b 61 ≡ false → q_octets Plain (b ∷ text) ≡ Some octets
+    → ((more : List ℕ) → q_octets Plain text ≡ Some more → QText text more) → QText (b ∷ text) octets
 unfolding q_octets
 plain_is b text octets differs e rest =
     let found = some_map (λ more. cond (eqb b 95) 32 b ∷ more) (q_octets Plain text) octets (rw differs at e) in
@@ -44,13 +49,16 @@ moved b text octets more same e h =
     let Q : ℕ → Type 0 = λ x. QText (x ∷ text) octets in
     subst Q (sym (eqb-true b 61 same)) (subst P e h)
 
-escape_is : (b first second : ℕ) (text octets : List ℕ) → eqb b 61 ≡ true → q_octets Plain (b ∷ first ∷ second ∷ text) ≡ Some octets → ((more : List ℕ) → q_octets Plain text ≡ Some more → QText text more) → QText (b ∷ first ∷ second ∷ text) octets
+escape_is : (b first second : ℕ) (text octets : List ℕ) → eqb b 61 ≡ true
+    → q_octets Plain (b ∷ first ∷ second ∷ text) ≡ Some octets
+    → ((more : List ℕ) → q_octets Plain text ≡ Some more → QText text more) → QText (b ∷ first ∷ second ∷ text) octets
 unfolding q_octets
 escape_is b first second text octets same e rest =
     let high = some_then (λ high. q_octets (Digit high) (second ∷ text)) (hex_value first) octets (rw same at e) in
     let low = some_then (λ low. option_map (λ more. (high.0 * 16 + low) ∷ more) (q_octets Plain text)) (hex_value second) octets high.2 in
     let more = some_map (λ more. (high.0 * 16 + low.0) ∷ more) (q_octets Plain text) octets low.2 in
-    moved b (first ∷ second ∷ text) octets ((high.0 * 16 + low.0) ∷ more.0) same more.2 (q_escape first second high.0 low.0 text more.0 high.1 low.1 (rest more.0 more.1))
+    moved b (first ∷ second ∷ text) octets ((high.0 * 16 + low.0)
+    ∷ more.0) same more.2 (q_escape first second high.0 low.0 text more.0 high.1 low.1 (rest more.0 more.1))
 
 no_digits : (b : ℕ) (octets : List ℕ) → eqb b 61 ≡ true → q_octets Plain (b ∷ []) ≡ Some octets → ⊥
 unfolding q_octets
@@ -147,7 +155,8 @@ pub means_to : (w : Word) (text : List ℕ) → IsWord w → Means w text → te
 unfolding text_of
 means_to w text h m =
     let octets : octets_of w ≡ Some m.octets = (octets_law w m.octets h).1 m.encoded in
-    ap (λ c. option_and_then (λ charset. option_and_then (text_in charset) (octets_of w)) c) m.named ∙ ap (λ o. option_and_then (text_in m.charset) o) octets ∙ m.read
+    ap (λ c. option_and_then (λ charset. option_and_then (text_in charset) (octets_of w)) c) m.named
+    ∙ ap (λ o. option_and_then (text_in m.charset) o) octets ∙ m.read
 
 pub meaning_law : MeaningLaw
 meaning_law w text h = (means_from w text h, means_to w text h)

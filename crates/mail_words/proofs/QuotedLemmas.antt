@@ -28,14 +28,22 @@ option_map-nil (Some x) = refl
 pub Decoded-none : (charset : Charset) (text old : List ℕ) → Decoded charset text text old old Plain
 Decoded-none charset text old = record { small = tt; octets = []; put = written-nil charset old; same = option_map-nil (q_octets Plain text) }
 
-push_octet : (octets : List ℕ) (b : ℕ) (o : Option (List ℕ)) → option_map (λ more. octets ++ more) (option_map (λ more. b ∷ more) o) ≡ option_map (λ more. (octets ++ b ∷ []) ++ more) o
+push_octet : (octets : List ℕ) (b : ℕ) (o : Option (List ℕ))
+    → option_map (λ more. octets ++ more) (option_map (λ more. b ∷ more) o) ≡ option_map (λ more. (octets ++ b ∷ [])
+    ++ more) o
 push_octet octets b None = refl
 push_octet octets b (Some x) = ap Some (sym (append_assoc octets (b ∷ []) x))
 
-put_one : (charset : Charset) (old out new octets : List ℕ) (b : ℕ) → out ≡ old ++ in_utf8 charset octets → new ≡ out ++ in_utf8 charset (b ∷ []) → new ≡ old ++ in_utf8 charset (octets ++ b ∷ [])
-put_one charset old out new octets b h e = e ∙ ap (λ x. x ++ in_utf8 charset (b ∷ [])) h ∙ append_assoc old (in_utf8 charset octets) (in_utf8 charset (b ∷ [])) ∙ ap (λ x. old ++ x) (sym (written-append charset octets (b ∷ [])))
+put_one : (charset : Charset) (old out new octets : List ℕ) (b : ℕ) → out ≡ old ++ in_utf8 charset octets → new ≡ out
+    ++ in_utf8 charset (b ∷ []) → new ≡ old ++ in_utf8 charset (octets ++ b ∷ [])
+put_one charset old out new octets b h e = e ∙ ap (λ x. x ++ in_utf8 charset (b ∷ [])) h
+    ∙ append_assoc old (in_utf8 charset octets) (in_utf8 charset (b ∷ []))
+    ∙ ap (λ x. old ++ x) (sym (written-append charset octets (b ∷ [])))
 
-pub Decoded-plain : (charset : Charset) (text rest following old out new : List ℕ) (place : Place) (b pushed : ℕ) → Decoded charset text rest old out place → place ≡ Plain → rest ≡ b ∷ following → (b ≡ 61 → ⊥) → pushed ≡ cond (eqb b 95) 32 b → new ≡ out ++ in_utf8 charset (pushed ∷ []) → Decoded charset text following old new Plain
+pub Decoded-plain : (charset : Charset) (text rest following old out new : List ℕ) (place : Place) (b pushed : ℕ)
+    → Decoded charset text rest old out place → place ≡ Plain → rest ≡ b ∷ following → (b ≡ 61 → ⊥)
+    → pushed ≡ cond (eqb b 95) 32 b → new ≡ out ++ in_utf8 charset (pushed ∷ [])
+    → Decoded charset text following old new Plain
 unfolding q_octets
 Decoded-plain charset text rest following old out new place b pushed h e l at eb en = record {
   small = tt;
@@ -44,7 +52,9 @@ Decoded-plain charset text rest following old out new place b pushed h e l at eb
   same = sym (push_octet h.octets pushed (q_octets Plain following)) ∙ (rw (e, l, ne_eqb b 61 at, ← eb) at h.same);
 }
 
-pub Decoded-low : (charset : Charset) (text rest following old out new : List ℕ) (place : Place) (b high low : ℕ) → Decoded charset text rest old out place → place ≡ Digit high → rest ≡ b ∷ following → Some low ≡ hex_value b → new ≡ out ++ in_utf8 charset ((high * 16 + low) ∷ []) → Decoded charset text following old new Plain
+pub Decoded-low : (charset : Charset) (text rest following old out new : List ℕ) (place : Place) (b high low : ℕ)
+    → Decoded charset text rest old out place → place ≡ Digit high → rest ≡ b ∷ following → Some low ≡ hex_value b
+    → new ≡ out ++ in_utf8 charset ((high * 16 + low) ∷ []) → Decoded charset text following old new Plain
 unfolding q_octets
 Decoded-low charset text rest following old out new place b high low h e l digit en = record {
   small = tt;

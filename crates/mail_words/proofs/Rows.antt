@@ -34,9 +34,11 @@ unfolding value_of_body display cut_words first_word word_at without_line_ends t
 latin = refl
 
 padded : value_of_body (codes "=?utf-8?b?w7w=?=") ≡ 195 ∷ 188 ∷ []
-unfolding value_of_body display cut_words first_word word_at without_line_ends text_of q_octets text_in charset_named is_utf8 chars lib.Utf8.encode base64_on_literals
+unfolding value_of_body display cut_words first_word word_at without_line_ends text_of q_octets text_in charset_named
+    is_utf8 chars lib.Utf8.encode base64_on_literals
 padded = refl
 
 unpadded : value_of_body (codes "=?utf-8?b?w7w?=") ≡ codes "=?utf-8?b?w7w?="
-unfolding value_of_body display cut_words first_word word_at without_line_ends text_of q_octets text_in charset_named is_utf8 chars lib.Utf8.encode base64_on_literals
+unfolding value_of_body display cut_words first_word word_at without_line_ends text_of q_octets text_in charset_named
+    is_utf8 chars lib.Utf8.encode base64_on_literals
 unpadded = refl

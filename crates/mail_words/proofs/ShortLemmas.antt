@@ -1,5 +1,6 @@
 -- How long a value can be.
-use Rattle.std.proofs.Common.{◌≡◌, ℕ, zero, suc, ◌+◌, ◌-◌, ◌*◌, ◌≤◌, Bool, true, false, cond, List, [], ◌∷◌, ◌++◌, length, refl, ap, arith, inl, inr, Option, Some, None}
+use Rattle.std.proofs.Common.{◌≡◌, ℕ, zero, suc, ◌+◌, ◌-◌, ◌*◌, ◌≤◌, Bool, true, false, cond, List, [], ◌∷◌, ◌++◌}
+use Rattle.std.proofs.Common.{length, refl, ap, arith, inl, inr, Option, Some, None}
 use Rattle.std.proofs.lemmas.List.{length-append, length-take, length-drop}
 use Rattle.std.proofs.lemmas.Str.{length-encode, len_utf8_bounds}
 use Rattle.std.specs.Prelude.{◌&&◌}
@@ -70,21 +71,39 @@ length-gap true gap = omega arith
 length-gap false gap = omega arith
 
 -- a word as it is shown, with the gap before it and what follows it
-length-shown_word : (after_good : Bool) (gap after : List ℕ) (w : Word) (o : Option (List ℕ)) (more : Bool → List ℕ) → IsWord w → text_of w ≡ o → ((good : Bool) → length (more good) ≤ 4 * length after) → length (display_of_word after_good gap w o more) ≤ 4 * (length gap + (length (spelling w) + length after))
+length-shown_word : (after_good : Bool) (gap after : List ℕ) (w : Word) (o : Option (List ℕ)) (more : Bool → List ℕ)
+    → IsWord w → text_of w ≡ o → ((good : Bool) → length (more good) ≤ 4 * length after)
+    → length (display_of_word after_good gap w o more) ≤ 4 * (length gap + (length (spelling w) + length after))
 length-shown_word after_good gap after w (Some text) more h e rest =
     let kept : List ℕ = cond (after_good && list_all is_blank gap) [] gap in
-    omega (arith, length-append kept (text ++ more true), length-append text (more true), length-gap (after_good && list_all is_blank gap) gap, length-word w text h e, rest true)
-length-shown_word after_good gap after w None more h e rest = omega (arith, length-append gap (spelling w ++ more false), length-append (spelling w) (more false), rest false)
+    omega (
+      arith,
+      length-append kept (text ++ more true),
+      length-append text (more true),
+      length-gap (after_good && list_all is_blank gap) gap,
+      length-word w text h e,
+      rest true,
+    )
+length-shown_word after_good gap after w None more h e rest =
+    omega (arith, length-append gap (spelling w ++ more false), length-append (spelling w) (more false), rest false)
 
 AllShort : ℕ → Type 0
 AllShort n = (good : Bool) (bs : List ℕ) → length (display good (cut_words n bs).0 (cut_words n bs).1) ≤ 4 * length bs
 
-length-cut : (n : ℕ) (after_good : Bool) (bs : List ℕ) (o : Option Found) → first_word true bs ≡ o → AllShort n → length (display after_good (cut_at bs o (cut_words n)).0 (cut_at bs o (cut_words n)).1) ≤ 4 * length bs
+length-cut : (n : ℕ) (after_good : Bool) (bs : List ℕ) (o : Option Found) → first_word true bs ≡ o → AllShort n
+    → length (display after_good (cut_at bs o (cut_words n)).0 (cut_at bs o (cut_words n)).1) ≤ 4 * length bs
 unfolding display AllShort
 length-cut n after_good bs None e rest = omega arith
 length-cut n after_good bs (Some f) e rest =
     let stands = first_word-stands true bs f e in
-    omega (arith, length-shown_word after_good f.0 f.2 f.1 (text_of f.1) (λ good. display good (cut_words n f.2).0 (cut_words n f.2).1) stands.word refl (λ good. rest good f.2), ap length stands.joined, length-append f.0 (spelling f.1 ++ f.2), length-append (spelling f.1) f.2)
+    omega (
+      arith,
+      length-shown_word after_good f.0 f.2 f.1 (text_of f.1) (λ good.
+          display good (cut_words n f.2).0 (cut_words n f.2).1) stands.word refl (λ good. rest good f.2),
+      ap length stands.joined,
+      length-append f.0 (spelling f.1 ++ f.2),
+      length-append (spelling f.1) f.2,
+    )
 
 length-shown : (n : ℕ) → AllShort n
 unfolding cut_words display AllShort
@@ -94,4 +113,11 @@ length-shown (suc n) = λ good bs. length-cut n good bs (first_word true bs) ref
 -- a value has at most four octets for each octet of the body
 pub length-value : (raw : List ℕ) → length (value_of_body raw) ≤ 4 * length raw
 unfolding value_of_body AllShort
-length-value raw = omega (arith, length-shown (length (without_outer_blanks (without_line_ends raw))) false (without_outer_blanks (without_line_ends raw)), length-trimmed (without_line_ends raw), length-unfolded raw)
+length-value raw =
+    omega (
+      arith,
+      length-shown (length (without_outer_blanks (without_line_ends raw))) false
+          (without_outer_blanks (without_line_ends raw)),
+      length-trimmed (without_line_ends raw),
+      length-unfolded raw,
+    )

@@ -43,9 +43,11 @@ are_once ps (w ∷ ws) h =
 counted_first : {X : Type 0} (p : X → Bool) (x : X) (xs : List X) → count_by p (x ∷ xs) ≡ (if p x then 1 else 0) + count_by p xs
 counted_first p x xs = sum_by-cons (λ y. if p y then 1 else 0) x xs
 
-pub one_more : {X Y : Type 0} (p : X → Bool) (q : Y → Bool) (x : X) (y : Y) (xs : List X) (ys : List Y) → p x ≡ q y → count_by p xs ≡ count_by q ys → count_by p (x ∷ xs) ≡ count_by q (y ∷ ys)
+pub one_more : {X Y : Type 0} (p : X → Bool) (q : Y → Bool) (x : X) (y : Y) (xs : List X) (ys : List Y) → p x ≡ q y
+    → count_by p xs ≡ count_by q ys → count_by p (x ∷ xs) ≡ count_by q (y ∷ ys)
 one_more p q x y xs ys e h =
-    counted_first p x xs ∙ ap (λ (b : Bool). (if b then 1 else 0) + count_by p xs) e ∙ ap (λ (n : ℕ). (if q y then 1 else 0) + n) h ∙ sym (counted_first q y ys)
+    counted_first p x xs ∙ ap (λ (b : Bool). (if b then 1 else 0) + count_by p xs) e
+    ∙ ap (λ (n : ℕ). (if q y then 1 else 0) + n) h ∙ sym (counted_first q y ys)
 
 pub one_passed : {X : Type 0} (p : X → Bool) (x : X) (xs : List X) → p x ≡ false → count_by p (x ∷ xs) ≡ count_by p xs
 one_passed p x xs e =
@@ -62,9 +64,11 @@ one_of_kind : (k : TagKind) (ps : List PieceWord) → stands_twice k ps ≡ fals
 one_of_kind k [] h = let none : count_by (has_kind k) [] ≡ 0 = refl in omega (arith, none)
 one_of_kind k (p ∷ ps) h = go (has_kind k p) refl h (λ (rest : stands_twice k ps ≡ false). one_of_kind k ps rest)
   where
-    go : (b : Bool) → has_kind k p ≡ b → (if b then list_any (has_kind k) ps else stands_twice k ps) ≡ false → (stands_twice k ps ≡ false → count_by (has_kind k) ps ≤ 1) → count_by (has_kind k) (p ∷ ps) ≤ 1
+    go : (b : Bool) → has_kind k p ≡ b → (if b then list_any (has_kind k) ps else stands_twice k ps) ≡ false
+        → (stands_twice k ps ≡ false → count_by (has_kind k) ps ≤ 1) → count_by (has_kind k) (p ∷ ps) ≤ 1
     go true e h rest =
-        let first : count_by (has_kind k) (p ∷ ps) ≡ 1 + count_by (has_kind k) ps = counted_first (has_kind k) p ps ∙ ap (λ (b : Bool). (if b then 1 else 0) + count_by (has_kind k) ps) e in
+        let first : count_by (has_kind k) (p ∷ ps) ≡ 1 + count_by (has_kind k) ps = counted_first (has_kind k) p ps
+        ∙ ap (λ (b : Bool). (if b then 1 else 0) + count_by (has_kind k) ps) e in
         let none = none_of_kind k ps h in
         omega (arith, first, none)
     go false e h rest =
@@ -73,9 +77,14 @@ one_of_kind k (p ∷ ps) h = go (has_kind k p) refl h (λ (rest : stands_twice k
         omega (arith, first, one)
 
 -- at most one tag of each kind is among the arguments
-pub each_once : (form : WordForm) (args : List Argument) (tags : List (List (List ℕ))) → AreKinds form tags → has_tag_twice form (pieces form.tags args) ≡ false → ((names : List (List ℕ)) (k : TagKind) → AreOfKind names k form.tags → count_by (is_named names) args ≡ count_by (has_kind k) (pieces form.tags args)) → All (λ names. count_by (is_named names) args ≤ 1) tags
+pub each_once : (form : WordForm) (args : List Argument) (tags : List (List (List ℕ))) → AreKinds form tags
+    → has_tag_twice form (pieces form.tags args) ≡ false
+    → ((names : List (List ℕ)) (k : TagKind) → AreOfKind names k form.tags
+    → count_by (is_named names) args ≡ count_by (has_kind k) (pieces form.tags args))
+    → All (λ names. count_by (is_named names) args ≤ 1) tags
 each_once form args [] are once counted = All-nil (λ (names : List (List ℕ)). count_by (is_named names) args ≤ 1)
 each_once form args (names ∷ more) are once counted =
     let same = counted names are.0.kind are.0.names_are in
     let one = one_of_kind are.0.kind (pieces form.tags args) (are.0.once (pieces form.tags args) once) in
-    All-cons (λ (names : List (List ℕ)). count_by (is_named names) args ≤ 1) names more (omega (arith, same, one)) (each_once form args more are.1 once counted)
+    All-cons (λ (names : List (List ℕ)). count_by (is_named names) args ≤ 1) names more (omega (arith, same, one))
+    (each_once form args more are.1 once counted)

@@ -4,7 +4,9 @@ use Rattle.std.specs.Prelude.{◌||◌, not, codes, if◌then◌else◌}
 use Rattle.std.specs.List.{list_any}
 use Rattle.std.specs.Str.{bytes_eq, str_to_ascii_lowercase}
 use Rattle.std.proofs.lemmas.Bool.{not-false}
-use Rattle.sieve_syntax.specs.Tree.{TestTree, test, InnerTests, no_tests, one_test, listed_tests, TestRow, last_test, next_test, CommandTree, command, EndingTree, semicolon, block, CommandTrees, no_commands, command_then}
+use Rattle.sieve_syntax.specs.Tree.{TestTree, test, InnerTests, no_tests, one_test, listed_tests, TestRow, last_test}
+use Rattle.sieve_syntax.specs.Tree.{next_test, CommandTree, command, EndingTree, semicolon, block, CommandTrees}
+use Rattle.sieve_syntax.specs.Tree.{no_commands, command_then}
 use Rattle.sieve_syntax.specs.declared.tree.StringList.{StringList}
 use Rattle.sieve_syntax.specs.declared.tree.StringList.TheVariants as string_list
 use Rattle.sieve_syntax.specs.declared.tree.Argument.{Argument}
@@ -16,7 +18,8 @@ use Rattle.sieve_check.specs.Lookup.{same_name, row_where}
 use Rattle.sieve_check.specs.Lookup as lookup
 use Rattle.sieve_check.specs.Pieces.{pieces, positional_arguments}
 use Rattle.sieve_check.specs.Rules as rules
-use Rattle.sieve_check.specs.Shapes.{TakesEach, HasEnding, HasForm, TestShape, InnerShape, RowShape, HasCommandRow, CommandShape, EndingShape, CommandsShape}
+use Rattle.sieve_check.specs.Shapes.{TakesEach, HasEnding, HasForm, TestShape, InnerShape, RowShape, HasCommandRow}
+use Rattle.sieve_check.specs.Shapes.{CommandShape, EndingShape, CommandsShape}
 use Rattle.sieve_check.specs.Tables as tables
 use Rattle.sieve_check.specs.Tables.{WordForm, size_form}
 use Rattle.sieve_check.proofs.Shaped.{shape_law}
@@ -25,7 +28,9 @@ use Rattle.sieve_meaning.specs.declared.words.CommandWord.TheVariants as command
 use Rattle.sieve_meaning.specs.declared.words.TestWord.{TestWord}
 use Rattle.sieve_meaning.specs.declared.words.TestWord.TheVariants as tests
 use Rattle.sieve_meaning.specs.Words.{command_word, test_word}
-use Rattle.meaning_laws.specs.ReadingLaw.{header_tags, size_tags, fileinto_tags, include_tags, HasArguments, HasString, TestReads, TestIsRead, InnerIsRead, RowIsRead, CommandReads, is_branch, Follows, CommandIsRead, EndingIsRead, CommandsAreRead, ReadLaw}
+use Rattle.meaning_laws.specs.ReadingLaw.{header_tags, size_tags, fileinto_tags, include_tags, HasArguments, HasString}
+use Rattle.meaning_laws.specs.ReadingLaw.{TestReads, TestIsRead, InnerIsRead, RowIsRead, CommandReads, is_branch}
+use Rattle.meaning_laws.specs.ReadingLaw.{Follows, CommandIsRead, EndingIsRead, CommandsAreRead, ReadLaw}
 use Rattle.meaning_laws.proofs.TagKinds.{AreKinds, are_once}
 use Rattle.meaning_laws.proofs.Arguments.{lower_is, AreRead, form_read, limit_there}
 
@@ -75,7 +80,8 @@ unfolding Found
 found holds [] w e = absurd (no_row w e)
 found holds (r ∷ rs) w e = go (holds r) refl e (λ (e : row_where holds rs ≡ Some w). found holds rs w e)
   where
-    go : (b : Bool) → holds r ≡ b → (if b then Some r else row_where holds rs) ≡ Some w → (row_where holds rs ≡ Some w → Found holds rs w) → ((holds r ≡ true) × (r ≡ w)) ⊎ Found holds rs w
+    go : (b : Bool) → holds r ≡ b → (if b then Some r else row_where holds rs) ≡ Some w
+        → (row_where holds rs ≡ Some w → Found holds rs w) → ((holds r ≡ true) × (r ≡ w)) ⊎ Found holds rs w
     go true t e others = inl (t, one_row r w e)
     go false t e others = inr (others e)
 
@@ -100,7 +106,8 @@ takes_number [] h = absurd h
 takes_number (a ∷ []) h = (h.0.0, ap (λ (b : Argument). b ∷ []) h.0.1)
 takes_number (a ∷ b ∷ more) h = absurd h.1
 
-takes_lists : (xs : List Argument) → TakesEach (places.StringList ∷ places.StringList ∷ []) xs → (names : StringList) × (keys : StringList) × (xs ≡ arguments.Strings names ∷ arguments.Strings keys ∷ [])
+takes_lists : (xs : List Argument) → TakesEach (places.StringList ∷ places.StringList ∷ []) xs → (names : StringList)
+    × (keys : StringList) × (xs ≡ arguments.Strings names ∷ arguments.Strings keys ∷ [])
 takes_lists [] h = absurd h
 takes_lists (a ∷ []) h = absurd h.1
 takes_lists (a ∷ b ∷ []) h = (h.0.0, h.1.0.0, both a b (arguments.Strings h.0.0) (arguments.Strings h.1.0.0) h.0.1 h.1.0.1)
@@ -110,28 +117,36 @@ takes_lists (a ∷ b ∷ []) h = (h.0.0, h.1.0.0, both a b (arguments.Strings h.
 takes_lists (a ∷ b ∷ c ∷ more) h = absurd h.1.1
 
 -- the arguments of a form that has none, one string, one list, two lists, or a number
-module _ (names : List (List (List ℕ))) (form : WordForm) (args : List Argument) (inner : InnerTests) (all : AreRead names form.tags) (each : AreKinds form names) (h : HasForm form args inner) where
+module _ (names : List (List (List ℕ))) (form : WordForm) (args : List Argument) (inner : InnerTests)
+    (all : AreRead names form.tags) (each : AreKinds form names) (h : HasForm form args inner) where
   reads_none : form.positional ≡ [] → HasArguments names [] [] args
-  reads_none e = form_read names form args inner all each h [] (takes_none (positional_arguments (pieces form.tags args)) (subst (λ (ps : List Positional). TakesEach ps (positional_arguments (pieces form.tags args))) e h.positional))
+  reads_none e =
+      form_read names form args inner all each h [] (takes_none (positional_arguments (pieces form.tags args))
+      (subst (λ (ps : List Positional). TakesEach ps (positional_arguments (pieces form.tags args))) e h.positional))
 
   reads_string : form.positional ≡ places.OneString ∷ [] → HasString names args
   reads_string e =
-      let t = takes_string (positional_arguments (pieces form.tags args)) (subst (λ (ps : List Positional). TakesEach ps (positional_arguments (pieces form.tags args))) e h.positional) in
+      let t = takes_string (positional_arguments (pieces form.tags args)) (subst (λ (ps : List Positional).
+      TakesEach ps (positional_arguments (pieces form.tags args))) e h.positional) in
       (t.0, form_read names form args inner all each h (arguments.Strings (string_list.One t.0) ∷ []) t.1)
 
   reads_list : form.positional ≡ places.StringList ∷ [] → (l : StringList) × HasArguments names (l ∷ []) [] args
   reads_list e =
-      let t = takes_list (positional_arguments (pieces form.tags args)) (subst (λ (ps : List Positional). TakesEach ps (positional_arguments (pieces form.tags args))) e h.positional) in
+      let t = takes_list (positional_arguments (pieces form.tags args)) (subst (λ (ps : List Positional).
+      TakesEach ps (positional_arguments (pieces form.tags args))) e h.positional) in
       (t.0, form_read names form args inner all each h (arguments.Strings t.0 ∷ []) t.1)
 
   reads_number : form.positional ≡ places.OneNumber ∷ [] → (n : ℕ) × HasArguments names [] (n ∷ []) args
   reads_number e =
-      let t = takes_number (positional_arguments (pieces form.tags args)) (subst (λ (ps : List Positional). TakesEach ps (positional_arguments (pieces form.tags args))) e h.positional) in
+      let t = takes_number (positional_arguments (pieces form.tags args)) (subst (λ (ps : List Positional).
+      TakesEach ps (positional_arguments (pieces form.tags args))) e h.positional) in
       (t.0, form_read names form args inner all each h (arguments.Number t.0 ∷ []) t.1)
 
-  reads_lists : form.positional ≡ places.StringList ∷ places.StringList ∷ [] → (names' : StringList) × (keys : StringList) × HasArguments names (names' ∷ keys ∷ []) [] args
+  reads_lists : form.positional ≡ places.StringList ∷ places.StringList ∷ [] → (names' : StringList)
+      × (keys : StringList) × HasArguments names (names' ∷ keys ∷ []) [] args
   reads_lists e =
-      let t = takes_lists (positional_arguments (pieces form.tags args)) (subst (λ (ps : List Positional). TakesEach ps (positional_arguments (pieces form.tags args))) e h.positional) in
+      let t = takes_lists (positional_arguments (pieces form.tags args)) (subst (λ (ps : List Positional).
+      TakesEach ps (positional_arguments (pieces form.tags args))) e h.positional) in
       (t.0, t.1, form_read names form args inner all each h (arguments.Strings t.0 ∷ arguments.Strings t.1 ∷ []) t.2)
 
 -- KINDS OF TAGS
@@ -153,13 +168,22 @@ include_kinds = (
   record { kind = kinds.Location; names_are = (refl, (refl, (refl, (refl, tt)))); once = λ ps h. (are_once ps tables.include_form.tags h).0 },
   (
     record { kind = kinds.Once; names_are = (refl, (refl, (refl, (refl, tt)))); once = λ ps h. (are_once ps tables.include_form.tags h).1.1.0 },
-    (record { kind = kinds.Optional; names_are = (refl, (refl, (refl, (refl, tt)))); once = λ ps h. (are_once ps tables.include_form.tags h).1.1.1.0 }, tt),
+    (
+      record {
+        kind = kinds.Optional;
+        names_are = (refl, (refl, (refl, (refl, tt))));
+        once = λ ps h.
+            (are_once ps tables.include_form.tags h).1.1.1.0;
+      },
+      tt,
+    ),
   ),
 )
 
 -- TESTS
 
-test_is : (name row : List ℕ) (w : TestWord) (args : List Argument) (inner : InnerTests) → same_name name row ≡ true → test_word row ≡ w → TestReads w args inner → TestReads (test_word name) args inner
+test_is : (name row : List ℕ) (w : TestWord) (args : List Argument) (inner : InnerTests) → same_name name row ≡ true
+    → test_word row ≡ w → TestReads w args inner → TestReads (test_word name) args inner
 test_is name row w args inner h e r = subst (λ (v : TestWord). TestReads v args inner) (sym (test_same name row h ∙ e)) r
 
 header_is : test_word (codes "header") ≡ tests.Header
@@ -194,17 +218,34 @@ false_is : test_word (codes "false") ≡ tests.False
 unfolding test_word
 false_is = refl
 
-test_found : (name : List ℕ) (args : List Argument) (inner : InnerTests) (w : tables.TestWord) → HasForm w.form args inner → Found (λ (r : tables.TestWord). same_name name r.name) tables.test_table w → TestReads (test_word name) args inner
+test_found : (name : List ℕ) (args : List Argument) (inner : InnerTests) (w : tables.TestWord)
+    → HasForm w.form args inner → Found (λ (r : tables.TestWord). same_name name r.name) tables.test_table w
+    → TestReads (test_word name) args inner
 unfolding Found same_name
 test_found name args inner w f (inl h) =
     let g = subst (λ (v : tables.TestWord). HasForm v.form args inner) (sym h.1) f in
-    test_is name (codes "header") tests.Header args inner h.0 header_is (reads_lists header_tags tables.header_form args inner (refl, refl, (refl, refl, (refl, refl, (refl, refl, tt)))) header_kinds g refl, g.tests)
+    test_is name (codes "header") tests.Header args inner h.0 header_is (
+      reads_lists header_tags tables.header_form args inner (
+        refl,
+        refl,
+        (refl, refl, (refl, refl, (refl, refl, tt))),
+      ) header_kinds g refl,
+      g.tests,
+    )
 test_found name args inner w f (inr (inl h)) =
     let g = subst (λ (v : tables.TestWord). HasForm v.form args inner) (sym h.1) f in
     test_is name (codes "exists") tests.Exists args inner h.0 exists_is (reads_list [] _ args inner tt tt g refl, g.tests)
 test_found name args inner w f (inr (inr (inl h))) =
     let g = subst (λ (v : tables.TestWord). HasForm v.form args inner) (sym h.1) f in
-    test_is name (codes "size") tests.Size args inner h.0 size_is (reads_number size_tags size_form args inner (refl, refl, (refl, refl, tt)) size_kinds g refl, limit_there args (not-false (list_any (rules.has_kind kinds.SizeLimit) (pieces size_form.tags args)) g.needed), g.tests)
+    test_is name (codes "size") tests.Size args inner h.0 size_is (
+      reads_number size_tags size_form args inner (
+        refl,
+        refl,
+        (refl, refl, tt),
+      ) size_kinds g refl,
+      limit_there args (not-false (list_any (rules.has_kind kinds.SizeLimit) (pieces size_form.tags args)) g.needed),
+      g.tests,
+    )
 test_found name args inner w f (inr (inr (inr (inl h)))) =
     let g = subst (λ (v : tables.TestWord). HasForm v.form args inner) (sym h.1) f in
     test_is name (codes "not") tests.Not args inner h.0 not_is (reads_none [] _ args inner tt tt g refl, g.tests)
@@ -224,7 +265,11 @@ test_found name args inner w f (inr (inr (inr (inr (inr (inr (inr (inr h))))))))
 
 mutual
   test_read : (t : TestTree) → TestShape t → TestIsRead t
-  test_read (test name args inner) h = (test_found name args inner h.0.word h.0.form (found (λ (r : tables.TestWord). same_name name r.name) tables.test_table h.0.word h.0.named), inner_read inner h.1)
+  test_read (test name args inner) h = (
+    test_found name args inner h.0.word h.0.form (found (λ (r : tables.TestWord).
+        same_name name r.name) tables.test_table h.0.word h.0.named),
+    inner_read inner h.1,
+  )
 
   inner_read : (inner : InnerTests) → InnerShape inner → InnerIsRead inner
   inner_read no_tests h = tt
@@ -243,7 +288,10 @@ record IsCommand (follows : Bool) (name : List ℕ) (args : List Argument) (inne
   follows_branch : Follows (command_word name) follows
   branch : rules.is_branch (rules.role_of (lookup.command_named name)) ≡ is_branch (command_word name)
 
-command_is : (follows : Bool) (name row : List ℕ) (args : List Argument) (inner : InnerTests) (finish : EndingTree) (w : CommandWord) (v : tables.CommandWord) → same_name name row ≡ true → command_word row ≡ w → CommandReads w args inner finish → Follows w follows → lookup.command_named name ≡ Some v → rules.is_branch v.role ≡ is_branch w → IsCommand follows name args inner finish
+command_is : (follows : Bool) (name row : List ℕ) (args : List Argument) (inner : InnerTests) (finish : EndingTree)
+    (w : CommandWord) (v : tables.CommandWord) → same_name name row ≡ true → command_word row ≡ w
+    → CommandReads w args inner finish → Follows w follows → lookup.command_named name ≡ Some v
+    → rules.is_branch v.role ≡ is_branch w → IsCommand follows name args inner finish
 command_is follows name row args inner finish w v h e r f n b =
     let same : w ≡ command_word name = sym (command_same name row h ∙ e) in
     record {
@@ -292,64 +340,97 @@ include_is : command_word (codes "include") ≡ commands.Include
 unfolding command_word
 include_is = refl
 
-command_found : (follows : Bool) (name : List ℕ) (args : List Argument) (inner : InnerTests) (finish : EndingTree) (r : HasCommandRow follows name args inner finish) → Found (λ (v : tables.CommandWord). same_name name v.name) tables.command_table r.word → IsCommand follows name args inner finish
+command_found : (follows : Bool) (name : List ℕ) (args : List Argument) (inner : InnerTests) (finish : EndingTree)
+    (r : HasCommandRow follows name args inner finish)
+    → Found (λ (v : tables.CommandWord). same_name name v.name) tables.command_table r.word
+    → IsCommand follows name args inner finish
 unfolding Found same_name
 command_found follows name args inner finish r (inl h) =
     let g = subst (λ (v : tables.CommandWord). HasForm v.form args inner) (sym h.1) r.form in
     let e = subst (λ (v : tables.CommandWord). HasEnding v.has_block finish) (sym h.1) r.ending in
     let b = subst (λ (v : tables.CommandWord). rules.lacks_branch v.role follows ≡ false) (sym h.1) r.branch in
-    command_is follows name (codes "require") args inner finish commands.Require _ h.0 require_is (reads_list [] _ args inner tt tt g refl, g.tests, e) (tt) (r.named ∙ ap (λ (v : tables.CommandWord). Some v) (sym h.1)) refl
+    command_is follows name (codes "require") args inner finish commands.Require _ h.0 require_is
+    (reads_list [] _ args inner tt tt g refl, g.tests, e) (tt) (r.named
+    ∙ ap (λ (v : tables.CommandWord). Some v) (sym h.1)) refl
 command_found follows name args inner finish r (inr (inl h)) =
     let g = subst (λ (v : tables.CommandWord). HasForm v.form args inner) (sym h.1) r.form in
     let e = subst (λ (v : tables.CommandWord). HasEnding v.has_block finish) (sym h.1) r.ending in
     let b = subst (λ (v : tables.CommandWord). rules.lacks_branch v.role follows ≡ false) (sym h.1) r.branch in
-    command_is follows name (codes "if") args inner finish commands.If _ h.0 if_is (reads_none [] _ args inner tt tt g refl, g.tests, e) (tt) (r.named ∙ ap (λ (v : tables.CommandWord). Some v) (sym h.1)) refl
+    command_is follows name (codes "if") args inner finish commands.If _ h.0 if_is
+    (reads_none [] _ args inner tt tt g refl, g.tests, e) (tt) (r.named
+    ∙ ap (λ (v : tables.CommandWord). Some v) (sym h.1)) refl
 command_found follows name args inner finish r (inr (inr (inl h))) =
     let g = subst (λ (v : tables.CommandWord). HasForm v.form args inner) (sym h.1) r.form in
     let e = subst (λ (v : tables.CommandWord). HasEnding v.has_block finish) (sym h.1) r.ending in
     let b = subst (λ (v : tables.CommandWord). rules.lacks_branch v.role follows ≡ false) (sym h.1) r.branch in
-    command_is follows name (codes "elsif") args inner finish commands.ElsIf _ h.0 elsif_is (reads_none [] _ args inner tt tt g refl, g.tests, e) (not-false follows b) (r.named ∙ ap (λ (v : tables.CommandWord). Some v) (sym h.1)) refl
+    command_is follows name (codes "elsif") args inner finish commands.ElsIf _ h.0 elsif_is
+    (reads_none [] _ args inner tt tt g refl, g.tests, e) (not-false follows b) (r.named
+    ∙ ap (λ (v : tables.CommandWord). Some v) (sym h.1)) refl
 command_found follows name args inner finish r (inr (inr (inr (inl h)))) =
     let g = subst (λ (v : tables.CommandWord). HasForm v.form args inner) (sym h.1) r.form in
     let e = subst (λ (v : tables.CommandWord). HasEnding v.has_block finish) (sym h.1) r.ending in
     let b = subst (λ (v : tables.CommandWord). rules.lacks_branch v.role follows ≡ false) (sym h.1) r.branch in
-    command_is follows name (codes "else") args inner finish commands.Else _ h.0 else_is (reads_none [] _ args inner tt tt g refl, g.tests, e) (not-false follows b) (r.named ∙ ap (λ (v : tables.CommandWord). Some v) (sym h.1)) refl
+    command_is follows name (codes "else") args inner finish commands.Else _ h.0 else_is
+    (reads_none [] _ args inner tt tt g refl, g.tests, e) (not-false follows b) (r.named
+    ∙ ap (λ (v : tables.CommandWord). Some v) (sym h.1)) refl
 command_found follows name args inner finish r (inr (inr (inr (inr (inl h))))) =
     let g = subst (λ (v : tables.CommandWord). HasForm v.form args inner) (sym h.1) r.form in
     let e = subst (λ (v : tables.CommandWord). HasEnding v.has_block finish) (sym h.1) r.ending in
     let b = subst (λ (v : tables.CommandWord). rules.lacks_branch v.role follows ≡ false) (sym h.1) r.branch in
-    command_is follows name (codes "stop") args inner finish commands.Stop _ h.0 stop_is (reads_none [] _ args inner tt tt g refl, g.tests, e) (tt) (r.named ∙ ap (λ (v : tables.CommandWord). Some v) (sym h.1)) refl
+    command_is follows name (codes "stop") args inner finish commands.Stop _ h.0 stop_is
+    (reads_none [] _ args inner tt tt g refl, g.tests, e) (tt) (r.named
+    ∙ ap (λ (v : tables.CommandWord). Some v) (sym h.1)) refl
 command_found follows name args inner finish r (inr (inr (inr (inr (inr (inl h)))))) =
     let g = subst (λ (v : tables.CommandWord). HasForm v.form args inner) (sym h.1) r.form in
     let e = subst (λ (v : tables.CommandWord). HasEnding v.has_block finish) (sym h.1) r.ending in
     let b = subst (λ (v : tables.CommandWord). rules.lacks_branch v.role follows ≡ false) (sym h.1) r.branch in
-    command_is follows name (codes "keep") args inner finish commands.Keep _ h.0 keep_is (reads_none [] _ args inner tt tt g refl, g.tests, e) (tt) (r.named ∙ ap (λ (v : tables.CommandWord). Some v) (sym h.1)) refl
+    command_is follows name (codes "keep") args inner finish commands.Keep _ h.0 keep_is
+    (reads_none [] _ args inner tt tt g refl, g.tests, e) (tt) (r.named
+    ∙ ap (λ (v : tables.CommandWord). Some v) (sym h.1)) refl
 command_found follows name args inner finish r (inr (inr (inr (inr (inr (inr (inl h))))))) =
     let g = subst (λ (v : tables.CommandWord). HasForm v.form args inner) (sym h.1) r.form in
     let e = subst (λ (v : tables.CommandWord). HasEnding v.has_block finish) (sym h.1) r.ending in
     let b = subst (λ (v : tables.CommandWord). rules.lacks_branch v.role follows ≡ false) (sym h.1) r.branch in
-    command_is follows name (codes "discard") args inner finish commands.Discard _ h.0 discard_is (reads_none [] _ args inner tt tt g refl, g.tests, e) (tt) (r.named ∙ ap (λ (v : tables.CommandWord). Some v) (sym h.1)) refl
+    command_is follows name (codes "discard") args inner finish commands.Discard _ h.0 discard_is
+    (reads_none [] _ args inner tt tt g refl, g.tests, e) (tt) (r.named
+    ∙ ap (λ (v : tables.CommandWord). Some v) (sym h.1)) refl
 command_found follows name args inner finish r (inr (inr (inr (inr (inr (inr (inr (inl h)))))))) =
     let g = subst (λ (v : tables.CommandWord). HasForm v.form args inner) (sym h.1) r.form in
     let e = subst (λ (v : tables.CommandWord). HasEnding v.has_block finish) (sym h.1) r.ending in
     let b = subst (λ (v : tables.CommandWord). rules.lacks_branch v.role follows ≡ false) (sym h.1) r.branch in
-    command_is follows name (codes "return") args inner finish commands.Return _ h.0 return_is (reads_none [] _ args inner tt tt g refl, g.tests, e) (tt) (r.named ∙ ap (λ (v : tables.CommandWord). Some v) (sym h.1)) refl
+    command_is follows name (codes "return") args inner finish commands.Return _ h.0 return_is
+    (reads_none [] _ args inner tt tt g refl, g.tests, e) (tt) (r.named
+    ∙ ap (λ (v : tables.CommandWord). Some v) (sym h.1)) refl
 command_found follows name args inner finish r (inr (inr (inr (inr (inr (inr (inr (inr (inl h))))))))) =
     let g = subst (λ (v : tables.CommandWord). HasForm v.form args inner) (sym h.1) r.form in
     let e = subst (λ (v : tables.CommandWord). HasEnding v.has_block finish) (sym h.1) r.ending in
     let b = subst (λ (v : tables.CommandWord). rules.lacks_branch v.role follows ≡ false) (sym h.1) r.branch in
-    command_is follows name (codes "fileinto") args inner finish commands.FileInto _ h.0 fileinto_is (reads_string fileinto_tags tables.fileinto_form args inner (refl, refl, tt) fileinto_kinds g refl, g.tests, e) (tt) (r.named ∙ ap (λ (v : tables.CommandWord). Some v) (sym h.1)) refl
+    command_is follows name (codes "fileinto") args inner finish commands.FileInto _ h.0 fileinto_is (
+      reads_string fileinto_tags tables.fileinto_form args inner (refl, refl, tt) fileinto_kinds g refl,
+      g.tests,
+      e,
+    ) (tt) (r.named ∙ ap (λ (v : tables.CommandWord). Some v) (sym h.1)) refl
 command_found follows name args inner finish r (inr (inr (inr (inr (inr (inr (inr (inr (inr (inl h)))))))))) =
     let g = subst (λ (v : tables.CommandWord). HasForm v.form args inner) (sym h.1) r.form in
     let e = subst (λ (v : tables.CommandWord). HasEnding v.has_block finish) (sym h.1) r.ending in
     let b = subst (λ (v : tables.CommandWord). rules.lacks_branch v.role follows ≡ false) (sym h.1) r.branch in
-    command_is follows name (codes "include") args inner finish commands.Include _ h.0 include_is (reads_string include_tags tables.include_form args inner (refl, refl, (refl, refl, (refl, refl, (refl, refl, tt)))) include_kinds g refl, g.tests, e) (tt) (r.named ∙ ap (λ (v : tables.CommandWord). Some v) (sym h.1)) refl
+    command_is follows name (codes "include") args inner finish commands.Include _ h.0 include_is (
+      reads_string include_tags tables.include_form args inner (
+        refl,
+        refl,
+        (refl, refl, (refl, refl, (refl, refl, tt))),
+      ) include_kinds g refl,
+      g.tests,
+      e,
+    ) (tt) (r.named
+    ∙ ap (λ (v : tables.CommandWord). Some v) (sym h.1)) refl
 command_found follows name args inner finish r (inr (inr (inr (inr (inr (inr (inr (inr (inr (inr h)))))))))) = absurd h
 
 mutual
   command_read : (follows : Bool) (c : CommandTree) → CommandShape follows c → CommandIsRead follows c
   command_read follows (command name args inner finish) h =
-      let r = command_found follows name args inner finish h.0 (found (λ (v : tables.CommandWord). same_name name v.name) tables.command_table h.0.word h.0.named) in
+      let r = command_found follows name args inner finish h.0 (found (λ (v : tables.CommandWord).
+      same_name name v.name) tables.command_table h.0.word h.0.named) in
       (r.reads, r.follows_branch, inner_read inner h.0.tests, ending_read finish h.1)
 
   ending_read : (finish : EndingTree) → EndingShape finish → EndingIsRead finish
@@ -359,8 +440,13 @@ mutual
   commands_read : (follows : Bool) (cs : CommandTrees) → CommandsShape follows cs → CommandsAreRead follows cs
   commands_read follows no_commands h = tt
   commands_read follows (command_then (command name args inner finish) cs) h =
-      let r = command_found follows name args inner finish h.0.0 (found (λ (v : tables.CommandWord). same_name name v.name) tables.command_table h.0.0.word h.0.0.named) in
-      (command_read follows (command name args inner finish) h.0, subst (λ (b : Bool). CommandsAreRead b cs) r.branch (commands_read (rules.is_branch (rules.role_of (lookup.command_named name))) cs h.1))
+      let r = command_found follows name args inner finish h.0.0 (found (λ (v : tables.CommandWord).
+      same_name name v.name) tables.command_table h.0.0.word h.0.0.named) in (
+        command_read follows (command name args inner finish) h.0,
+        subst (λ (b : Bool).
+            CommandsAreRead b cs) r.branch (commands_read (rules.is_branch (rules.role_of (lookup.command_named name))) cs
+            h.1),
+      )
 
 pub read_law : ReadLaw
 read_law tree h = commands_read false tree (shape_law tree h)

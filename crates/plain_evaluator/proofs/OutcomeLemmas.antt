@@ -19,7 +19,11 @@ outcome_of_ending endings.Stops f = refl
 outcome_of_ending (endings.Faults fault) f = refl
 
 -- a run that began with nothing done
-pub outcome_of_run : (facts : Facts) (lib : Library) (known_as : Option (List ℕ)) (tree : CommandTrees) (chain : List ScriptName) (e : Ending) (f g : Filing) → chain ≡ main_names known_as → g.filed ≡ [] → g.kept ≡ false → g.cancelled ≡ false → map script_of g.entered.items ≡ main_names known_as → ending_at e f ≡ runs_from facts (inclusion_within facts lib 7 chain) false tree (filing_of g) → outcome_at (fault_of e) f.filed f.kept f.cancelled ≡ outcome_of (meaning facts lib known_as (program_of tree))
+pub outcome_of_run : (facts : Facts) (lib : Library) (known_as : Option (List ℕ)) (tree : CommandTrees)
+    (chain : List ScriptName) (e : Ending) (f g : Filing) → chain ≡ main_names known_as → g.filed ≡ [] → g.kept ≡ false
+    → g.cancelled ≡ false → map script_of g.entered.items ≡ main_names known_as
+    → ending_at e f ≡ runs_from facts (inclusion_within facts lib 7 chain) false tree (filing_of g)
+    → outcome_at (fault_of e) f.filed f.kept f.cancelled ≡ outcome_of (meaning facts lib known_as (program_of tree))
 unfolding runs_from
 outcome_of_run facts lib known_as tree chain e f g active filed kept cancelled entered ran =
     sym (outcome_of_ending e f) ∙ ap (λ x. outcome_of x) (rw (active, filed, kept, cancelled, entered) at ran)

@@ -19,7 +19,9 @@ use Rattle.plain_evaluator.specs.Runs.{runs_from, IsNoIf, PlainlyEnds, BranchLea
 use Rattle.sieve_meaning.specs.Branching.{part_of}
 use Rattle.sieve_meaning.specs.declared.branches.BranchPart.TheVariants.{Branch, Otherwise, Plain}
 
-pub include_ends : (facts : Facts) (inc : Included) (word : CommandWord) (args : List Argument) (i : Include) (f : meaning.Filing) (e : meaning.Ending) → word ≡ words.Include → i ≡ include_of args → e ≡ inc i f → PlainlyEnds facts inc word args f e
+pub include_ends : (facts : Facts) (inc : Included) (word : CommandWord) (args : List Argument) (i : Include)
+    (f : meaning.Filing) (e : meaning.Ending) → word ≡ words.Include → i ≡ include_of args → e ≡ inc i f
+    → PlainlyEnds facts inc word args f e
 include_ends facts inc word args i f e is asks told t inner rest more = rw (is, told, asks) refl
 
 -- the commands of a block
@@ -28,16 +30,27 @@ block_in-commands semicolon = refl
 block_in-commands (block cs) = refl
 
 -- what follows a choice follows each of its sides
-and_then-if : (b : Bool) (x y : meaning.Ending) (go : meaning.Filing → meaning.Ending) → and_then (if b then x else y) go ≡ (if b then and_then x go else and_then y go)
+and_then-if : (b : Bool) (x y : meaning.Ending) (go : meaning.Filing → meaning.Ending)
+    → and_then (if b then x else y) go ≡ (if b then and_then x go else and_then y go)
 and_then-if true x y go = refl
 and_then-if false x y go = refl
 
 -- an `if`, or an open `elsif`
-pub branch_leads : (facts : Facts) (inc : Included) (word : CommandWord) (is_open : Bool) (name : List ℕ) (args : List Argument) (inner : InnerTests) (finish : EndingTree) (f : meaning.Filing) (e : meaning.Ending) (opens : Bool) → command_word name ≡ word → part_of word is_open ≡ Branch → BranchLeads facts inc (command name args inner finish) f e opens → Leads facts inc is_open (command name args inner finish) f e opens
+pub branch_leads : (facts : Facts) (inc : Included) (word : CommandWord) (is_open : Bool) (name : List ℕ)
+    (args : List Argument) (inner : InnerTests) (finish : EndingTree) (f : meaning.Filing) (e : meaning.Ending)
+    (opens : Bool) → command_word name ≡ word → part_of word is_open ≡ Branch
+    → BranchLeads facts inc (command name args inner finish) f e opens
+    → Leads facts inc is_open (command name args inner finish) f e opens
 unfolding runs_from
-branch_leads facts inc words.If true name args inner finish f e opens is part told more = rw is (and_then-if (truth facts (only_in inner)) (run facts inc (block_in finish) f) (run_branches facts inc (branches_of more) f) (run facts inc (program_of more)) ∙ told more)
-branch_leads facts inc words.If false name args inner finish f e opens is part told more = rw is (and_then-if (truth facts (only_in inner)) (run facts inc (block_in finish) f) (run_branches facts inc (branches_of more) f) (run facts inc (program_of more)) ∙ told more)
-branch_leads facts inc words.ElsIf true name args inner finish f e opens is part told more = rw is (and_then-if (truth facts (only_in inner)) (run facts inc (block_in finish) f) (run_branches facts inc (branches_of more) f) (run facts inc (program_of more)) ∙ told more)
+branch_leads facts inc words.If true name args inner finish f e opens is part told more =
+    rw is (and_then-if (truth facts (only_in inner)) (run facts inc (block_in finish) f)
+    (run_branches facts inc (branches_of more) f) (run facts inc (program_of more)) ∙ told more)
+branch_leads facts inc words.If false name args inner finish f e opens is part told more =
+    rw is (and_then-if (truth facts (only_in inner)) (run facts inc (block_in finish) f)
+    (run_branches facts inc (branches_of more) f) (run facts inc (program_of more)) ∙ told more)
+branch_leads facts inc words.ElsIf true name args inner finish f e opens is part told more =
+    rw is (and_then-if (truth facts (only_in inner)) (run facts inc (block_in finish) f)
+    (run_branches facts inc (branches_of more) f) (run facts inc (program_of more)) ∙ told more)
 branch_leads facts inc words.ElsIf false name args inner finish f e opens is part told more = cc
 branch_leads facts inc words.Else true name args inner finish f e opens is part told more = cc
 branch_leads facts inc words.Else false name args inner finish f e opens is part told more = cc
@@ -51,7 +64,10 @@ branch_leads facts inc words.Include is_open name args inner finish f e opens is
 branch_leads facts inc words.Other is_open name args inner finish f e opens is part told more = cc
 
 -- an open `else`
-pub otherwise_leads : (facts : Facts) (inc : Included) (word : CommandWord) (is_open : Bool) (name : List ℕ) (args : List Argument) (inner : InnerTests) (finish : EndingTree) (f : meaning.Filing) (e : meaning.Ending) → command_word name ≡ word → part_of word is_open ≡ Otherwise → e ≡ runs_from facts inc false (commands_in finish) f → Leads facts inc is_open (command name args inner finish) f e false
+pub otherwise_leads : (facts : Facts) (inc : Included) (word : CommandWord) (is_open : Bool) (name : List ℕ)
+    (args : List Argument) (inner : InnerTests) (finish : EndingTree) (f : meaning.Filing) (e : meaning.Ending)
+    → command_word name ≡ word → part_of word is_open ≡ Otherwise → e ≡ runs_from facts inc false (commands_in finish) f
+    → Leads facts inc is_open (command name args inner finish) f e false
 unfolding runs_from
 otherwise_leads facts inc words.Else true name args inner finish f e is part told more = rw (is, told, block_in-commands finish) refl
 otherwise_leads facts inc words.Else false name args inner finish f e is part told more = cc
@@ -68,42 +84,70 @@ otherwise_leads facts inc words.Include is_open name args inner finish f e is pa
 otherwise_leads facts inc words.Other is_open name args inner finish f e is part told more = cc
 
 -- any other command
-pub plain_leads : (facts : Facts) (inc : Included) (word : CommandWord) (is_open : Bool) (name : List ℕ) (args : List Argument) (inner : InnerTests) (finish : EndingTree) (f : meaning.Filing) (e : meaning.Ending) → command_word name ≡ word → part_of word is_open ≡ Plain → (IsNoIf word → PlainlyEnds facts inc word args f e) → Leads facts inc is_open (command name args inner finish) f e false
+pub plain_leads : (facts : Facts) (inc : Included) (word : CommandWord) (is_open : Bool) (name : List ℕ)
+    (args : List Argument) (inner : InnerTests) (finish : EndingTree) (f : meaning.Filing) (e : meaning.Ending)
+    → command_word name ≡ word → part_of word is_open ≡ Plain → (IsNoIf word → PlainlyEnds facts inc word args f e)
+    → Leads facts inc is_open (command name args inner finish) f e false
 unfolding runs_from
 plain_leads facts inc words.If is_open name args inner finish f e is part told more = cc
 plain_leads facts inc words.ElsIf true name args inner finish f e is part told more = cc
-plain_leads facts inc words.ElsIf false name args inner finish f e is part told more = rw is (told tt (only_in inner) (block_in finish) (branches_of more) (program_of more))
+plain_leads facts inc words.ElsIf false name args inner finish f e is part told more =
+    rw is (told tt (only_in inner) (block_in finish) (branches_of more) (program_of more))
 plain_leads facts inc words.Else true name args inner finish f e is part told more = cc
-plain_leads facts inc words.Else false name args inner finish f e is part told more = rw is (told tt (only_in inner) (block_in finish) (branches_of more) (program_of more))
-plain_leads facts inc words.Require true name args inner finish f e is part told more = rw is (told tt (only_in inner) (block_in finish) (branches_of more) (program_of more))
-plain_leads facts inc words.Require false name args inner finish f e is part told more = rw is (told tt (only_in inner) (block_in finish) (branches_of more) (program_of more))
-plain_leads facts inc words.Stop true name args inner finish f e is part told more = rw is (told tt (only_in inner) (block_in finish) (branches_of more) (program_of more))
-plain_leads facts inc words.Stop false name args inner finish f e is part told more = rw is (told tt (only_in inner) (block_in finish) (branches_of more) (program_of more))
-plain_leads facts inc words.Keep true name args inner finish f e is part told more = rw is (told tt (only_in inner) (block_in finish) (branches_of more) (program_of more))
-plain_leads facts inc words.Keep false name args inner finish f e is part told more = rw is (told tt (only_in inner) (block_in finish) (branches_of more) (program_of more))
-plain_leads facts inc words.Discard true name args inner finish f e is part told more = rw is (told tt (only_in inner) (block_in finish) (branches_of more) (program_of more))
-plain_leads facts inc words.Discard false name args inner finish f e is part told more = rw is (told tt (only_in inner) (block_in finish) (branches_of more) (program_of more))
-plain_leads facts inc words.Return true name args inner finish f e is part told more = rw is (told tt (only_in inner) (block_in finish) (branches_of more) (program_of more))
-plain_leads facts inc words.Return false name args inner finish f e is part told more = rw is (told tt (only_in inner) (block_in finish) (branches_of more) (program_of more))
-plain_leads facts inc words.FileInto true name args inner finish f e is part told more = rw is (told tt (only_in inner) (block_in finish) (branches_of more) (program_of more))
-plain_leads facts inc words.FileInto false name args inner finish f e is part told more = rw is (told tt (only_in inner) (block_in finish) (branches_of more) (program_of more))
-plain_leads facts inc words.Include true name args inner finish f e is part told more = rw is (told tt (only_in inner) (block_in finish) (branches_of more) (program_of more))
-plain_leads facts inc words.Include false name args inner finish f e is part told more = rw is (told tt (only_in inner) (block_in finish) (branches_of more) (program_of more))
-plain_leads facts inc words.Other true name args inner finish f e is part told more = rw is (told tt (only_in inner) (block_in finish) (branches_of more) (program_of more))
-plain_leads facts inc words.Other false name args inner finish f e is part told more = rw is (told tt (only_in inner) (block_in finish) (branches_of more) (program_of more))
+plain_leads facts inc words.Else false name args inner finish f e is part told more =
+    rw is (told tt (only_in inner) (block_in finish) (branches_of more) (program_of more))
+plain_leads facts inc words.Require true name args inner finish f e is part told more =
+    rw is (told tt (only_in inner) (block_in finish) (branches_of more) (program_of more))
+plain_leads facts inc words.Require false name args inner finish f e is part told more =
+    rw is (told tt (only_in inner) (block_in finish) (branches_of more) (program_of more))
+plain_leads facts inc words.Stop true name args inner finish f e is part told more =
+    rw is (told tt (only_in inner) (block_in finish) (branches_of more) (program_of more))
+plain_leads facts inc words.Stop false name args inner finish f e is part told more =
+    rw is (told tt (only_in inner) (block_in finish) (branches_of more) (program_of more))
+plain_leads facts inc words.Keep true name args inner finish f e is part told more =
+    rw is (told tt (only_in inner) (block_in finish) (branches_of more) (program_of more))
+plain_leads facts inc words.Keep false name args inner finish f e is part told more =
+    rw is (told tt (only_in inner) (block_in finish) (branches_of more) (program_of more))
+plain_leads facts inc words.Discard true name args inner finish f e is part told more =
+    rw is (told tt (only_in inner) (block_in finish) (branches_of more) (program_of more))
+plain_leads facts inc words.Discard false name args inner finish f e is part told more =
+    rw is (told tt (only_in inner) (block_in finish) (branches_of more) (program_of more))
+plain_leads facts inc words.Return true name args inner finish f e is part told more =
+    rw is (told tt (only_in inner) (block_in finish) (branches_of more) (program_of more))
+plain_leads facts inc words.Return false name args inner finish f e is part told more =
+    rw is (told tt (only_in inner) (block_in finish) (branches_of more) (program_of more))
+plain_leads facts inc words.FileInto true name args inner finish f e is part told more =
+    rw is (told tt (only_in inner) (block_in finish) (branches_of more) (program_of more))
+plain_leads facts inc words.FileInto false name args inner finish f e is part told more =
+    rw is (told tt (only_in inner) (block_in finish) (branches_of more) (program_of more))
+plain_leads facts inc words.Include true name args inner finish f e is part told more =
+    rw is (told tt (only_in inner) (block_in finish) (branches_of more) (program_of more))
+plain_leads facts inc words.Include false name args inner finish f e is part told more =
+    rw is (told tt (only_in inner) (block_in finish) (branches_of more) (program_of more))
+plain_leads facts inc words.Other true name args inner finish f e is part told more =
+    rw is (told tt (only_in inner) (block_in finish) (branches_of more) (program_of more))
+plain_leads facts inc words.Other false name args inner finish f e is part told more =
+    rw is (told tt (only_in inner) (block_in finish) (branches_of more) (program_of more))
 
 -- without commands the run goes on
-pub runs_from_none : (facts : Facts) (inc : Included) (is_open : Bool) (f : meaning.Filing) → runs_from facts inc is_open no_commands f ≡ meaning.GoesOn f
+pub runs_from_none : (facts : Facts) (inc : Included) (is_open : Bool) (f : meaning.Filing)
+    → runs_from facts inc is_open no_commands f ≡ meaning.GoesOn f
 unfolding runs_from
 runs_from_none facts inc true f = refl
 runs_from_none facts inc false f = refl
 
 -- a branch whose test is true
-pub branch_taken : (facts : Facts) (inc : Included) (name : List ℕ) (args : List Argument) (inner : InnerTests) (finish : EndingTree) (f : meaning.Filing) (e : meaning.Ending) → truth facts (only_in inner) ≡ true → e ≡ runs_from facts inc false (commands_in finish) f → BranchLeads facts inc (command name args inner finish) f e false
+pub branch_taken : (facts : Facts) (inc : Included) (name : List ℕ) (args : List Argument) (inner : InnerTests)
+    (finish : EndingTree) (f : meaning.Filing) (e : meaning.Ending) → truth facts (only_in inner) ≡ true
+    → e ≡ runs_from facts inc false (commands_in finish) f
+    → BranchLeads facts inc (command name args inner finish) f e false
 unfolding runs_from
 branch_taken facts inc name args inner finish f e holds told more = rw (holds, told, block_in-commands finish) refl
 
 -- where all commands were run
-pub runs_from_end : (facts : Facts) (inc : Included) (is_open : Bool) (xs : List Command) (i : ℕ) (f : meaning.Filing) (e : meaning.Ending) → length xs ≤ i → runs_from facts inc is_open (commands_of (map command_of (drop i xs))) f ≡ e → meaning.GoesOn f ≡ e
+pub runs_from_end : (facts : Facts) (inc : Included) (is_open : Bool) (xs : List Command) (i : ℕ) (f : meaning.Filing)
+    (e : meaning.Ending) → length xs ≤ i → runs_from facts inc is_open (commands_of (map command_of (drop i xs))) f ≡ e
+    → meaning.GoesOn f ≡ e
 runs_from_end facts inc is_open xs i f e past told =
-    sym (runs_from_none facts inc is_open f) ∙ sym (at_drop_all (λ ys. runs_from facts inc is_open (commands_of (map command_of ys)) f) xs i past) ∙ told
+    sym (runs_from_none facts inc is_open f)
+    ∙ sym (at_drop_all (λ ys. runs_from facts inc is_open (commands_of (map command_of ys)) f) xs i past) ∙ told

@@ -5,7 +5,9 @@ use Rattle.record_archive.specs.Archive.{Archive}
 use Rattle.filing_commands.specs.Answers.{Answer, done, dry_run, begun, running, ended, captured, listed, refused}
 use Rattle.filing_commands.specs.Office.{Office, PlainCommand, OfficeRule, OfficeStep}
 use Rattle.filing_commands.specs.Pinning.{BeginState}
-use Rattle.filing_commands.specs.Standing.{Command, plain, begin, turn, finish, Flight, Standing, Step, BeginStep, TurnStep, FinishStep, FinishWhole, Files, IsPinned, flight_of, grant, without, after_finish, begin_refusal, begin_state, turn_answer}
+use Rattle.filing_commands.specs.Standing.{Command, plain, begin, turn, finish, Flight, Standing, Step, BeginStep}
+use Rattle.filing_commands.specs.Standing.{TurnStep, FinishStep, FinishWhole, Files, IsPinned, flight_of, grant}
+use Rattle.filing_commands.specs.Standing.{without, after_finish, begin_refusal, begin_state, turn_answer}
 use Rattle.promises.specs.Beginnings.{tickets_given}
 use Rattle.promises.specs.Turns.{Grants, TurnGrants}
 
@@ -80,7 +82,8 @@ office_none : (s : Office) (c : PlainCommand) (a : Answer) (new : Office) → Of
 office_none s c a new (inl h) = rule_none s c a new h
 office_none s c a new (inr h) = refused_none a h.0 None h.2
 
-plain_change : (s : Standing) (c : PlainCommand) (a : Answer) (b : Office) (new : Standing) → OfficeStep s.office c a b → new ≡ record s { office = b } → Change s (plain c) a new
+plain_change : (s : Standing) (c : PlainCommand) (a : Answer) (b : Office) (new : Standing) → OfficeStep s.office c a b
+    → new ≡ record s { office = b } → Change s (plain c) a new
 plain_change s c a b new h e = inl (record {
   flights = ap (λ (x : Standing). x.flights) e;
   last = ap (λ (x : Standing). x.last) e;
@@ -90,7 +93,8 @@ plain_change s c a b new h e = inl (record {
 
 -- ---- beginnings
 
-begin_change : (s : Standing) (officer : List ℕ) (moment : ℕ) (message : List ℕ) (a : Answer) (new : Standing) → BeginStep s officer moment message a new → Change s (begin officer moment message) a new
+begin_change : (s : Standing) (officer : List ℕ) (moment : ℕ) (message : List ℕ) (a : Answer) (new : Standing)
+    → BeginStep s officer moment message a new → Change s (begin officer moment message) a new
 begin_change s officer moment message (begun t b) new h = inr (inr (inr (record {
   officer = officer;
   moment = moment;
@@ -148,7 +152,8 @@ turned_none f k a e answers = go (nat_le f.run_length k) e
 interrupted_grants : (k j : ℕ) (a : Answer) → a ≡ refused 99 None → j < k → TurnGrants k a j
 interrupted_grants k j a e h = rw e h
 
-turn_change : (s : Standing) (t k : ℕ) (f : Option Flight) (a : Answer) (new : Standing) → flight_of t s.flights ≡ f → TurnStep s t k f a new → Change s (turn t k) a new
+turn_change : (s : Standing) (t k : ℕ) (f : Option Flight) (a : Answer) (new : Standing) → flight_of t s.flights ≡ f
+    → TurnStep s t k f a new → Change s (turn t k) a new
 turn_change s t k None a new is h = stays s _ a new h.1 (λ u. no_ticket_grants t k a u h.0) (refused_none a 91 None h.0)
 turn_change s t k (Some f) a new is (inl h) = inr (inl (record {
   ticket = t;
@@ -173,7 +178,8 @@ turn_change s t k (Some f) a new is (inr h) = inr (inl (record {
 
 -- ---- finishes
 
-files_change : (s : Standing) (t : ℕ) (at_begin : BeginState) (a : Answer) (b : Archive) (new : Standing) → Files s.office.archive at_begin a b → new ≡ after_finish s t a b → Change s (finish t) a new
+files_change : (s : Standing) (t : ℕ) (at_begin : BeginState) (a : Answer) (b : Archive) (new : Standing)
+    → Files s.office.archive at_begin a b → new ≡ after_finish s t a b → Change s (finish t) a new
 files_change s t at_begin (captured fault lines) b new h e = inr (inr (inl (record {
   ticket = t;
   flights = ap (λ (x : Standing). x.flights) e;
@@ -194,7 +200,8 @@ files_change s t at_begin (running k) b new h e = absurd h
 files_change s t at_begin (ended k) b new h e = absurd h
 files_change s t at_begin (listed ls) b new h e = absurd h
 
-whole_change : (s : Standing) (t : ℕ) (early : Bool) (at_begin : BeginState) (a : Answer) (new : Standing) → FinishWhole s t early at_begin a new → Change s (finish t) a new
+whole_change : (s : Standing) (t : ℕ) (early : Bool) (at_begin : BeginState) (a : Answer) (new : Standing)
+    → FinishWhole s t early at_begin a new → Change s (finish t) a new
 whole_change s t true at_begin a new h = stays s _ a new h.1 (λ u. refl) (refused_none a 92 None h.0)
 whole_change s t false at_begin a new (inl h) = files_change s t at_begin a h.0 new h.1 h.2
 whole_change s t false at_begin a new (inr h) = stays s _ a new h.3 (λ u. refl) (refused_none a h.0 None h.2)

@@ -22,7 +22,8 @@ pub record TextsAreOne : Type 0 where
 
 -- octets spell one program at most: `one_spelling`
 abbrev pub ProgramsAreOne : Type 0
-ProgramsAreOne = (p q : Program) (x y : List ℕ) → Fits (parts p) → Fits (parts q) → spelling (parts p) ++ x ≡ spelling (parts q) ++ y → (p ≡ q) × (x ≡ y)
+ProgramsAreOne = (p q : Program) (x y : List ℕ) → Fits (parts p) → Fits (parts q) → spelling (parts p)
+    ++ x ≡ spelling (parts q) ++ y → (p ≡ q) × (x ≡ y)
 
 -- a run has one outcome at most: `a_run_ends_once`
 abbrev pub OutcomesAreOne : Type 0

@@ -9,7 +9,8 @@ use Rattle.promises.specs.Lines.{LineSession, IsSession, answers_in, commands_in
 use Rattle.promises.specs.Runs.{Run}
 
 -- lines that are no commands change nothing
-pub commands_run : (s new : Standing) (items : List Item) (answers : List Answer) → session.Run Step s items answers new → Run s (commands_in items) (answers_in items answers) new
+pub commands_run : (s new : Standing) (items : List Item) (answers : List Answer) → session.Run Step s items answers new
+    → Run s (commands_in items) (answers_in items answers) new
 commands_run s new [] [] h = h
 commands_run s new (Call c ∷ items) (a ∷ answers) h = (h.0, h.1, commands_run h.0 new items answers h.2)
 commands_run s new (UnknownCommand ∷ items) (a ∷ answers) h =
@@ -26,7 +27,12 @@ module _ {D : Type 0} (clean : D → Type 0) (stands : D → Standing → Type 0
   is_session x =
       let led = leads x.items x.answers x.old x.new x.run x.state x.at_begin in
       record {
-        of_commands = record { commands = commands_in x.items; answers = answers_in x.items x.answers; new = led.to; run = commands_run x.state led.to x.items x.answers led.is_one };
+        of_commands = record {
+          commands = commands_in x.items;
+          answers = answers_in x.items x.answers;
+          new = led.to;
+          run = commands_run x.state led.to x.items x.answers led.is_one;
+        };
         commands = refl;
         answered = refl;
         at_end = led.there;

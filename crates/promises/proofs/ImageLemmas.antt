@@ -24,7 +24,8 @@ use Rattle.promises.proofs.Verdicts.{image_or, one_image}
 pub one_good_image : ProgramsAreOne → (octets : List ℕ) (p q : Program) → IsGoodImage octets p → IsGoodImage octets q → p ≡ q
 one_good_image one_start octets p q h k = one_image one_start octets p q h.is_image k.is_image
 
-pub never_traps : ((p : Program) (c : Facts) (n : ℕ) → IsWell p → after_steps p c n ≢ Trap) → (octets : List ℕ) (p : Program) (c : Facts) (n : ℕ) → IsGoodImage octets p → after_steps p c n ≢ Trap
+pub never_traps : ((p : Program) (c : Facts) (n : ℕ) → IsWell p → after_steps p c n ≢ Trap)
+    → (octets : List ℕ) (p : Program) (c : Facts) (n : ℕ) → IsGoodImage octets p → after_steps p c n ≢ Trap
 never_traps well_made octets p c n h = well_made p c n h.well
 
 pub ends : RunsEnd → (octets : List ℕ) (p : Program) (c : Facts) → IsGoodImage octets p → (o : Outcome) × EndsWithinBudget p c o
@@ -45,11 +46,13 @@ refused_for_memory one_start octets p n h k =
     ]
 
 -- a script that is too heavy has that fault, and any other the outcome of what it means
-heavy_outcome : (c : Facts) (lib : Library) (name : List ℕ) (s : Commands) → is_too_heavy lib (Some name) s ≡ true → outcome c lib (Some name) s ≡ outcome_at (Some run_faults.TooHeavy) [] false false
+heavy_outcome : (c : Facts) (lib : Library) (name : List ℕ) (s : Commands) → is_too_heavy lib (Some name) s ≡ true
+    → outcome c lib (Some name) s ≡ outcome_at (Some run_faults.TooHeavy) [] false false
 unfolding outcome
 heavy_outcome c lib name s heavy = rw heavy refl
 
-light_outcome : (c : Facts) (lib : Library) (name : List ℕ) (s : Commands) → is_too_heavy lib (Some name) s ≡ false → outcome c lib (Some name) s ≡ outcome_of (meaning c lib (Some name) s)
+light_outcome : (c : Facts) (lib : Library) (name : List ℕ) (s : Commands) → is_too_heavy lib (Some name) s ≡ false
+    → outcome c lib (Some name) s ≡ outcome_of (meaning c lib (Some name) s)
 unfolding outcome
 light_outcome c lib name s light = rw light refl
 
@@ -58,7 +61,9 @@ abbrev pub FaultEnds : Type 0
 FaultEnds = (c : Facts) → HasOutcome one_fault c 1 (outcome_at (Some run_faults.TooHeavy) [] false false)
 
 module _ (ends_within : RunsEnd) (one_step : LengthsAreOne) (fault_ends : FaultEnds) where
-  script_ends : (heavy : Bool) (lib : Library) (name : List ℕ) (s : Commands) (p : Program) (c : Facts) → is_too_heavy lib (Some name) s ≡ heavy → PinsScript heavy lib name s p → EndsWithinBudget p c (outcome c lib (Some name) s)
+  script_ends : (heavy : Bool) (lib : Library) (name : List ℕ) (s : Commands) (p : Program) (c : Facts)
+      → is_too_heavy lib (Some name) s ≡ heavy → PinsScript heavy lib name s p
+      → EndsWithinBudget p c (outcome c lib (Some name) s)
   script_ends true lib name s p c e h =
       let heavy : Outcome = outcome_at (Some run_faults.TooHeavy) [] false false in
       let one : EndsWithinBudget one_fault c heavy = record { steps = 1; within = omega arith; outcome = fault_ends c } in
@@ -66,9 +71,11 @@ module _ (ends_within : RunsEnd) (one_step : LengthsAreOne) (fault_ends : FaultE
       subst (λ (o : Outcome). EndsWithinBudget p c o) (sym (heavy_outcome c lib name s e)) here
   script_ends false lib name s p c e h =
       let end = h.outcomes c in
-      subst (λ (o : Outcome). EndsWithinBudget p c o) (sym (light_outcome c lib name s e)) (budget_holds ends_within one_step p c end.0 _ h.well end.1)
+      subst (λ (o : Outcome). EndsWithinBudget p c o) (sym (light_outcome c lib name s e))
+      (budget_holds ends_within one_step p c end.0 _ h.well end.1)
 
-  pub means : (lib : Library) (name : List ℕ) (script : Commands) (p : Program) (c : Facts) → Compiles lib name script p → EndsWithinBudget p c (outcome c lib (Some name) script)
+  pub means : (lib : Library) (name : List ℕ) (script : Commands) (p : Program) (c : Facts) → Compiles lib name script p
+      → EndsWithinBudget p c (outcome c lib (Some name) script)
   means lib name script p c h = script_ends _ lib name script p c refl h
 
 pub means_fault_alone : (lib : Library) (name : List ℕ) (script : Commands) (c : Facts) → IsFaultAlone (outcome c lib (Some name) script)

@@ -1,5 +1,6 @@
 -- What holds of all captures in flight, and of the tickets given.
-use Rattle.std.proofs.Common.{◌≡◌, ◌+◌, ◌≤◌, ◌++◌, [], ◌∷◌, ℕ, List, length, refl, arith, ap, ◌∙◌, sym, subst, inl, inr, Bool, true, false, Option, Some, None}
+use Rattle.std.proofs.Common.{◌≡◌, ◌+◌, ◌≤◌, ◌++◌, [], ◌∷◌, ℕ, List, length, refl, arith, ap, ◌∙◌, sym, subst, inl, inr}
+use Rattle.std.proofs.Common.{Bool, true, false, Option, Some, None}
 use Rattle.std.specs.Prelude.{if◌then◌else◌, ◌==◌, All}
 use Rattle.std.specs.List.{AllByRecursion}
 use Rattle.std.proofs.lemmas.List.{length-append}
@@ -74,7 +75,8 @@ change_within s c a new (inr (inr (inr h))) k =
       last = rw h.last (omega (arith, room.1));
     }
 
-run_within : (s : Standing) (cs : List Command) (answers : List Answer) (new : Standing) → Run s cs answers new → IsWithinLimits s → IsWithinLimits new
+run_within : (s : Standing) (cs : List Command) (answers : List Answer) (new : Standing) → Run s cs answers new
+    → IsWithinLimits s → IsWithinLimits new
 run_within s [] [] new h k = subst IsWithinLimits (sym h) k
 run_within s (c ∷ cs) (a ∷ answers) new h k = run_within h.0 cs answers new h.2 (change_within s c a h.0 (step_change s c a h.0 h.1) k)
 run_within s [] (a ∷ answers) new h k = absurd h
@@ -101,17 +103,21 @@ pinned_of t (g ∷ fs) f h e = go (g.ticket == t) refl (pinned_of t fs f h.1)
     go false is rest = rest (rw is at e)
 
 -- a capture that was granted as many turns as its budget has come to its end
-pub enough_turns : RunsEnd → LengthsAreOne → (s : Standing) (t : ℕ) (f : Flight) → IsReached s → flight_of t s.flights ≡ Some f → f.pinned.budget ≤ f.granted → HasEnded f
+pub enough_turns : RunsEnd → LengthsAreOne → (s : Standing) (t : ℕ) (f : Flight) → IsReached s
+    → flight_of t s.flights ≡ Some f → f.pinned.budget ≤ f.granted → HasEnded f
 enough_turns ends_within one_step s t f h e enough =
     let within = (within_budget ends_within one_step f (pinned_of t s.flights f (reached_within s h).pinned e)).0 in
     omega (arith, within, enough)
 
 -- ---- the tickets given
 
-next_ticket : (a : Answer) (t b first last : ℕ) (answers : List Answer) → a ≡ begun t b → t ≡ first + 1 → AreNumbersUpTo t (tickets_given answers) last → AreNumbersUpTo first (tickets_given (a ∷ answers)) last
+next_ticket : (a : Answer) (t b first last : ℕ) (answers : List Answer) → a ≡ begun t b → t ≡ first + 1
+    → AreNumbersUpTo t (tickets_given answers) last → AreNumbersUpTo first (tickets_given (a ∷ answers)) last
 next_ticket a t b first last answers e f h = rw e (f, h)
 
-change_given : (s : Standing) (c : Command) (a : Answer) (mid : Standing) (answers : List Answer) (last : ℕ) → Change s c a mid → AreNumbersUpTo mid.last (tickets_given answers) last → AreNumbersUpTo s.last (tickets_given (a ∷ answers)) last
+change_given : (s : Standing) (c : Command) (a : Answer) (mid : Standing) (answers : List Answer) (last : ℕ)
+    → Change s c a mid → AreNumbersUpTo mid.last (tickets_given answers) last
+    → AreNumbersUpTo s.last (tickets_given (a ∷ answers)) last
 change_given s c a mid answers last (inl h) k = rw (h.given answers) (rw h.last at k)
 change_given s c a mid answers last (inr (inl h)) k = rw (h.given answers) (rw h.last at k)
 change_given s c a mid answers last (inr (inr (inl h))) k = rw (h.given answers) (rw h.last at k)
@@ -119,11 +125,14 @@ change_given s c a mid answers last (inr (inr (inr h))) k =
     let same : mid.last ≡ h.flight.ticket = h.last ∙ sym h.next in
     next_ticket a h.flight.ticket h.flight.pinned.budget s.last last answers h.answer h.next (rw same at k)
 
-given_in_order : (s : Standing) (cs : List Command) (answers : List Answer) (new : Standing) → Run s cs answers new → AreNumbersUpTo s.last (tickets_given answers) new.last
+given_in_order : (s : Standing) (cs : List Command) (answers : List Answer) (new : Standing) → Run s cs answers new
+    → AreNumbersUpTo s.last (tickets_given answers) new.last
 given_in_order s [] [] new h = ap (λ (x : Standing). x.last) h
-given_in_order s (c ∷ cs) (a ∷ answers) new h = change_given s c a h.0 answers new.last (step_change s c a h.0 h.1) (given_in_order h.0 cs answers new h.2)
+given_in_order s (c ∷ cs) (a ∷ answers) new h =
+    change_given s c a h.0 answers new.last (step_change s c a h.0 h.1) (given_in_order h.0 cs answers new h.2)
 given_in_order s [] (a ∷ answers) new h = absurd h
 given_in_order s (c ∷ cs) [] new h = absurd h
 
-pub tickets_in_order : (archive : Archive) (cs : List Command) (answers : List Answer) (s : Standing) → Run (opening archive) cs answers s → AreNumbersUpTo 0 (tickets_given answers) s.last
+pub tickets_in_order : (archive : Archive) (cs : List Command) (answers : List Answer) (s : Standing)
+    → Run (opening archive) cs answers s → AreNumbersUpTo 0 (tickets_given answers) s.last
 tickets_in_order archive cs answers s h = given_in_order (opening archive) cs answers s h

@@ -14,7 +14,10 @@ use Rattle.filing_table.specs.Ends.{HasOutcome}
 use Rattle.record_archive.specs.Archive.{Archive, Line, revise}
 use Rattle.record_archive.specs.declared.fault.ArchiveRefusal.{ArchiveRefusal}
 use Rattle.filing_commands.specs.Answers.{Answer, done, dry_run, begun, running, ended, captured, listed, refused}
-use Rattle.filing_commands.specs.Office.{Office, PlainCommand, OfficeRule, Settles, Captures, Lists, Refuses, IsFiled, IsMade, IsRefused, IsTried, add_class, set_plan, set_script, set_global, activate, deactivate, set_image, file, try_image, hold, release, due, destroy, with_globals, with_officer, with_scripts, with_active}
+use Rattle.filing_commands.specs.Office.{Office, PlainCommand, OfficeRule, Settles, Captures, Lists, Refuses, IsFiled}
+use Rattle.filing_commands.specs.Office.{IsMade, IsRefused, IsTried, add_class, set_plan, set_script, set_global}
+use Rattle.filing_commands.specs.Office.{activate, deactivate, set_image, file, try_image, hold, release, due, destroy}
+use Rattle.filing_commands.specs.Office.{with_globals, with_officer, with_scripts, with_active}
 use Rattle.filing_commands.specs.Parts.{IsKept, IsPlanOf, RefusesPlan, RefusesToKeep}
 use Rattle.filing_commands.specs.Pinning.{image}
 use Rattle.filing_commands.specs.Scripts.{library, put_script}
@@ -52,17 +55,21 @@ refused_once (Err f) m n h k = h ∙ sym k
 one_plan : (text : List ℕ) (p q : Listing) → IsPlanOf text p → IsPlanOf text q → p ≡ q
 one_plan text p q h k = ok_is p q (sym h.is_plan ∙ k.is_plan)
 
-plan_once : (s : Office) (text : List ℕ) (p q : Listing) (x y : Office) → IsPlanOf text p → IsMade s (revise s.archive p) x → IsPlanOf text q → IsMade s (revise s.archive q) y → x ≡ y
+plan_once : (s : Office) (text : List ℕ) (p q : Listing) (x y : Office) → IsPlanOf text p
+    → IsMade s (revise s.archive p) x → IsPlanOf text q → IsMade s (revise s.archive q) y → x ≡ y
 plan_once s text p q x y hp h kp k =
     let P : Listing → Type 0 = λ z. IsMade s (revise s.archive z) x in
     made_once s (revise s.archive q) x y (subst P (one_plan text p q hp kp) h) k
 
 -- no plan that drops a path is taken over
-drops_or : (s : Office) (old p : Listing) (x : Office) (keeps_all : Bool) → keeps_all ≡ false → IsMade s (if keeps_all then Ok (record s.archive { plan = p }) else Err (Rattle.record_archive.specs.declared.fault.ArchiveRefusal.TheVariants.Plan PathDropped)) x → ⊥
+drops_or : (s : Office) (old p : Listing) (x : Office) (keeps_all : Bool) → keeps_all ≡ false
+    → IsMade s (if keeps_all then Ok (record s.archive { plan = p }) else Err
+    (Rattle.record_archive.specs.declared.fault.ArchiveRefusal.TheVariants.Plan PathDropped)) x → ⊥
 drops_or s old p x true e h = true_false e
 drops_or s old p x false e h = h
 
-plan_or : (s : Office) (text : List ℕ) (p : Listing) (x : Office) (n : ℕ) → IsPlanOf text p → IsMade s (revise s.archive p) x → RefusesPlan s.archive.plan text n → ⊥
+plan_or : (s : Office) (text : List ℕ) (p : Listing) (x : Office) (n : ℕ) → IsPlanOf text p
+    → IsMade s (revise s.archive p) x → RefusesPlan s.archive.plan text n → ⊥
 plan_or s text p x n h made (inl k) = omega (arith, k.0, h.short)
 plan_or s text p x n h made (inr (inl k)) = ok_err p k.fault (sym h.is_plan ∙ k.refuses)
 plan_or s text p x n h made (inr (inr k)) =
@@ -74,7 +81,8 @@ plan_refused old text m n (inl h) (inr (inl k)) = absurd (omega (arith, h.0, k.s
 plan_refused old text m n (inl h) (inr (inr k)) = absurd (omega (arith, h.0, k.is_plan.short))
 plan_refused old text m n (inr (inl h)) (inl k) = absurd (omega (arith, k.0, h.short))
 plan_refused old text m n (inr (inr h)) (inl k) = absurd (omega (arith, k.0, h.is_plan.short))
-plan_refused old text m n (inr (inl h)) (inr (inl k)) = h.is_number ∙ ap plan.number_of (err_is h.fault k.fault (sym h.refuses ∙ k.refuses)) ∙ sym k.is_number
+plan_refused old text m n (inr (inl h)) (inr (inl k)) = h.is_number
+    ∙ ap plan.number_of (err_is h.fault k.fault (sym h.refuses ∙ k.refuses)) ∙ sym k.is_number
 plan_refused old text m n (inr (inl h)) (inr (inr k)) = absurd (ok_err k.plan h.fault (sym k.is_plan.is_plan ∙ h.refuses))
 plan_refused old text m n (inr (inr h)) (inr (inl k)) = absurd (ok_err h.plan k.fault (sym h.is_plan.is_plan ∙ k.refuses))
 plan_refused old text m n (inr (inr h)) (inr (inr k)) = h.is_number ∙ sym k.is_number
@@ -133,7 +141,8 @@ module _ (texts : TextsAreOne) (one_start : ProgramsAreOne) (one_outcome : Outco
   kept_or es x name text n h (inl k) = script_or texts text h.tree n h.good k
   kept_or es x name text n h (inr k) = h.has_room k.has_no_room
 
-  keep_refused : (es : List (List ℕ × Commands)) (name text : List ℕ) (m n : ℕ) → RefusesToKeep es name text m → RefusesToKeep es name text n → AreSameNumber m n
+  keep_refused : (es : List (List ℕ × Commands)) (name text : List ℕ) (m n : ℕ) → RefusesToKeep es name text m
+      → RefusesToKeep es name text n → AreSameNumber m n
   keep_refused es name text m n (inl h) (inl k) = one_refusal texts text m n h k
   keep_refused es name text m n (inl h) (inr k) = absurd (script_or texts text k.tree m k.good h)
   keep_refused es name text m n (inr h) (inl k) = absurd (script_or texts text h.tree n h.good k)
@@ -145,11 +154,14 @@ module _ (texts : TextsAreOne) (one_start : ProgramsAreOne) (one_outcome : Outco
   settles_once s (add_class path) x y h k = made_once s _ x y h k
   settles_once s (set_plan text) x y h k = plan_once s text h.0 k.0 x y h.1 h.2 k.1 k.2
   settles_once s (set_script officer name text) x y h k =
-      h.2 ∙ ap (λ es. with_officer s officer (with_scripts (s.officers officer) es)) (kept_once (s.officers officer).scripts h.0 k.0 name text h.1 k.1) ∙ sym k.2
+      h.2 ∙ ap (λ es. with_officer s officer (with_scripts (s.officers officer) es))
+      (kept_once (s.officers officer).scripts h.0 k.0 name text h.1 k.1) ∙ sym k.2
   settles_once s (set_global name text) x y h k = h.2 ∙ ap (with_globals s) (kept_once s.globals h.0 k.0 name text h.1 k.1) ∙ sym k.2
   settles_once s (activate officer name) x y h k = h.1 ∙ sym k.1
   settles_once s (deactivate officer) x y h k = h ∙ sym k
-  settles_once s (set_image officer octets) x y h k = h.2 ∙ ap (λ p. with_active s officer (image p)) (one_image one_start octets h.0 k.0 h.1.is_image k.1.is_image) ∙ sym k.2
+  settles_once s (set_image officer octets) x y h k = h.2
+      ∙ ap (λ p. with_active s officer (image p)) (one_image one_start octets h.0 k.0 h.1.is_image k.1.is_image)
+      ∙ sym k.2
   settles_once s (hold name r) x y h k = made_once s _ x y h k
   settles_once s (release name r) x y h k = made_once s _ x y h k
   settles_once s (destroy r day) x y h k = made_once s _ x y h k
@@ -177,13 +189,15 @@ module _ (texts : TextsAreOne) (one_start : ProgramsAreOne) (one_outcome : Outco
   filed_once : (s : Office) (script message : List ℕ) (o q : Outcome) → IsFiled s script message o → IsFiled s script message q → o ≡ q
   filed_once s script message o q h k =
       let facts = case_of message (is_open_in s.archive.plan) in
-      h.outcome ∙ ap (λ t. meaning.outcome facts (library [] s.globals) None (program_of t)) (one_script texts script h.tree k.tree h.good k.good) ∙ sym k.outcome
+      h.outcome ∙ ap (λ t. meaning.outcome facts (library [] s.globals) None (program_of t))
+      (one_script texts script h.tree k.tree h.good k.good) ∙ sym k.outcome
 
   tried_once : (s : Office) (octets message : List ℕ) (o q : Outcome) → IsTried s octets message o → IsTried s octets message q → o ≡ q
   tried_once s octets message o q h k =
       let facts = case_of message (is_open_in s.archive.plan) in
       let P : Program → Type 0 = λ p. HasOutcome p facts h.steps o in
-      one_outcome k.program facts h.steps k.steps o q (subst P (one_image one_start octets h.program k.program h.good.is_image k.good.is_image) h.outcome) k.outcome
+      one_outcome k.program facts h.steps k.steps o q
+      (subst P (one_image one_start octets h.program k.program h.good.is_image k.good.is_image) h.outcome) k.outcome
 
   captures_once : (s : Office) (c : PlainCommand) (o q : Outcome) → Captures s c o → Captures s c q → o ≡ q
   captures_once s (file script message) o q h k = filed_once s script message o q h k
@@ -242,7 +256,8 @@ module _ (texts : TextsAreOne) (one_start : ProgramsAreOne) (one_outcome : Outco
 
   -- ---- one answer
 
-  pub office_once : (s : Office) (c : PlainCommand) (a b : Answer) (x y : Office) → OfficeRule s c a x → OfficeRule s c b y → is_passing a ≡ false → is_passing b ≡ false → AreAlike a b × (x ≡ y)
+  pub office_once : (s : Office) (c : PlainCommand) (a b : Answer) (x y : Office) → OfficeRule s c a x
+      → OfficeRule s c b y → is_passing a ≡ false → is_passing b ≡ false → AreAlike a b × (x ≡ y)
   office_once s c done done x y h k d e = (refl, settles_once s c x y h k)
   office_once s c done (dry_run q) x y h k d e = absurd (settles_captures s c x q h k.1)
   office_once s c done (listed ms) x y h k d e = absurd ((told_alone s c ms k.1).unsettled x h)

@@ -25,5 +25,9 @@ module _ (ends_within : RunsEnd) (one_step : LengthsAreOne) where
   pub within_budget : (f : Flight) → IsPinned f → (f.run_length ≤ f.pinned.budget) × (f.pinned.budget ≡ budget_of f.at_begin)
   within_budget f h = (steps_within f.pinned (case_in f.at_begin) f.run_length h.length.0 h.well h.length.1, pins_budget f.at_begin f.pinned h.pins)
 
-pub alone : PinnedRunsAreAlone → LengthsAreOne → (f : Flight) (n : ℕ) (o : Outcome) → IsPinned f → HasOutcome f.pinned (case_in f.at_begin) n o → IsAlone f.at_begin o × (n ≡ f.run_length)
-alone pinned_alone one_step f n o h k = (pinned_alone f.at_begin f.pinned n o h.pins k, one_step f.pinned (case_in f.at_begin) n f.run_length o h.length.0 k h.length.1)
+pub alone : PinnedRunsAreAlone → LengthsAreOne → (f : Flight) (n : ℕ) (o : Outcome) → IsPinned f
+    → HasOutcome f.pinned (case_in f.at_begin) n o → IsAlone f.at_begin o × (n ≡ f.run_length)
+alone pinned_alone one_step f n o h k = (
+  pinned_alone f.at_begin f.pinned n o h.pins k,
+  one_step f.pinned (case_in f.at_begin) n f.run_length o h.length.0 k h.length.1,
+)

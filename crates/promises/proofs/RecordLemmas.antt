@@ -1,5 +1,6 @@
 -- What captures and due lists say about records.
-use Rattle.std.proofs.Common.{◌≡◌, ◌+◌, ◌<◌, ◌≤◌, [], ◌∷◌, ℕ, List, map, filter, refl, arith, ap, ◌∙◌, sym, subst, inl, inr, Bool, true, false, not, ◌&&◌, Option, Some, None, Result, Ok, Err, Ordering, is_gt}
+use Rattle.std.proofs.Common.{◌≡◌, ◌+◌, ◌<◌, ◌≤◌, [], ◌∷◌, ℕ, List, map, filter, refl, arith, ap, ◌∙◌, sym, subst, inl}
+use Rattle.std.proofs.Common.{inr, Bool, true, false, not, ◌&&◌, Option, Some, None, Result, Ok, Err, Ordering, is_gt}
 use Rattle.std.specs.Prelude.{if◌then◌else◌, max, All, Contains}
 use Rattle.std.specs.List.{AllByRecursion, AllZip}
 use Rattle.std.proofs.lemmas.Bool.Decides.{nat_tests}
@@ -19,7 +20,9 @@ use Rattle.sieve_meaning.specs.TooHeavy.{is_too_heavy}
 use Rattle.filing_case.specs.Message.{case_of}
 use Rattle.filing_image.specs.Program.{Program}
 use Rattle.filing_table.specs.Ends.{HasOutcome}
-use Rattle.record_archive.specs.Archive.{Record, Archive, Line, capture, after_capture, capture_lines, due_list, due_of, has_room, is_by, is_due, is_held, line_cmp, line_of, new_records, next_number, past_all, records_of}
+use Rattle.record_archive.specs.Archive.{Record, Archive, Line, capture, after_capture, capture_lines, due_list, due_of}
+use Rattle.record_archive.specs.Archive.{has_room, is_by, is_due, is_held, line_cmp, line_of, new_records, next_number}
+use Rattle.record_archive.specs.Archive.{past_all, records_of}
 use Rattle.record_archive.specs.declared.fault.ArchiveRefusal.{ArchiveRefusal}
 use Rattle.record_archive.specs.declared.fault.ArchiveRefusal.TheVariants.{Full}
 use Rattle.filing_commands.specs.Answers.{captured, listed, refused}
@@ -48,11 +51,14 @@ fault_alone_of (Returns f) = fault_alone_at None f.filed f.kept f.cancelled
 fault_alone_of (Stops f) = fault_alone_at None f.filed f.kept f.cancelled
 fault_alone_of (Faults fault f) = fault_alone_at (Some fault) f.filed f.kept f.cancelled
 
-pub meaning_fault_alone : (facts : Facts) (lib : Library) (known_as : Option (List ℕ)) (main : Commands) → IsFaultAlone (outcome facts lib known_as main)
+pub meaning_fault_alone : (facts : Facts) (lib : Library) (known_as : Option (List ℕ)) (main : Commands)
+    → IsFaultAlone (outcome facts lib known_as main)
 unfolding outcome
 meaning_fault_alone facts lib known_as main = go (is_too_heavy lib known_as main)
   where
-    go : (heavy : Bool) → IsFaultAlone (if heavy then outcome_at (Some run_faults.TooHeavy) [] false false else outcome_of (meaning facts lib known_as main))
+    go : (heavy : Bool)
+        → IsFaultAlone (if heavy then outcome_at (Some run_faults.TooHeavy) [] false false else outcome_of
+        (meaning facts lib known_as main))
     go true = fault_alone_at (Some run_faults.TooHeavy) [] false false
     go false = fault_alone_of (meaning facts lib known_as main)
 
@@ -69,19 +75,34 @@ alone_fault_alone s o h = chosen_fault_alone s.program s.library (case_in s) o h
 
 -- ---- dry runs
 
-pub file_says : (s : Standing) (script_text message : List ℕ) (o : Outcome) (new : Standing) → Step s (plain (file script_text message)) (answers.dry_run o) new → IsFiled s.office script_text message o × IsFaultAlone o × (new ≡ s)
+pub file_says : (s : Standing) (script_text message : List ℕ) (o : Outcome) (new : Standing)
+    → Step s (plain (file script_text message)) (answers.dry_run o) new → IsFiled s.office script_text message o
+    × IsFaultAlone o × (new ≡ s)
 unfolding Step
 file_says s script_text message o new (b, inl h, e) =
     (h.1, subst IsFaultAlone (sym h.1.outcome) (meaning_fault_alone _ _ None _), e ∙ ap (λ x. record s { office = x }) h.0)
 file_says s script_text message o new (b, inr h, e) = absurd (let other : answers.dry_run o ≡ refused h.0 None = h.2 in cc)
 
-tried_within : RunsEnd → LengthsAreOne → (s : Office) (octets message : List ℕ) (o : Outcome) → IsTried s octets message o → (p : Program) × IsGoodImage octets p × EndsWithinBudget p (case_of message (is_open_in s.archive.plan)) o
-tried_within ends_within one_step s octets message o h = (h.program, h.good, budget_holds ends_within one_step h.program (case_of message (is_open_in s.archive.plan)) h.steps o h.good.well h.outcome)
+tried_within : RunsEnd → LengthsAreOne → (s : Office) (octets message : List ℕ) (o : Outcome)
+    → IsTried s octets message o → (p : Program) × IsGoodImage octets p
+    × EndsWithinBudget p (case_of message (is_open_in s.archive.plan)) o
+tried_within ends_within one_step s octets message o h = (
+  h.program,
+  h.good,
+  budget_holds ends_within one_step h.program (case_of message (is_open_in s.archive.plan))
+      h.steps o h.good.well h.outcome,
+)
 
-pub try_says : RunsEnd → LengthsAreOne → (s : Standing) (octets message : List ℕ) (o : Outcome) (new : Standing) → Step s (plain (try_image octets message)) (answers.dry_run o) new → ((p : Program) × IsGoodImage octets p × EndsWithinBudget p (case_of message (is_open_in s.office.archive.plan)) o) × IsFaultAlone o × (new ≡ s)
+pub try_says : RunsEnd → LengthsAreOne → (s : Standing) (octets message : List ℕ) (o : Outcome) (new : Standing)
+    → Step s (plain (try_image octets message)) (answers.dry_run o) new
+    → ((p : Program) × IsGoodImage octets p × EndsWithinBudget p (case_of message (is_open_in s.office.archive.plan)) o)
+    × IsFaultAlone o × (new ≡ s)
 unfolding Step
-try_says ends_within one_step s octets message o new (b, inl h, e) =
-    (tried_within ends_within one_step s.office octets message o h.1, run_fault_alone h.1.program _ h.1.steps o h.1.outcome, e ∙ ap (λ x. record s { office = x }) h.0)
+try_says ends_within one_step s octets message o new (b, inl h, e) = (
+  tried_within ends_within one_step s.office octets message o h.1,
+  run_fault_alone h.1.program _ h.1.steps o h.1.outcome,
+  e ∙ ap (λ x. record s { office = x }) h.0,
+)
 try_says ends_within one_step s octets message o new (b, inr h, e) = absurd (let other : answers.dry_run o ≡ refused h.0 None = h.2 in cc)
 
 -- ---- records of a capture
@@ -95,11 +116,15 @@ classes_of n message day [] = refl
 classes_of n message day (q ∷ qs) = ap (λ x. q ∷ x) (classes_of (n + 1) message day qs)
 
 -- each of the records has what each new record has
-all_new : (P : Record → Type 0) (n message day : ℕ) (paths : List (List ℕ)) → ((m : ℕ) (q : List ℕ) → P (record { number = m; message = message; path = q; day = day; destroyed = false })) → AllByRecursion P (records_of n message day paths)
+all_new : (P : Record → Type 0) (n message day : ℕ) (paths : List (List ℕ))
+    → ((m : ℕ) (q : List ℕ) → P (record { number = m; message = message; path = q; day = day; destroyed = false }))
+    → AllByRecursion P (records_of n message day paths)
 all_new P n message day [] h = tt
 all_new P n message day (q ∷ qs) h = (h n q, all_new P (n + 1) message day qs h)
 
-each_new : (P : Record → Type 0) (n message day : ℕ) (paths : List (List ℕ)) → ((m : ℕ) (q : List ℕ) → P (record { number = m; message = message; path = q; day = day; destroyed = false })) → All P (records_of n message day paths)
+each_new : (P : Record → Type 0) (n message day : ℕ) (paths : List (List ℕ))
+    → ((m : ℕ) (q : List ℕ) → P (record { number = m; message = message; path = q; day = day; destroyed = false }))
+    → All P (records_of n message day paths)
 each_new P n message day paths h = All-from_recursion P (records_of n message day paths) (all_new P n message day paths h)
 
 -- ---- numbers
@@ -120,15 +145,21 @@ below_more : (rs : List Record) (n : ℕ) → AreBelow rs n → AreBelow rs (n +
 below_more [] n h = tt
 below_more (r ∷ rs) n h = (omega (arith, h.0), below_more rs n h.1)
 
-new_above : (old : List Record) (n message day : ℕ) (paths : List (List ℕ)) → AreBelow old n → AllByRecursion (λ (r : Record). All (λ (x : Record). x.number < r.number) old) (records_of n message day paths)
+new_above : (old : List Record) (n message day : ℕ) (paths : List (List ℕ)) → AreBelow old n
+    → AllByRecursion (λ (r : Record). All (λ (x : Record). x.number < r.number) old) (records_of n message day paths)
 new_above old n message day [] h = tt
-new_above old n message day (q ∷ qs) h = (All-from_recursion (λ (x : Record). x.number < n) old h, new_above old (n + 1) message day qs (below_more old n h))
+new_above old n message day (q ∷ qs) h = (
+  All-from_recursion (λ (x : Record). x.number < n) old h,
+  new_above old (n + 1) message day qs (below_more old n h),
+)
 
 lines_told : (a : Archive) (rs : List Record) → AllZip (IsLineOf a.plan) rs (map (line_of a) rs)
 lines_told a [] = tt
 lines_told a (r ∷ rs) = (record { number = refl; class = refl; due = refl }, lines_told a rs)
 
-made_whole : (a : Archive) (at_begin : BeginState) (o : Outcome) (paths : List (List ℕ)) → o.classes ≡ paths → IsMadeWhole a at_begin o (capture_lines a at_begin.day paths) (after_capture a at_begin.message at_begin.day paths)
+made_whole : (a : Archive) (at_begin : BeginState) (o : Outcome) (paths : List (List ℕ)) → o.classes ≡ paths
+    → IsMadeWhole a at_begin o (capture_lines a at_begin.day paths)
+    (after_capture a at_begin.message at_begin.day paths)
 made_whole a at_begin o [] e = record {
   records = [];
   added = sym (append-nil a.records);
@@ -150,21 +181,27 @@ made_whole a at_begin o (q ∷ qs) e =
       classes = classes_of n n at_begin.day (q ∷ qs) ∙ sym e;
       days = each_new (λ (r : Record). r.day ≡ at_begin.day) n n at_begin.day (q ∷ qs) (λ m p. refl);
       live = each_new (λ (r : Record). r.destroyed ≡ false) n n at_begin.day (q ∷ qs) (λ m p. refl);
-      numbers = All-from_recursion (λ (r : Record). All (λ (x : Record). x.number < r.number) a.records) (new_records a at_begin.day (q ∷ qs)) (new_above a.records n n at_begin.day (q ∷ qs) (past_each 1 a.records));
-      messages = each_new (IsStored (after_capture a at_begin.message at_begin.day (q ∷ qs)) at_begin.message) n n at_begin.day (q ∷ qs) (λ m p. stored);
+      numbers = All-from_recursion (λ (r : Record). All (λ (x : Record). x.number < r.number) a.records)
+          (new_records a at_begin.day (q ∷ qs)) (new_above a.records n n at_begin.day (q ∷ qs) (past_each 1 a.records));
+      messages = each_new (IsStored (after_capture a at_begin.message at_begin.day (q ∷ qs)) at_begin.message) n n
+          at_begin.day (q ∷ qs) (λ m p. stored);
       told = lines_told a (new_records a at_begin.day (q ∷ qs));
       plan = refl;
       holds = refl;
     }
 
-capture_is : (a : Archive) (body : List ℕ) (day : ℕ) (paths : List (List ℕ)) (new : Archive) → capture a body day paths ≡ Ok new → after_capture a body day paths ≡ new
+capture_is : (a : Archive) (body : List ℕ) (day : ℕ) (paths : List (List ℕ)) (new : Archive)
+    → capture a body day paths ≡ Ok new → after_capture a body day paths ≡ new
 capture_is a body day paths new e = go (has_room a paths) e
   where
-    go : (room : Bool) → ◌≡◌ {A = Result Archive ArchiveRefusal} (if room then Ok (after_capture a body day paths) else Err Full) (Ok new) → after_capture a body day paths ≡ new
+    go : (room : Bool)
+        → ◌≡◌ {A = Result Archive ArchiveRefusal} (if room then Ok (after_capture a body day paths) else Err Full)
+        (Ok new) → after_capture a body day paths ≡ new
     go true is = cc
     go false is = absurd cc
 
-files_whole : (a : Archive) (at_begin : BeginState) (fault : Option RunFault) (lines : List Line) (new : Archive) → Files a at_begin (captured fault lines) new → FilesAlone a at_begin fault lines new
+files_whole : (a : Archive) (at_begin : BeginState) (fault : Option RunFault) (lines : List Line) (new : Archive)
+    → Files a at_begin (captured fault lines) new → FilesAlone a at_begin fault lines new
 files_whole a at_begin fault lines new h =
     let made = made_whole a at_begin h.0 h.0.classes refl in
     let P : Archive → Type 0 = λ x. IsMadeWhole a at_begin h.0 (capture_lines a at_begin.day h.0.classes) x in
@@ -177,19 +214,24 @@ files_whole a at_begin fault lines new h =
       whole = subst Q (sym h.4) (subst P (capture_is a at_begin.message at_begin.day h.0.classes new h.3) made);
     }
 
-finish_whole : (s : Standing) (t : ℕ) (early : Bool) (at_begin : BeginState) (fault : Option RunFault) (lines : List Line) (new : Standing) → FinishWhole s t early at_begin (captured fault lines) new → FilesAlone s.office.archive at_begin fault lines new.office.archive
+finish_whole : (s : Standing) (t : ℕ) (early : Bool) (at_begin : BeginState) (fault : Option RunFault)
+    (lines : List Line) (new : Standing) → FinishWhole s t early at_begin (captured fault lines) new
+    → FilesAlone s.office.archive at_begin fault lines new.office.archive
 finish_whole s t true at_begin fault lines new h = absurd (let other : captured fault lines ≡ refused 92 None = h.0 in cc)
 finish_whole s t false at_begin fault lines new (inl h) =
     let P : Archive → Type 0 = λ x. FilesAlone s.office.archive at_begin fault lines x in
     subst P (ap (λ (x : Standing). x.office.archive) (sym h.2)) (files_whole s.office.archive at_begin fault lines h.0 h.1)
 finish_whole s t false at_begin fault lines new (inr h) = absurd (let other : captured fault lines ≡ refused h.0 None = h.2 in cc)
 
-pub finish_says : (s : Standing) (t : ℕ) (f : Flight) (fault : Option RunFault) (lines : List Line) (new : Standing) → Step s (finish t) (captured fault lines) new → flight_of t s.flights ≡ Some f → FilesAlone s.office.archive f.at_begin fault lines new.office.archive
+pub finish_says : (s : Standing) (t : ℕ) (f : Flight) (fault : Option RunFault) (lines : List Line) (new : Standing)
+    → Step s (finish t) (captured fault lines) new → flight_of t s.flights ≡ Some f
+    → FilesAlone s.office.archive f.at_begin fault lines new.office.archive
 finish_says s t f fault lines new h e = finish_whole s t _ f.at_begin fault lines new (finish_of s t (captured fault lines) new f h e)
 
 -- ---- due lists
 
-all_inserted : {X : Type 0} (cmp : X → X → Ordering) (P : X → Type 0) (new : X) (xs : List X) → P new → AllByRecursion P xs → AllByRecursion P (insert_sorted cmp new xs)
+all_inserted : {X : Type 0} (cmp : X → X → Ordering) (P : X → Type 0) (new : X) (xs : List X) → P new
+    → AllByRecursion P xs → AllByRecursion P (insert_sorted cmp new xs)
 all_inserted cmp P new [] h all = (h, tt)
 all_inserted cmp P new (x ∷ xs) h all = go (is_gt (cmp new x)) (all_inserted cmp P new xs h all.1)
   where
@@ -201,26 +243,43 @@ all_sorted : {X : Type 0} (cmp : X → X → Ordering) (P : X → Type 0) (xs : 
 all_sorted cmp P [] all = tt
 all_sorted cmp P (x ∷ xs) all = all_inserted cmp P x (sort_by cmp xs) all.0 (all_sorted cmp P xs all.1)
 
-due_by : (a : Archive) (day : ℕ) (r : Record) (ends : Option ℕ) (destroyed held : Bool) → due_of a r ≡ ends → r.destroyed ≡ destroyed → is_held a r.number ≡ held → (not destroyed && (not held && is_by day ends)) ≡ true → IsDueBy a day r
+due_by : (a : Archive) (day : ℕ) (r : Record) (ends : Option ℕ) (destroyed held : Bool) → due_of a r ≡ ends
+    → r.destroyed ≡ destroyed → is_held a r.number ≡ held → (not destroyed && (not held && is_by day ends)) ≡ true
+    → IsDueBy a day r
 due_by a day r (Some d) false false e f g h = record { live = f; free = g; due = d; ends = e; reached = grind (arith, nat_tests, h) }
 due_by a day r None false false e f g h = absurd cc
 due_by a day r ends false true e f g h = absurd cc
 due_by a day r ends true held e f g h = absurd cc
 
-due_lines : (a : Archive) (day : ℕ) (rs : List Record) → AllByRecursion (Contains a.records) rs → AllByRecursion (IsDueLine a day) (map (line_of a) (filter (is_due a day) rs))
+due_lines : (a : Archive) (day : ℕ) (rs : List Record) → AllByRecursion (Contains a.records) rs
+    → AllByRecursion (IsDueLine a day) (map (line_of a) (filter (is_due a day) rs))
 due_lines a day [] h = tt
 due_lines a day (r ∷ rs) h = go (is_due a day r) refl (due_lines a day rs h.1)
   where
-    go : (b : Bool) → is_due a day r ≡ b → AllByRecursion (IsDueLine a day) (map (line_of a) (filter (is_due a day) rs)) → AllByRecursion (IsDueLine a day) (map (line_of a) (if b then r ∷ filter (is_due a day) rs else filter (is_due a day) rs))
-    go true e rest = ((r, h.0, due_by a day r (due_of a r) r.destroyed (is_held a r.number) refl refl refl e, record { number = refl; class = refl; due = refl }), rest)
+    go : (b : Bool) → is_due a day r ≡ b → AllByRecursion (IsDueLine a day) (map (line_of a) (filter (is_due a day) rs))
+        → AllByRecursion (IsDueLine a day)
+        (map (line_of a) (if b then r ∷ filter (is_due a day) rs else filter (is_due a day) rs))
+    go true e rest = (
+      (
+        r,
+        h.0,
+        due_by a day r (due_of a r) r.destroyed (is_held a r.number) refl refl refl e,
+        record { number = refl; class = refl; due = refl },
+      ),
+      rest,
+    )
     go false e rest = rest
 
 due_list_lines : (a : Archive) (day : ℕ) → All (IsDueLine a day) (due_list a day)
 due_list_lines a day =
     let inside : AllByRecursion (Contains a.records) a.records = recursion_from_All (Contains a.records) a.records (All-contains_itself a.records) in
-    All-from_recursion (IsDueLine a day) (due_list a day) (all_sorted line_cmp (IsDueLine a day) (map (line_of a) (filter (is_due a day) a.records)) (due_lines a day a.records inside))
+    All-from_recursion (IsDueLine a day) (due_list a day)
+    (all_sorted line_cmp (IsDueLine a day) (map (line_of a) (filter (is_due a day) a.records))
+    (due_lines a day a.records inside))
 
-pub due_says : (s : Standing) (day : ℕ) (lines : List Line) (new : Standing) → Step s (plain (due day)) (listed lines) new → (lines ≡ due_list s.office.archive day) × All (IsDueLine s.office.archive day) lines × (new ≡ s)
+pub due_says : (s : Standing) (day : ℕ) (lines : List Line) (new : Standing)
+    → Step s (plain (due day)) (listed lines) new → (lines ≡ due_list s.office.archive day)
+    × All (IsDueLine s.office.archive day) lines × (new ≡ s)
 unfolding Step
 due_says s day lines new (b, inl h, e) =
     let P : List Line → Type 0 = All (IsDueLine s.office.archive day) in

@@ -14,15 +14,19 @@ use Rattle.promises.specs.Turns.{AllGrant, TellsTurns}
 module _ (officer message : List ℕ) (c : PlainCommand) (lines : List Line) where
   mixed_kept :
       kept_commands
-      (begin officer 0 message ∷ begin officer 9 message ∷ turn 1 5 ∷ plain c ∷ finish 1 ∷ turn 2 8 ∷ finish 2 ∷ turn 1 4 ∷ finish 1 ∷ finish 1 ∷ plain c ∷ [])
-      (begun 1 9 ∷ begun 2 8 ∷ running 5 ∷ refused 99 None ∷ refused 92 None ∷ ended 8 ∷ captured None lines ∷ ended 9 ∷ refused 89 None ∷ captured None lines ∷ refused 54 None ∷ [])
+      (begin officer 0 message ∷ begin officer 9 message ∷ turn 1 5 ∷ plain c ∷ finish 1 ∷ turn 2 8 ∷ finish 2
+      ∷ turn 1 4 ∷ finish 1 ∷ finish 1 ∷ plain c ∷ [])
+      (begun 1 9 ∷ begun 2 8 ∷ running 5 ∷ refused 99 None ∷ refused 92 None ∷ ended 8 ∷ captured None lines ∷ ended 9
+      ∷ refused 89 None ∷ captured None lines ∷ refused 54 None ∷ [])
       ≡ begin officer 0 message ∷ begin officer 9 message ∷ finish 2 ∷ finish 1 ∷ plain c ∷ []
   mixed_kept = refl
 
   mixed_answers :
       kept_answers
-      (begin officer 0 message ∷ begin officer 9 message ∷ turn 1 5 ∷ plain c ∷ finish 1 ∷ turn 2 8 ∷ finish 2 ∷ turn 1 4 ∷ finish 1 ∷ finish 1 ∷ plain c ∷ [])
-      (begun 1 9 ∷ begun 2 8 ∷ running 5 ∷ refused 99 None ∷ refused 92 None ∷ ended 8 ∷ captured None lines ∷ ended 9 ∷ refused 89 None ∷ captured None lines ∷ refused 54 None ∷ [])
+      (begin officer 0 message ∷ begin officer 9 message ∷ turn 1 5 ∷ plain c ∷ finish 1 ∷ turn 2 8 ∷ finish 2
+      ∷ turn 1 4 ∷ finish 1 ∷ finish 1 ∷ plain c ∷ [])
+      (begun 1 9 ∷ begun 2 8 ∷ running 5 ∷ refused 99 None ∷ refused 92 None ∷ ended 8 ∷ captured None lines ∷ ended 9
+      ∷ refused 89 None ∷ captured None lines ∷ refused 54 None ∷ [])
       ≡ begun 1 9 ∷ begun 2 8 ∷ captured None lines ∷ captured None lines ∷ refused 54 None ∷ []
   mixed_answers = refl
 

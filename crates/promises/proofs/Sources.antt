@@ -10,7 +10,9 @@ use Rattle.promises.specs.Beginnings.{HasBegun}
 use Rattle.promises.specs.Runs.{Run}
 use Rattle.promises.specs.Turns.{Grants, AllGrant}
 use Rattle.promises.proofs.Changes.{Change, Stays, GrantsOne, GivesOneUp, BeginsOne, step_change}
-use Rattle.promises.proofs.TicketLemmas.{AreTickets, granted_more, of_grant, of_grant_other, of_without, of_without_other, of_more_old, of_more_new, grant_tickets, without_tickets, more_tickets, none_above}
+use Rattle.promises.proofs.TicketLemmas.{AreTickets, granted_more, of_grant, of_grant_other, of_without}
+use Rattle.promises.proofs.TicketLemmas.{of_without_other, of_more_old, of_more_new, grant_tickets, without_tickets}
+use Rattle.promises.proofs.TicketLemmas.{more_tickets, none_above}
 use Rattle.promises.proofs.Verdicts.{some_is}
 
 -- ---- the tickets stay in order
@@ -57,7 +59,8 @@ Source s c a t f = IsCarried s c a t f ⊎ IsBegun s c a t f
 carried : (s : Standing) (c : Command) (a : Answer) (t : ℕ) (f : Flight) → flight_of t s.flights ≡ Some f → Grants t c a 0 → Source s c a t f
 carried s c a t f e g = inl (record { old = f; there = e; ticket = refl; at_begin = refl; pinned = refl; turns = 0; grants = g; sum = omega arith })
 
-from_stays : (s : Standing) (c : Command) (a : Answer) (new : Standing) (t : ℕ) (f : Flight) → Stays s c a new → flight_of t new.flights ≡ Some f → Source s c a t f
+from_stays : (s : Standing) (c : Command) (a : Answer) (new : Standing) (t : ℕ) (f : Flight) → Stays s c a new
+    → flight_of t new.flights ≡ Some f → Source s c a t f
 from_stays s c a new t f h e = carried s c a t f (ap (flight_of t) (sym h.flights) ∙ e) (h.grants t)
 
 true_false : true ≡ false → ⊥
@@ -72,7 +75,8 @@ same_number m n e = grind (arith, nat_tests, e)
 other_number : (m n : ℕ) → (m == n) ≡ false → m ≢ n
 other_number m n e same = true_false (let is : (m == n) ≡ true = grind (arith, nat_tests, same) in sym is ∙ e)
 
-from_grant : (s : Standing) (c : Command) (a : Answer) (new : Standing) (t : ℕ) (f : Flight) → GrantsOne s c a new → flight_of t new.flights ≡ Some f → Source s c a t f
+from_grant : (s : Standing) (c : Command) (a : Answer) (new : Standing) (t : ℕ) (f : Flight) → GrantsOne s c a new
+    → flight_of t new.flights ≡ Some f → Source s c a t f
 from_grant s c a new t f h e = go (h.ticket == t) refl (h.grants t)
   where
     go : (b : Bool) → (h.ticket == t) ≡ b → Grants t c a (if b then h.turns else 0) → Source s c a t f
@@ -80,7 +84,8 @@ from_grant s c a new t f h e = go (h.ticket == t) refl (h.grants t)
         let same : h.ticket ≡ t = same_number h.ticket t is in
         let there : flight_of t s.flights ≡ Some h.flight = ap (λ n. flight_of n s.flights) (sym same) ∙ h.there in
         let after : flight_of t new.flights ≡ Some (granted_more h.turns h.flight) =
-        ap (flight_of t) (h.flights ∙ ap (λ n. grant n h.turns s.flights) same) ∙ of_grant t h.turns s.flights ∙ ap (option_map (granted_more h.turns)) there in
+        ap (flight_of t) (h.flights ∙ ap (λ n. grant n h.turns s.flights) same) ∙ of_grant t h.turns s.flights
+        ∙ ap (option_map (granted_more h.turns)) there in
         let more : f ≡ granted_more h.turns h.flight = some_is f (granted_more h.turns h.flight) (sym e ∙ after) in
         inl (record {
           old = h.flight;
@@ -95,19 +100,26 @@ from_grant s c a new t f h e = go (h.ticket == t) refl (h.grants t)
     go false is g =
         carried s c a t f (sym (ap (flight_of t) h.flights ∙ of_grant_other t h.ticket h.turns s.flights (other_number h.ticket t is)) ∙ e) g
 
-from_giving_up : (s : Standing) (c : Command) (a : Answer) (new : Standing) (t : ℕ) (f : Flight) → AreInOrder s → GivesOneUp s c a new → flight_of t new.flights ≡ Some f → Source s c a t f
+from_giving_up : (s : Standing) (c : Command) (a : Answer) (new : Standing) (t : ℕ) (f : Flight) → AreInOrder s
+    → GivesOneUp s c a new → flight_of t new.flights ≡ Some f → Source s c a t f
 from_giving_up s c a new t f k h e = go (h.ticket == t) refl
   where
     go : (b : Bool) → (h.ticket == t) ≡ b → Source s c a t f
     go true is =
-        let gone : flight_of t new.flights ≡ None = ap (flight_of t) (h.flights ∙ ap (λ n. without n s.flights) (same_number h.ticket t is)) ∙ of_without 0 s.last t s.flights k in
+        let gone : flight_of t new.flights ≡ None =
+        ap (flight_of t) (h.flights ∙ ap (λ n. without n s.flights) (same_number h.ticket t is))
+        ∙ of_without 0 s.last t s.flights k in
         absurd (none_some f (sym gone ∙ e))
-    go false is = carried s c a t f (sym (ap (flight_of t) h.flights ∙ of_without_other t h.ticket s.flights (other_number h.ticket t is)) ∙ e) (h.grants t)
+    go false is =
+        carried s c a t f (sym (ap (flight_of t) h.flights
+        ∙ of_without_other t h.ticket s.flights (other_number h.ticket t is)) ∙ e) (h.grants t)
 
-begin_grants_none : (t : ℕ) (c : Command) (a : Answer) (officer : List ℕ) (moment : ℕ) (message : List ℕ) → c ≡ begin officer moment message → Grants t c a 0
+begin_grants_none : (t : ℕ) (c : Command) (a : Answer) (officer : List ℕ) (moment : ℕ) (message : List ℕ)
+    → c ≡ begin officer moment message → Grants t c a 0
 begin_grants_none t c a officer moment message e = rw e refl
 
-from_beginning : (s : Standing) (c : Command) (a : Answer) (new : Standing) (t : ℕ) (f : Flight) → BeginsOne s c a new → flight_of t new.flights ≡ Some f → Source s c a t f
+from_beginning : (s : Standing) (c : Command) (a : Answer) (new : Standing) (t : ℕ) (f : Flight) → BeginsOne s c a new
+    → flight_of t new.flights ≡ Some f → Source s c a t f
 from_beginning s c a new t f h e = go (flight_of t s.flights) refl
   where
     begun_now : (b : Bool) → (h.flight.ticket == t) ≡ b → (if b then Some h.flight else None) ≡ Some f → Source s c a t f
@@ -131,7 +143,8 @@ from_beginning s c a new t f h e = go (flight_of t s.flights) refl
         let same : g ≡ f = some_is g f (sym (ap (flight_of t) h.flights ∙ of_more_old t s.flights h.flight g is) ∙ e) in
         carried s c a t f (is ∙ ap Some same) (begin_grants_none t c a h.officer h.moment h.message h.command)
 
-step_source : (s : Standing) (c : Command) (a : Answer) (new : Standing) (t : ℕ) (f : Flight) → AreInOrder s → Step s c a new → flight_of t new.flights ≡ Some f → Source s c a t f
+step_source : (s : Standing) (c : Command) (a : Answer) (new : Standing) (t : ℕ) (f : Flight) → AreInOrder s
+    → Step s c a new → flight_of t new.flights ≡ Some f → Source s c a t f
 step_source s c a new t f k step e = go (step_change s c a new step)
   where
     go : Change s c a new → Source s c a t f
@@ -141,7 +154,8 @@ step_source s c a new t f k step e = go (step_change s c a new step)
     go (inr (inr (inr h))) = from_beginning s c a new t f h e
 
 -- a grant of a ticket that was not given yet is one of another ticket
-later_grants_none : (s : Standing) (c : Command) (a : Answer) (new : Standing) (t : ℕ) → AreInOrder s → s.last < t → GrantsOne s c a new → Grants t c a 0
+later_grants_none : (s : Standing) (c : Command) (a : Answer) (new : Standing) (t : ℕ) → AreInOrder s → s.last < t
+    → GrantsOne s c a new → Grants t c a 0
 later_grants_none s c a new t k later h = go (h.ticket == t) refl (h.grants t)
   where
     go : (b : Bool) → (h.ticket == t) ≡ b → Grants t c a (if b then h.turns else 0) → Grants t c a 0
@@ -182,10 +196,12 @@ record IsBegunIn (s : Standing) (cs : List Command) (answers : List Answer) (t :
 abbrev RunSource : Standing → List Command → List Answer → (t : ℕ) → Flight → Type 0
 RunSource s cs answers t f = IsCarriedThrough s cs answers t f ⊎ IsBegunIn s cs answers t f
 
-all_grant : (t : ℕ) (c : Command) (a : Answer) (cs : List Command) (answers : List Answer) (first rest total : ℕ) → Grants t c a first → AllGrant t cs answers rest → total ≡ first + rest → AllGrant t (c ∷ cs) (a ∷ answers) total
+all_grant : (t : ℕ) (c : Command) (a : Answer) (cs : List Command) (answers : List Answer) (first rest total : ℕ)
+    → Grants t c a first → AllGrant t cs answers rest → total ≡ first + rest → AllGrant t (c ∷ cs) (a ∷ answers) total
 all_grant t c a cs answers first rest total g h e = (first, rest, g, h, e)
 
-through : (s mid : Standing) (c : Command) (a : Answer) (cs : List Command) (answers : List Answer) (t : ℕ) (f : Flight) (h : IsCarriedThrough mid cs answers t f) → Source s c a t h.old → RunSource s (c ∷ cs) (a ∷ answers) t f
+through : (s mid : Standing) (c : Command) (a : Answer) (cs : List Command) (answers : List Answer) (t : ℕ) (f : Flight)
+    (h : IsCarriedThrough mid cs answers t f) → Source s c a t h.old → RunSource s (c ∷ cs) (a ∷ answers) t f
 through s mid c a cs answers t f h (inl k) = inl (record {
   old = k.old;
   there = k.there;
@@ -212,11 +228,13 @@ through s mid c a cs answers t f h (inr k) = inr (record {
     run = refl;
     at_begin = h.at_begin ∙ k.at_begin;
   };
-  grants = all_grant t c a cs answers 0 h.turns f.granted (begin_grants_none t c a k.officer k.moment k.message k.command) h.grants (omega (arith, h.sum, k.fresh));
+  grants = all_grant t c a cs answers 0 h.turns f.granted
+      (begin_grants_none t c a k.officer k.moment k.message k.command) h.grants (omega (arith, h.sum, k.fresh));
 })
 
 -- a BEGIN among the later commands is one of all commands
-begun_later : (s mid : Standing) (c : Command) (a : Answer) (cs : List Command) (answers : List Answer) (f : Flight) → Step s c a mid → HasBegun mid cs answers f → HasBegun s (c ∷ cs) (a ∷ answers) f
+begun_later : (s mid : Standing) (c : Command) (a : Answer) (cs : List Command) (answers : List Answer) (f : Flight)
+    → Step s c a mid → HasBegun mid cs answers f → HasBegun s (c ∷ cs) (a ∷ answers) f
 begun_later s mid c a cs answers f step h = record {
   officer = h.officer;
   moment = h.moment;
@@ -232,7 +250,8 @@ begun_later s mid c a cs answers f step h = record {
   at_begin = h.at_begin;
 }
 
-run_source : (s : Standing) (cs : List Command) (answers : List Answer) (new : Standing) (t : ℕ) (f : Flight) → AreInOrder s → Run s cs answers new → flight_of t new.flights ≡ Some f → RunSource s cs answers t f
+run_source : (s : Standing) (cs : List Command) (answers : List Answer) (new : Standing) (t : ℕ) (f : Flight)
+    → AreInOrder s → Run s cs answers new → flight_of t new.flights ≡ Some f → RunSource s cs answers t f
 run_source s [] [] new t f k h e = inl (record {
   old = f;
   there = ap (λ (x : Standing). flight_of t x.flights) (sym h) ∙ e;
@@ -261,15 +280,19 @@ run_source s (c ∷ cs) [] new t f k h e = absurd h
 
 -- ---- sessions that begin with an archive
 
-opening_source : (archive : Archive) (cs : List Command) (answers : List Answer) (s : Standing) (t : ℕ) (f : Flight) → Run (opening archive) cs answers s → flight_of t s.flights ≡ Some f → IsBegunIn (opening archive) cs answers t f
+opening_source : (archive : Archive) (cs : List Command) (answers : List Answer) (s : Standing) (t : ℕ) (f : Flight)
+    → Run (opening archive) cs answers s → flight_of t s.flights ≡ Some f → IsBegunIn (opening archive) cs answers t f
 opening_source archive cs answers s t f h e = go (run_source (opening archive) cs answers s t f (omega arith) h e)
   where
     go : RunSource (opening archive) cs answers t f → IsBegunIn (opening archive) cs answers t f
     go (inl x) = absurd (none_some x.old x.there)
     go (inr x) = x
 
-pub granted_in_all : (archive : Archive) (cs : List Command) (answers : List Answer) (s : Standing) (t : ℕ) (f : Flight) → Run (opening archive) cs answers s → flight_of t s.flights ≡ Some f → AllGrant t cs answers f.granted
+pub granted_in_all : (archive : Archive) (cs : List Command) (answers : List Answer) (s : Standing) (t : ℕ) (f : Flight)
+    → Run (opening archive) cs answers s → flight_of t s.flights ≡ Some f → AllGrant t cs answers f.granted
 granted_in_all archive cs answers s t f h e = (opening_source archive cs answers s t f h e).grants
 
-pub stood_at_beginning : (archive : Archive) (cs : List Command) (answers : List Answer) (s : Standing) (t : ℕ) (f : Flight) → Run (opening archive) cs answers s → flight_of t s.flights ≡ Some f → HasBegun (opening archive) cs answers f
+pub stood_at_beginning : (archive : Archive) (cs : List Command) (answers : List Answer) (s : Standing) (t : ℕ)
+    (f : Flight) → Run (opening archive) cs answers s → flight_of t s.flights ≡ Some f
+    → HasBegun (opening archive) cs answers f
 stood_at_beginning archive cs answers s t f h e = (opening_source archive cs answers s t f h e).begun_in

@@ -29,11 +29,14 @@ of_more_old t (x ∷ fs) f g e = go (x.ticket == t) refl (of_more_old t fs f g)
     go true is rest = rw is (rw is at e)
     go false is rest = rw is (rest (rw is at e))
 
-pub of_more_new : (t : ℕ) (fs : List Flight) (f : Flight) → flight_of t fs ≡ None → flight_of t (fs ++ f ∷ []) ≡ (if f.ticket == t then Some f else None)
+pub of_more_new : (t : ℕ) (fs : List Flight) (f : Flight) → flight_of t fs ≡ None
+    → flight_of t (fs ++ f ∷ []) ≡ (if f.ticket == t then Some f else None)
 of_more_new t [] f e = refl
 of_more_new t (x ∷ fs) f e = go (x.ticket == t) refl (of_more_new t fs f)
   where
-    go : (b : Bool) → (x.ticket == t) ≡ b → (flight_of t fs ≡ None → flight_of t (fs ++ f ∷ []) ≡ (if f.ticket == t then Some f else None)) → flight_of t (x ∷ fs ++ f ∷ []) ≡ (if f.ticket == t then Some f else None)
+    go : (b : Bool) → (x.ticket == t) ≡ b
+        → (flight_of t fs ≡ None → flight_of t (fs ++ f ∷ []) ≡ (if f.ticket == t then Some f else None))
+        → flight_of t (x ∷ fs ++ f ∷ []) ≡ (if f.ticket == t then Some f else None)
     go true is rest = absurd (let some : Some x ≡ None = rw is at e in cc)
     go false is rest = rw is (rest (rw is at e))
 

@@ -6,7 +6,8 @@ use Rattle.sieve_meaning.specs.declared.run_fault.RunFault.{RunFault}
 use Rattle.filing_commands.specs.Answers.{Answer, running, ended, captured, refused}
 use Rattle.filing_commands.specs.Office.{Office, PlainCommand, OfficeStep, with_archive}
 use Rattle.filing_commands.specs.Pinning.{BeginState}
-use Rattle.filing_commands.specs.Standing.{Command, plain, begin, turn, finish, Flight, Standing, Step, TurnStep, FinishStep, FinishWhole, flight_of, opening, turn_answer, without}
+use Rattle.filing_commands.specs.Standing.{Command, plain, begin, turn, finish, Flight, Standing, Step, TurnStep}
+use Rattle.filing_commands.specs.Standing.{FinishStep, FinishWhole, flight_of, opening, turn_answer, without}
 use Rattle.promises.specs.Runs.{IsReached, Run}
 use Rattle.promises.specs.Serial.{forget}
 use Rattle.promises.proofs.Sessions.{step_follows}
@@ -29,12 +30,14 @@ office_unchanged : (s : Office) (c : PlainCommand) (n : ℕ) (at : Option ℕ) (
 office_unchanged s c n at new (inl h) = h.0
 office_unchanged s c n at new (inr h) = h.3
 
-turn_unchanged : (s : Standing) (t k : ℕ) (f : Option Flight) (n : ℕ) (at : Option ℕ) (new : Standing) → n ≢ 99 → TurnStep s t k f (refused n at) new → new ≡ s
+turn_unchanged : (s : Standing) (t k : ℕ) (f : Option Flight) (n : ℕ) (at : Option ℕ) (new : Standing) → n ≢ 99
+    → TurnStep s t k f (refused n at) new → new ≡ s
 turn_unchanged s t k None n at new other h = h.1
 turn_unchanged s t k (Some f) n at new other (inl h) = absurd (turned_refused f (f.granted + k) n at h.0)
 turn_unchanged s t k (Some f) n at new other (inr h) = absurd (other (one_number n 99 at None h.0))
 
-whole_unchanged : (s : Standing) (t : ℕ) (early : Bool) (at_begin : BeginState) (n : ℕ) (at : Option ℕ) (new : Standing) → FinishWhole s t early at_begin (refused n at) new → new ≡ s
+whole_unchanged : (s : Standing) (t : ℕ) (early : Bool) (at_begin : BeginState) (n : ℕ) (at : Option ℕ) (new : Standing)
+    → FinishWhole s t early at_begin (refused n at) new → new ≡ s
 whole_unchanged s t true at_begin n at new h = h.1
 whole_unchanged s t false at_begin n at new (inl h) = h.2 ∙ ap (λ x. record s { office = with_archive s.office x }) h.1.2
 whole_unchanged s t false at_begin n at new (inr h) = h.3
@@ -65,20 +68,25 @@ run_in_order s (c ∷ cs) (a ∷ answers) new h k = run_in_order h.0 cs answers 
 run_in_order s [] (a ∷ answers) new h k = absurd h
 run_in_order s (c ∷ cs) [] new h k = absurd h
 
-whole_leaves : (s : Standing) (t : ℕ) (early : Bool) (at_begin : BeginState) (fault : Option RunFault) (lines : List Line) (new : Standing) → FinishWhole s t early at_begin (captured fault lines) new → new.flights ≡ without t s.flights
+whole_leaves : (s : Standing) (t : ℕ) (early : Bool) (at_begin : BeginState) (fault : Option RunFault)
+    (lines : List Line) (new : Standing) → FinishWhole s t early at_begin (captured fault lines) new
+    → new.flights ≡ without t s.flights
 whole_leaves s t true at_begin fault lines new h = absurd (let other : captured fault lines ≡ refused 92 None = h.0 in cc)
 whole_leaves s t false at_begin fault lines new (inl h) = ap (λ (x : Standing). x.flights) h.2
 whole_leaves s t false at_begin fault lines new (inr h) = absurd (let other : captured fault lines ≡ refused h.0 None = h.2 in cc)
 
-finish_leaves : (s : Standing) (t : ℕ) (f : Option Flight) (fault : Option RunFault) (lines : List Line) (new : Standing) → FinishStep s t f (captured fault lines) new → new.flights ≡ without t s.flights
+finish_leaves : (s : Standing) (t : ℕ) (f : Option Flight) (fault : Option RunFault) (lines : List Line)
+    (new : Standing) → FinishStep s t f (captured fault lines) new → new.flights ≡ without t s.flights
 finish_leaves s t None fault lines new h = absurd (let other : captured fault lines ≡ refused 91 None = h.0 in cc)
 finish_leaves s t (Some f) fault lines new h = whole_leaves s t _ f.at_begin fault lines new h
 
-filed_leaves : (s : Standing) (t : ℕ) (fault : Option RunFault) (lines : List Line) (new : Standing) → Step s (finish t) (captured fault lines) new → new.flights ≡ without t s.flights
+filed_leaves : (s : Standing) (t : ℕ) (fault : Option RunFault) (lines : List Line) (new : Standing)
+    → Step s (finish t) (captured fault lines) new → new.flights ≡ without t s.flights
 unfolding Step
 filed_leaves s t fault lines new h = finish_leaves s t (flight_of t s.flights) fault lines new h
 
-pub given_up : (s : Standing) (t : ℕ) (fault : Option RunFault) (lines : List Line) (new : Standing) → IsReached s → Step s (finish t) (captured fault lines) new → flight_of t new.flights ≡ None
+pub given_up : (s : Standing) (t : ℕ) (fault : Option RunFault) (lines : List Line) (new : Standing) → IsReached s
+    → Step s (finish t) (captured fault lines) new → flight_of t new.flights ≡ None
 given_up s t fault lines new reached h =
     let order = run_in_order (opening reached.archive) reached.commands reached.answers s reached.run (omega arith) in
     ap (flight_of t) (filed_leaves s t fault lines new h) ∙ of_without 0 s.last t s.flights order

@@ -40,7 +40,8 @@ module _ (texts : TextsAreOne) where
   script_or text t n h (inl k) = unexplained text t k.refusal h.is_script k.explains
   script_or text t n h (inr k) = some_none n (sym k.rule ∙ ap rules.refusal_of (one_tree text k.tree t k.is_script h.is_script) ∙ h.well_made)
 
-  one_reason : (text : List ℕ) (r q : TextRefusal) → Explains text (Refused r 0) → Explains text (Refused q 0) → AreSameNumber (text_number r) (text_number q)
+  one_reason : (text : List ℕ) (r q : TextRefusal) → Explains text (Refused r 0) → Explains text (Refused q 0)
+      → AreSameNumber (text_number r) (text_number q)
   one_reason text (Scan r) (Scan q) h k = inl (ap scan_number (texts.one_fault text r q h k))
   one_reason text (Scan r) Syntax h k = absurd (texts.no_both text k.0.0 r k.0.1 h)
   one_reason text (Scan r) Nesting h k = absurd (texts.no_both text k.0.0 r k.0.1 h)
@@ -55,7 +56,9 @@ module _ (texts : TextsAreOne) where
   one_refusal text m n (inl h) (inl k) = rw (h.is_number, k.is_number) (one_reason text h.refusal k.refusal h.explains k.explains)
   one_refusal text m n (inl h) (inr k) = absurd (unexplained text k.tree h.refusal k.is_script h.explains)
   one_refusal text m n (inr h) (inl k) = absurd (unexplained text h.tree k.refusal h.is_script k.explains)
-  one_refusal text m n (inr h) (inr k) = inl (some_is m n (sym h.rule ∙ ap rules.refusal_of (one_tree text h.tree k.tree h.is_script k.is_script) ∙ k.rule))
+  one_refusal text m n (inr h) (inr k) =
+      inl (some_is m n (sym h.rule ∙ ap rules.refusal_of (one_tree text h.tree k.tree h.is_script k.is_script)
+      ∙ k.rule))
 
 -- ---- images
 
@@ -68,7 +71,8 @@ well_fails p RunsOff w h e = h.3 w.inside
 well_fails p Budget w h e = h.4 w.within
 
 -- the first fault that holds is one alone
-fails_once : (p : Program) (f g : VerifyFault) → Fails f p → Fails g p → verify_number f ≢ 99 → verify_number g ≢ 99 → verify_number f ≡ verify_number g
+fails_once : (p : Program) (f g : VerifyFault) → Fails f p → Fails g p → verify_number f ≢ 99 → verify_number g ≢ 99
+    → verify_number f ≡ verify_number g
 fails_once p NoMemory g h k e d = absurd (e refl)
 fails_once p Operand NoMemory h k e d = absurd (d refl)
 fails_once p Operand Operand h k e d = refl
@@ -111,7 +115,9 @@ module _ (one_start : ProgramsAreOne) where
   pub image_or : (octets : List ℕ) (p : Program) (n : ℕ) → IsGoodImage octets p → RefusesImage octets n → n ≢ 99 → ⊥
   image_or octets p n h (inl k) e = omega (arith, h.is_image.short, k.long)
   image_or octets p n h (inr (inl k)) e = k.no_image p h.is_image.fits h.is_image.spells
-  image_or octets p n h (inr (inr k)) e = well_fails k.program k.fault (subst IsWell (one_image octets p k.program h.is_image k.is_image) h.well) k.fails (number_not n _ k.is_number e)
+  image_or octets p n h (inr (inr k)) e =
+      well_fails k.program k.fault (subst IsWell (one_image octets p k.program h.is_image k.is_image) h.well) k.fails
+      (number_not n _ k.is_number e)
 
   pub one_image_refusal : (octets : List ℕ) (m n : ℕ) → RefusesImage octets m → RefusesImage octets n → m ≢ 99 → n ≢ 99 → m ≡ n
   one_image_refusal octets m n (inl h) (inl k) d e = h.is_number ∙ sym k.is_number
@@ -124,4 +130,6 @@ module _ (one_start : ProgramsAreOne) where
   one_image_refusal octets m n (inr (inr h)) (inr (inl k)) d e = absurd (k.no_image h.program h.is_image.fits h.is_image.spells)
   one_image_refusal octets m n (inr (inr h)) (inr (inr k)) d e =
       let F : Program → Type 0 = Fails h.fault in
-      h.is_number ∙ fails_once k.program h.fault k.fault (subst F (one_image octets h.program k.program h.is_image k.is_image) h.fails) k.fails (number_not m _ h.is_number d) (number_not n _ k.is_number e) ∙ sym k.is_number
+      h.is_number ∙
+      fails_once k.program h.fault k.fault (subst F (one_image octets h.program k.program h.is_image k.is_image)
+      h.fails) k.fails (number_not m _ h.is_number d) (number_not n _ k.is_number e) ∙ sym k.is_number

@@ -1,5 +1,7 @@
 -- Holds in order, and sums over lists that have the same elements.
-use Rattle.std.proofs.Common.{◌≡◌, ◌+◌, ◌==◌, ◌&&◌, ◌||◌, ◌<◌, ℕ, pos, Bool, true, false, cond, List, [], ◌∷◌, map, Ordering, Less, Equal, Greater, int_cmp, nat_cmp, is_eq, refl, sym, ap, subst, ◌∙◌, arith, IsPermutation}
+use Rattle.std.proofs.Common.{◌≡◌, ◌+◌, ◌==◌, ◌&&◌, ◌||◌, ◌<◌, ℕ, pos, Bool, true, false, cond, List, [], ◌∷◌, map}
+use Rattle.std.proofs.Common.{Ordering, Less, Equal, Greater, int_cmp, nat_cmp, is_eq, refl, sym, ap, subst, ◌∙◌, arith}
+use Rattle.std.proofs.Common.{IsPermutation}
 use Rattle.std.proofs.lemmas.Int.{ints}
 use Rattle.std.proofs.lemmas.Bool.Decides.{nat_tests}
 use Rattle.std.proofs.lemmas.Cmp.{int_cmp_total, nat_list_cmp_total, on_total, then_total}
@@ -57,22 +59,27 @@ and-swap false false = refl
 apart : (x y : Hold) → is_hold x.name x.number y ≡ false → is_eq (row_cmp (named_hold x) (named_hold y)) ≡ false
 apart x y h =
     eq_then (int_cmp (pos x.number) (pos y.number)) (slice_cmp nat_cmp x.name y.name)
-    ∙ (λ i. (ap is_eq (cmp_is x.number y.number) ∙ eq_is x.number y.number ∙ number_eq-sym x.number y.number) i && (is_eq-slice_cmp x.name y.name ∙ bytes_eq-sym x.name y.name) i)
+    ∙ (λ i. (ap is_eq (cmp_is x.number y.number) ∙ eq_is x.number y.number ∙ number_eq-sym x.number y.number) i
+    && (is_eq-slice_cmp x.name y.name ∙ bytes_eq-sym x.name y.name) i)
     ∙ and-swap (y.number == x.number) (bytes_eq y.name x.name) ∙ h
 
 -- no two holds are the same by record and name
-pub holds_apart : (a : Archive) → IsAscending (λ (x y : Hold). is_hold x.name x.number y ≡ false) a.holds → IsAscending (λ x y. is_eq (row_cmp x y) ≡ false) (map named_hold a.holds)
+pub holds_apart : (a : Archive) → IsAscending (λ (x y : Hold). is_hold x.name x.number y ≡ false) a.holds
+    → IsAscending (λ x y. is_eq (row_cmp x y) ≡ false) (map named_hold a.holds)
 holds_apart a once =
-    ascending-map (λ x y. is_eq (row_cmp x y) ≡ false) named_hold a.holds (ascending_weaker _ (λ (x y : Hold). is_eq (row_cmp (named_hold x) (named_hold y)) ≡ false) apart a.holds once)
+    ascending-map (λ x y. is_eq (row_cmp x y) ≡ false) named_hold a.holds (ascending_weaker _ (λ (x y : Hold).
+    is_eq (row_cmp (named_hold x) (named_hold y)) ≡ false) apart a.holds once)
 
-pub holds_rise : (a : Archive) → IsAscending (λ (x y : Hold). is_hold x.name x.number y ≡ false) a.holds → IsAscending (λ x y. row_cmp x y ≡ Less) (sorted_holds a)
+pub holds_rise : (a : Archive) → IsAscending (λ (x y : Hold). is_hold x.name x.number y ≡ false) a.holds
+    → IsAscending (λ x y. row_cmp x y ≡ Less) (sorted_holds a)
 holds_rise a once = rises-sort row_cmp named_total (map named_hold a.holds) (holds_apart a once)
 
 pub holds_permuted : (a : Archive) → IsPermutation (sorted_holds a) (map named_hold a.holds)
 holds_permuted a = IsPermutation-sort_by row_cmp named_total (map named_hold a.holds)
 
 -- the holds of the table are the archive's, in order
-pub are_named : (t : Tables) (a : Archive) → map hold_of t.holds ≡ a.holds → IsAscending (λ (x y : Hold). is_hold x.name x.number y ≡ false) a.holds → AreHolds t (sorted_holds a)
+pub are_named : (t : Tables) (a : Archive) → map hold_of t.holds ≡ a.holds
+    → IsAscending (λ (x y : Hold). is_hold x.name x.number y ≡ false) a.holds → AreHolds t (sorted_holds a)
 are_named t a same once =
     let them : map named_hold a.holds ≡ map hold_entry t.holds = ap (map named_hold) (sym same) ∙ map-map named_hold hold_of t.holds in
     record {
@@ -88,8 +95,11 @@ unfolding IsStrictlySortedBy
 sorted_by c [] h = tt
 sorted_by c (x ∷ xs) h = (h.0, sorted_by c xs h.1)
 
-pub holds_sorted : (a : Archive) → IsAscending (λ (x y : Hold). is_hold x.name x.number y ≡ false) a.holds → IsStrictlySortedBy hold_cmp (sorted_holds a)
-holds_sorted a once = sorted_by hold_cmp (sorted_holds a) (ascending_weaker _ (λ x y. hold_cmp x y ≡ Less) less_is (sorted_holds a) (holds_rise a once))
+pub holds_sorted : (a : Archive) → IsAscending (λ (x y : Hold). is_hold x.name x.number y ≡ false) a.holds
+    → IsStrictlySortedBy hold_cmp (sorted_holds a)
+holds_sorted a once =
+    sorted_by hold_cmp (sorted_holds a) (ascending_weaker _ (λ x y.
+    hold_cmp x y ≡ Less) less_is (sorted_holds a) (holds_rise a once))
 
 -- ---- numbers in order
 
@@ -100,7 +110,10 @@ cmp_less : (x y : ℕ) → nat_cmp x y ≡ Less → x < y
 cmp_less x y h = grind (arith, nat_tests)
 
 pub numbers_sorted : {X : Type 0} (f : X → ℕ) (xs : List X) → IsAscending (λ x y. f x < f y) xs → IsStrictlySortedBy nat_cmp (map f xs)
-numbers_sorted f xs h = sorted_by nat_cmp (map f xs) (ascending-map (λ x y. nat_cmp x y ≡ Less) f xs (ascending_weaker _ (λ x y. nat_cmp (f x) (f y) ≡ Less) (λ x y less. less_cmp (f x) (f y) less) xs h))
+numbers_sorted f xs h =
+    sorted_by nat_cmp (map f xs) (ascending-map (λ x y.
+    nat_cmp x y ≡ Less) f xs (ascending_weaker _ (λ x y. nat_cmp (f x) (f y) ≡ Less) (λ x y less.
+    less_cmp (f x) (f y) less) xs h))
 
 all_back : {X : Type 0} (f : X → ℕ) (n : ℕ) (xs : List X) → AllByRecursion (λ y. nat_cmp n y ≡ Less) (map f xs) → AllByRecursion (λ x. n < f x) xs
 all_back f n [] h = tt

@@ -1,5 +1,6 @@
 -- The rows of a plan are in order, fit, and are of one plan alone.
-use Rattle.std.proofs.Common.{◌≡◌, ◌≤◌, ◌<◌, ◌^◌, ℕ, Bool, true, false, List, [], ◌∷◌, map, codes, Option, Some, None, Ordering, Less, nat_cmp, refl, sym, ap, subst, ◌∙◌, arith, IsPermutation}
+use Rattle.std.proofs.Common.{◌≡◌, ◌≤◌, ◌<◌, ◌^◌, ℕ, Bool, true, false, List, [], ◌∷◌, map, codes, Option, Some, None}
+use Rattle.std.proofs.Common.{Ordering, Less, nat_cmp, refl, sym, ap, subst, ◌∙◌, arith, IsPermutation}
 use Rattle.std.proofs.lemmas.List.Elements.{recursion_from_All}
 use Rattle.std.proofs.lemmas.List.Sorted.{IsPermutation-refl}
 use Rattle.std.specs.List.{AllByRecursion}
@@ -30,34 +31,46 @@ path_cmp = slice_cmp nat_cmp
 
 -- ---- in order
 
-paths_above : {X : Type 0} (path : X → List ℕ) (view : Row → X) → ((r : Row) → path (view r) ≡ r.path) → (q : List ℕ) (rows : List Row) → AllByRecursion (λ y. path_cmp q y ≡ Less) (paths_of rows)
+paths_above : {X : Type 0} (path : X → List ℕ) (view : Row → X) → ((r : Row) → path (view r) ≡ r.path)
+    → (q : List ℕ) (rows : List Row) → AllByRecursion (λ y. path_cmp q y ≡ Less) (paths_of rows)
     → AllByRecursion (λ x. path_cmp q (path x) ≡ Less) (map view rows)
 paths_above path view same q [] h = tt
 paths_above path view same q (r ∷ rows) h = (ap (path_cmp q) (same r) ∙ h.0, paths_above path view same q rows h.1)
 
-pub rows_rise : {X : Type 0} (path : X → List ℕ) (view : Row → X) → ((r : Row) → path (view r) ≡ r.path) → (rows : List Row) → IsStrictlySortedBy path_cmp (paths_of rows)
+pub rows_rise : {X : Type 0} (path : X → List ℕ) (view : Row → X) → ((r : Row) → path (view r) ≡ r.path)
+    → (rows : List Row) → IsStrictlySortedBy path_cmp (paths_of rows)
     → IsAscending (λ x y. path_cmp (path x) (path y) ≡ Less) (map view rows)
 unfolding IsStrictlySortedBy
 rows_rise path view same [] h = tt
-rows_rise path view same (r ∷ rows) h = (subst (λ q. AllByRecursion (λ x. path_cmp q (path x) ≡ Less) (map view rows)) (sym (same r)) (paths_above path view same r.path rows h.0), rows_rise path view same rows h.1)
+rows_rise path view same (r ∷ rows) h = (
+  subst (λ q. AllByRecursion (λ x. path_cmp q (path x) ≡ Less) (map view rows)) (sym (same r))
+      (paths_above path view same r.path rows h.0),
+  rows_rise path view same rows h.1,
+)
 
 pub classes_listed : (t : Tables) (p : Listing) → IsPlan p → IsPermutation (map class_entry t.classes) (classes_of p) → AreClasses t (classes_of p)
 classes_listed t p is same = record { same = same; in_order = rows_rise (λ (c : ClassEntry). c.path) entry_of_row (λ r. refl) p.rows is.in_order }
 
-own_above : (q path : List ℕ) (o : Option Schedule) (rules : List Rule) → path_cmp q path ≡ Less → AllByRecursion (λ (r : Rule). path_cmp q r.path ≡ Less) rules → AllByRecursion (λ (r : Rule). path_cmp q r.path ≡ Less) (with_own path o rules)
+own_above : (q path : List ℕ) (o : Option Schedule) (rules : List Rule) → path_cmp q path ≡ Less
+    → AllByRecursion (λ (r : Rule). path_cmp q r.path ≡ Less) rules
+    → AllByRecursion (λ (r : Rule). path_cmp q r.path ≡ Less) (with_own path o rules)
 own_above q path None rules e h = h
 own_above q path (Some s) rules e h = (e, h)
 
-rules_above : (q : List ℕ) (rows : List Row) → AllByRecursion (λ y. path_cmp q y ≡ Less) (paths_of rows) → AllByRecursion (λ (r : Rule). path_cmp q r.path ≡ Less) (own_rules rows)
+rules_above : (q : List ℕ) (rows : List Row) → AllByRecursion (λ y. path_cmp q y ≡ Less) (paths_of rows)
+    → AllByRecursion (λ (r : Rule). path_cmp q r.path ≡ Less) (own_rules rows)
 rules_above q [] h = tt
 rules_above q (r ∷ rows) h = own_above q r.path r.schedule (own_rules rows) h.0 (rules_above q rows h.1)
 
-own_rises : (path : List ℕ) (o : Option Schedule) (rules : List Rule) → AllByRecursion (λ (r : Rule). path_cmp path r.path ≡ Less) rules → IsAscending (λ (x y : Rule). path_cmp x.path y.path ≡ Less) rules
+own_rises : (path : List ℕ) (o : Option Schedule) (rules : List Rule)
+    → AllByRecursion (λ (r : Rule). path_cmp path r.path ≡ Less) rules
+    → IsAscending (λ (x y : Rule). path_cmp x.path y.path ≡ Less) rules
     → IsAscending (λ (x y : Rule). path_cmp x.path y.path ≡ Less) (with_own path o rules)
 own_rises path None rules low up = up
 own_rises path (Some s) rules low up = (low, up)
 
-own_rise : (rows : List Row) → IsStrictlySortedBy path_cmp (paths_of rows) → IsAscending (λ (x y : Rule). path_cmp x.path y.path ≡ Less) (own_rules rows)
+own_rise : (rows : List Row) → IsStrictlySortedBy path_cmp (paths_of rows)
+    → IsAscending (λ (x y : Rule). path_cmp x.path y.path ≡ Less) (own_rules rows)
 unfolding IsStrictlySortedBy
 own_rise [] h = tt
 own_rise (r ∷ rows) h = own_rises r.path r.schedule (own_rules rows) (rules_above r.path rows h.0) (own_rise rows h.1)
@@ -78,10 +91,16 @@ rules_listed t p is same = record {
   in_order = (rules_above [] p.rows (root_above p.rows p.rows (recursion_from_All (IsClass p.rows) p.rows is.classes)), own_rise p.rows is.in_order);
 }
 
-pub version_paired : (t : Tables) → map pair t.settings ≡ record { key = codes "version"; value = codes "2" } ∷ [] → ArePairs t (record { key = codes "version"; value = codes "2" } ∷ [])
-version_paired t same = record { same = subst (IsPermutation (map pair t.settings)) same (IsPermutation-refl (map pair t.settings)); in_order = (tt, tt) }
+pub version_paired : (t : Tables) → map pair t.settings ≡ record { key = codes "version"; value = codes "2" } ∷ []
+    → ArePairs t (record { key = codes "version"; value = codes "2" } ∷ [])
+version_paired t same =
+    record {
+      same = subst (IsPermutation (map pair t.settings)) same (IsPermutation-refl (map pair t.settings));
+      in_order = (tt, tt);
+    }
 
-pub texts_listed : (t : Tables) (p : Listing) → IsPlan p → IsPermutation (map class_entry t.classes) (map text_row p.rows) → AreClasses t (map text_row p.rows)
+pub texts_listed : (t : Tables) (p : Listing) → IsPlan p
+    → IsPermutation (map class_entry t.classes) (map text_row p.rows) → AreClasses t (map text_row p.rows)
 texts_listed t p is same = record { same = same; in_order = rows_rise (λ (c : ClassEntry). c.path) text_row (λ r. refl) p.rows is.in_order }
 
 pub first_paired : (t : Tables) (root : List ℕ) → IsPermutation (map pair t.settings) (first_pairs root) → ArePairs t (first_pairs root)
@@ -104,7 +123,8 @@ rule_fits q (After n Days a y) h = record { count = omega (arith, h.1); unit = o
 rule_fits q (After n Months a y) h = record { count = omega (arith, h.1); unit = omega arith; action = action_fits a; year_end = flag_fits y }
 rule_fits q (After n Years a y) h = record { count = omega (arith, h.1); unit = omega arith; action = action_fits a; year_end = flag_fits y }
 
-own_fits : (q : List ℕ) (o : Option Schedule) (rules : List Rule) → IsInRangeIfAny o → AllByRecursion FitsRule rules → AllByRecursion FitsRule (with_own q o rules)
+own_fits : (q : List ℕ) (o : Option Schedule) (rules : List Rule) → IsInRangeIfAny o → AllByRecursion FitsRule rules
+    → AllByRecursion FitsRule (with_own q o rules)
 own_fits q None rules h all = all
 own_fits q (Some s) rules h all = (rule_fits q s h, all)
 
@@ -120,7 +140,8 @@ rules_fit p is = (rule_fits [] p.root is.root, own_fit p.rows p.rows (recursion_
 listed_paths : (rows : List Row) → map (λ (l : ClassEntry). l.path) (map entry_of_row rows) ≡ paths_of rows
 listed_paths rows = map-map (λ (l : ClassEntry). l.path) entry_of_row rows
 
-same_rows : (xs ys : List Row) → IsStrictlySortedBy path_cmp (paths_of xs) → map entry_of_row xs ≡ map entry_of_row ys → own_rules xs ≡ own_rules ys → xs ≡ ys
+same_rows : (xs ys : List Row) → IsStrictlySortedBy path_cmp (paths_of xs) → map entry_of_row xs ≡ map entry_of_row ys
+    → own_rules xs ≡ own_rules ys → xs ≡ ys
 same_rows xs ys sorted same rules =
     let paths : paths_of xs ≡ paths_of ys = sym (listed_paths xs) ∙ ap (map (λ (l : ClassEntry). l.path)) same ∙ listed_paths ys in
     sym (merged-rows xs sorted) ∙ (λ i. merge (rules i) (same i)) ∙ merged-rows ys (subst (IsStrictlySortedBy path_cmp) paths sorted)
@@ -134,7 +155,8 @@ one_plan p q is rules classes =
     λ i. record { root = root i; rows = rows i }
 
 -- one plan has these texts
-pub one_text : (p q : Listing) (root : List ℕ) (classes : List ClassEntry) → IsPlan p → IsPlan q → HasTexts p root classes → HasTexts q root classes → p ≡ q
+pub one_text : (p q : Listing) (root : List ℕ) (classes : List ClassEntry) → IsPlan p → IsPlan q
+    → HasTexts p root classes → HasTexts q root classes → p ≡ q
 one_text p q root classes is other here there =
     let both : Some (rules_of p) ≡ Some (rules_of q) = sym (texts-rules p root classes is here) ∙ texts-rules q root classes other there in
     let rules : rules_of p ≡ rules_of q = cc in

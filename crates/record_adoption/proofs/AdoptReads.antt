@@ -6,7 +6,8 @@ use Rattle.sqlite.specs.Effect.{Database}
 use Rattle.sqlite.specs.State.{State, HasCleanDisk, IsUnchanged}
 use Rattle.sqlite.specs.Held.{Held, state}
 use Rattle.sqlite.proofs.StateLemmas.{survives_then, survives_weaker}
-use Rattle.record_tables.specs.Tables.{schedules_and_dues_beside, none, first_dues, HasCommonTables, IsArchiveSchema, first_schema, first_schema_with_dues}
+use Rattle.record_tables.specs.Tables.{schedules_and_dues_beside, none, first_dues, HasCommonTables, IsArchiveSchema}
+use Rattle.record_tables.specs.Tables.{first_schema, first_schema_with_dues}
 use Rattle.record_tables.specs.Rows.{Tables, Stores, StoresFirst, StoresCommon}
 use Rattle.record_archive.specs.Archive.{Archive}
 use Rattle.std.proofs.lemmas.List.Elements.{All-from_recursion, recursion_from_All}
@@ -14,14 +15,22 @@ use Rattle.std.proofs.lemmas.List.Sorted.{IsPermutation-sym, length_permutation,
 use Rattle.class_plan.specs.Plans.{Listing}
 use Rattle.record_tables.specs.Changes.{ClassEntry, Rule}
 use Rattle.record_tables.specs.Reads.{Pair, pair, class_entry, rule}
-use Rattle.record_adoption.specs.Adoption.{FindsSecond, FindsFirst, FindsCommon, ReadsSecond, ReadsFirst, TellsPlan, TellsTexts, ShowsPlan, ShowsTexts, first_pairs, Sees}
+use Rattle.record_adoption.specs.Adoption.{FindsSecond, FindsFirst, FindsCommon, ReadsSecond, ReadsFirst, TellsPlan}
+use Rattle.record_adoption.specs.Adoption.{TellsTexts, ShowsPlan, ShowsTexts, first_pairs, Sees}
 use Rattle.record_adoption.specs.Keeping.{hold_of}
 use Rattle.record_adoption.specs.declared.plan_rows.PlanRows.{PlanRows}
 use Rattle.record_adoption.specs.declared.text_rows.TextRows.{TextRows}
 
 pub unchanged_then : (a b c : State) → IsUnchanged a b → IsUnchanged b c → IsUnchanged a c
 unchanged_then a b c one two = (
-  record { was_open = one.0.was_open; is_open = two.0.is_open; now_is = two.0.now_is ∙ one.0.now_is; committed_is = two.0.committed_is ∙ one.0.committed_is; mode = two.0.mode ∙ one.0.mode },
+  record {
+    was_open = one.0.was_open;
+    is_open = two.0.is_open;
+    now_is = two.0.now_is ∙ one.0.now_is;
+    committed_is =
+        two.0.committed_is ∙ one.0.committed_is;
+    mode = two.0.mode ∙ one.0.mode;
+  },
   record { changes = two.1.changes ∙ one.1.changes; last_rowid = two.1.last_rowid ∙ one.1.last_rowid },
   two.2 ∙ one.2,
 )
@@ -42,7 +51,8 @@ sees_then g Are old mid new one kept two = record {
 }
 
 -- what holds of a read under a condition on the schema holds under a stronger one
-pub sees_as : {S : Type 0} (g : Ghosts S) (Are More : Schema → Type 0) (old new : Held S) → ((schema : Schema) → More schema → Are schema) → Sees g Are old new → Sees g More old new
+pub sees_as : {S : Type 0} (g : Ghosts S) (Are More : Schema → Type 0) (old new : Held S)
+    → ((schema : Schema) → More schema → Are schema) → Sees g Are old new → Sees g More old new
 sees_as g Are More old new to one = record {
   idle = one.idle;
   falls = one.falls;
@@ -77,10 +87,12 @@ stores_first_common db t h = record {
   classes = h.classes;
 }
 
-pub reads_after : (old new : State) (t : Tables) (ps : List Pair) (rs : List Rule) (cs : List ClassEntry) → ReadsSecond old.now t ps rs cs → IsUnchanged old new → ReadsSecond new.now t ps rs cs
+pub reads_after : (old new : State) (t : Tables) (ps : List Pair) (rs : List Rule) (cs : List ClassEntry)
+    → ReadsSecond old.now t ps rs cs → IsUnchanged old new → ReadsSecond new.now t ps rs cs
 reads_after old new t ps rs cs h kept = subst (λ (db : Database). ReadsSecond db t ps rs cs) (sym kept.0.now_is) h
 
-pub reads_first_after : (old new : State) (t : Tables) (ps : List Pair) (cs : List ClassEntry) → ReadsFirst old.now t ps cs → IsUnchanged old new → ReadsFirst new.now t ps cs
+pub reads_first_after : (old new : State) (t : Tables) (ps : List Pair) (cs : List ClassEntry)
+    → ReadsFirst old.now t ps cs → IsUnchanged old new → ReadsFirst new.now t ps cs
 reads_first_after old new t ps cs h kept = subst (λ (db : Database). ReadsFirst db t ps cs) (sym kept.0.now_is) h
 
 -- the archive of rows with a plan
@@ -89,10 +101,14 @@ archive_of t p = record { plan = p; messages = t.messages; records = t.records; 
 
 one_left : (xs : List Pair) (p : Pair) → IsPermutation xs (p ∷ []) → xs ≡ p ∷ []
 one_left [] p same = absurd (omega (arith, length_permutation [] (p ∷ []) same))
-one_left (x ∷ []) p same = ap (λ z. z ∷ []) (recursion_from_All (λ z. z ≡ p) (x ∷ []) (All-permutation (λ z. z ≡ p) (p ∷ []) (x ∷ []) (IsPermutation-sym (x ∷ []) (p ∷ []) same) (All-from_recursion (λ z. z ≡ p) (p ∷ []) (refl, tt)))).0
+one_left (x ∷ []) p same =
+    ap (λ z. z ∷ []) (recursion_from_All (λ z.
+    z ≡ p) (x ∷ []) (All-permutation (λ z. z ≡ p) (p ∷ []) (x ∷ []) (IsPermutation-sym (x ∷ []) (p ∷ []) same)
+    (All-from_recursion (λ z. z ≡ p) (p ∷ []) (refl, tt)))).0
 one_left (x ∷ y ∷ xs) p same = absurd (omega (arith, length_permutation (x ∷ y ∷ xs) (p ∷ []) same))
 
-pub second_told : (db : Database) (t : Tables) (ps : List Pair) (rs : List Rule) (cs : List ClassEntry) (r : PlanRows) (p : Listing) → ReadsSecond db t ps rs cs → ShowsPlan r ps rs cs → TellsPlan r p → FindsSecond db (archive_of t p)
+pub second_told : (db : Database) (t : Tables) (ps : List Pair) (rs : List Rule) (cs : List ClassEntry) (r : PlanRows)
+    (p : Listing) → ReadsSecond db t ps rs cs → ShowsPlan r ps rs cs → TellsPlan r p → FindsSecond db (archive_of t p)
 second_told db t ps rs cs r p d told tells = record {
   tables = t;
   stored = d.stored;
@@ -107,7 +123,8 @@ second_told db t ps rs cs r p d told tells = record {
   };
 }
 
-pub first_told : (db : Database) (t : Tables) (ps : List Pair) (cs : List ClassEntry) (r : TextRows) (p : Listing) → ReadsFirst db t ps cs → ShowsTexts r ps cs → TellsTexts r p → FindsFirst db (archive_of t p)
+pub first_told : (db : Database) (t : Tables) (ps : List Pair) (cs : List ClassEntry) (r : TextRows) (p : Listing)
+    → ReadsFirst db t ps cs → ShowsTexts r ps cs → TellsTexts r p → FindsFirst db (archive_of t p)
 first_told db t ps cs r p d told tells = record {
   tables = t;
   stored = d.stored;
@@ -162,8 +179,10 @@ first_found db a h = record {
 }
 
 -- two reads in a row, each of which changes nothing, change nothing
-pub kept_then : {S : Type 0} (g : Ghosts S) (Are : Schema → Type 0) (old mid new : Held S) → (HasCleanDisk (state g mid) → Are (state g old).now.schema → IsUnchanged (state g old) (state g mid))
-    → (HasCleanDisk (state g new) → HasCleanDisk (state g mid)) → (HasCleanDisk (state g new) → Are (state g mid).now.schema → IsUnchanged (state g mid) (state g new))
+pub kept_then : {S : Type 0} (g : Ghosts S) (Are : Schema → Type 0) (old mid new : Held S)
+    → (HasCleanDisk (state g mid) → Are (state g old).now.schema → IsUnchanged (state g old) (state g mid))
+    → (HasCleanDisk (state g new) → HasCleanDisk (state g mid))
+    → (HasCleanDisk (state g new) → Are (state g mid).now.schema → IsUnchanged (state g mid) (state g new))
     → HasCleanDisk (state g new) → Are (state g old).now.schema → IsUnchanged (state g old) (state g new)
 kept_then g Are old mid new one falls two clean has =
     let first = one (falls clean) has in

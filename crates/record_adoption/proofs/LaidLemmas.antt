@@ -23,7 +23,8 @@ pub same_list : {X : Type 0} (xs ys : List X) → xs ≡ ys → IsPermutation xs
 same_list xs ys e = subst (IsPermutation xs) e (IsPermutation-refl xs)
 
 -- the tables as they are created keep the empty archive
-pub stores_laid : (old db : Database) → old.schema ≡ no_schema → IsLaid (rules_of first_plan) (classes_of first_plan) old db → StoresArchive db empty_archive
+pub stores_laid : (old db : Database) → old.schema ≡ no_schema
+    → IsLaid (rules_of first_plan) (classes_of first_plan) old db → StoresArchive db empty_archive
 stores_laid old db empty laid =
     let made = laid.stored empty in
     record {

@@ -1,5 +1,7 @@
 -- Paths that ascend, each below the next.
-use Rattle.std.proofs.Common.{◌≡◌, ◌<◌, ◌+◌, ◌-◌, ℕ, zero, suc, Bool, true, false, ◌&&◌, List, [], ◌∷◌, map, length, get_or, Ordering, Less, Equal, Greater, is_lt, nat_cmp, refl, sym, ap, ◌∙◌, subst, arith, true≢false}
+use Rattle.std.proofs.Common.{◌≡◌, ◌<◌, ◌+◌, ◌-◌, ℕ, zero, suc, Bool, true, false, ◌&&◌, List, [], ◌∷◌, map, length}
+use Rattle.std.proofs.Common.{get_or, Ordering, Less, Equal, Greater, is_lt, nat_cmp, refl, sym, ap, ◌∙◌, subst, arith}
+use Rattle.std.proofs.Common.{true≢false}
 use Rattle.std.specs.List.{AllByRecursion, list_all}
 use Rattle.std.specs.List.Sorted.{IsStrictlySortedBy}
 use Rattle.std.specs.Cmp.Lexicographic.{slice_cmp}
@@ -20,16 +22,19 @@ RisesTo qs i = 0 < i → path_cmp (get_or qs (i - 1) []) (get_or qs i []) ≡ Le
 pub rises-sorted : (qs : List (List ℕ)) → ((i : ℕ) → i < length qs → RisesTo qs i) → IsStrictlySortedBy path_cmp qs
 rises-sorted qs up =
     sorted_from_all_adjacent nat_list_cmp_total qs []
-    (λ k low. let before : k + 1 - 1 ≡ k = omega arith in subst (λ j. path_cmp (get_or qs j []) (get_or qs (k + 1) []) ≡ Less) before (up (k + 1) low (omega arith)))
+    (λ k low. let before : k + 1 - 1 ≡ k = omega arith in
+    subst (λ j. path_cmp (get_or qs j []) (get_or qs (k + 1) []) ≡ Less) before (up (k + 1) low (omega arith)))
 
-next_rises : (k : ℕ) (qs : List (List ℕ)) → IsStrictlySortedBy path_cmp qs → k + 1 < length qs → path_cmp (get_or qs k []) (get_or qs (suc k) []) ≡ Less
+next_rises : (k : ℕ) (qs : List (List ℕ)) → IsStrictlySortedBy path_cmp qs → k + 1 < length qs
+    → path_cmp (get_or qs k []) (get_or qs (suc k) []) ≡ Less
 unfolding IsStrictlySortedBy
 next_rises k [] up low = absurd (omega arith)
 next_rises k (x ∷ []) up low = absurd (omega arith)
 next_rises zero (x ∷ y ∷ qs) up low = up.0.0
 next_rises (suc k) (x ∷ y ∷ qs) up low = next_rises k (y ∷ qs) up.1 (omega arith)
 
-pub sorted-rises : (qs : List (List ℕ)) → IsStrictlySortedBy path_cmp qs → (i : ℕ) → 0 < i → i < length qs → path_cmp (get_or qs (i - 1) []) (get_or qs i []) ≡ Less
+pub sorted-rises : (qs : List (List ℕ)) → IsStrictlySortedBy path_cmp qs → (i : ℕ) → 0 < i → i < length qs
+    → path_cmp (get_or qs (i - 1) []) (get_or qs i []) ≡ Less
 sorted-rises qs up i some low =
     let here : suc (i - 1) ≡ i = omega arith in
     subst (λ j. path_cmp (get_or qs (i - 1) []) (get_or qs j []) ≡ Less) here (next_rises (i - 1) qs up (omega arith))
@@ -43,17 +48,24 @@ pub path_at : {V : Type 0} (f : V → List ℕ) (vs : List V) (i : ℕ) (v : V) 
 path_at f vs i v low is = get_or-map f vs i v [] low ∙ ap f (sym is)
 
 pub next_place : (qs : List (List ℕ)) (n : ℕ) → ((i : ℕ) → i < n → RisesTo qs i) → RisesTo qs n → (i : ℕ) → i < n + 1 → RisesTo qs i
-next_place qs n up here i low = elim (Rattle.std.proofs.Common.nat_lt i n) as (λ b. Rattle.std.proofs.Common.nat_lt i n ≡ b → RisesTo qs i) [ true ↦ λ e. up i (grind (arith, e)) | false ↦ λ e. let same : n ≡ i = grind (arith, e, low) in subst (RisesTo qs) same here ] refl
+next_place qs n up here i low = elim (Rattle.std.proofs.Common.nat_lt i n) as (λ b. Rattle.std.proofs.Common.nat_lt i n
+    ≡ b → RisesTo qs i) [
+      | true ↦ λ e. up i (grind (arith, e))
+      | false ↦ λ e. let same : n ≡ i = grind (arith, e, low) in
+          subst (RisesTo qs) same here
+    ] refl
 
 both : (a b : Bool) → (a && b) ≡ true → (a ≡ true) × (b ≡ true)
 both true b h = (refl, h)
 both false b h = absurd (true≢false (sym h))
 
-listed_all : {V : Type 0} (p : Listing) (f : V → List ℕ) (vs : List V) → list_all (λ v. has p.rows (f v)) vs ≡ true → AllByRecursion (λ q. has p.rows q ≡ true) (map f vs)
+listed_all : {V : Type 0} (p : Listing) (f : V → List ℕ) (vs : List V) → list_all (λ v. has p.rows (f v)) vs ≡ true
+    → AllByRecursion (λ q. has p.rows q ≡ true) (map f vs)
 listed_all p f [] h = tt
 listed_all p f (v ∷ vs) h = let two = both (has p.rows (f v)) (list_all (λ v. has p.rows (f v)) vs) h in (two.0, listed_all p f vs two.1)
 
-all_listed : {V : Type 0} (p : Listing) (f : V → List ℕ) (vs : List V) → AllByRecursion (λ q. has p.rows q ≡ true) (map f vs) → list_all (λ v. has p.rows (f v)) vs ≡ true
+all_listed : {V : Type 0} (p : Listing) (f : V → List ℕ) (vs : List V)
+    → AllByRecursion (λ q. has p.rows q ≡ true) (map f vs) → list_all (λ v. has p.rows (f v)) vs ≡ true
 all_listed p f [] h = refl
 all_listed p f (v ∷ vs) h = ap (λ b. b && list_all (λ v. has p.rows (f v)) vs) h.0 ∙ all_listed p f vs h.1
 

@@ -1,5 +1,7 @@
 -- What the query of due records shows of the tables.
-use Rattle.std.proofs.Common.{◌≡◌, ◌≤◌, ℕ, pos, List, [], ◌∷◌, ◌++◌, map, filter, flat_map, length, Bool, true, false, cond, ◌&&◌, codes, refl, sym, ap, ap₂, subst, ◌∙◌, Ordering, Less, Equal, Greater, is_gt, is_eq, int_cmp, true≢false, IsPermutation, arith}
+use Rattle.std.proofs.Common.{◌≡◌, ◌≤◌, ℕ, pos, List, [], ◌∷◌, ◌++◌, map, filter, flat_map, length, Bool, true, false}
+use Rattle.std.proofs.Common.{cond, ◌&&◌, codes, refl, sym, ap, ap₂, subst, ◌∙◌, Ordering, Less, Equal, Greater, is_gt}
+use Rattle.std.proofs.Common.{is_eq, int_cmp, true≢false, IsPermutation, arith}
 use Rattle.std.specs.List.{AllByRecursion}
 use Rattle.std.specs.Cmp.{IsTotalOrder}
 use Rattle.std.specs.Ordering.{ordering_reverse}
@@ -24,7 +26,9 @@ use Rattle.sqlite_value.specs.Keys.{ascending}
 use Rattle.sqlite_value.proofs.OrderLemmas.{value_cmp-Int}
 use Rattle.sqlite_trees.specs.Tree.{IsAscending}
 use Rattle.sqlite_keyed.specs.Lists.{sort_by, insert_sorted, pairs}
-use Rattle.sqlite_keyed.proofs.ListLemmas.{IsPermutation-flat_map, all_weaker, all-map, all-flat_map, ascending-append, ascending-map, ascending_weaker, ascending-filter, filter-map, map-map, map-flat_map, flat_map_same_on}
+use Rattle.sqlite_keyed.proofs.ListLemmas.{IsPermutation-flat_map, all_weaker, all-map, all-flat_map, ascending-append}
+use Rattle.sqlite_keyed.proofs.ListLemmas.{ascending-map, ascending_weaker, ascending-filter, filter-map, map-map}
+use Rattle.sqlite_keyed.proofs.ListLemmas.{map-flat_map, flat_map_same_on}
 use Rattle.sqlite_keyed.proofs.KeyedLemmas.{Less-from_lt}
 use Rattle.sqlite_keyed.proofs.SortLemmas.{sorted_unique, IsPermutation-sort_by}
 use Rattle.sqlite_keyed.proofs.RuleLemmas.{at_most_one}
@@ -34,12 +38,14 @@ use Rattle.record_tables.specs.Tables.{Foreign, archive_beside}
 use Rattle.record_archive.specs.Archive.{Record}
 use Rattle.record_tables.specs.Rows.{Tables, Stores, AreKeyed, record_key, record_row, Due, due_key, due_row}
 use Rattle.record_tables.specs.Reads.{is_by, due_cmp, dues_by}
-use Rattle.record_reads.specs.DueRecords.{DueRecord, due_record, is_of, with_records, due_records_by, due_record_values, ReadsDueRecord, FitsDueRecord}
+use Rattle.record_reads.specs.DueRecords.{DueRecord, due_record, is_of, with_records, due_records_by, due_record_values}
+use Rattle.record_reads.specs.DueRecords.{ReadsDueRecord, FitsDueRecord}
 use Rattle.record_reads.proofs.Queries.{Asks}
 use Rattle.record_tables.proofs.Texts.{on_table, alone}
 
 abbrev pub select_due_records : List ℕ
-select_due_records = codes "SELECT due_day.record, due_day.day, record.path FROM due_day JOIN record ON record.number = due_day.record WHERE due_day.day <= ?1 ORDER BY due_day.day, due_day.record"
+select_due_records =
+    codes "SELECT due_day.record, due_day.day, record.path FROM due_day JOIN record ON record.number = due_day.record WHERE due_day.day <= ?1 ORDER BY due_day.day, due_day.record"
 
 abbrev due_record_test : List Term
 due_record_test = op2 (Compare Eq Binary) (col 2 0) (col 1 0) ∷ op2 (Compare Le Binary) (col 1 2) (col 0 0) ∷ []
@@ -50,7 +56,9 @@ due_records_query = record (on_table 10 due_record_test (col 1 0 ∷ col 1 2 ∷
   order = (col 1 2, ascending Binary) ∷ (col 1 0, ascending Binary) ∷ [];
 }
 
-pub select_due_records_is : (f : Foreign) → Asks (archive_beside f) select_due_records (Select (alone due_records_query) (codes "record" ∷ codes "day" ∷ codes "path" ∷ []))
+pub select_due_records_is : (f : Foreign)
+    → Asks (archive_beside f) select_due_records (Select (alone due_records_query) (codes "record" ∷ codes "day"
+    ∷ codes "path" ∷ []))
 unfolding understood everything
 select_due_records_is f = record { is = refl; plain = (refl, refl); unlisted = refl }
 
@@ -63,7 +71,11 @@ module _ {X : Type 0} (cmp : X → X → Ordering) (total : IsTotalOrder cmp) wh
   all-insert : (P : X → Type 0) (new : X) (xs : List X) → P new → AllByRecursion P xs → AllByRecursion P (insert_sorted cmp new xs)
   all-insert P new [] h all = (h, tt)
   all-insert P new (x ∷ xs) h all =
-      elim (is_gt (cmp new x)) as (λ b. AllByRecursion P (cond b (x ∷ insert_sorted cmp new xs) (new ∷ x ∷ xs))) [ true ↦ (all.0, all-insert P new xs h all.1) | false ↦ (h, all) ]
+      elim (is_gt (cmp new x)) as (λ b. AllByRecursion P (cond b (x ∷ insert_sorted cmp new xs) (new ∷ x ∷ xs))) [
+        | true
+            ↦ (all.0, all-insert P new xs h all.1)
+        | false ↦ (h, all)
+      ]
 
   all-sort : (P : X → Type 0) (xs : List X) → AllByRecursion P xs → AllByRecursion P (sort_by cmp xs)
   all-sort P [] all = tt
@@ -89,7 +101,9 @@ dues_rise : (day : ℕ) (t : Tables) → AreKeyed t → IsAscending (λ a b. due
 dues_rise day t keyed =
     rises-sort due_cmp due_cmp_total (filter (is_by day) t.dues)
     (ascending-filter _ (is_by day) t.dues
-    (ascending_weaker _ (λ x y. is_eq (due_cmp x y) ≡ false) (λ x y low. (no_tie_after (int_cmp (pos x.day) (pos y.day)) (no_tie (Less-from_lt (due_key x) (due_key y) low))).apart) t.dues keyed.dues))
+    (ascending_weaker _ (λ x y. is_eq (due_cmp x y) ≡ false) (λ x y low.
+    (no_tie_after (int_cmp (pos x.day) (pos y.day)) (no_tie (Less-from_lt (due_key x) (due_key y) low))).apart)
+    t.dues keyed.dues))
 
 -- ---- a due day beside each record
 
@@ -105,12 +119,14 @@ is_asked day a = is_of a.0 a.1 && is_by day a.0
 abbrev joined : List Record → List Due → List Pair
 joined rs = flat_map (λ d. map (beside d) (filter (is_of d) rs))
 
-filter_both : (p : Record → Bool) (b : Bool) (d : Due) (rs : List Record) → map (beside d) (filter (λ r. p r && b) rs) ≡ cond b (map (beside d) (filter p rs)) []
+filter_both : (p : Record → Bool) (b : Bool) (d : Due) (rs : List Record)
+    → map (beside d) (filter (λ r. p r && b) rs) ≡ cond b (map (beside d) (filter p rs)) []
 filter_both p true d [] = refl
 filter_both p true d (r ∷ rs) = go (p r) (filter_both p true d rs)
   where
     go : (c : Bool) → map (beside d) (filter (λ r. p r && true) rs) ≡ map (beside d) (filter p rs)
-        → map (beside d) (cond (c && true) (r ∷ filter (λ r. p r && true) rs) (filter (λ r. p r && true) rs)) ≡ map (beside d) (cond c (r ∷ filter p rs) (filter p rs))
+        → map (beside d) (cond (c && true) (r ∷ filter (λ r. p r && true) rs) (filter (λ r. p r && true) rs))
+        ≡ map (beside d) (cond c (r ∷ filter p rs) (filter p rs))
     go true more = ap (λ l. beside d r ∷ l) more
     go false more = more
 filter_both p false d [] = refl
@@ -129,7 +145,8 @@ asked_is day rs (d ∷ ds) =
     ∙ ap₂ ◌++◌ (filter-map (is_asked day) (beside d) rs ∙ filter_both (is_of d) (is_by day d) d rs) (asked_is day rs ds)
     ∙ go (is_by day d)
   where
-    go : (b : Bool) → cond b (map (beside d) (filter (is_of d) rs)) [] ++ joined rs (filter (is_by day) ds) ≡ joined rs (cond b (d ∷ filter (is_by day) ds) (filter (is_by day) ds))
+    go : (b : Bool) → cond b (map (beside d) (filter (is_of d) rs)) []
+        ++ joined rs (filter (is_by day) ds) ≡ joined rs (cond b (d ∷ filter (is_by day) ds) (filter (is_by day) ds))
     go true = refl
     go false = refl
 
@@ -138,21 +155,31 @@ few_rise R d [] few = tt
 few_rise R d (r ∷ []) few = (tt, tt)
 few_rise R d (r ∷ q ∷ rs) few = absurd (omega arith)
 
-joined_rises : (rs : List Record) (ds : List Due) → ((d : Due) → length (filter (is_of d) rs) ≤ 1) → IsAscending (λ a b. due_cmp a b ≡ Less) ds → IsAscending (λ (a b : Pair). due_cmp a.0 b.0 ≡ Less) (joined rs ds)
+joined_rises : (rs : List Record) (ds : List Due) → ((d : Due) → length (filter (is_of d) rs) ≤ 1)
+    → IsAscending (λ a b. due_cmp a b ≡ Less) ds → IsAscending (λ (a b : Pair). due_cmp a.0 b.0 ≡ Less) (joined rs ds)
 joined_rises rs [] few up = tt
 joined_rises rs (d ∷ ds) few up =
     let R = λ (a b : Pair). due_cmp a.0 b.0 ≡ Less in
-    ascending-append R (map (beside d) (filter (is_of d) rs)) (joined rs ds) (few_rise R d (filter (is_of d) rs) (few d)) (joined_rises rs ds few up.1)
-    (all-map _ (beside d) (λ r. all-flat_map (R (beside d r)) _ ds (all_weaker _ (λ e. AllByRecursion (R (beside d r)) (map (beside e) (filter (is_of e) rs))) (λ e low. all-map (R (beside d r)) (beside e) (λ q. low) (filter (is_of e) rs)) ds up.0)) (filter (is_of d) rs))
+    ascending-append R (map (beside d) (filter (is_of d) rs)) (joined rs ds)
+    (few_rise R d (filter (is_of d) rs) (few d)) (joined_rises rs ds few up.1)
+    (all-map _ (beside d) (λ r.
+    all-flat_map (R (beside d r)) _ ds (all_weaker _ (λ e.
+    AllByRecursion (R (beside d r)) (map (beside e) (filter (is_of e) rs))) (λ e low.
+    all-map (R (beside d r)) (beside e) (λ q. low) (filter (is_of e) rs)) ds up.0)) (filter (is_of d) rs))
 
-shown_joined : (rs : List Record) (ds : List Due) → map (λ (a : Pair). due_record_values (due_record a.0 a.1)) (joined rs ds) ≡ map due_record_values (with_records rs ds)
+shown_joined : (rs : List Record) (ds : List Due)
+    → map (λ (a : Pair). due_record_values (due_record a.0 a.1)) (joined rs ds)
+    ≡ map due_record_values (with_records rs ds)
 shown_joined rs ds =
     map-flat_map _ _ ds
-    ∙ flat_map_same_on _ _ (λ d. map-map (λ (a : Pair). due_record_values (due_record a.0 a.1)) (beside d) (filter (is_of d) rs) ∙ sym (map-map due_record_values (due_record d) (filter (is_of d) rs))) ds
+    ∙ flat_map_same_on _ _ (λ d.
+    map-map (λ (a : Pair). due_record_values (due_record a.0 a.1)) (beside d) (filter (is_of d) rs)
+    ∙ sym (map-map due_record_values (due_record d) (filter (is_of d) rs))) ds
     ∙ sym (map-flat_map due_record_values _ ds)
 
 -- the due records are answered by their days, and on the same day by their numbers
-pub shows_due_records : (old new : State) (rows : List Row) (day : ℕ) (t : Tables) → Stores old.now t → AreKeyed t → Shown select_due_records (Int (pos day) ∷ []) old new rows → rows ≡ map due_record_values (due_records_by day t)
+pub shows_due_records : (old new : State) (rows : List Row) (day : ℕ) (t : Tables) → Stores old.now t → AreKeyed t
+    → Shown select_due_records (Int (pos day) ∷ []) old new rows → rows ≡ map due_record_values (due_records_by day t)
 shows_due_records old new rows day t s keyed h =
     let f = s.schema.foreign in
     let is = select_due_records_is f in
@@ -161,18 +188,28 @@ shows_due_records old new rows day t s keyed h =
     let q = due_records_query in
     let db = overlay old.now.trees [] in
     let answer : IsAnswer q db params rows = read.answer Null in
-    let source = next_table db 10 due_row due_key t.dues s.dues keyed.dues (last_table db 1 record_row record_key t.records s.records keyed.records (at_end db)) in
+    let source =
+    next_table db 10 due_row due_key t.dues s.dues keyed.dues
+    (last_table db 1 record_row record_key t.records s.records keyed.records (at_end db)) in
     let out : Pair → Output = λ a. output q (params ∷ due_row a.0 ∷ record_row a.1 ∷ []) in
-    let matched = matches_are q db params source (is_asked day) (λ a. then_term (at_ints false Eq (pos a.1.number) (pos a.0.number)) (last_term (at_ints false Le (pos a.0.day) (pos day)))) in
+    let matched =
+    matches_are q db params source (is_asked day) (λ a.
+    then_term (at_ints false Eq (pos a.1.number) (pos a.0.number))
+    (last_term (at_ints false Le (pos a.0.day) (pos day)))) in
     let ys = joined t.records (dues_by day t) in
     let kept : answer.kept ≡ map out (joined t.records (filter (is_by day) t.dues)) =
     answer.distinct ∙ ap (map (output q)) (answer.grouped ∙ matched) ∙ map-map (output q) _ _ ∙ ap (map out) (asked_is day t.records t.dues) in
-    let same : IsPermutation (map out (joined t.records (filter (is_by day) t.dues))) answer.ordered = subst (λ l. IsPermutation l answer.ordered) kept answer.same in
-    let sorted : IsPermutation ys (joined t.records (filter (is_by day) t.dues)) = IsPermutation-flat_map _ (dues_by day t) (filter (is_by day) t.dues) (IsPermutation-sort_by due_cmp due_cmp_total (filter (is_by day) t.dues)) in
+    let same : IsPermutation (map out (joined t.records (filter (is_by day) t.dues))) answer.ordered =
+    subst (λ l. IsPermutation l answer.ordered) kept answer.same in
+    let sorted : IsPermutation ys (joined t.records (filter (is_by day) t.dues)) =
+    IsPermutation-flat_map _ (dues_by day t) (filter (is_by day) t.dues)
+    (IsPermutation-sort_by due_cmp due_cmp_total (filter (is_by day) t.dues)) in
     let whole = IsPermutation-trans (map out ys) _ answer.ordered (IsPermutation-map out _ _ sorted) same in
     let few = λ (d : Due). at_most_one record_key (pos d.number) (is_of d) (λ x e. e) t.records keyed.records in
     let rises = ascending-map (λ x y. output_cmp q x y ≡ Less) out ys
-    (ascending_weaker _ (λ (a b : Pair). output_cmp q (out a) (out b) ≡ Less) (λ a b less. then_key (value_cmp-Int (pos a.0.day) (pos b.0.day)) (last_key (value_cmp-Int (due_key a.0) (due_key b.0))) ∙ less) ys (joined_rises t.records (dues_by day t) few (dues_rise day t keyed))) in
+    (ascending_weaker _ (λ (a b : Pair). output_cmp q (out a) (out b) ≡ Less) (λ a b less.
+    then_key (value_cmp-Int (pos a.0.day) (pos b.0.day)) (last_key (value_cmp-Int (due_key a.0) (due_key b.0)))
+    ∙ less) ys (joined_rises t.records (dues_by day t) few (dues_rise day t keyed))) in
     let ordered = sorted_unique (output_cmp q) (output_cmp_total q) (map out ys) answer.ordered rises whole answer.sorted in
     answer.shown ∙ ap (map (λ (o : Output). o.1)) ordered ∙ map-map (λ (o : Output). o.1) out ys ∙ shown_joined t.records (dues_by day t)
 
@@ -207,7 +244,8 @@ some_tables = record {
   dues = due 1 30 ∷ due 2 20 ∷ due 3 31 ∷ due 4 20 ∷ [];
 }
 
-row_up_to_30 : due_records_by 30 some_tables ≡ record { number = 2; day = 20; path = codes "finance" } ∷ record { number = 4; day = 20; path = codes "unfiled" } ∷ record { number = 1; day = 30; path = codes "tax" } ∷ []
+row_up_to_30 : due_records_by 30 some_tables ≡ record { number = 2; day = 20; path = codes "finance" }
+    ∷ record { number = 4; day = 20; path = codes "unfiled" } ∷ record { number = 1; day = 30; path = codes "tax" } ∷ []
 row_up_to_30 = refl
 
 row_up_to_19 : due_records_by 19 some_tables ≡ []

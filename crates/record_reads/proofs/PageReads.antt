@@ -1,5 +1,6 @@
 -- What the queries of a page show of the tables.
-use Rattle.std.proofs.Common.{◌≡◌, ◌<◌, ◌^◌, ◌&&◌, ℕ, pos, Bool, true, false, cond, List, [], ◌∷◌, map, map-id, filter, take, codes, int_le, refl, sym, ap, subst, ◌∙◌, arith, Less, IsPermutation, true≢false}
+use Rattle.std.proofs.Common.{◌≡◌, ◌<◌, ◌^◌, ◌&&◌, ℕ, pos, Bool, true, false, cond, List, [], ◌∷◌, map, map-id, filter}
+use Rattle.std.proofs.Common.{take, codes, int_le, refl, sym, ap, subst, ◌∙◌, arith, Less, IsPermutation, true≢false}
 use Rattle.std.specs.List.{AllByRecursion}
 use Rattle.std.proofs.lemmas.Int.{ints}
 use Rattle.std.proofs.lemmas.List.{take-map}
@@ -38,14 +39,19 @@ abbrev pub select_from : List ℕ
 select_from = codes "SELECT number, message, path, day, destroyed FROM record WHERE number >= ?1 ORDER BY number LIMIT ?2"
 
 abbrev from_query : Query
-from_query = record (on_table 1 (op2 (Compare Ge Binary) (col 1 0) (col 0 0) ∷ []) (col 1 0 ∷ col 1 2 ∷ col 1 3 ∷ col 1 4 ∷ col 1 5 ∷ [])) { order = (col 1 0, ascending Binary) ∷ []; limit = col 0 1 }
+from_query =
+    record (on_table 1 (op2 (Compare Ge Binary) (col 1 0) (col 0 0) ∷ []) (col 1 0 ∷ col 1 2 ∷ col 1 3 ∷ col 1 4
+    ∷ col 1 5 ∷ [])) { order = (col 1 0, ascending Binary) ∷ []; limit = col 0 1 }
 
-pub select_from_is : (f : Foreign) → Asks (archive_beside f) select_from (Select (alone from_query) (codes "number" ∷ codes "message" ∷ codes "path" ∷ codes "day" ∷ codes "destroyed" ∷ []))
+pub select_from_is : (f : Foreign)
+    → Asks (archive_beside f) select_from (Select (alone from_query) (codes "number" ∷ codes "message" ∷ codes "path"
+    ∷ codes "day" ∷ codes "destroyed" ∷ []))
 unfolding understood everything
 select_from_is f = record { is = refl; plain = (refl, refl); unlisted = refl }
 
 -- the records from a number on are answered in the order of their numbers, up to the limit
-pub shows_from : (old new : State) (rows : List Row) (from most : ℕ) (t : Tables) → Stores old.now t → AreKeyed t → Shown select_from (Int (pos from) ∷ Int (pos most) ∷ []) old new rows
+pub shows_from : (old new : State) (rows : List Row) (from most : ℕ) (t : Tables) → Stores old.now t → AreKeyed t
+    → Shown select_from (Int (pos from) ∷ Int (pos most) ∷ []) old new rows
     → rows ≡ map record_values (take most (records_from from t))
 shows_from old new rows from most t s keyed h =
     let f = s.schema.foreign in
@@ -55,7 +61,9 @@ shows_from old new rows from most t s keyed h =
     let db = overlay old.now.trees [] in
     let answer : IsAnswer from_query db params rows = read.answer Null in
     let source = last_table db 1 record_row record_key t.records s.records keyed.records (at_end db) in
-    let all = answer_by_keys from_query db params source (is_from from) (λ r. last_term (at_ints false Ge (pos r.number) (pos from))) (λ r. r) record_values (λ r. refl) refl refl (λ x y. last_key (value_cmp-Int (record_key x) (record_key y))) rows answer in
+    let all = answer_by_keys from_query db params source (is_from from) (λ r.
+    last_term (at_ints false Ge (pos r.number) (pos from))) (λ r. r) record_values (λ r. refl) refl refl (λ x y.
+    last_key (value_cmp-Int (record_key x) (record_key y))) rows answer in
     sym (map-id rows) ∙ all ∙ take-map record_values most (records_from from t)
 
 -- ---- holds
@@ -74,7 +82,8 @@ unfolding understood everything
 select_between_is f = record { is = refl; plain = (refl, refl); unlisted = refl }
 
 -- the holds between two numbers are answered by record and then by name
-pub shows_between : (old new : State) (rows : List Row) (first last : ℕ) (t : Tables) (hs : List HoldEntry) → Stores old.now t → AreKeyed t → AreHolds t hs
+pub shows_between : (old new : State) (rows : List Row) (first last : ℕ) (t : Tables) (hs : List HoldEntry)
+    → Stores old.now t → AreKeyed t → AreHolds t hs
     → Shown select_between (Int (pos first) ∷ Int (pos last) ∷ []) old new rows → rows ≡ map hold_values (filter (is_between first last) hs)
 shows_between old new rows first last t hs s keyed are h =
     let f = s.schema.foreign in
@@ -88,16 +97,23 @@ shows_between old new rows first last t hs s keyed are h =
     let p = is_between first last in
     let asked : Hold → Bool = λ x. p (hold_entry x) in
     let out : HoldEntry → Output = λ x. (Int (pos x.number) ∷ Text x.name ∷ [], hold_values x) in
-    let matched = matches_are q db params source asked (λ x. then_term (at_ints false Ge (pos x.number) (pos first)) (last_term (at_ints false Le (pos x.number) (pos last)))) in
+    let matched =
+    matches_are q db params source asked (λ x.
+    then_term (at_ints false Ge (pos x.number) (pos first))
+    (last_term (at_ints false Le (pos x.number) (pos last)))) in
     let kept : answer.kept ≡ map out (filter p (map hold_entry t.holds)) =
     answer.distinct ∙ ap (map (output q)) (answer.grouped ∙ matched) ∙ map-map (output q) _ _
     ∙ sym (map-map out hold_entry (filter asked t.holds)) ∙ ap (map out) (sym (filter-map p hold_entry t.holds)) in
-    let same : IsPermutation (map out (filter p (map hold_entry t.holds))) answer.ordered = subst (λ l. IsPermutation l answer.ordered) kept answer.same in
+    let same : IsPermutation (map out (filter p (map hold_entry t.holds))) answer.ordered =
+    subst (λ l. IsPermutation l answer.ordered) kept answer.same in
     let ys = filter p hs in
-    let sorted : IsPermutation ys (filter p (map hold_entry t.holds)) = IsPermutation-sym _ _ (IsPermutation-filter p (map hold_entry t.holds) hs are.same) in
+    let sorted : IsPermutation ys (filter p (map hold_entry t.holds)) =
+    IsPermutation-sym _ _ (IsPermutation-filter p (map hold_entry t.holds) hs are.same) in
     let whole = IsPermutation-trans (map out ys) _ answer.ordered (IsPermutation-map out _ _ sorted) same in
     let rises = ascending-map (λ x y. output_cmp q x y ≡ Less) out ys
-    (ascending_weaker _ (λ x y. output_cmp q (out x) (out y) ≡ Less) (λ x y less. then_key (value_cmp-Int (pos x.number) (pos y.number)) (last_key (value_cmp-Text x.name y.name)) ∙ less) ys (ascending-filter _ p hs are.in_order)) in
+    (ascending_weaker _ (λ x y. output_cmp q (out x) (out y) ≡ Less) (λ x y less.
+    then_key (value_cmp-Int (pos x.number) (pos y.number)) (last_key (value_cmp-Text x.name y.name))
+    ∙ less) ys (ascending-filter _ p hs are.in_order)) in
     let ordered = sorted_unique (output_cmp q) (output_cmp_total q) (map out ys) answer.ordered rises whole answer.sorted in
     answer.shown ∙ ap (map (λ (o : Output). o.1)) ordered ∙ map-map (λ (o : Output). o.1) out ys
 
@@ -121,7 +137,15 @@ abbrev kept : ℕ → Record
 kept n = record { number = n; message = 1; path = codes "tax"; day = 10; destroyed = false }
 
 abbrev some_tables : Tables
-some_tables = record { messages = []; records = kept 1 ∷ kept 2 ∷ kept 4 ∷ kept 5 ∷ []; holds = []; settings = []; classes = []; schedules = []; dues = [] }
+some_tables = record {
+  messages = [];
+  records = kept 1 ∷ kept 2 ∷ kept 4 ∷ kept 5 ∷ [];
+  holds = [];
+  settings = [];
+  classes = [];
+  schedules = [];
+  dues = [];
+}
 
 row_from_2 : take 2 (records_from 2 some_tables) ≡ kept 2 ∷ kept 4 ∷ []
 row_from_2 = refl

@@ -32,7 +32,8 @@ pub select_placed_is : (f : Foreign) → Asks (archive_beside f) select_placed (
 unfolding understood everything
 select_placed_is f = record { is = refl; plain = (refl, refl); unlisted = refl }
 
-pub shows_placed : (old new : State) (rows : List Row) (t : Tables) → Stores old.now t → AreKeyed t → Shown select_placed [] old new rows → rows ≡ map hold_values (map hold_entry t.holds)
+pub shows_placed : (old new : State) (rows : List Row) (t : Tables) → Stores old.now t → AreKeyed t
+    → Shown select_placed [] old new rows → rows ≡ map hold_values (map hold_entry t.holds)
 shows_placed old new rows t s keyed h =
     let f = s.schema.foreign in
     let is = select_placed_is f in
@@ -40,5 +41,8 @@ shows_placed old new rows t s keyed h =
     let db = overlay old.now.trees [] in
     let answer : IsAnswer placed_query db [] rows = read.answer Null in
     let source = last_table db 2 hold_row hold_key t.holds s.holds keyed.holds (at_end db) in
-    let all = answer_by_keys placed_query db [] source (λ _. true) (λ r. refl) (λ r. r) (λ (x : Hold). hold_values (hold_entry x)) (λ r. refl) refl refl (λ x y. last_key (value_cmp-Int (hold_key x) (hold_key y))) rows answer in
-    sym (map-id rows) ∙ all ∙ ap (map (λ (x : Hold). hold_values (hold_entry x))) (unfiltered t.holds refl) ∙ sym (map-map hold_values hold_entry t.holds)
+    let all = answer_by_keys placed_query db [] source (λ _. true) (λ r. refl) (λ r. r) (λ (x : Hold).
+    hold_values (hold_entry x)) (λ r. refl) refl refl (λ x y. last_key (value_cmp-Int (hold_key x) (hold_key y)))
+    rows answer in
+    sym (map-id rows) ∙ all ∙ ap (map (λ (x : Hold). hold_values (hold_entry x))) (unfiltered t.holds refl)
+    ∙ sym (map-map hold_values hold_entry t.holds)

@@ -25,7 +25,9 @@ select_records = codes "SELECT number, message, path, day, destroyed FROM record
 abbrev pub records_query : Query
 records_query = record (on_table 1 [] (col 1 0 ∷ col 1 2 ∷ col 1 3 ∷ col 1 4 ∷ col 1 5 ∷ [])) { order = (col 1 0, ascending Binary) ∷ [] }
 
-pub select_records_is : (foreign : Foreign) → Asks (common_beside foreign) select_records (Select (alone records_query) (codes "number" ∷ codes "message" ∷ codes "path" ∷ codes "day" ∷ codes "destroyed" ∷ []))
+pub select_records_is : (foreign : Foreign)
+    → Asks (common_beside foreign) select_records (Select (alone records_query) (codes "number" ∷ codes "message"
+    ∷ codes "path" ∷ codes "day" ∷ codes "destroyed" ∷ []))
 unfolding understood everything
 select_records_is foreign = record { is = refl; plain = (refl, refl); unlisted = refl }
 
@@ -35,7 +37,9 @@ select_classes = codes "SELECT path, is_open, schedule FROM class ORDER BY path"
 abbrev pub classes_query : Query
 classes_query = record (on_table 6 [] (col 1 1 ∷ col 1 2 ∷ col 1 3 ∷ [])) { order = (col 1 1, ascending Binary) ∷ [] }
 
-pub select_classes_is : (foreign : Foreign) → Asks (common_beside foreign) select_classes (Select (alone classes_query) (codes "path" ∷ codes "is_open" ∷ codes "schedule" ∷ []))
+pub select_classes_is : (foreign : Foreign)
+    → Asks (common_beside foreign) select_classes (Select (alone classes_query) (codes "path" ∷ codes "is_open"
+    ∷ codes "schedule" ∷ []))
 unfolding understood everything
 select_classes_is foreign = record { is = refl; plain = (refl, refl); unlisted = refl }
 
@@ -45,7 +49,8 @@ select_settings = codes "SELECT key, value FROM meta ORDER BY key"
 abbrev pub settings_query : Query
 settings_query = record (on_table 4 [] (col 1 1 ∷ col 1 2 ∷ [])) { order = (col 1 1, ascending Binary) ∷ [] }
 
-pub select_settings_is : (foreign : Foreign) → Asks (common_beside foreign) select_settings (Select (alone settings_query) (codes "key" ∷ codes "value" ∷ []))
+pub select_settings_is : (foreign : Foreign)
+    → Asks (common_beside foreign) select_settings (Select (alone settings_query) (codes "key" ∷ codes "value" ∷ []))
 unfolding understood everything
 select_settings_is foreign = record { is = refl; plain = (refl, refl); unlisted = refl }
 
@@ -65,7 +70,8 @@ select_holds = codes "SELECT name, record FROM hold ORDER BY record, name"
 abbrev pub holds_query : Query
 holds_query = record (on_table 2 [] (col 1 1 ∷ col 1 2 ∷ [])) { order = (col 1 2, ascending Binary) ∷ (col 1 1, ascending Binary) ∷ [] }
 
-pub select_holds_is : (foreign : Foreign) → Asks (common_beside foreign) select_holds (Select (alone holds_query) (codes "name" ∷ codes "record" ∷ []))
+pub select_holds_is : (foreign : Foreign)
+    → Asks (common_beside foreign) select_holds (Select (alone holds_query) (codes "name" ∷ codes "record" ∷ []))
 unfolding understood everything
 select_holds_is foreign = record { is = refl; plain = (refl, refl); unlisted = refl }
 
@@ -75,6 +81,8 @@ select_schedules = codes "SELECT path, count, unit, action, year_end FROM schedu
 abbrev pub schedules_query : Query
 schedules_query = record (on_table 8 [] (col 1 1 ∷ col 1 2 ∷ col 1 3 ∷ col 1 4 ∷ col 1 5 ∷ [])) { order = (col 1 1, ascending Binary) ∷ [] }
 
-pub select_schedules_is : (foreign : Foreign) → Asks (archive_beside foreign) select_schedules (Select (alone schedules_query) (codes "path" ∷ codes "count" ∷ codes "unit" ∷ codes "action" ∷ codes "year_end" ∷ []))
+pub select_schedules_is : (foreign : Foreign)
+    → Asks (archive_beside foreign) select_schedules (Select (alone schedules_query) (codes "path" ∷ codes "count"
+    ∷ codes "unit" ∷ codes "action" ∷ codes "year_end" ∷ []))
 unfolding understood everything
 select_schedules_is foreign = record { is = refl; plain = (refl, refl); unlisted = refl }

@@ -58,7 +58,8 @@ meaning_none : (schema : Schema) (p : Parsed) (base : ℕ) → is_query p.statem
 unfolding meaning
 meaning_none schema p base is =
     then_ok (returning schema base p.statement) (λ shown. and_then (command schema p.formats base p.statement) (λ c. Ok (c, shown))) FindsNone
-    (λ shown e. then_ok (command schema p.formats base p.statement) (λ c. Ok (c, shown)) FindsNone (λ c _. let none = returning_none schema base p.statement is in cc))
+    (λ shown e. then_ok (command schema p.formats base p.statement) (λ c. Ok (c, shown)) FindsNone (λ c _. let none =
+    returning_none schema base p.statement is in cc))
 
 planned_none : (schema : Schema) (p : Parsed) → is_query p.statement ≡ true → IfOk (planned schema p) PlansNone
 unfolding planned
@@ -104,7 +105,8 @@ no_returning : (o : Option Returning) → (IsSome o → ⊥) → o ≡ None
 no_returning None none = refl
 no_returning (Some r) none = absurd (none refl)
 
-pub reads_quietly : (sql : List ℕ) (params : Row) (old new : State) (rows : List Row) → (Returns (understood old.now.schema sql) → ⊥) → Shown sql params old new rows → IsUnchanged old new
+pub reads_quietly : (sql : List ℕ) (params : Row) (old new : State) (rows : List Row)
+    → (Returns (understood old.now.schema sql) → ⊥) → Shown sql params old new rows → IsUnchanged old new
 unfolding Shown
 reads_quietly sql params old new rows quiet h =
     let none = no_returning h.0.returning (λ some. quiet (subst Returns (sym h.1.is) some)) in

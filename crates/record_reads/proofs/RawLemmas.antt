@@ -23,12 +23,16 @@ use Rattle.record_tables.specs.Rows.{Hold, Class, Schedule, as_flag}
 use Rattle.record_tables.specs.Changes.{ClassEntry, Rule}
 use Rattle.record_tables.specs.Reads.{HoldEntry, ReadsNumber, ReadsRecord, ReadsHold, ReadsClass, ReadsRule}
 use Rattle.record_tables.proofs.Texts.{on_table}
-use Rattle.record_reads.specs.RawRows.{RawMessage, RawRecord, RawHold, RawClass, RawSchedule, raw_message, raw_record, raw_hold, raw_class, raw_schedule, raw_message_row, raw_record_row, raw_hold_row, raw_class_row, raw_schedule_row, AreTypedMessages, AreTypedRecords, AreTypedHolds, AreTypedClasses, AreTypedSchedules}
+use Rattle.record_reads.specs.RawRows.{RawMessage, RawRecord, RawHold, RawClass, RawSchedule, raw_message, raw_record}
+use Rattle.record_reads.specs.RawRows.{raw_hold, raw_class, raw_schedule, raw_message_row, raw_record_row, raw_hold_row}
+use Rattle.record_reads.specs.RawRows.{raw_class_row, raw_schedule_row, AreTypedMessages, AreTypedRecords}
+use Rattle.record_reads.specs.RawRows.{AreTypedHolds, AreTypedClasses, AreTypedSchedules}
 use Rattle.record_reads.proofs.Queries
 
 -- ---- the rows of one table in any order
 
-module _ {R : Type 0} (key : R → ℤ) (to_row : R → Row) (db : Trees) (tree : ℕ) (rs : List R) (stored : db tree ≡ map to_row rs) (in_order : IsKeyedBy key rs) (columns : List Term) (order : List (Term × Key)) where
+module _ {R : Type 0} (key : R → ℤ) (to_row : R → Row) (db : Trees) (tree : ℕ) (rs : List R) (stored : db tree
+    ≡ map to_row rs) (in_order : IsKeyedBy key rs) (columns : List Term) (order : List (Term × Key)) where
   abbrev q : Query
   q = record (on_table tree [] columns) { order = order }
 
@@ -53,7 +57,8 @@ zip_each P [] ys h = tt
 zip_each P (x ∷ xs) [] h = absurd h
 zip_each P (x ∷ xs) (y ∷ ys) h = ((y, h.0), zip_each P xs ys h.1)
 
-module _ {X R Y : Type 0} (raw : X → R) (show : R → Row) (Reads : Row → Y → Type 0) (back : (r : R) (y : Y) → Reads (show r) y → (x : X) × (r ≡ raw x)) where
+module _ {X R Y : Type 0} (raw : X → R) (show : R → Row) (Reads : Row → Y → Type 0) (back : (r : R) (y : Y)
+    → Reads (show r) y → (x : X) × (r ≡ raw x)) where
   collect : (rs : List R) → AllByRecursion (λ (r : R). (y : Y) × Reads (show r) y) rs → (xs : List X) × (rs ≡ map raw xs)
   collect [] h = ([], refl)
   collect (r ∷ rs) h =
@@ -62,10 +67,14 @@ module _ {X R Y : Type 0} (raw : X → R) (show : R → Row) (Reads : Row → Y 
       (one.0 ∷ more.0, ap₂ ◌∷◌ one.1 more.1)
 
   -- the rows that are shown in some order, each read as a value, are typed ones
-  typed_from : (rs : List R) (rows : List Row) (ys : List Y) → IsPermutation (map show rs) rows → AllZip Reads rows ys → (xs : List X) × (rs ≡ map raw xs)
+  typed_from : (rs : List R) (rows : List Row) (ys : List Y) → IsPermutation (map show rs) rows → AllZip Reads rows ys
+      → (xs : List X) × (rs ≡ map raw xs)
   typed_from rs rows ys same read =
       let P : Row → Type 0 = λ row. (y : Y) × Reads row y in
-      let each : AllByRecursion P (map show rs) = recursion_from_All P (map show rs) (All-permutation P rows (map show rs) (IsPermutation-sym (map show rs) rows same) (All-from_recursion P rows (zip_each Reads rows ys read))) in
+      let each : AllByRecursion P (map show rs) =
+      recursion_from_All P (map show rs)
+      (All-permutation P rows (map show rs) (IsPermutation-sym (map show rs) rows same)
+      (All-from_recursion P rows (zip_each Reads rows ys read))) in
       collect rs (all_unmap P show rs each)
 
 -- ---- the tables
@@ -75,15 +84,21 @@ one_message m n h =
     let number : m.number ≡ pos n = let e = h in cc in
     (record { number = n; body = m.body }, λ i. record { number = number i; body = m.body })
 
-pub typed_messages : {V : Type 0} (of : V → ℕ) (old new : State) (rows : List Row) (all : List V) → HasCommonTables old.now.schema → Shown Queries.select_numbers [] old new rows → AllZip (λ row v. ReadsNumber row (of v)) rows all → AreTypedMessages old.now
+pub typed_messages : {V : Type 0} (of : V → ℕ) (old new : State) (rows : List Row) (all : List V)
+    → HasCommonTables old.now.schema → Shown Queries.select_numbers [] old new rows
+    → AllZip (λ row v. ReadsNumber row (of v)) rows all → AreTypedMessages old.now
 typed_messages of old new rows all has h read = λ rs stored keyed.
     let f = has.foreign in
     let is = Queries.select_numbers_is f in
     let asked = reads_as Queries.select_numbers [] old new (common_beside f) has.is _ is.is is.plain is.unlisted rows h in
-    let same = all_permuted (λ (m : RawMessage). m.number) raw_message_row (overlay old.now.trees []) 0 rs stored keyed _ _ rows (asked.answer Null) in
-    typed_from raw_message (λ (m : RawMessage). Int m.number ∷ []) (λ row v. ReadsNumber row (of v)) (λ m v. one_message m (of v)) rs rows all same read
+    let same = all_permuted (λ (m : RawMessage). m.number) raw_message_row (overlay old.now.trees []) 0 rs stored keyed
+    _ _ rows (asked.answer Null) in
+    typed_from raw_message (λ (m : RawMessage). Int m.number ∷ []) (λ row v. ReadsNumber row (of v)) (λ m v.
+    one_message m (of v)) rs rows all same read
 
-one_record : (r : RawRecord) (q : Record) → ReadsRecord (Int r.number ∷ Int r.message ∷ Words r.path ∷ Int r.day ∷ Int r.destroyed ∷ []) q → (x : Record) × (r ≡ raw_record x)
+one_record : (r : RawRecord) (q : Record)
+    → ReadsRecord (Int r.number ∷ Int r.message ∷ Words r.path ∷ Int r.day ∷ Int r.destroyed ∷ []) q → (x : Record)
+    × (r ≡ raw_record x)
 one_record r q h =
     let number : r.number ≡ pos q.number = let e = h.number in cc in
     let message : r.message ≡ pos q.message = let e = h.message in cc in
@@ -93,36 +108,47 @@ one_record r q h =
       λ i. record { number = number i; message = message i; path = r.path; day = day i; destroyed = destroyed i },
     )
 
-pub typed_records : {V : Type 0} (of : V → Record) (old new : State) (rows : List Row) (all : List V) → HasCommonTables old.now.schema → Shown Queries.select_records [] old new rows → AllZip (λ row v. ReadsRecord row (of v)) rows all → AreTypedRecords old.now
+pub typed_records : {V : Type 0} (of : V → Record) (old new : State) (rows : List Row) (all : List V)
+    → HasCommonTables old.now.schema → Shown Queries.select_records [] old new rows
+    → AllZip (λ row v. ReadsRecord row (of v)) rows all → AreTypedRecords old.now
 typed_records of old new rows all has h read = λ rs stored keyed.
     let f = has.foreign in
     let is = Queries.select_records_is f in
     let asked = reads_as Queries.select_records [] old new (common_beside f) has.is _ is.is is.plain is.unlisted rows h in
     let same = all_permuted (λ (r : RawRecord). r.number) raw_record_row (overlay old.now.trees []) 1 rs stored keyed _ _ rows (asked.answer Null) in
-    typed_from raw_record (λ (r : RawRecord). Int r.number ∷ Int r.message ∷ Words r.path ∷ Int r.day ∷ Int r.destroyed ∷ []) (λ row v. ReadsRecord row (of v)) (λ r v. one_record r (of v)) rs rows all same read
+    typed_from raw_record (λ (r : RawRecord). Int r.number ∷ Int r.message ∷ Words r.path ∷ Int r.day ∷ Int r.destroyed
+    ∷ []) (λ row v. ReadsRecord row (of v)) (λ r v. one_record r (of v)) rs rows all same read
 
 one_hold : (r : RawHold) (q : HoldEntry) → ReadsHold (Words r.name ∷ Int r.number ∷ []) q → (x : Hold) × (r ≡ raw_hold x)
 one_hold r q h =
     let number : r.number ≡ pos q.number = let e = h.number in cc in
     (record { id = r.id; name = r.name; number = q.number }, λ i. record { id = r.id; name = r.name; number = number i })
 
-pub typed_holds : {V : Type 0} (of : V → HoldEntry) (old new : State) (rows : List Row) (all : List V) → HasCommonTables old.now.schema → Shown Queries.select_holds [] old new rows → AllZip (λ row v. ReadsHold row (of v)) rows all → AreTypedHolds old.now
+pub typed_holds : {V : Type 0} (of : V → HoldEntry) (old new : State) (rows : List Row) (all : List V)
+    → HasCommonTables old.now.schema → Shown Queries.select_holds [] old new rows
+    → AllZip (λ row v. ReadsHold row (of v)) rows all → AreTypedHolds old.now
 typed_holds of old new rows all has h read = λ rs stored keyed.
     let f = has.foreign in
     let is = Queries.select_holds_is f in
     let asked = reads_as Queries.select_holds [] old new (common_beside f) has.is _ is.is is.plain is.unlisted rows h in
     let same = all_permuted (λ (r : RawHold). r.id) raw_hold_row (overlay old.now.trees []) 2 rs stored keyed _ _ rows (asked.answer Null) in
-    typed_from raw_hold (λ (r : RawHold). Words r.name ∷ Int r.number ∷ []) (λ row v. ReadsHold row (of v)) (λ r v. one_hold r (of v)) rs rows all same read
+    typed_from raw_hold (λ (r : RawHold). Words r.name ∷ Int r.number ∷ []) (λ row v. ReadsHold row (of v)) (λ r v.
+    one_hold r (of v)) rs rows all same read
 
 abbrev shown_class : RawClass → Row
 shown_class c = Words c.path ∷ Int c.is_open ∷ or_null Words c.schedule ∷ []
 
 one_class : (r : RawClass) (q : ClassEntry) → ReadsClass (shown_class r) q → (x : Class) × (r ≡ raw_class x)
 one_class r q h =
-    let is_open : r.is_open ≡ as_flag q.is_open = let e = h.is_open in cc in
-    (record { id = r.id; path = r.path; is_open = q.is_open; schedule = r.schedule }, λ i. record { id = r.id; path = r.path; is_open = is_open i; schedule = r.schedule })
+    let is_open : r.is_open ≡ as_flag q.is_open = let e = h.is_open in cc in (
+      record { id = r.id; path = r.path; is_open = q.is_open; schedule = r.schedule },
+      λ i.
+          record { id = r.id; path = r.path; is_open = is_open i; schedule = r.schedule },
+    )
 
-pub typed_classes : {V : Type 0} (of : V → ClassEntry) (old new : State) (rows : List Row) (all : List V) → HasCommonTables old.now.schema → Shown Queries.select_classes [] old new rows → AllZip (λ row v. ReadsClass row (of v)) rows all → AreTypedClasses old.now
+pub typed_classes : {V : Type 0} (of : V → ClassEntry) (old new : State) (rows : List Row) (all : List V)
+    → HasCommonTables old.now.schema → Shown Queries.select_classes [] old new rows
+    → AllZip (λ row v. ReadsClass row (of v)) rows all → AreTypedClasses old.now
 typed_classes of old new rows all has h read = λ rs stored keyed.
     let f = has.foreign in
     let is = Queries.select_classes_is f in
@@ -143,7 +169,9 @@ one_schedule r q h =
       λ i. record { id = r.id; path = r.path; count = count i; unit = unit i; action = action i; year_end = year_end i },
     )
 
-pub typed_schedules : {V : Type 0} (of : V → Rule) (old new : State) (rows : List Row) (all : List V) → IsArchiveSchema old.now.schema → Shown Queries.select_schedules [] old new rows → AllZip (λ row v. ReadsRule row (of v)) rows all → AreTypedSchedules old.now
+pub typed_schedules : {V : Type 0} (of : V → Rule) (old new : State) (rows : List Row) (all : List V)
+    → IsArchiveSchema old.now.schema → Shown Queries.select_schedules [] old new rows
+    → AllZip (λ row v. ReadsRule row (of v)) rows all → AreTypedSchedules old.now
 typed_schedules of old new rows all has h read = λ rs stored keyed.
     let f = has.foreign in
     let is = Queries.select_schedules_is f in

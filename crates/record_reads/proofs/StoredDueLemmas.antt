@@ -33,11 +33,13 @@ select_stored = codes "SELECT record, day FROM due_day ORDER BY record"
 abbrev pub stored_query : Query
 stored_query = record (on_table 10 [] (col 1 0 ∷ col 1 2 ∷ [])) { order = (col 1 0, ascending Binary) ∷ [] }
 
-pub select_stored_is : (foreign : Foreign) → Asks (archive_beside foreign) select_stored (Select (alone stored_query) (codes "record" ∷ codes "day" ∷ []))
+pub select_stored_is : (foreign : Foreign)
+    → Asks (archive_beside foreign) select_stored (Select (alone stored_query) (codes "record" ∷ codes "day" ∷ []))
 unfolding understood everything
 select_stored_is foreign = record { is = refl; plain = (refl, refl); unlisted = refl }
 
-pub shows_stored : (old new : State) (rows : List Row) (t : Tables) → Stores old.now t → AreKeyed t → Shown select_stored [] old new rows → rows ≡ map due_values t.dues
+pub shows_stored : (old new : State) (rows : List Row) (t : Tables) → Stores old.now t → AreKeyed t
+    → Shown select_stored [] old new rows → rows ≡ map due_values t.dues
 shows_stored old new rows t s keyed h =
     let f = s.schema.foreign in
     let is = select_stored_is f in
@@ -45,7 +47,8 @@ shows_stored old new rows t s keyed h =
     let db = overlay old.now.trees [] in
     let answer : IsAnswer stored_query db [] rows = read.answer Null in
     let source = last_table db 10 due_row due_key t.dues s.dues keyed.dues (at_end db) in
-    let all = answer_by_keys stored_query db [] source (λ _. true) (λ r. refl) (λ r. r) due_values (λ r. refl) refl refl (λ x y. last_key (value_cmp-Int (due_key x) (due_key y))) rows answer in
+    let all = answer_by_keys stored_query db [] source (λ _. true) (λ r. refl) (λ r. r) due_values (λ r.
+    refl) refl refl (λ x y. last_key (value_cmp-Int (due_key x) (due_key y))) rows answer in
     sym (map-id rows) ∙ all ∙ ap (map due_values) (unfiltered t.dues refl)
 
 -- ---- what the rows tell
@@ -68,7 +71,8 @@ one_told d e = (
   λ h. ap (λ (x : Due). (d.number == x.number) && (d.day == x.day)) (sym h) ∙ rw (itself d.number, itself d.day) refl,
 )
 
-head_is : {C : Type 0} (x y : C) (b : Bool) → (b ≡ true → x ≡ y) → (xs ys : List C) (r : Bool) → (r ≡ true → xs ≡ ys) → (b && r) ≡ true → x ∷ xs ≡ y ∷ ys
+head_is : {C : Type 0} (x y : C) (b : Bool) → (b ≡ true → x ≡ y) → (xs ys : List C) (r : Bool) → (r ≡ true → xs ≡ ys)
+    → (b && r) ≡ true → x ∷ xs ≡ y ∷ ys
 head_is x y true one xs ys r rest e = λ i. one refl i ∷ rest e i
 head_is x y false one xs ys r rest e = absurd (cc)
 

@@ -1,5 +1,7 @@
 -- The values read from rows are those that the rows show.
-use Rattle.std.proofs.Common.{◌≡◌, ◌<◌, ◌+◌, ◌++◌, ℕ, zero, suc, List, [], ◌∷◌, Bool, true, false, Option, Some, None, map, length, take, get_or, Result, Ok, Err, refl, sym, ap, subst, ◌∙◌, arith, IfOk, IfErr, OnOk, OnErr, IsErrAnd}
+use Rattle.std.proofs.Common.{◌≡◌, ◌<◌, ◌+◌, ◌++◌, ℕ, zero, suc, List, [], ◌∷◌, Bool, true, false, Option, Some, None}
+use Rattle.std.proofs.Common.{map, length, take, get_or, Result, Ok, Err, refl, sym, ap, subst, ◌∙◌, arith, IfOk, IfErr}
+use Rattle.std.proofs.Common.{OnOk, OnErr, IsErrAnd}
 use Rattle.std.proofs.lemmas.List.{take_more}
 use Rattle.std.proofs.lemmas.Result.{err_from_is_err_and}
 use Rattle.std.specs.List.{AllZip, AllByRecursion}
@@ -15,7 +17,9 @@ use Rattle.record_tables.specs.Faults.{fault_of}
 use Rattle.record_archive.specs.Archive.{Record}
 use Rattle.record_tables.specs.Rows.{as_flag}
 use Rattle.record_tables.specs.Changes.{ClassEntry, Rule}
-use Rattle.record_tables.specs.Reads.{HoldEntry, Pair, record_values, ReadsRecord, FitsRecord, number_values, ReadsNumber, FitsNumber, hold_values, ReadsHold, FitsHold, pair_values, ReadsPair, class_values, ReadsClass, rule_values, ReadsRule, FitsRule}
+use Rattle.record_tables.specs.Reads.{HoldEntry, Pair, record_values, ReadsRecord, FitsRecord, number_values}
+use Rattle.record_tables.specs.Reads.{ReadsNumber, FitsNumber, hold_values, ReadsHold, FitsHold, pair_values, ReadsPair}
+use Rattle.record_tables.specs.Reads.{class_values, ReadsClass, rule_values, ReadsRule, FitsRule}
 
 pub on_err : {T E : Type 0} (r : Result T E) (P : Type 0) → P → OnErr r P
 on_err (Ok x) P p = tt
@@ -52,13 +56,15 @@ handed_on r f h is =
 
 -- ---- lists
 
-zip_push : {A B : Type 0} (P : A → B → Type 0) (xs : List A) (ys : List B) (x : A) (y : B) → AllZip P xs ys → P x y → AllZip P (xs ++ x ∷ []) (ys ++ y ∷ [])
+zip_push : {A B : Type 0} (P : A → B → Type 0) (xs : List A) (ys : List B) (x : A) (y : B) → AllZip P xs ys → P x y
+    → AllZip P (xs ++ x ∷ []) (ys ++ y ∷ [])
 zip_push P [] [] x y h p = (p, tt)
 zip_push P [] (b ∷ ys) x y h p = absurd h
 zip_push P (a ∷ xs) [] x y h p = absurd h
 zip_push P (a ∷ xs) (b ∷ ys) x y h p = (h.0, zip_push P xs ys x y h.1 p)
 
-pub zip_next : {A C : Type 0} (P : A → C → Type 0) (xs : List A) (ys : List C) (x : A) (y : C) (i : ℕ) → i < length xs → x ≡ get_or xs i x → AllZip P (take i xs) ys → P x y
+pub zip_next : {A C : Type 0} (P : A → C → Type 0) (xs : List A) (ys : List C) (x : A) (y : C) (i : ℕ) → i < length xs
+    → x ≡ get_or xs i x → AllZip P (take i xs) ys → P x y
     → AllZip P (take (i + 1) xs) (ys ++ y ∷ [])
 zip_next P xs ys x y i low is h p = rw (take_more xs i x low, ← is) (zip_push P (take i xs) ys x y h p)
 
@@ -77,11 +83,13 @@ module _ {A V : Type 0} (show : A → List Value) (Reads : List Value → A → 
   back (x ∷ xs) [] h = absurd h
   back (x ∷ xs) (q ∷ qs) h = let first = one x (of q) h.0 in let others = back xs qs h.1 in cc
 
-pub readable : {A : Type 0} (show : A → List Value) (P : List Value → Type 0) (Fits : A → Type 0) → ((a : A) → Fits a → P (show a)) → (xs : List A) → AllByRecursion Fits xs → AllByRecursion P (map show xs)
+pub readable : {A : Type 0} (show : A → List Value) (P : List Value → Type 0) (Fits : A → Type 0)
+    → ((a : A) → Fits a → P (show a)) → (xs : List A) → AllByRecursion Fits xs → AllByRecursion P (map show xs)
 readable show P Fits can [] h = tt
 readable show P Fits can (x ∷ xs) h = (can x h.0, readable show P Fits can xs h.1)
 
-pub readable_all : {A : Type 0} (show : A → List Value) (P : List Value → Type 0) → ((a : A) → P (show a)) → (xs : List A) → AllByRecursion P (map show xs)
+pub readable_all : {A : Type 0} (show : A → List Value) (P : List Value → Type 0) → ((a : A) → P (show a))
+    → (xs : List A) → AllByRecursion P (map show xs)
 readable_all show P can [] = tt
 readable_all show P can (x ∷ xs) = (can x, readable_all show P can xs)
 

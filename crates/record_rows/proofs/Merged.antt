@@ -1,5 +1,6 @@
 -- The classes of a plan, with their schedules, are read back from its rows.
-use Rattle.std.proofs.Common.{◌≡◌, ℕ, ◌==◌, Bool, true, false, List, [], ◌∷◌, ◌++◌, map, Option, Some, None, Ordering, Less, nat_cmp, is_eq, refl, ap, sym, ◌∙◌, append_assoc}
+use Rattle.std.proofs.Common.{◌≡◌, ℕ, ◌==◌, Bool, true, false, List, [], ◌∷◌, ◌++◌, map, Option, Some, None, Ordering}
+use Rattle.std.proofs.Common.{Less, nat_cmp, is_eq, refl, ap, sym, ◌∙◌, append_assoc}
 use Rattle.std.proofs.lemmas.List.{map-append}
 use Rattle.std.proofs.lemmas.Map.Text.{is_eq-slice_cmp}
 use Rattle.std.proofs.lemmas.Slice.Eq.{bytes_eq-Decides}
@@ -37,7 +38,8 @@ schedule_back q (After n Years a y) = λ i. After n Years (action_is a i) (flag_
 abbrev path_cmp : List ℕ → List ℕ → Ordering
 path_cmp = slice_cmp nat_cmp
 
-apart_with : (q r : List ℕ) (o : Option Schedule) (rules : List Rule) → bytes_eq q r ≡ false → own_in rules q ≡ None → own_in (with_own r o rules) q ≡ None
+apart_with : (q r : List ℕ) (o : Option Schedule) (rules : List Rule) → bytes_eq q r ≡ false → own_in rules q ≡ None
+    → own_in (with_own r o rules) q ≡ None
 apart_with q r None rules e h = h
 apart_with q r (Some s) rules e h = rw e refl
 
@@ -68,8 +70,10 @@ merged-rows (r ∷ rs) h =
     ∙ ap (λ z. r ∷ merge z (map entry_of_row rs)) rest
     ∙ ap (λ z. r ∷ z) (merged-rows rs h.1)
 
-pub merged-more : (xs : List Part) (p : Part) (rules rest : List Rule) (c : ClassEntry) (cs : List ClassEntry) (o : Option Schedule) (whole : List Row) → o ≡ own_in rules c.path → rest_in o rules ≡ rest
-    → part_row p ≡ record { path = c.path; is_open = c.is_open; schedule = o } → map part_row xs ++ merge rules (c ∷ cs) ≡ whole → map part_row (xs ++ p ∷ []) ++ merge rest cs ≡ whole
+pub merged-more : (xs : List Part) (p : Part) (rules rest : List Rule) (c : ClassEntry) (cs : List ClassEntry)
+    (o : Option Schedule) (whole : List Row) → o ≡ own_in rules c.path → rest_in o rules ≡ rest
+    → part_row p ≡ record { path = c.path; is_open = c.is_open; schedule = o } → map part_row xs
+    ++ merge rules (c ∷ cs) ≡ whole → map part_row (xs ++ p ∷ []) ++ merge rest cs ≡ whole
 merged-more xs p rules rest c cs o whole own tail same so =
     ap (λ l. l ++ merge rest cs) (map-append part_row xs (p ∷ []))
     ∙ append_assoc (map part_row xs) (part_row p ∷ []) (merge rest cs)

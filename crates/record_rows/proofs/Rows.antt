@@ -20,11 +20,17 @@ worked = record {
       ∷ [];
 }
 
-schedules_are : rules_of worked ≡ record { path = []; count = 6; unit = 2; action = 1; year_end = 0 } ∷ record { path = codes "tax"; count = 1; unit = 3; action = 3; year_end = 1 } ∷ []
+schedules_are : rules_of worked ≡ record { path = []; count = 6; unit = 2; action = 1; year_end = 0 }
+    ∷ record { path = codes "tax"; count = 1; unit = 3; action = 3; year_end = 1 } ∷ []
 unfolding worked
 schedules_are = refl
 
-classes_are : classes_of worked ≡ record { path = codes "tax"; is_open = true; schedule = None } ∷ record { path = codes "tax/audit"; is_open = false; schedule = None } ∷ record { path = unfiled; is_open = true; schedule = None } ∷ []
+classes_are : classes_of worked ≡ record { path = codes "tax"; is_open = true; schedule = None }
+    ∷ record { path = codes "tax/audit"; is_open = false; schedule = None } ∷ record {
+      path = unfiled;
+      is_open = true;
+      schedule = None;
+    } ∷ []
 unfolding worked
 classes_are = refl
 

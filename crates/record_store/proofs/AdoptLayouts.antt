@@ -9,7 +9,9 @@ use Rattle.record_tables.specs.Rows.{Tables}
 use Rattle.record_tables.specs.Changes.{ClassEntry, Rule}
 use Rattle.record_tables.specs.Reads.{Pair}
 use Rattle.record_archive.specs.Archive.{Archive, IsArchive}
-use Rattle.record_adoption.specs.Adoption.{Finds, FindsRows, FindsSecond, FindsFirst, FindsNothing, HasNoArchive, HasRows, HasTypedRows, AreTypedSecond, AreTypedFirst, IsKeyed, ReadsSecond, ReadsFirst}
+use Rattle.record_adoption.specs.Adoption.{Finds, FindsRows, FindsSecond, FindsFirst, FindsNothing, HasNoArchive}
+use Rattle.record_adoption.specs.Adoption.{HasRows, HasTypedRows, AreTypedSecond, AreTypedFirst, IsKeyed, ReadsSecond}
+use Rattle.record_adoption.specs.Adoption.{ReadsFirst}
 use Rattle.record_adoption.specs.Keeping.{StoresArchive}
 use Rattle.record_adoption.proofs.AdoptReads.{first_common}
 
@@ -20,7 +22,8 @@ pub record Lays (schema : Schema) (l : Layout) : Type 0 where
   pub dated : schema ≡ first_schema_with_dues → l ≡ FirstWithDues
   pub second : IsArchiveSchema schema → l ≡ Second
 
-pub lays_at : (s t : Schema) (l : Layout) → s ≡ t → (s ≡ no_schema → l ≡ Empty) → (s ≡ first_schema → l ≡ First) → (s ≡ first_schema_with_dues → l ≡ FirstWithDues) → (IsArchiveSchema s → l ≡ Second) → Lays t l
+pub lays_at : (s t : Schema) (l : Layout) → s ≡ t → (s ≡ no_schema → l ≡ Empty) → (s ≡ first_schema → l ≡ First)
+    → (s ≡ first_schema_with_dues → l ≡ FirstWithDues) → (IsArchiveSchema s → l ≡ Second) → Lays t l
 lays_at s t l e empty first dated second = subst (λ x. Lays x l) e (record { empty = empty; first = first; dated = dated; second = second })
 
 abbrev pub IsFirst : Layout → Type 0
@@ -62,7 +65,8 @@ pub finds_first : (db : Database) (a : Archive) (l : Layout) → Lays db.schema 
 finds_first db a l lays is (inl h) = (first_rows db a l lays is h.0, h.1)
 finds_first db a l lays is (inr h) = absurd (first_not_empty l is (lays.empty h.0))
 
-pub second_none : (db : Database) (l : Layout) → Lays db.schema l → l ≡ Second → ((a : Archive) → FindsSecond db a → IsArchive a → ⊥) → HasNoArchive db
+pub second_none : (db : Database) (l : Layout) → Lays db.schema l → l ≡ Second
+    → ((a : Archive) → FindsSecond db a → IsArchive a → ⊥) → HasNoArchive db
 second_none db l lays is none = ((λ e. let k : l ≡ Empty = lays.empty e in cc), λ a rows archive. none a (second_rows db a l lays is rows) archive)
 
 pub first_none : (db : Database) (l : Layout) → Lays db.schema l → IsFirst l → ((a : Archive) → FindsFirst db a → IsArchive a → ⊥) → HasNoArchive db
@@ -74,11 +78,13 @@ pub no_reads : (db : Database) (l : Layout) → Lays db.schema l → l ≡ Empty
 no_reads db l lays is (inl h) = let k : l ≡ Second = lays.second h.4.stored.schema in cc
 no_reads db l lays is (inr h) = first_not_empty l (first_apart db.schema l lays h.3.stored.schema) is
 
-pub second_reads : (db : Database) (l : Layout) → Lays db.schema l → l ≡ Second → HasRows db → (t : Tables) × (ps : List Pair) × (rs : List Rule) × (cs : List ClassEntry) × ReadsSecond db t ps rs cs
+pub second_reads : (db : Database) (l : Layout) → Lays db.schema l → l ≡ Second → HasRows db → (t : Tables)
+    × (ps : List Pair) × (rs : List Rule) × (cs : List ClassEntry) × ReadsSecond db t ps rs cs
 second_reads db l lays is (inl h) = h
 second_reads db l lays is (inr h) = absurd (first_not_second l (first_apart db.schema l lays h.3.stored.schema) is)
 
-pub first_reads : (db : Database) (l : Layout) → Lays db.schema l → IsFirst l → HasRows db → (t : Tables) × (ps : List Pair) × (cs : List ClassEntry) × ReadsFirst db t ps cs
+pub first_reads : (db : Database) (l : Layout) → Lays db.schema l → IsFirst l → HasRows db → (t : Tables)
+    × (ps : List Pair) × (cs : List ClassEntry) × ReadsFirst db t ps cs
 first_reads db l lays is (inl h) = absurd (first_not_second l is (lays.second h.4.stored.schema))
 first_reads db l lays is (inr h) = h
 
@@ -94,7 +100,11 @@ pub typed_second : (db : Database) (l : Layout) → Lays db.schema l → l ≡ S
 typed_second db l lays is typed = record { second = typed; first = λ has. absurd (first_not_second l (first_apart db.schema l lays has) is) }
 
 pub typed_first : (db : Database) (l : Layout) → Lays db.schema l → IsFirst l → (HasCommonTables db.schema → AreTypedFirst db) → HasTypedRows db
-typed_first db l lays is typed = record { second = λ has. absurd (first_not_second l is (lays.second has)); first = λ has. typed (first_common db.schema has) }
+typed_first db l lays is typed = record {
+  second = λ has. absurd (first_not_second l is (lays.second has));
+  first =
+      λ has. typed (first_common db.schema has);
+}
 
 -- ---- the rows that a store leaves
 

@@ -10,7 +10,8 @@ use Rattle.record_adoption.specs.declared.overview.Overview.{Overview}
 use Rattle.record_store.specs.Stores.{StandsFor}
 use Rattle.record_store.specs.declared.store.Store.{Store}
 
-pub stands_found : {S : Type 0} (g : Ghosts S) (s : Store S) (conn : Held S) (f : Overview) (a : Archive) → s.conn ≡ conn → s.plan ≡ f.plan → s.next ≡ f.next → s.held ≡ f.held → s.others ≡ f.others
+pub stands_found : {S : Type 0} (g : Ghosts S) (s : Store S) (conn : Held S) (f : Overview) (a : Archive)
+    → s.conn ≡ conn → s.plan ≡ f.plan → s.next ≡ f.next → s.held ≡ f.held → s.others ≡ f.others
     → conn.in_transaction ≡ false → IsOverview f a → StoresArchive (state g conn).now a → StandsFor g s a
 stands_found g s conn f a same plan next held others idle is stores = record {
   idle = ap (λ (h : Held _). h.in_transaction) same ∙ idle;

@@ -1,5 +1,6 @@
 -- The store after a capture.
-use Rattle.std.proofs.Common.{◌≡◌, ◌<◌, ◌≤◌, ◌+◌, ◌-◌, ◌^◌, ℕ, true, false, List, [], ◌∷◌, length, Result, Ok, refl, sym, ap, subst, ◌∙◌, arith, IsTrue}
+use Rattle.std.proofs.Common.{◌≡◌, ◌<◌, ◌≤◌, ◌+◌, ◌-◌, ◌^◌, ℕ, true, false, List, [], ◌∷◌, length, Result, Ok, refl}
+use Rattle.std.proofs.Common.{sym, ap, subst, ◌∙◌, arith, IsTrue}
 use Rattle.sqlite.specs.Store.{Ghosts}
 use Rattle.sqlite.specs.Tree.{Trees}
 use Rattle.sqlite.specs.Effect.{Database}
@@ -30,7 +31,8 @@ pub record Given {S : Type 0} (store : Store S) (d n : ℕ) (ps : List (List ℕ
 abbrev Captures : Database → Database → List ℕ → ℕ → ℕ → List (List ℕ) → List Due → Type 0
 Captures was db body day n ps ds = Turns was db (ArePast n ds) (with_captured (record { number = n; body = body }) (records_of n n day ps) ds)
 
-module _ {S : Type 0} (g : Ghosts S) (old : Store S) (a : Archive) (s : StandsFor g old a) (day n : ℕ) (ps : List (List ℕ)) (ds : List Due) (given : Given old day n ps ds) where
+module _ {S : Type 0} (g : Ghosts S) (old : Store S) (a : Archive) (s : StandsFor g old a) (day n : ℕ)
+    (ps : List (List ℕ)) (ds : List Due) (given : Given old day n ps ds) where
   numbered : n ≡ next_number a
   numbered = given.first ∙ s.next
 
@@ -40,19 +42,25 @@ module _ {S : Type 0} (g : Ghosts S) (old : Store S) (a : Archive) (s : StandsFo
   room_is : next_number a + length ps ≤ 2 ^ 32
   room_is = omega (arith, given.room, numbered)
 
-  turns_so : (was db : Database) (body : List ℕ) → Captures was db body day n ps ds → Captures was db body day (next_number a) ps (dues_of_lines (lines_of a.plan (next_number a) day ps))
-  turns_so was db body turns = subst (λ l. Captures was db body day (next_number a) ps l) by_plan (subst (λ k. Captures was db body day k ps ds) numbered turns)
+  turns_so : (was db : Database) (body : List ℕ) → Captures was db body day n ps ds
+      → Captures was db body day (next_number a) ps (dues_of_lines (lines_of a.plan (next_number a) day ps))
+  turns_so was db body turns =
+      subst (λ l. Captures was db body day (next_number a) ps l) by_plan (subst (λ k.
+      Captures was db body day k ps ds) numbered turns)
 
-pub keeps_captured : {S : Type 0} (g : Ghosts S) (old : Store S) (a : Archive) → StandsFor g old a → (body : List ℕ) (day n : ℕ) (ps : List (List ℕ)) (ds : List Due) → Given old day n ps ds
+pub keeps_captured : {S : Type 0} (g : Ghosts S) (old : Store S) (a : Archive) → StandsFor g old a
+    → (body : List ℕ) (day n : ℕ) (ps : List (List ℕ)) (ds : List Due) → Given old day n ps ds
     → (was db : Database) → StoresArchive was a → Captures was db body day n ps ds → StoresArchive db (after_capture a body day ps)
 keeps_captured g old a s body day n [] ds given was db kept turns = absurd (omega (arith, given.some))
 keeps_captured g old a s body day n (q ∷ qs) ds given was db kept turns =
     stores_captured a body day q qs s.archive was db kept (turns_so g old a s day n (q ∷ qs) ds given was db body turns)
 
-pub stands_captured : {S : Type 0} (g : Ghosts S) (old new : Store S) (a : Archive) → StandsFor g old a → (body : List ℕ) (day n : ℕ) (ps : List (List ℕ)) (ds : List Due) → Given old day n ps ds
+pub stands_captured : {S : Type 0} (g : Ghosts S) (old new : Store S) (a : Archive) → StandsFor g old a
+    → (body : List ℕ) (day n : ℕ) (ps : List (List ℕ)) (ds : List Due) → Given old day n ps ds
     → new.conn.in_transaction ≡ false → new.plan ≡ old.plan → new.next ≡ n + length ps
     → ((m : ℕ) → count_at new.held m ≡ count_at old.held m) → ((m : ℕ) → count_at new.others m ≡ count_at old.others m + only_at n (length ps - 1) m)
-    → (HasCleanDisk (state g new.conn) → HasCleanDisk (state g old.conn)) → (HasCleanDisk (state g new.conn) → IsTrue (state g new.conn).is_open → IsTrue (state g old.conn).is_open)
+    → (HasCleanDisk (state g new.conn) → HasCleanDisk (state g old.conn))
+    → (HasCleanDisk (state g new.conn) → IsTrue (state g new.conn).is_open → IsTrue (state g old.conn).is_open)
     → (HasCleanDisk (state g new.conn) → Captures (state g old.conn).now (state g new.conn).now body day n ps ds)
     → StandsFor g new (after_capture a body day ps)
 stands_captured g old new a s body day n [] ds given idle plan next held others falls opened turns = absurd (omega (arith, given.some))
@@ -60,7 +68,8 @@ stands_captured g old new a s body day n (q ∷ qs) ds given idle plan next held
     let same = numbered g old a s day n (q ∷ qs) ds given in
     let classes = subst (λ p. AreClasses p (q ∷ qs)) s.plan given.classes in
     let further : length (q ∷ qs) - 1 ≡ length qs = omega arith in
-    stands_turned g old new a (after_capture a body day (q ∷ qs)) (ArePast n ds) (with_captured (record { number = n; body = body }) (records_of n n day (q ∷ qs)) ds) s
+    stands_turned g old new a (after_capture a body day (q ∷ qs)) (ArePast n ds)
+    (with_captured (record { number = n; body = body }) (records_of n n day (q ∷ qs)) ds) s
     (captured_is_archive a body day q qs s.archive given.day (room_is g old a s day n (q ∷ qs) ds given) classes.classes) idle (plan ∙ s.plan)
     (next ∙ ap (λ k. k + length (q ∷ qs)) same ∙ sym (next_after a body day q qs))
     (λ m. held m ∙ s.held m)
@@ -70,11 +79,16 @@ stands_captured g old new a s body day n (q ∷ qs) ds given idle plan next held
 abbrev Holds : Archive → List ℕ → ℕ → List (List ℕ) → Type 0
 Holds a body day ps = ◌≡◌ {A = Result Archive ArchiveRefusal} (Ok (after_capture a body day ps)) (Ok (after_capture a body day ps))
 
-pub leaves_captured : {S : Type 0} (g : Ghosts S) (old : Store S) (new : Held S) (a : Archive) → StandsFor g old a → (body : List ℕ) (day n : ℕ) (ps : List (List ℕ)) (ds : List Due) → Given old day n ps ds
-    → Survives (state g old.conn) (state g new) (λ (trees : Trees). (db : Database) × Captures (state g old.conn).now db body day n ps ds × (trees ≡ db.trees))
-    → Survives (state g old.conn) (state g new) (λ (trees : Trees). (db : Database) × (IsTrue (state g old.conn).is_open → Holds a body day ps → StoresArchive db (after_capture a body day ps)) × (trees ≡ db.trees))
+pub leaves_captured : {S : Type 0} (g : Ghosts S) (old : Store S) (new : Held S) (a : Archive) → StandsFor g old a
+    → (body : List ℕ) (day n : ℕ) (ps : List (List ℕ)) (ds : List Due) → Given old day n ps ds
+    → Survives (state g old.conn) (state g new) (λ (trees : Trees). (db : Database)
+    × Captures (state g old.conn).now db body day n ps ds × (trees ≡ db.trees))
+    → Survives (state g old.conn) (state g new) (λ (trees : Trees). (db : Database)
+    × (IsTrue (state g old.conn).is_open → Holds a body day ps → StoresArchive db (after_capture a body day ps))
+    × (trees ≡ db.trees))
 leaves_captured g old new a s body day n ps ds given made =
-    leaves_turned g old new a (after_capture a body day ps) (Holds a body day ps) (ArePast n ds) (with_captured (record { number = n; body = body }) (records_of n n day ps) ds) s
+    leaves_turned g old new a (after_capture a body day ps) (Holds a body day ps) (ArePast n ds)
+    (with_captured (record { number = n; body = body }) (records_of n n day ps) ds) s
     (λ was db kept legal turn. keeps_captured g old a s body day n ps ds given was db kept turn) made
 
 -- ---- the command
@@ -87,16 +101,29 @@ pub has_no_room : (a : Archive) (ps : List (List ℕ)) → 0 < length ps → 2 ^
 has_no_room a [] some h = absurd (omega arith)
 has_no_room a (q ∷ qs) some h = grind arith
 
-pub is_captured : (a : Archive) (body : List ℕ) (day : ℕ) (ps : List (List ℕ)) → has_room a ps ≡ true → capture a body day ps ≡ Ok (after_capture a body day ps)
+pub is_captured : (a : Archive) (body : List ℕ) (day : ℕ) (ps : List (List ℕ)) → has_room a ps ≡ true
+    → capture a body day ps ≡ Ok (after_capture a body day ps)
 is_captured a body day ps h = rw h refl
 
-pub obeys_captured : {S : Type 0} (g : Ghosts S) (new : Store S) (a : Archive) (body : List ℕ) (day : ℕ) (ps : List (List ℕ)) (lines : List Line) → next_number a + length ps ≤ 2 ^ 32
-    → StandsFor g new (after_capture a body day ps) → lines ≡ lines_of a.plan (next_number a) day ps → Becomes g new (capture a body day ps) × (lines ≡ capture_lines a day ps)
-obeys_captured g new a body day ps lines room s told =
-    (subst (Becomes g new) (sym (is_captured a body day ps (has_its_room a ps room))) s, told ∙ sym (lines_are a (next_number a) (next_number a) day ps))
+pub obeys_captured : {S : Type 0} (g : Ghosts S) (new : Store S) (a : Archive) (body : List ℕ) (day : ℕ)
+    (ps : List (List ℕ)) (lines : List Line) → next_number a + length ps ≤ 2 ^ 32
+    → StandsFor g new (after_capture a body day ps) → lines ≡ lines_of a.plan (next_number a) day ps
+    → Becomes g new (capture a body day ps) × (lines ≡ capture_lines a day ps)
+obeys_captured g new a body day ps lines room s told = (
+  subst (Becomes g new) (sym (is_captured a body day ps (has_its_room a ps room))) s,
+  told
+      ∙ sym (lines_are a (next_number a) (next_number a) day ps),
+)
 
 pub leaves_command : {S : Type 0} (g : Ghosts S) (old new : Store S) (body : List ℕ) (day : ℕ) (ps : List (List ℕ)) → old.next + length ps ≤ 2 ^ 32
     → LeavesMade g old new (λ a. Ok (after_capture a body day ps)) (λ a. after_capture a body day ps) → Leaves g old new (λ a. capture a body day ps)
 leaves_command g old new body day ps room made a s is_open =
     survives_weaker (state g old.conn) (state g new.conn) _ _
-    (λ clean trees left. (left.0, after_capture a body day ps, is_captured a body day ps (has_its_room a ps (omega (arith, room, s.next))), left.1 is_open refl, left.2)) (made a s)
+    (λ clean trees left. (
+      left.0,
+      after_capture a body day ps,
+      is_captured a body day ps (has_its_room a ps (omega (arith, room, s.next))),
+      left.1 is_open refl,
+      left.2,
+    ))
+    (made a s)

@@ -1,5 +1,6 @@
 -- Which refusals are the store's own, and why they don't come.
-use Rattle.std.proofs.Common.{◌≡◌, ◌==◌, ℕ, Bool, true, false, not, cond, ◌||◌, List, [], ◌∷◌, find, Option, Some, None, Result, Ok, Err, IfErr, IsErrAnd, refl, sym, ap, subst, ◌∙◌}
+use Rattle.std.proofs.Common.{◌≡◌, ◌==◌, ℕ, Bool, true, false, not, cond, ◌||◌, List, [], ◌∷◌, find, Option, Some, None}
+use Rattle.std.proofs.Common.{Result, Ok, Err, IfErr, IsErrAnd, refl, sym, ap, subst, ◌∙◌}
 use Rattle.std.specs.List.{AllByRecursion}
 use Rattle.std.proofs.lemmas.List.Elements.{recursion_from_All}
 use Rattle.sqlite.specs.Store.{Ghosts}
@@ -54,7 +55,8 @@ is_trouble-lost_or reads.NoArchive = refl
 
 -- ---- a refusal that `?` passes on
 
-pub passed_own : {T : Type 0} (r : Result T StoreFault) (f : StoreFault) (P : Type 0) → IsErrAnd r (λ x. x ≡ f) → (P → is_own f ≡ false) → IfErr r (λ x. P → is_own x ≡ false)
+pub passed_own : {T : Type 0} (r : Result T StoreFault) (f : StoreFault) (P : Type 0) → IsErrAnd r (λ x. x ≡ f)
+    → (P → is_own f ≡ false) → IfErr r (λ x. P → is_own x ≡ false)
 passed_own (Err e) f P same h = λ p. ap is_own same ∙ h p
 passed_own (Ok x) f P same h = tt
 
@@ -89,10 +91,12 @@ found_body : (ms : List Message) (n : ℕ) → has_message ms n ≡ true → Non
 found_body [] n has none = absurd cc
 found_body (m ∷ ms) n has none = go (m.number == n) has none (found_body ms n)
   where
-    go : (b : Bool) → (b || has_message ms n) ≡ true → None ≡ cond b (Some m.body) (body_of ms n) → (has_message ms n ≡ true → None ≡ body_of ms n → ⊥) → ⊥
+    go : (b : Bool) → (b || has_message ms n) ≡ true → None ≡ cond b (Some m.body) (body_of ms n)
+        → (has_message ms n ≡ true → None ≡ body_of ms n → ⊥) → ⊥
     go true has none more = absurd cc
     go false has none more = more has none
 
 -- the message of a live record is there
-pub body_is_there : (a : Archive) (n : ℕ) (r : Record) → IsArchive a → record_at a n ≡ Some r → r.destroyed ≡ false → None ≡ body_of a.messages r.message → ⊥
+pub body_is_there : (a : Archive) (n : ℕ) (r : Record) → IsArchive a → record_at a n ≡ Some r → r.destroyed ≡ false
+    → None ≡ body_of a.messages r.message → ⊥
 body_is_there a n r is at live none = found_body a.messages r.message ((record_is_sound a n r is at).stored live) none

@@ -29,18 +29,32 @@ pub is_trouble-fault_of : (e : Error) → is_trouble (fault_of e) ≡ true
 is_trouble-fault_of (SqliteFailure OutOfMemory) = refl
 is_trouble-fault_of e = refl
 
-becomes : {S : Type 0} (g : Ghosts S) (new : Store S) (r : Result Archive ArchiveRefusal) (b : Archive) → r ≡ Ok b → StandsFor g new b → Becomes g new r
+becomes : {S : Type 0} (g : Ghosts S) (new : Store S) (r : Result Archive ArchiveRefusal) (b : Archive) → r ≡ Ok b
+    → StandsFor g new b → Becomes g new r
 becomes g new r b e s = subst (Becomes g new) (sym e) s
 
 -- the archive, the database or the memory refuses
-pub obeys_refused : {S X : Type 0} (g : Ghosts S) (old new : Store S) (result : Result X StoreFault) (f : StoreFault) (command : Archive → Result Archive ArchiveRefusal) (Answers : Archive → X → Type 0)
-    → IsErr result → IsErrAnd result (λ x. x ≡ f) → ((a : Archive) → StandsFor g old a → StandsFor g new a × WhereRefused (λ r. command a ≡ Err r) f) → Obeys g old new result command Answers
-obeys_refused {X = X} g old new (Err e) f command Answers is same h = let P : StoreFault → Type 0 = λ x. Obeys {X = X} g old new (Err x) command Answers in subst P (sym same) h
+pub obeys_refused : {S X : Type 0} (g : Ghosts S) (old new : Store S) (result : Result X StoreFault) (f : StoreFault)
+    (command : Archive → Result Archive ArchiveRefusal) (Answers : Archive → X → Type 0)
+    → IsErr result → IsErrAnd result (λ x. x ≡ f) → ((a : Archive) → StandsFor g old a → StandsFor g new a
+    × WhereRefused (λ r. command a ≡ Err r) f) → Obeys g old new result command Answers
+obeys_refused {X = X} g old new (Err e) f command Answers is same h = let P : StoreFault
+    → Type 0 = λ x. Obeys {X = X} g old new (Err x) command Answers in subst P (sym same) h
 obeys_refused g old new (Ok x) f command Answers is same h = absurd (false≢true is)
 
 -- the same store with a plan that is equal
-pub stands_planned : {S : Type 0} (g : Ghosts S) (old : Store S) (p : Listing) (a : Archive) → p ≡ old.plan → StandsFor g old a → StandsFor g (record old { plan = p }) a
-stands_planned g old p a same s = record { idle = s.idle; plan = same ∙ s.plan; next = s.next; held = s.held; others = s.others; archive = s.archive; rows = s.rows }
+pub stands_planned : {S : Type 0} (g : Ghosts S) (old : Store S) (p : Listing) (a : Archive) → p ≡ old.plan
+    → StandsFor g old a → StandsFor g (record old { plan = p }) a
+stands_planned g old p a same s = record {
+  idle = s.idle;
+  plan = same ∙ s.plan;
+  next = s.next;
+  held = s.held;
+  others =
+      s.others;
+  archive = s.archive;
+  rows = s.rows;
+}
 
 -- the command is carried out
 pub obeys_done : {S : Type 0} (g : Ghosts S) (old mid new : Store S) (command : Archive → Result Archive ArchiveRefusal) (change : Archive → Archive)
@@ -56,7 +70,8 @@ obeys_done g old mid new command change judged made falls clean a s =
 -- what a crash leaves of the command
 pub leaves_done : {S : Type 0} (g : Ghosts S) (old mid new : Store S) (command : Archive → Result Archive ArchiveRefusal) (change : Archive → Archive)
     → ((a : Archive) → StandsFor g old a → StandsFor g mid a × (HasCleanDisk (state g mid.conn) → command a ≡ Ok (change a)))
-    → LeavesAll g old mid → (HasCleanDisk (state g mid.conn) → IsTrue (state g mid.conn).is_open) → LeavesMade g mid new command change → Leaves g old new command
+    → LeavesAll g old mid → (HasCleanDisk (state g mid.conn) → IsTrue (state g mid.conn).is_open)
+    → LeavesMade g mid new command change → Leaves g old new command
 leaves_done g old mid new command change judged looked opened made a s is_open =
     let j = judged a s in
     let two = made a j.0 in
@@ -65,23 +80,28 @@ leaves_done g old mid new command change judged looked opened made a s is_open =
     (λ clean trees left. let e = j.1 (back clean) in (left.0, change a, e, left.1 (opened (back clean)) e, left.2)) (looked a s) two
 
 -- the command is refused by its judge
-pub leaves_refused : {S : Type 0} (g : Ghosts S) (old new : Store S) (command : Archive → Result Archive ArchiveRefusal) → LeavesAll g old new → Leaves g old new command
-leaves_refused g old new command looked a s is_open = survives_weaker (state g old.conn) (state g new.conn) _ _ (λ _ db none. absurd (none is_open)) (looked a s)
+pub leaves_refused : {S : Type 0} (g : Ghosts S) (old new : Store S) (command : Archive → Result Archive ArchiveRefusal)
+    → LeavesAll g old new → Leaves g old new command
+leaves_refused g old new command looked a s is_open =
+    survives_weaker (state g old.conn) (state g new.conn) _ _ (λ _ db none. absurd (none is_open)) (looked a s)
 
 -- two looks, the second on a connection that the first left open
 pub leaves_on : {S : Type 0} (g : Ghosts S) (old mid new : Store S) → ((a : Archive) → StandsFor g old a → StandsFor g mid a)
-    → LeavesAll g old mid → (HasCleanDisk (state g mid.conn) → IsTrue (state g old.conn).is_open → IsTrue (state g mid.conn).is_open) → LeavesAll g mid new → LeavesAll g old new
+    → LeavesAll g old mid → (HasCleanDisk (state g mid.conn) → IsTrue (state g old.conn).is_open
+    → IsTrue (state g mid.conn).is_open) → LeavesAll g mid new → LeavesAll g old new
 leaves_on g old mid new kept looked opened last a s =
     let two = last a (kept a s) in
     let back : HasCleanDisk (state g new.conn) → HasCleanDisk (state g mid.conn) = λ clean. omega (arith, two.clean, clean) in
-    survives_then (state g old.conn) (state g mid.conn) (state g new.conn) _ _ _ (λ _ db none. none) (λ clean db none is_open. none (opened (back clean) is_open)) (looked a s) two
+    survives_then (state g old.conn) (state g mid.conn) (state g new.conn) _ _ _ (λ _ db none.
+    none) (λ clean db none is_open. none (opened (back clean) is_open)) (looked a s) two
 
 pub leaves_then : {S : Type 0} (g : Ghosts S) (old mid new : Store S) → ((a : Archive) → StandsFor g old a → StandsFor g mid a)
     → LeavesAll g old mid → (HasCleanDisk (state g mid.conn) → IsTrue (state g mid.conn).is_open) → LeavesAll g mid new → LeavesAll g old new
 leaves_then g old mid new kept looked opened last = leaves_on g old mid new kept looked (λ clean _. opened clean) last
 
 -- the same store after a look at its tables
-pub stands_looked : {S : Type 0} (g : Ghosts S) (old new : Store S) (a : Archive) → StandsFor g old a → Looks g old.conn new.conn → new.plan ≡ old.plan → new.next ≡ old.next
+pub stands_looked : {S : Type 0} (g : Ghosts S) (old new : Store S) (a : Archive) → StandsFor g old a
+    → Looks g old.conn new.conn → new.plan ≡ old.plan → new.next ≡ old.next
     → ((n : ℕ) → count_at new.held n ≡ count_at old.held n) → ((m : ℕ) → count_at new.others m ≡ count_at old.others m) → StandsFor g new a
 stands_looked g old new a s looks plan next held others = record {
   idle = looks.idle s.idle;
@@ -97,15 +117,18 @@ stands_looked g old new a s looks plan next held others = record {
 
 pub leaves_looked : {S : Type 0} (g : Ghosts S) (old new : Store S) (a : Archive) → StandsFor g old a → Looks g old.conn new.conn
     → Survives (state g old.conn) (state g new.conn) (λ _. IsTrue (state g old.conn).is_open → ⊥)
-leaves_looked g old new a s looks = survives_weaker (state g old.conn) (state g new.conn) _ _ (λ clean db none is_open. none (s.rows (looks.falls clean) is_open).stored.schema) looks.survives
+leaves_looked g old new a s looks = survives_weaker (state g old.conn) (state g new.conn) _ _ (λ clean db none is_open.
+    none (s.rows (looks.falls clean) is_open).stored.schema) looks.survives
 
 -- ---- a transaction
 
 -- the store after a transaction that succeeded
-pub stands_turned : {S : Type 0} (g : Ghosts S) (old new : Store S) (a b : Archive) (Allows : Tables → Type 0) (change : Tables → Tables) → StandsFor g old a → IsArchive b
+pub stands_turned : {S : Type 0} (g : Ghosts S) (old new : Store S) (a b : Archive) (Allows : Tables
+    → Type 0) (change : Tables → Tables) → StandsFor g old a → IsArchive b
     → new.conn.in_transaction ≡ false → new.plan ≡ b.plan → new.next ≡ next_number b
     → ((n : ℕ) → count_at new.held n ≡ hold_count b n) → ((m : ℕ) → count_at new.others m ≡ live_count b m - 1)
-    → (HasCleanDisk (state g new.conn) → HasCleanDisk (state g old.conn)) → (HasCleanDisk (state g new.conn) → IsTrue (state g new.conn).is_open → IsTrue (state g old.conn).is_open)
+    → (HasCleanDisk (state g new.conn) → HasCleanDisk (state g old.conn))
+    → (HasCleanDisk (state g new.conn) → IsTrue (state g new.conn).is_open → IsTrue (state g old.conn).is_open)
     → (HasCleanDisk (state g new.conn) → Turns (state g old.conn).now (state g new.conn).now Allows change)
     → ((was db : Database) → StoresArchive was a → Turns was db Allows change → StoresArchive db b)
     → StandsFor g new b
@@ -120,9 +143,11 @@ stands_turned g old new a b Allows change s archive idle plan next held others f
 }
 
 -- the store after a transaction that was refused
-pub stands_refused : {S : Type 0} (g : Ghosts S) (old new : Store S) (a : Archive) → StandsFor g old a → new.conn.in_transaction ≡ false → new.plan ≡ old.plan → new.next ≡ old.next
+pub stands_refused : {S : Type 0} (g : Ghosts S) (old new : Store S) (a : Archive) → StandsFor g old a
+    → new.conn.in_transaction ≡ false → new.plan ≡ old.plan → new.next ≡ old.next
     → ((n : ℕ) → count_at new.held n ≡ count_at old.held n) → ((m : ℕ) → count_at new.others m ≡ count_at old.others m)
-    → (HasCleanDisk (state g new.conn) → HasCleanDisk (state g old.conn)) → (HasCleanDisk (state g new.conn) → IsTrue (state g new.conn).is_open → IsTrue (state g old.conn).is_open)
+    → (HasCleanDisk (state g new.conn) → HasCleanDisk (state g old.conn))
+    → (HasCleanDisk (state g new.conn) → IsTrue (state g new.conn).is_open → IsTrue (state g old.conn).is_open)
     → (HasCleanDisk (state g new.conn) → IsTrue (state g new.conn).is_open → (state g new.conn).now ≡ (state g old.conn).now) → StandsFor g new a
 stands_refused g old new a s idle plan next held others falls opened same = record {
   idle = idle;
@@ -135,10 +160,19 @@ stands_refused g old new a s idle plan next held others falls opened same = reco
 }
 
 -- what a crash leaves of a transaction
-pub leaves_turned : {S : Type 0} (g : Ghosts S) (old : Store S) (new : Held S) (a b : Archive) (Legal : Type 0) (Allows : Tables → Type 0) (change : Tables → Tables) → StandsFor g old a
+pub leaves_turned : {S : Type 0} (g : Ghosts S) (old : Store S) (new : Held S) (a b : Archive) (Legal : Type 0)
+    (Allows : Tables → Type 0) (change : Tables → Tables) → StandsFor g old a
     → ((was db : Database) → StoresArchive was a → Legal → Turns was db Allows change → StoresArchive db b)
-    → Survives (state g old.conn) (state g new) (λ (trees : Trees). (db : Database) × Turns (state g old.conn).now db Allows change × (trees ≡ db.trees))
-    → Survives (state g old.conn) (state g new) (λ (trees : Trees). (db : Database) × (IsTrue (state g old.conn).is_open → Legal → StoresArchive db b) × (trees ≡ db.trees))
+    → Survives (state g old.conn) (state g new) (λ (trees : Trees). (db : Database)
+    × Turns (state g old.conn).now db Allows change × (trees ≡ db.trees))
+    → Survives (state g old.conn) (state g new) (λ (trees : Trees). (db : Database)
+    × (IsTrue (state g old.conn).is_open → Legal → StoresArchive db b) × (trees ≡ db.trees))
 leaves_turned g old new a b Legal Allows change s stores made =
     survives_weaker (state g old.conn) (state g new) _ _
-    (λ clean trees left. (left.0, (λ is_open legal. stores (state g old.conn).now left.0 (s.rows (omega (arith, made.clean, clean)) is_open) legal left.1), left.2)) made
+    (λ clean trees left. (
+      left.0,
+      (λ is_open legal.
+          stores (state g old.conn).now left.0 (s.rows (omega (arith, made.clean, clean)) is_open) legal left.1),
+      left.2,
+    ))
+    made

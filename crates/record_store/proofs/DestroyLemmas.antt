@@ -1,14 +1,19 @@
 -- What the destruction of a record makes of the archive and of the tables.
-use Rattle.std.proofs.Common.{◌≡◌, ◌+◌, ◌-◌, ◌<◌, ◌≤◌, ◌==◌, ℕ, max, pos, int_eq, Bool, true, false, not, cond, ◌&&◌, ◌||◌, List, [], ◌∷◌, map, filter, find, Option, Some, None, MatchOption, Result, Ok, Err, refl, sym, ap, subst, ◌∙◌, arith, true≢false}
+use Rattle.std.proofs.Common.{◌≡◌, ◌+◌, ◌-◌, ◌<◌, ◌≤◌, ◌==◌, ℕ, max, pos, int_eq, Bool, true, false, not, cond, ◌&&◌}
+use Rattle.std.proofs.Common.{◌||◌, List, [], ◌∷◌, map, filter, find, Option, Some, None, MatchOption, Result, Ok, Err}
+use Rattle.std.proofs.Common.{refl, sym, ap, subst, ◌∙◌, arith, true≢false}
 use Rattle.std.specs.List.{AllByRecursion, list_any}
 use Rattle.std.proofs.lemmas.Int.{ints}
 use Rattle.std.proofs.lemmas.List.Elements.{All-from_recursion, recursion_from_All}
 use Rattle.sqlite_trees.specs.Tree.{IsAscending}
 use Rattle.sqlite_keyed.specs.Lists.{delete_where, update_where}
-use Rattle.sqlite_keyed.proofs.ListLemmas.{all_of, all_weaker, all_both, all_map, filter_same, ascending-map, ascending-filter, ascending_weaker, none_from_any}
+use Rattle.sqlite_keyed.proofs.ListLemmas.{all_of, all_weaker, all_both, all_map, filter_same, ascending-map}
+use Rattle.sqlite_keyed.proofs.ListLemmas.{ascending-filter, ascending_weaker, none_from_any}
 use Rattle.sqlite.specs.Store.{Ghosts}
 use Rattle.sqlite.specs.Effect.{Database}
-use Rattle.record_archive.specs.Archive.{Message, Record, Archive, Hold, IsArchive, IsRecord, destroy_by, destroys, is_by_any, record_at, has_number, has_message, is_live, is_held, is_named, is_shared, next_number, past_all, destruction_of, messages_without, without}
+use Rattle.record_archive.specs.Archive.{Message, Record, Archive, Hold, IsArchive, IsRecord, destroy_by, destroys}
+use Rattle.record_archive.specs.Archive.{is_by_any, record_at, has_number, has_message, is_live, is_held, is_named}
+use Rattle.record_archive.specs.Archive.{is_shared, next_number, past_all, destruction_of, messages_without, without}
 use Rattle.record_tables.specs.Rows.{Due}
 use Rattle.record_tables.specs.Changes as tables
 use Rattle.class_plan.specs.Calendar.{due_on}
@@ -76,16 +81,22 @@ same_place true x = refl
 same_place false x = refl
 
 -- each record with the number is the one found by it
-only_one : (n : ℕ) (r : Record) (rs : List Record) → IsAscending (λ (x y : Record). x.number < y.number) rs → find (has_number n) rs ≡ Some r → AllByRecursion (λ (x : Record). (x.number == n) ≡ true → x ≡ r) rs
+only_one : (n : ℕ) (r : Record) (rs : List Record) → IsAscending (λ (x y : Record). x.number < y.number) rs
+    → find (has_number n) rs ≡ Some r → AllByRecursion (λ (x : Record). (x.number == n) ≡ true → x ≡ r) rs
 only_one n r [] up at = tt
 only_one n r (x ∷ rs) up at = go (x.number == n) refl at (only_one n r rs up.1)
   where
-    go : (b : Bool) → (x.number == n) ≡ b → cond b (Some x) (find (has_number n) rs) ≡ Some r → (find (has_number n) rs ≡ Some r → AllByRecursion (λ (x : Record). (x.number == n) ≡ true → x ≡ r) rs)
+    go : (b : Bool) → (x.number == n) ≡ b → cond b (Some x) (find (has_number n) rs) ≡ Some r
+        → (find (has_number n) rs ≡ Some r → AllByRecursion (λ (x : Record). (x.number == n) ≡ true → x ≡ r) rs)
         → AllByRecursion (λ (x : Record). (x.number == n) ≡ true → x ≡ r) (x ∷ rs)
     go true is at more =
         let here : x ≡ r = cc in
-        let low : x.number ≡ n = is_number x.number n is in
-        (λ _. here, all_weaker (λ (y : Record). x.number < y.number) (λ (y : Record). (y.number == n) ≡ true → y ≡ r) (λ y above h. absurd (true≢false (sym h ∙ later_number y.number n (omega (arith, low, above))))) rs up.0)
+        let low : x.number ≡ n = is_number x.number n is in (
+          λ _. here,
+          all_weaker (λ (y : Record). x.number < y.number) (λ (y : Record). (y.number == n) ≡ true
+              → y ≡ r) (λ y above h. absurd (true≢false (sym h ∙ later_number y.number n (omega (arith, low, above))))) rs
+              up.0,
+        )
     go false is at more = (λ h. absurd (true≢false (sym h ∙ is)), more at)
 
 -- ---- the records of a message
@@ -102,13 +113,16 @@ other_is n m x = go (x.number == n)
 
 -- the messages that live records name after the destruction
 named_after : (n m : ℕ) (rs : List Record) → list_any (is_other n m) rs ≡ is_named (gone n rs) m
-named_after n m rs = any-map (λ (x : Record). is_live x && (x.message == m)) (is_other n m) (λ (x : Record). gone_if (x.number == n) x) (other_is n m) rs
+named_after n m rs = any-map (λ (x : Record). is_live x && (x.message == m)) (is_other n m) (λ (x : Record).
+    gone_if (x.number == n) x) (other_is n m) rs
 
 counted_after : (n m : ℕ) (rs : List Record) → tally (is_other n m) rs ≡ tally (λ (x : Record). is_live x && (x.message == m)) (gone n rs)
-counted_after n m rs = tally-map (λ (x : Record). is_live x && (x.message == m)) (is_other n m) (λ (x : Record). gone_if (x.number == n) x) (other_is n m) rs
+counted_after n m rs = tally-map (λ (x : Record). is_live x && (x.message == m)) (is_other n m) (λ (x : Record).
+    gone_if (x.number == n) x) (other_is n m) rs
 
 -- a record of another message does not matter
-other_message : (n m : ℕ) (r : Record) → (r.message == m) ≡ false → (x : Record) → ((x.number == n) ≡ true → x ≡ r) → is_other n m x ≡ (is_live x && (x.message == m))
+other_message : (n m : ℕ) (r : Record) → (r.message == m) ≡ false → (x : Record) → ((x.number == n) ≡ true → x ≡ r)
+    → is_other n m x ≡ (is_live x && (x.message == m))
 other_message n m r apart x same = go (x.number == n) refl
   where
     here : x ≡ r → (is_live x && ((x.message == m) && false)) ≡ (is_live x && (x.message == m))
@@ -118,44 +132,64 @@ other_message n m r apart x same = go (x.number == n) refl
     go true is = here (same is)
     go false is = ap (λ c. is_live x && c) (and_true (x.message == m))
 
-others_same : (n m : ℕ) (r : Record) → (r.message == m) ≡ false → (rs : List Record) → AllByRecursion (λ (x : Record). (x.number == n) ≡ true → x ≡ r) rs
+others_same : (n m : ℕ) (r : Record) → (r.message == m) ≡ false → (rs : List Record)
+    → AllByRecursion (λ (x : Record). (x.number == n) ≡ true → x ≡ r) rs
     → AllByRecursion (λ x. is_other n m x ≡ (is_live x && (x.message == m))) rs
-others_same n m r apart rs only = all_weaker (λ (x : Record). (x.number == n) ≡ true → x ≡ r) (λ x. is_other n m x ≡ (is_live x && (x.message == m))) (other_message n m r apart) rs only
+others_same n m r apart rs only = all_weaker (λ (x : Record). (x.number == n) ≡ true
+    → x ≡ r) (λ x. is_other n m x ≡ (is_live x && (x.message == m))) (other_message n m r apart) rs only
 
 same_message : (m : ℕ) → (m == m) ≡ true
 same_message m = grind arith
 
 -- one of the message's live records is the record itself
-one_more : (n : ℕ) (r : Record) (rs : List Record) → IsAscending (λ (x y : Record). x.number < y.number) rs → find (has_number n) rs ≡ Some r → r.destroyed ≡ false
+one_more : (n : ℕ) (r : Record) (rs : List Record) → IsAscending (λ (x y : Record). x.number < y.number) rs
+    → find (has_number n) rs ≡ Some r → r.destroyed ≡ false
     → tally (λ (x : Record). is_live x && (x.message == r.message)) rs ≡ 1 + tally (is_other n r.message) rs
 one_more n r [] up at live = absurd cc
 one_more n r (x ∷ rs) up at live = go (x.number == n) refl at (λ at. one_more n r rs up.1 at live)
   where
     later : x.number ≡ n → AllByRecursion (λ (y : Record). (is_live y && (y.message == r.message)) ≡ is_other n r.message y) rs
     later low = all_weaker (λ (y : Record). x.number < y.number) (λ (y : Record). (is_live y && (y.message == r.message)) ≡ is_other n r.message y)
-        (λ y above. sym (ap (λ b. is_live y && ((y.message == r.message) && not b)) (later_number y.number n (omega (arith, low, above))) ∙ ap (λ c. is_live y && c) (and_true (y.message == r.message)))) rs up.0
+        (λ y above. sym (ap (λ b.
+        is_live y && ((y.message == r.message) && not b)) (later_number y.number n (omega (arith, low, above)))
+        ∙ ap (λ c. is_live y && c) (and_true (y.message == r.message)))) rs up.0
 
     counts : x ≡ r → (is_live x && (x.message == r.message)) ≡ true
-    counts is = ap (λ (y : Record). is_live y && (y.message == r.message)) is ∙ ap (λ b. not b && (r.message == r.message)) live ∙ same_message r.message
+    counts is = ap (λ (y : Record). is_live y && (y.message == r.message)) is
+        ∙ ap (λ b. not b && (r.message == r.message)) live ∙ same_message r.message
 
     never : (l q : Bool) → (l && (q && false)) ≡ false
     never l q = ap (λ b. l && b) (and_false q) ∙ and_false l
 
     go : (b : Bool) → (x.number == n) ≡ b → cond b (Some x) (find (has_number n) rs) ≡ Some r
         → (find (has_number n) rs ≡ Some r → tally (λ (x : Record). is_live x && (x.message == r.message)) rs ≡ 1 + tally (is_other n r.message) rs)
-        → cond {A = ℕ} (is_live x && (x.message == r.message)) 1 0 + tally (λ (x : Record). is_live x && (x.message == r.message)) rs ≡ 1 + (cond {A = ℕ} (is_live x && ((x.message == r.message) && not b)) 1 0 + tally (is_other n r.message) rs)
+        → cond {A = ℕ} (is_live x && (x.message == r.message)) 1 0 + tally (λ (x : Record).
+        is_live x && (x.message == r.message)) rs
+        ≡ 1 + (cond {A = ℕ} (is_live x && ((x.message == r.message) && not b)) 1 0 + tally (is_other n r.message)
+        rs)
     go true is at more =
         let here : x ≡ r = cc in
         let one : cond {A = ℕ} (is_live x && (x.message == r.message)) 1 0 ≡ 1 = ap (λ b. cond {A = ℕ} b 1 0) (counts here) in
-        let none : cond {A = ℕ} (is_live x && ((x.message == r.message) && false)) 1 0 ≡ 0 = ap (λ b. cond {A = ℕ} b 1 0) (never (is_live x) (x.message == r.message)) in
-        let rest : tally (λ (x : Record). is_live x && (x.message == r.message)) rs ≡ tally (is_other n r.message) rs = tally_same_on (λ (x : Record). is_live x && (x.message == r.message)) (is_other n r.message) rs (later (is_number x.number n is)) in
-        let step : cond {A = ℕ} (is_live x && (x.message == r.message)) 1 0 + tally (λ (x : Record). is_live x && (x.message == r.message)) rs ≡ 1 + (cond {A = ℕ} (is_live x && ((x.message == r.message) && false)) 1 0 + tally (is_other n r.message) rs) =
+        let none : cond {A = ℕ} (is_live x && ((x.message == r.message) && false)) 1 0 ≡ 0 =
+        ap (λ b. cond {A = ℕ} b 1 0) (never (is_live x) (x.message == r.message)) in
+        let rest : tally (λ (x : Record). is_live x && (x.message == r.message)) rs ≡ tally (is_other n r.message) rs =
+        tally_same_on (λ (x : Record). is_live x && (x.message == r.message)) (is_other n r.message) rs
+        (later (is_number x.number n is)) in
+        let step : cond {A = ℕ} (is_live x && (x.message == r.message)) 1 0 + tally (λ (x : Record).
+        is_live x && (x.message == r.message)) rs
+        ≡ 1 + (cond {A = ℕ} (is_live x && ((x.message == r.message) && false)) 1 0 + tally (is_other n r.message)
+        rs) =
         omega (arith, one, none, rest) in
         step
     go false is at more =
         let it = more at in
-        let same : cond {A = ℕ} (is_live x && ((x.message == r.message) && true)) 1 0 ≡ cond {A = ℕ} (is_live x && (x.message == r.message)) 1 0 = ap (λ b. cond {A = ℕ} (is_live x && b) 1 0) (and_true (x.message == r.message)) in
-        let step : cond {A = ℕ} (is_live x && (x.message == r.message)) 1 0 + tally (λ (x : Record). is_live x && (x.message == r.message)) rs ≡ 1 + (cond {A = ℕ} (is_live x && ((x.message == r.message) && true)) 1 0 + tally (is_other n r.message) rs) =
+        let same : cond {A = ℕ} (is_live x && ((x.message == r.message) && true)) 1 0
+        ≡ cond {A = ℕ} (is_live x && (x.message == r.message)) 1 0 =
+        ap (λ b. cond {A = ℕ} (is_live x && b) 1 0) (and_true (x.message == r.message)) in
+        let step : cond {A = ℕ} (is_live x && (x.message == r.message)) 1 0 + tally (λ (x : Record).
+        is_live x && (x.message == r.message)) rs
+        ≡ 1 + (cond {A = ℕ} (is_live x && ((x.message == r.message) && true)) 1 0 + tally (is_other n r.message)
+        rs) =
         omega (arith, it, same) in
         step
 
@@ -169,7 +203,8 @@ pub free_itself : (a : Archive) (n : ℕ) (r : Record) → IsFree a n r → IsFr
 free_itself a n r free = subst (λ k. IsFree a k r) (sym (own_number a n r free)) free
 
 -- the live records of each message after the destruction
-pub count_destroyed : (a : Archive) (r : Record) → IsArchive a → IsFree a r.number r → (m : ℕ) → live_count (without a r) m - 1 ≡ (live_count a m - 1) - only_at r.message 1 m
+pub count_destroyed : (a : Archive) (r : Record) → IsArchive a → IsFree a r.number r → (m : ℕ)
+    → live_count (without a r) m - 1 ≡ (live_count a m - 1) - only_at r.message 1 m
 count_destroyed a r is free m = go (m == r.message) refl
   where
     swap : (r.message == m) ≡ (m == r.message)
@@ -178,7 +213,9 @@ count_destroyed a r is free m = go (m == r.message) refl
     other : (m == r.message) ≡ false → live_count (without a r) m ≡ live_count a m
     other apart =
         sym (counted_after r.number m a.records)
-        ∙ tally_same_on (is_other r.number m) (λ (x : Record). is_live x && (x.message == m)) a.records (others_same r.number m r (swap ∙ apart) a.records (only_one r.number r a.records is.in_order free.found))
+        ∙ tally_same_on (is_other r.number m) (λ (x : Record).
+        is_live x && (x.message == m)) a.records (others_same r.number m r (swap
+        ∙ apart) a.records (only_one r.number r a.records is.in_order free.found))
 
     own : live_count a r.message ≡ 1 + live_count (without a r) r.message
     own = one_more r.number r a.records is.in_order free.found free.live ∙ ap (λ k. 1 + k) (counted_after r.number r.message a.records)
@@ -216,7 +253,8 @@ next_destroyed a r = past_gone r.number 1 a.records
 
 -- ---- the archive
 
-all_passed : {X : Type 0} (Q P : X → Type 0) (p : X → Bool) (xs : List X) → ((x : X) → Q x → p x ≡ true → P x) → AllByRecursion Q xs → AllByRecursion P (filter p xs)
+all_passed : {X : Type 0} (Q P : X → Type 0) (p : X → Bool) (xs : List X) → ((x : X) → Q x → p x ≡ true → P x)
+    → AllByRecursion Q xs → AllByRecursion P (filter p xs)
 all_passed Q P p [] h all = tt
 all_passed Q P p (x ∷ xs) h all = go (p x) refl (all_passed Q P p xs h all.1)
   where
@@ -225,7 +263,8 @@ all_passed Q P p (x ∷ xs) h all = go (p x) refl (all_passed Q P p xs h all.1)
     go false e more = more
 
 -- a message stays where another one is removed
-still_there : (k m : ℕ) → (k == m) ≡ false → (ms : List Message) → has_message ms k ≡ true → has_message (delete_where (λ (x : Message). x.number == m) ms) k ≡ true
+still_there : (k m : ℕ) → (k == m) ≡ false → (ms : List Message) → has_message ms k ≡ true
+    → has_message (delete_where (λ (x : Message). x.number == m) ms) k ≡ true
 still_there k m apart [] h = absurd (true≢false (sym h))
 still_there k m apart (x ∷ ms) h = go (x.number == m) (x.number == k) refl refl h (still_there k m apart ms)
   where
@@ -236,8 +275,10 @@ still_there k m apart (x ∷ ms) h = go (x.number == m) (x.number == k) refl ref
         let same : (k == m) ≡ true = grind arith in
         true≢false (sym same ∙ apart)
 
-    go : (b c : Bool) → (x.number == m) ≡ b → (x.number == k) ≡ c → (c || has_message ms k) ≡ true → (has_message ms k ≡ true → has_message (delete_where (λ (x : Message). x.number == m) ms) k ≡ true)
-        → has_message (cond (not b) (x ∷ delete_where (λ (x : Message). x.number == m) ms) (delete_where (λ (x : Message). x.number == m) ms)) k ≡ true
+    go : (b c : Bool) → (x.number == m) ≡ b → (x.number == k) ≡ c → (c || has_message ms k) ≡ true
+        → (has_message ms k ≡ true → has_message (delete_where (λ (x : Message). x.number == m) ms) k ≡ true)
+        → has_message (cond (not b) (x ∷ delete_where (λ (x : Message). x.number == m) ms)
+        (delete_where (λ (x : Message). x.number == m) ms)) k ≡ true
     go true true one two h more = absurd (clash one two)
     go true false one two h more = more h
     go false true one two h more = ap (λ c. c || has_message (delete_where (λ (x : Message). x.number == m) ms) k) two
@@ -259,21 +300,32 @@ module _ (a : Archive) (r : Record) (is : IsArchive a) (free : IsFree a r.number
           let same : k ≡ r.message = is_number k r.message e in
           subst (λ j. is_named (gone r.number a.records) j ≡ true) (sym same) (sym (named_after r.number r.message a.records) ∙ shared refl)
       go false e shared =
-          sym (named_after r.number k a.records) ∙ any_same_on (is_other r.number k) (λ (x : Record). is_live x && (x.message == k)) a.records (others_same r.number k r (swap ∙ e) a.records only) ∙ named
+          sym (named_after r.number k a.records)
+          ∙ any_same_on (is_other r.number k) (λ (x : Record).
+          is_live x && (x.message == k)) a.records (others_same r.number k r (swap ∙ e) a.records only) ∙ named
 
-  named_messages : (b : Bool) → is_shared a r ≡ b → AllByRecursion (λ (m : Message). is_named (gone r.number a.records) m.number ≡ true) (cond b a.messages (delete_where (λ (m : Message). m.number == r.message) a.messages))
+  named_messages : (b : Bool) → is_shared a r ≡ b
+      → AllByRecursion (λ (m : Message). is_named (gone r.number a.records) m.number
+      ≡ true) (cond b a.messages (delete_where (λ (m : Message). m.number == r.message) a.messages))
   named_messages true e =
-      all_weaker (λ (m : Message). is_named a.records m.number ≡ true) (λ (m : Message). is_named (gone r.number a.records) m.number ≡ true) (λ m h. still_named m.number h (λ _. e)) a.messages (recursion_from_All _ a.messages is.named)
+      all_weaker (λ (m : Message). is_named a.records m.number ≡ true) (λ (m : Message).
+      is_named (gone r.number a.records) m.number ≡ true) (λ m h.
+      still_named m.number h (λ _. e)) a.messages (recursion_from_All _ a.messages is.named)
   named_messages false e =
-      all_passed (λ (m : Message). is_named a.records m.number ≡ true) (λ (m : Message). is_named (gone r.number a.records) m.number ≡ true) (λ (m : Message). not (m.number == r.message)) a.messages
+      all_passed (λ (m : Message). is_named a.records m.number ≡ true) (λ (m : Message).
+      is_named (gone r.number a.records) m.number ≡ true) (λ (m : Message). not (m.number == r.message)) a.messages
       (λ m h other. still_named m.number h (λ own. absurd (true≢false (sym other ∙ ap not own)))) (recursion_from_All _ a.messages is.named)
 
-  rising_messages : (b : Bool) → IsAscending (λ (x y : Message). x.number < y.number) (cond b a.messages (delete_where (λ (m : Message). m.number == r.message) a.messages))
+  rising_messages : (b : Bool)
+      → IsAscending (λ (x y : Message).
+      x.number < y.number) (cond b a.messages (delete_where (λ (m : Message). m.number == r.message) a.messages))
   rising_messages true = is.messages
-  rising_messages false = ascending-filter (λ (x y : Message). x.number < y.number) (λ (m : Message). not (m.number == r.message)) a.messages is.messages
+  rising_messages false = ascending-filter (λ (x y : Message). x.number < y.number) (λ (m : Message).
+      not (m.number == r.message)) a.messages is.messages
 
   -- the message of another live record stays
-  other_stays : (x : Record) → IsRecord a x → (is_shared a r ≡ false → is_other r.number r.message x ≡ false) → (x.number == r.number) ≡ false → x.destroyed ≡ false → has_message (messages_without a r) x.message ≡ true
+  other_stays : (x : Record) → IsRecord a x → (is_shared a r ≡ false → is_other r.number r.message x ≡ false)
+      → (x.number == r.number) ≡ false → x.destroyed ≡ false → has_message (messages_without a r) x.message ≡ true
   other_stays x h alone apart live = go (is_shared a r) refl
     where
       its_own : (is_other r.number r.message x ≡ false) → (x.message == r.message) ≡ false
@@ -281,11 +333,14 @@ module _ (a : Archive) (r : Record) (is : IsArchive a) (free : IsFree a r.number
           sym (and_true (x.message == r.message)) ∙ sym (ap (λ b. (x.message == r.message) && not b) apart)
           ∙ sym (ap (λ d. not d && ((x.message == r.message) && not (x.number == r.number))) live) ∙ none
 
-      go : (b : Bool) → is_shared a r ≡ b → has_message (cond b a.messages (delete_where (λ (m : Message). m.number == r.message) a.messages)) x.message ≡ true
+      go : (b : Bool) → is_shared a r ≡ b
+          → has_message (cond b a.messages (delete_where (λ (m : Message). m.number == r.message) a.messages)) x.message
+          ≡ true
       go true e = h.stored live
       go false e = still_there x.message r.message (its_own (alone e)) a.messages (h.stored live)
 
-  record_after : (x : Record) → IsRecord a x → (is_shared a r ≡ false → is_other r.number r.message x ≡ false) → IsRecord (without a r) (gone_if (x.number == r.number) x)
+  record_after : (x : Record) → IsRecord a x → (is_shared a r ≡ false → is_other r.number r.message x ≡ false)
+      → IsRecord (without a r) (gone_if (x.number == r.number) x)
   record_after x h alone = go (x.number == r.number) refl
     where
       go : (b : Bool) → (x.number == r.number) ≡ b → IsRecord (without a r) (gone_if b x)
@@ -299,11 +354,15 @@ module _ (a : Archive) (r : Record) (is : IsArchive a) (free : IsFree a r.number
   alone_each = go (is_shared a r) refl
     where
       go : (b : Bool) → is_shared a r ≡ b → AllByRecursion (λ (x : Record). is_shared a r ≡ false → is_other r.number r.message x ≡ false) a.records
-      go true e = all_of (λ (x : Record). is_shared a r ≡ false → is_other r.number r.message x ≡ false) (λ x h. absurd (true≢false (sym e ∙ h))) a.records
-      go false e = all_weaker (λ (x : Record). is_other r.number r.message x ≡ false) (λ (x : Record). is_shared a r ≡ false → is_other r.number r.message x ≡ false) (λ x h _. h) a.records (none_other e)
+      go true e = all_of (λ (x : Record). is_shared a r ≡ false → is_other r.number r.message x ≡ false) (λ x h.
+          absurd (true≢false (sym e ∙ h))) a.records
+      go false e = all_weaker (λ (x : Record). is_other r.number r.message x ≡ false) (λ (x : Record).
+          is_shared a r ≡ false → is_other r.number r.message x ≡ false) (λ x h _. h) a.records (none_other e)
 
   -- a hold on another record still names a live one
-  held_point : (k : ℕ) → (k == r.number) ≡ false → (x : Record) → (is_live x && has_number k x) ≡ (is_live (gone_if (x.number == r.number) x) && has_number k (gone_if (x.number == r.number) x))
+  held_point : (k : ℕ) → (k == r.number) ≡ false → (x : Record)
+      → (is_live x && has_number k x)
+      ≡ (is_live (gone_if (x.number == r.number) x) && has_number k (gone_if (x.number == r.number) x))
   held_point k apart x = go (x.number == r.number) refl
     where
       other : (x.number == r.number) ≡ true → (x.number == k) ≡ false
@@ -316,45 +375,66 @@ module _ (a : Archive) (r : Record) (is : IsArchive a) (free : IsFree a r.number
       go true e = ap (λ b. is_live x && b) (other e) ∙ and_false (is_live x)
       go false e = refl
 
-  still_held : (h : Hold) → (h.number == r.number) ≡ false → list_any (λ (x : Record). is_live x && has_number h.number x) a.records ≡ true → list_any (λ (x : Record). is_live x && has_number h.number x) (gone r.number a.records) ≡ true
+  still_held : (h : Hold) → (h.number == r.number) ≡ false
+      → list_any (λ (x : Record). is_live x && has_number h.number x) a.records ≡ true
+      → list_any (λ (x : Record). is_live x && has_number h.number x) (gone r.number a.records) ≡ true
   still_held h apart live =
-      sym (any-map (λ (x : Record). is_live x && has_number h.number x) (λ (x : Record). is_live x && has_number h.number x) (λ (x : Record). gone_if (x.number == r.number) x) (held_point h.number apart) a.records) ∙ live
+      sym (any-map (λ (x : Record). is_live x && has_number h.number x) (λ (x : Record).
+      is_live x && has_number h.number x) (λ (x : Record).
+      gone_if (x.number == r.number) x) (held_point h.number apart) a.records) ∙ live
 
   pub destroyed_is_archive : IsArchive (without a r)
   destroyed_is_archive = record {
     plan = is.plan;
     records = All-from_recursion (IsRecord (without a r)) (gone r.number a.records)
         (all_map (IsRecord (without a r)) (λ (x : Record). gone_if (x.number == r.number) x) a.records
-        (all_both (IsRecord a) (λ (x : Record). is_shared a r ≡ false → is_other r.number r.message x ≡ false) (λ (x : Record). IsRecord (without a r) (gone_if (x.number == r.number) x)) record_after a.records (recursion_from_All (IsRecord a) a.records is.records) alone_each));
+        (all_both (IsRecord a) (λ (x : Record). is_shared a r ≡ false
+        → is_other r.number r.message x ≡ false) (λ (x : Record).
+        IsRecord (without a r) (gone_if (x.number == r.number) x)) record_after a.records
+        (recursion_from_All (IsRecord a) a.records is.records) alone_each));
     in_order = ascending-map (λ (x y : Record). x.number < y.number) (λ (x : Record). gone_if (x.number == r.number) x) a.records
-        (ascending_weaker (λ (x y : Record). x.number < y.number) (λ (x y : Record). (gone_if (x.number == r.number) x).number < (gone_if (y.number == r.number) y).number)
+        (ascending_weaker (λ (x y : Record). x.number < y.number) (λ (x y : Record).
+        (gone_if (x.number == r.number) x).number < (gone_if (y.number == r.number) y).number)
         (λ x y low. omega (arith, low, same_place (x.number == r.number) x, same_place (y.number == r.number) y)) a.records is.in_order);
     messages = rising_messages (is_shared a r);
     named = All-from_recursion _ (messages_without a r) (named_messages (is_shared a r) refl);
     held = All-from_recursion _ a.holds
-        (all_both (λ (h : Hold). (h.number == r.number) ≡ false) (λ (h : Hold). list_any (λ (x : Record). is_live x && has_number h.number x) a.records ≡ true) (λ (h : Hold). list_any (λ (x : Record). is_live x && has_number h.number x) (gone r.number a.records) ≡ true)
+        (all_both (λ (h : Hold). (h.number == r.number) ≡ false) (λ (h : Hold).
+        list_any (λ (x : Record). is_live x && has_number h.number x) a.records ≡ true) (λ (h : Hold).
+        list_any (λ (x : Record). is_live x && has_number h.number x) (gone r.number a.records) ≡ true)
         still_held a.holds (none_from_any (λ (h : Hold). h.number == r.number) a.holds free.free) (recursion_from_All _ a.holds is.held));
     once = is.once;
   }
 
 -- ---- the tables
 
-dues_without : (a : Archive) (n : ℕ) (rs : List Record) → delete_where (λ (d : Due). int_eq (pos d.number) (pos n)) (map (due_row a) (filter (has_due a) rs)) ≡ map (due_row a) (filter (has_due a) (gone n rs))
+dues_without : (a : Archive) (n : ℕ) (rs : List Record)
+    → delete_where (λ (d : Due). int_eq (pos d.number) (pos n)) (map (due_row a) (filter (has_due a) rs))
+    ≡ map (due_row a) (filter (has_due a) (gone n rs))
 dues_without a n [] = refl
 dues_without a n (x ∷ rs) = go (has_due a x) (x.number == n) refl refl (dues_without a n rs)
   where
     go : (h b : Bool) → has_due a x ≡ h → (x.number == n) ≡ b
-        → delete_where (λ (d : Due). int_eq (pos d.number) (pos n)) (map (due_row a) (filter (has_due a) rs)) ≡ map (due_row a) (filter (has_due a) (gone n rs))
+        → delete_where (λ (d : Due). int_eq (pos d.number) (pos n)) (map (due_row a) (filter (has_due a) rs))
+        ≡ map (due_row a) (filter (has_due a) (gone n rs))
         → delete_where (λ (d : Due). int_eq (pos d.number) (pos n)) (map (due_row a) (cond h (x ∷ filter (has_due a) rs) (filter (has_due a) rs)))
         ≡ map (due_row a) (cond (has_due a (gone_if b x)) (gone_if b x ∷ filter (has_due a) (gone n rs)) (filter (has_due a) (gone n rs)))
     go true true is same more =
-        ap (λ c. cond (not c) (due_row a x ∷ delete_where (λ (d : Due). int_eq (pos d.number) (pos n)) (map (due_row a) (filter (has_due a) rs))) (delete_where (λ (d : Due). int_eq (pos d.number) (pos n)) (map (due_row a) (filter (has_due a) rs)))) (same_number x.number n ∙ same)
+        ap (λ c. cond (not c) (due_row a x ∷ delete_where (λ (d : Due).
+        int_eq (pos d.number) (pos n)) (map (due_row a) (filter (has_due a) rs))) (delete_where (λ (d : Due).
+        int_eq (pos d.number) (pos n)) (map (due_row a) (filter (has_due a) rs)))) (same_number x.number n ∙ same)
         ∙ more
     go false true is same more = more
     go true false is same more =
-        ap (λ c. cond (not c) (due_row a x ∷ delete_where (λ (d : Due). int_eq (pos d.number) (pos n)) (map (due_row a) (filter (has_due a) rs))) (delete_where (λ (d : Due). int_eq (pos d.number) (pos n)) (map (due_row a) (filter (has_due a) rs)))) (same_number x.number n ∙ same)
-        ∙ ap (λ l. due_row a x ∷ l) more ∙ sym (ap (λ c. map (due_row a) (cond c (x ∷ filter (has_due a) (gone n rs)) (filter (has_due a) (gone n rs)))) is)
-    go false false is same more = more ∙ sym (ap (λ c. map (due_row a) (cond c (x ∷ filter (has_due a) (gone n rs)) (filter (has_due a) (gone n rs)))) is)
+        ap (λ c. cond (not c) (due_row a x ∷ delete_where (λ (d : Due).
+        int_eq (pos d.number) (pos n)) (map (due_row a) (filter (has_due a) rs))) (delete_where (λ (d : Due).
+        int_eq (pos d.number) (pos n)) (map (due_row a) (filter (has_due a) rs)))) (same_number x.number n ∙ same)
+        ∙ ap (λ l. due_row a x ∷ l) more
+        ∙ sym (ap (λ c. map (due_row a)
+        (cond c (x ∷ filter (has_due a) (gone n rs)) (filter (has_due a) (gone n rs)))) is)
+    go false false is same more = more
+        ∙ sym (ap (λ c. map (due_row a) (cond c (x ∷ filter (has_due a) (gone n rs)) (filter (has_due a) (gone n rs))))
+        is)
 
 -- the message that is removed, if any, is the record's, and no other live record has it
 abbrev pub Goes : Archive → Record → Option ℕ → Type 0
@@ -365,10 +445,13 @@ records_without : (n : ℕ) (rs : List Record) → update_where (λ (r : Record)
 records_without n [] = refl
 records_without n (x ∷ rs) = λ i. gone_if (same_number x.number n i) x ∷ records_without n rs i
 
-messages_less : (m : ℕ) (ms : List Message) → delete_where (λ (x : Message). int_eq (pos x.number) (pos m)) ms ≡ delete_where (λ (x : Message). x.number == m) ms
-messages_less m ms = filter_same (λ (x : Message). not (int_eq (pos x.number) (pos m))) (λ (x : Message). not (x.number == m)) (λ x. ap not (same_number x.number m)) ms
+messages_less : (m : ℕ) (ms : List Message) → delete_where (λ (x : Message). int_eq (pos x.number) (pos m)) ms
+    ≡ delete_where (λ (x : Message). x.number == m) ms
+messages_less m ms = filter_same (λ (x : Message). not (int_eq (pos x.number) (pos m))) (λ (x : Message).
+    not (x.number == m)) (λ x. ap not (same_number x.number m)) ms
 
-pub stores_destroyed : (a : Archive) (r : Record) (last : Option ℕ) → Goes a r last → (was db : Database) → StoresArchive was a → IsDestruction r.number last was db → StoresArchive db (without a r)
+pub stores_destroyed : (a : Archive) (r : Record) (last : Option ℕ) → Goes a r last → (was db : Database)
+    → StoresArchive was a → IsDestruction r.number last was db → StoresArchive db (without a r)
 stores_destroyed a r None goes was db s turns =
     let made = turns.stored s.tables s.stored s.keyed tt in
     record {
@@ -377,7 +460,8 @@ stores_destroyed a r None goes was db s turns =
       keyed = made.1;
       keeps = record {
         messages = s.keeps.messages ∙ sym (ap (λ b. cond b a.messages (delete_where (λ (m : Message). m.number == r.message) a.messages)) goes);
-        records = ap (update_where (λ (x : Record). int_eq (pos x.number) (pos r.number)) tables.destruction_of) s.keeps.records ∙ records_without r.number a.records;
+        records = ap (update_where (λ (x : Record). int_eq (pos x.number) (pos r.number)) tables.destruction_of)
+            s.keeps.records ∙ records_without r.number a.records;
         holds = s.keeps.holds;
         settings = s.keeps.settings;
         classes = s.keeps.classes;
@@ -392,9 +476,11 @@ stores_destroyed a r (Some m) goes was db s turns =
       stored = made.0;
       keyed = made.1;
       keeps = record {
-        messages = ap (delete_where (λ (x : Message). int_eq (pos x.number) (pos m))) s.keeps.messages ∙ messages_less m a.messages ∙ ap (λ k. delete_where (λ (x : Message). x.number == k) a.messages) goes.0
+        messages = ap (delete_where (λ (x : Message). int_eq (pos x.number) (pos m))) s.keeps.messages
+            ∙ messages_less m a.messages ∙ ap (λ k. delete_where (λ (x : Message). x.number == k) a.messages) goes.0
             ∙ sym (ap (λ b. cond b a.messages (delete_where (λ (x : Message). x.number == r.message) a.messages)) goes.1);
-        records = ap (update_where (λ (x : Record). int_eq (pos x.number) (pos r.number)) tables.destruction_of) s.keeps.records ∙ records_without r.number a.records;
+        records = ap (update_where (λ (x : Record). int_eq (pos x.number) (pos r.number)) tables.destruction_of)
+            s.keeps.records ∙ records_without r.number a.records;
         holds = s.keeps.holds;
         settings = s.keeps.settings;
         classes = s.keeps.classes;
@@ -405,23 +491,32 @@ stores_destroyed a r (Some m) goes was db s turns =
 
 -- ---- the judge
 
-pub refused_held : (a : Archive) (n : ℕ) (day : Option ℕ) (r : Record) → record_at a n ≡ Some r → r.destroyed ≡ false → is_held a n ≡ true → destroy_by a n day (record_at a n) ≡ Err fault.Held
+pub refused_held : (a : Archive) (n : ℕ) (day : Option ℕ) (r : Record) → record_at a n ≡ Some r → r.destroyed ≡ false
+    → is_held a n ≡ true → destroy_by a n day (record_at a n) ≡ Err fault.Held
 refused_held a n day r at live held = rw (at, live, held) refl
 
-pub refused_by_plan : (a : Archive) (n : ℕ) (day : Option ℕ) (r : Record) (f : ArchiveRefusal) → record_at a n ≡ Some r → r.destroyed ≡ false → is_held a n ≡ false → against_destruction a.plan day r ≡ Some f → destroy_by a n day (record_at a n) ≡ Err f
-refused_by_plan a n day r f at live free e = rw (at, live, free) (go (destroys (schedule_at a.plan r.path)) (is_by_any day (due_on a.plan r.path r.day)) e)
+pub refused_by_plan : (a : Archive) (n : ℕ) (day : Option ℕ) (r : Record) (f : ArchiveRefusal) → record_at a n ≡ Some r
+    → r.destroyed ≡ false → is_held a n ≡ false → against_destruction a.plan day r ≡ Some f
+    → destroy_by a n day (record_at a n) ≡ Err f
+refused_by_plan a n day r f at live free e =
+    rw (at, live, free) (go (destroys (schedule_at a.plan r.path)) (is_by_any day (due_on a.plan r.path r.day)) e)
   where
     go : (x y : Bool) → ◌≡◌ {A = Option ArchiveRefusal} (cond (not x) (Some fault.NotForDestruction) (cond (not y) (Some fault.NotDue) None)) (Some f)
-        → ◌≡◌ {A = Result Archive ArchiveRefusal} (cond (not x) (Err fault.NotForDestruction) (cond (not y) (Err fault.NotDue) (Ok (without a r)))) (Err f)
+        → ◌≡◌ {A = Result Archive ArchiveRefusal}
+        (cond (not x) (Err fault.NotForDestruction) (cond (not y) (Err fault.NotDue) (Ok (without a r)))) (Err f)
     go false y e = let s : fault.NotForDestruction ≡ f = cc in ap (λ x. Err x) s
     go true false e = let s : fault.NotDue ≡ f = cc in ap (λ x. Err x) s
     go true true e = absurd cc
 
-pub may_go : (a : Archive) (n : ℕ) (day : Option ℕ) (r : Record) → record_at a n ≡ Some r → r.destroyed ≡ false → is_held a n ≡ false → against_destruction a.plan day r ≡ None → destroy_by a n day (record_at a n) ≡ Ok (without a r)
+pub may_go : (a : Archive) (n : ℕ) (day : Option ℕ) (r : Record) → record_at a n ≡ Some r → r.destroyed ≡ false
+    → is_held a n ≡ false → against_destruction a.plan day r ≡ None
+    → destroy_by a n day (record_at a n) ≡ Ok (without a r)
 may_go a n day r at live free e = rw (at, live, free) (go (destroys (schedule_at a.plan r.path)) (is_by_any day (due_on a.plan r.path r.day)) e)
   where
     go : (x y : Bool) → ◌≡◌ {A = Option ArchiveRefusal} (cond (not x) (Some fault.NotForDestruction) (cond (not y) (Some fault.NotDue) None)) None
-        → ◌≡◌ {A = Result Archive ArchiveRefusal} (cond (not x) (Err fault.NotForDestruction) (cond (not y) (Err fault.NotDue) (Ok (without a r)))) (Ok (without a r))
+        → ◌≡◌ {A = Result Archive ArchiveRefusal}
+        (cond (not x) (Err fault.NotForDestruction) (cond (not y) (Err fault.NotDue) (Ok (without a r))))
+        (Ok (without a r))
     go false y e = absurd cc
     go true false e = absurd cc
     go true true e = refl
@@ -432,11 +527,13 @@ pub destroyed_archive : (a : Archive) (n : ℕ) (r : Record) → IsArchive a →
 destroyed_archive a n r is free = destroyed_is_archive a r is (free_itself a n r free)
 
 -- the message is removed where the store counts no further live record of it
-goes : (a : Archive) (r : Record) (k : ℕ) (last : Option ℕ) → IsArchive a → IsFree a r.number r → k ≡ live_count a r.message - 1 → MatchOption last (0 < k) (λ m. (m ≡ r.message) × (k ≡ 0)) → Goes a r last
+goes : (a : Archive) (r : Record) (k : ℕ) (last : Option ℕ) → IsArchive a → IsFree a r.number r
+    → k ≡ live_count a r.message - 1 → MatchOption last (0 < k) (λ m. (m ≡ r.message) × (k ≡ 0)) → Goes a r last
 goes a r k None is free counted some = is_kept a r k is free counted some
 goes a r k (Some m) is free counted none = (none.0, is_last a r k is free counted none.1)
 
-pub keeps_destroyed : {S : Type 0} (g : Ghosts S) (old : Store S) (a : Archive) → StandsFor g old a → (n : ℕ) (r : Record) (last : Option ℕ) → IsFree a n r
+pub keeps_destroyed : {S : Type 0} (g : Ghosts S) (old : Store S) (a : Archive) → StandsFor g old a
+    → (n : ℕ) (r : Record) (last : Option ℕ) → IsFree a n r
     → MatchOption last (0 < count_at old.others r.message) (λ m. (m ≡ r.message) × (count_at old.others r.message ≡ 0))
     → (was db : Database) → StoresArchive was a → IsDestruction n last was db → StoresArchive db (without a r)
 keeps_destroyed g old a s n r last free counted was db kept turns =

@@ -1,5 +1,7 @@
 -- The due day of a capture day is one of 1970 to 9999.
-use Rattle.std.proofs.Common.{◌≡◌, ℕ, zero, suc, ◌+◌, ◌-◌, ◌*◌, ◌/◌, ◌%◌, ◌<◌, ◌≤◌, inl, inr, min, nat_lt, true, false, refl, arith, ℤ, pos, negsuc, ◌≤ℤ◌, ◌<ℤ◌, unsigned_abs, List, Option, Some, None, option_and_then, unwrap_or}
+use Rattle.std.proofs.Common.{◌≡◌, ℕ, zero, suc, ◌+◌, ◌-◌, ◌*◌, ◌/◌, ◌%◌, ◌<◌, ◌≤◌, inl, inr, min, nat_lt, true, false}
+use Rattle.std.proofs.Common.{refl, arith, ℤ, pos, negsuc, ◌≤ℤ◌, ◌<ℤ◌, unsigned_abs, List, Option, Some, None}
+use Rattle.std.proofs.Common.{option_and_then, unwrap_or}
 use Rattle.std.proofs.lemmas.Bool.{cases_Bool}
 use Rattle.std.proofs.lemmas.Bool.Decides.{nat_tests}
 use Rattle.jiff.specs.Words.{epoch_day, days_in_month, days_in_year}
@@ -38,14 +40,18 @@ in_year_rough (suc k) y m n one few = elim (cases_Bool (nat_lt n (days_in_month 
 ]
 
 from_year_rough : (k y n : ℕ) → IsRough (from_year k y n) y (y + n / 365)
-from_year_rough zero y n = wider (in_year 11 y 1 n) y y y (y + n / 365) (omega arith) (omega arith) (in_year_rough 11 y 1 n (omega arith) (omega arith))
+from_year_rough zero y n =
+    wider (in_year 11 y 1 n) y y y (y + n / 365) (omega arith) (omega arith)
+    (in_year_rough 11 y 1 n (omega arith) (omega arith))
 from_year_rough (suc k) y n = elim (cases_Bool (nat_lt n (days_in_year (pos y)))) [
   | inl here ↦ rw here (wider (in_year 11 y 1 n) y y y (y + n / 365) (omega arith) (omega arith) (in_year_rough 11 y 1 n (omega arith) (omega arith)))
   | inr later ↦
       let whole : days_in_year (pos y) ≤ n = grind (arith, nat_tests) in
       let year = days_in_year_bounds (pos y) in
       let fewer : y + 1 + (n - days_in_year (pos y)) / 365 ≤ y + n / 365 = omega (arith, whole, year.1) in
-      rw later (wider (from_year k (y + 1) (n - days_in_year (pos y))) (y + 1) (y + 1 + (n - days_in_year (pos y)) / 365) y (y + n / 365) (omega arith) fewer (from_year_rough k (y + 1) (n - days_in_year (pos y))))
+      rw later (wider (from_year k (y + 1) (n - days_in_year (pos y))) (y + 1)
+      (y + 1 + (n - days_in_year (pos y)) / 365) y (y + n / 365) (omega arith) fewer
+      (from_year_rough k (y + 1) (n - days_in_year (pos y))))
 ]
 
 civil_rough : (n : ℕ) → IsRough (civil n) 1970 (1970 + n / 365)
@@ -58,9 +64,18 @@ abs_upto (pos m) n low high = omega (arith, signed_arith, high)
 abs_upto (negsuc m) n low high = absurd (omega (arith, signed_arith, low))
 
 abbrev date_of : (y m d : ℕ) → 1970 ≤ y → y ≤ 9999 → (1 ≤ m) × (m ≤ 12) → (1 ≤ d) × (d ≤ days_in_month (pos y) m) → Date
-date_of y m d low high month day = record { year = pos y; month = m; day = d; year_in = (omega (arith, signed_arith), omega (arith, signed_arith)); month_in = month; day_in = day }
+date_of y m d low high month day =
+    record {
+      year = pos y;
+      month = m;
+      day = d;
+      year_in = (omega (arith, signed_arith), omega (arith, signed_arith));
+      month_in = month;
+      day_in = day;
+    }
 
-number_small : (y m d : ℕ) → 1970 ≤ y → y ≤ 9999 → (1 ≤ m) × (m ≤ 12) → (1 ≤ d) × (d ≤ days_in_month (pos y) m) → number_of (record { year = y; month = m; day = d }) ≤ 2932896
+number_small : (y m d : ℕ) → 1970 ≤ y → y ≤ 9999 → (1 ≤ m) × (m ≤ 12) → (1 ≤ d) × (d ≤ days_in_month (pos y) m)
+    → number_of (record { year = y; month = m; day = d }) ≤ 2932896
 number_small y m d low high month day =
     let e = date_of y m d low high month day in
     abs_upto (epoch_day e) 2932896 (from_zero e (omega (arith, signed_arith))) (epoch_day_range e).1
@@ -68,7 +83,8 @@ number_small y m d low high month day =
 day_count-4000 : day_count (pos 4000) 1 1 ≡ 5_113_395
 day_count-4000 = day_count-early (pos 4000) 13999 1 1 refl (omega arith) (omega arith) (omega arith)
 
-number_before_4000 : (y m d : ℕ) → 1970 ≤ y → y ≤ 3999 → (1 ≤ m) × (m ≤ 12) → (1 ≤ d) × (d ≤ days_in_month (pos y) m) → number_of (record { year = y; month = m; day = d }) ≤ 741441
+number_before_4000 : (y m d : ℕ) → 1970 ≤ y → y ≤ 3999 → (1 ≤ m) × (m ≤ 12) → (1 ≤ d) × (d ≤ days_in_month (pos y) m)
+    → number_of (record { year = y; month = m; day = d }) ≤ 741441
 number_before_4000 y m d low high month day =
     let e = date_of y m d low (omega arith) month day in
     let below = day_count-lt_year (pos y) m d (pos 4000) 1 1 (date_civil e) (omega arith) (omega (arith, signed_arith)) in

@@ -1,5 +1,8 @@
 -- The due list is that of the stored due days, in their order.
-use Rattle.std.proofs.Common.{◌≡◌, ◌<◌, ◌≤◌, ◌+◌, ◌^◌, ◌==◌, ℕ, zero, suc, pos, Bool, true, false, not, ◌&&◌, ◌||◌, cond, List, [], ◌∷◌, ◌++◌, length, map, filter, flat_map, Option, Some, None, is_some, option_map, unwrap_or, refl, sym, ap, ap₂, subst, append_assoc, ◌∙◌, arith, Ordering, Less, Equal, Greater, is_gt, is_eq, int_cmp, int_eq, int_le, nat_le, nat_cmp, true≢false}
+use Rattle.std.proofs.Common.{◌≡◌, ◌<◌, ◌≤◌, ◌+◌, ◌^◌, ◌==◌, ℕ, zero, suc, pos, Bool, true, false, not, ◌&&◌, ◌||◌}
+use Rattle.std.proofs.Common.{cond, List, [], ◌∷◌, ◌++◌, length, map, filter, flat_map, Option, Some, None, is_some}
+use Rattle.std.proofs.Common.{option_map, unwrap_or, refl, sym, ap, ap₂, subst, append_assoc, ◌∙◌, arith, Ordering}
+use Rattle.std.proofs.Common.{Less, Equal, Greater, is_gt, is_eq, int_cmp, int_eq, int_le, nat_le, nat_cmp, true≢false}
 use Rattle.std.proofs.lemmas.List.{map-append}
 use Rattle.record_adoption.specs.Counts.{tally}
 use Rattle.std.specs.List.{AllByRecursion, list_any}
@@ -12,10 +15,13 @@ use Rattle.sqlite_trees.specs.Tree.{IsAscending}
 use Rattle.sqlite_keyed.specs.Lists.{sort_by, insert_sorted}
 use Rattle.sqlite_keyed.proofs.KeyedLemmas.{Less-from_lt}
 use Rattle.sqlite_typed.proofs.AnswerLemmas.{no_tie, no_tie_after}
-use Rattle.sqlite_keyed.proofs.ListLemmas.{all_both, all_weaker, all_map, all-filter, all-map, all-flat_map, ascending-filter, ascending_weaker, filter-map, filter_none, filter_same, flat_map-map, map-map}
+use Rattle.sqlite_keyed.proofs.ListLemmas.{all_both, all_weaker, all_map, all-filter, all-map, all-flat_map}
+use Rattle.sqlite_keyed.proofs.ListLemmas.{ascending-filter, ascending_weaker, filter-map, filter_none, filter_same}
+use Rattle.sqlite_keyed.proofs.ListLemmas.{flat_map-map, map-map}
 use Rattle.sqlite_keyed.proofs.SortLemmas.{sort_by-map}
 use Rattle.sqlite.specs.Effect.{Database}
-use Rattle.record_archive.specs.Archive.{Record, Line, Archive, Hold, IsArchive, IsRecord, line_of, due_of, is_due, is_by, is_live, is_held, line_cmp, due_list}
+use Rattle.record_archive.specs.Archive.{Record, Line, Archive, Hold, IsArchive, IsRecord, line_of, due_of, is_due}
+use Rattle.record_archive.specs.Archive.{is_by, is_live, is_held, line_cmp, due_list}
 use Rattle.record_tables.specs.Rows.{Due}
 use Rattle.record_tables.specs.Reads as reads
 use Rattle.record_reads.specs.DueRecords.{DueRecord, FitsDueRecord, FitsDueRecordsBy, due_record, is_of, with_records}
@@ -28,7 +34,9 @@ filter-twice : {X : Type 0} (p q : X → Bool) (xs : List X) → filter p (filte
 filter-twice p q [] = refl
 filter-twice p q (x ∷ xs) = go (q x) (filter-twice p q xs)
   where
-    go : (b : Bool) → filter p (filter q xs) ≡ filter (λ x. q x && p x) xs → filter p (cond b (x ∷ filter q xs) (filter q xs)) ≡ cond (b && p x) (x ∷ filter (λ x. q x && p x) xs) (filter (λ x. q x && p x) xs)
+    go : (b : Bool) → filter p (filter q xs) ≡ filter (λ x. q x && p x) xs
+        → filter p (cond b (x ∷ filter q xs) (filter q xs))
+        ≡ cond (b && p x) (x ∷ filter (λ x. q x && p x) xs) (filter (λ x. q x && p x) xs)
     go true more = ap (λ l. cond (p x) (x ∷ l) l) more
     go false more = more
 
@@ -70,13 +78,21 @@ other_key_below : (m n : ℕ) → n < m → int_eq (pos m) (pos n) ≡ false
 other_key_below m n h = grind (arith, ints)
 
 -- each record is the one that has its number
-alone_itself : (xs : List Record) → IsAscending (λ (x y : Record). x.number < y.number) xs → AllByRecursion (λ (r : Record). filter (λ (x : Record). int_eq (pos x.number) (pos r.number)) xs ≡ r ∷ []) xs
+alone_itself : (xs : List Record) → IsAscending (λ (x y : Record). x.number < y.number) xs
+    → AllByRecursion (λ (r : Record). filter (λ (x : Record). int_eq (pos x.number) (pos r.number)) xs ≡ r ∷ []) xs
 alone_itself [] up = tt
 alone_itself (x ∷ xs) up = (
-  ap (λ b. cond b (x ∷ filter (λ (y : Record). int_eq (pos y.number) (pos x.number)) xs) (filter (λ (y : Record). int_eq (pos y.number) (pos x.number)) xs)) (same_key x.number)
-      ∙ ap (λ l. x ∷ l) (filter_none (λ (y : Record). int_eq (pos y.number) (pos x.number)) xs (all_weaker _ (λ (y : Record). int_eq (pos y.number) (pos x.number) ≡ false) (λ y low. other_key_below y.number x.number low) xs up.0)),
-  all_both _ (λ (r : Record). filter (λ (y : Record). int_eq (pos y.number) (pos r.number)) xs ≡ r ∷ []) (λ (r : Record). filter (λ (y : Record). int_eq (pos y.number) (pos r.number)) (x ∷ xs) ≡ r ∷ [])
-      (λ r low h. ap (λ b. cond b (x ∷ filter (λ (y : Record). int_eq (pos y.number) (pos r.number)) xs) (filter (λ (y : Record). int_eq (pos y.number) (pos r.number)) xs)) (other_key x.number r.number low) ∙ h) xs up.0 (alone_itself xs up.1),
+  ap (λ b. cond b (x ∷ filter (λ (y : Record). int_eq (pos y.number) (pos x.number)) xs) (filter (λ (y : Record).
+      int_eq (pos y.number) (pos x.number)) xs)) (same_key x.number)
+      ∙ ap (λ l. x ∷ l) (filter_none (λ (y : Record).
+      int_eq (pos y.number) (pos x.number)) xs (all_weaker _ (λ (y : Record). int_eq (pos y.number) (pos x.number)
+      ≡ false) (λ y low. other_key_below y.number x.number low) xs up.0)),
+  all_both _ (λ (r : Record). filter (λ (y : Record). int_eq (pos y.number) (pos r.number)) xs ≡ r
+      ∷ []) (λ (r : Record). filter (λ (y : Record). int_eq (pos y.number) (pos r.number)) (x ∷ xs) ≡ r ∷ [])
+      (λ r low h. ap (λ b.
+      cond b (x ∷ filter (λ (y : Record). int_eq (pos y.number) (pos r.number)) xs) (filter (λ (y : Record).
+      int_eq (pos y.number) (pos r.number)) xs)) (other_key x.number r.number low)
+      ∙ h) xs up.0 (alone_itself xs up.1),
 )
 
 -- a list for each element, where each list has one element
@@ -85,7 +101,9 @@ flat_map_ones f g [] h = refl
 flat_map_ones f g (x ∷ xs) h = ap₂ ◌++◌ h.0 (flat_map_ones f g xs h.1)
 
 -- the tests of the stored rows are those of the due list
-tests_are : (live held : Bool) (o : Option ℕ) (day : ℕ) → (((live && is_some o) && int_le (pos (unwrap_or o 0)) (pos day)) && not held) ≡ (live && (not held && is_by day o))
+tests_are : (live held : Bool) (o : Option ℕ) (day : ℕ)
+    → (((live && is_some o) && int_le (pos (unwrap_or o 0)) (pos day)) && not held)
+    ≡ (live && (not held && is_by day o))
 tests_are false held o day = refl
 tests_are true true None day = refl
 tests_are true false None day = refl
@@ -120,21 +138,34 @@ due_list_is a is day =
     let first : filter (reads.is_by day) (due_rows a) ≡ map D X1 = filter-map (reads.is_by day) D (filter (has_due a) R) in
     let second : sort_by reads.due_cmp (map D X1) ≡ map D (sort_by c X1) = sort_by-map reads.due_cmp D X1 in
     let own : AllByRecursion (λ r. map (due_record (D r)) (filter (is_of (D r)) R) ≡ E r ∷ []) (sort_by c X1) =
-    all-sort c total _ X1 (all-filter _ by _ (all-filter _ (has_due a) R (all_weaker _ (λ r. map (due_record (D r)) (filter (is_of (D r)) R) ≡ E r ∷ []) (λ r alone. ap (map (due_record (D r))) alone) R (alone_itself R is.in_order)))) in
-    let third : with_records R (map D (sort_by c X1)) ≡ map E (sort_by c X1) = flat_map-map _ D (sort_by c X1) ∙ flat_map_ones _ E (sort_by c X1) own in
+    all-sort c total _ X1
+    (all-filter _ by _ (all-filter _ (has_due a) R (all_weaker _ (λ r.
+    map (due_record (D r)) (filter (is_of (D r)) R) ≡ E r ∷ []) (λ r alone.
+    ap (map (due_record (D r))) alone) R (alone_itself R is.in_order)))) in
+    let third : with_records R (map D (sort_by c X1)) ≡ map E (sort_by c X1) = flat_map-map _ D (sort_by c X1)
+    ∙ flat_map_ones _ E (sort_by c X1) own in
     let apart : IsUntied c total X1 =
-    ascending_weaker _ (λ (x y : Record). is_eq (c x y) ≡ false) (λ x y low. (no_tie_after (int_cmp (pos (D x).day) (pos (D y).day)) (no_tie (Less-from_lt (pos x.number) (pos y.number) (grind (arith, ints, low))))).apart)
+    ascending_weaker _ (λ (x y : Record). is_eq (c x y) ≡ false) (λ x y low.
+    (no_tie_after (int_cmp (pos (D x).day) (pos (D y).day))
+    (no_tie (Less-from_lt (pos x.number) (pos y.number) (grind (arith, ints, low))))).apart)
     X1 (ascending-filter _ by _ (ascending-filter _ (has_due a) R is.in_order)) in
     let fourth : filter free (sort_by c X1) ≡ sort_by c (filter free X1) = filter-sort_by c total free X1 apart in
     let all : filter free X1 ≡ filter (is_due a day) R =
     ap (filter free) (filter-twice by (has_due a) R) ∙ filter-twice free (λ r. has_due a r && by r) R
     ∙ filter_same _ (is_due a day) (λ r. tests_are (is_live r) (is_held a r.number) (due_of a r) day) R in
     let Z = filter (is_due a day) R in
-    let order : c ≡ (λ r s. line_cmp (line_of a r) (line_of a s)) = λ i r s. ordering_then (int_cmp (day_is (due_of a r) i) (day_is (due_of a s) i)) (cmp_is r.number s.number i) in
+    let order : c ≡ (λ r s. line_cmp (line_of a r) (line_of a s)) = λ i r s.
+    ordering_then (int_cmp (day_is (due_of a r) i) (day_is (due_of a s) i)) (cmp_is r.number s.number i) in
     let lines : AllByRecursion (λ r. due_line (E r) ≡ line_of a r) (sort_by c Z) =
     all-sort c total (λ r. due_line (E r) ≡ line_of a r) Z
     (all_found (λ r. due_line (E r) ≡ line_of a r) (is_due a day) R
-    (λ r due. λ i. record { number = r.number; path = r.path; due = option_map pos (there_is (is_live r) (is_held a r.number) (due_of a r) day due i) })) in
+    (λ r due. λ i.
+    record {
+      number = r.number;
+      path = r.path;
+      due =
+          option_map pos (there_is (is_live r) (is_held a r.number) (due_of a r) day due i);
+    })) in
     ap (λ l. map due_line (filter (λ d. not (is_held a d.number)) (with_records R (sort_by reads.due_cmp l)))) first
     ∙ ap (λ l. map due_line (filter (λ d. not (is_held a d.number)) (with_records R l))) second
     ∙ ap (λ l. map due_line (filter (λ d. not (is_held a d.number)) l)) third
@@ -154,14 +185,19 @@ dues_small : (a : Archive) → IsArchive a → AllByRecursion IsSmall (due_rows 
 dues_small a is =
     all_map IsSmall (due_row a) (filter (has_due a) a.records)
     (all-filter (λ (r : Record). IsSmall (due_row a r)) (has_due a) a.records
-    (all_weaker (IsRecord a) (λ (r : Record). IsSmall (due_row a r)) (λ r h. (h.number.1, due_small a.plan r.path r.day is.plan h.day)) a.records (recursion_from_All (IsRecord a) a.records is.records)))
+    (all_weaker (IsRecord a) (λ (r : Record). IsSmall (due_row a r)) (λ r h.
+    (h.number.1, due_small a.plan r.path r.day is.plan h.day)) a.records
+    (recursion_from_All (IsRecord a) a.records is.records)))
 
 module _ (P : DueRecord → Type 0) (from : (d : Due) (r : Record) → IsSmall d → P (due_record d r)) where
-  all_joined : (rs : List Record) (day : ℕ) (ds : List Due) → AllByRecursion IsSmall ds → AllByRecursion P (with_records rs (sort_by reads.due_cmp (filter (reads.is_by day) ds)))
+  all_joined : (rs : List Record) (day : ℕ) (ds : List Due) → AllByRecursion IsSmall ds
+      → AllByRecursion P (with_records rs (sort_by reads.due_cmp (filter (reads.is_by day) ds)))
   all_joined rs day ds small =
       all-flat_map P _ (sort_by reads.due_cmp (filter (reads.is_by day) ds))
       (all-sort reads.due_cmp due_cmp_total (λ (d : Due). AllByRecursion P (map (due_record d) (filter (is_of d) rs))) _
-      (all_weaker IsSmall (λ (d : Due). AllByRecursion P (map (due_record d) (filter (is_of d) rs))) (λ d h. all-map P (due_record d) (λ r. from d r h) (filter (is_of d) rs)) _ (all-filter IsSmall (reads.is_by day) ds small)))
+      (all_weaker IsSmall (λ (d : Due). AllByRecursion P (map (due_record d) (filter (is_of d) rs))) (λ d h.
+      all-map P (due_record d) (λ r. from d r h) (filter (is_of d) rs)) _
+      (all-filter IsSmall (reads.is_by day) ds small)))
 
 -- the due records of an archive's tables can be read
 pub due_records_fit : (a : Archive) (db : Database) (s : StoresArchive db a) (day : ℕ) → IsArchive a → FitsDueRecordsBy day s.tables
@@ -196,10 +232,15 @@ positive k = grind arith
 
 -- the store's counts decide which records are held
 unheld_is : (a : Archive) (n k : ℕ) → k ≡ hold_count a n → (k == 0) ≡ not (is_held a n)
-unheld_is a n zero is = sym (ap not (free_if (λ (h : Hold). h.number == n) a.holds (let count : 0 ≡ tally (λ (h : Hold). h.number == n) a.holds = is in omega (arith, count))))
-unheld_is a n (suc k) is = positive k ∙ sym (ap not (held_if (λ (h : Hold). h.number == n) a.holds (let count : suc k ≡ tally (λ (h : Hold). h.number == n) a.holds = is in omega (arith, count))))
+unheld_is a n zero is =
+    sym (ap not (free_if (λ (h : Hold). h.number == n) a.holds (let count : 0
+    ≡ tally (λ (h : Hold). h.number == n) a.holds = is in omega (arith, count))))
+unheld_is a n (suc k) is = positive k
+    ∙ sym (ap not (held_if (λ (h : Hold). h.number == n) a.holds (let count : suc k
+    ≡ tally (λ (h : Hold). h.number == n) a.holds = is in omega (arith, count))))
 
-pub unheld_are : (a : Archive) (counts : ℕ → ℕ) → ((n : ℕ) → counts n ≡ hold_count a n) → (ds : List DueRecord) → filter (λ d. counts d.number == 0) ds ≡ filter (λ d. not (is_held a d.number)) ds
+pub unheld_are : (a : Archive) (counts : ℕ → ℕ) → ((n : ℕ) → counts n ≡ hold_count a n) → (ds : List DueRecord)
+    → filter (λ d. counts d.number == 0) ds ≡ filter (λ d. not (is_held a d.number)) ds
 unheld_are a counts are = filter_same _ _ (λ d. unheld_is a d.number (counts d.number) (are d.number))
 
 -- ---- one due record after another

@@ -1,5 +1,8 @@
 -- The entries of a page are those of the archive.
-use Rattle.std.proofs.Common.{◌≡◌, ◌<◌, ◌≤◌, ◌+◌, ◌-◌, ◌^◌, ◌==◌, ℕ, zero, suc, pos, Bool, true, false, not, ◌&&◌, ◌||◌, cond, List, [], ◌∷◌, length, map, filter, take, drop, slice_get, nat_le, nat_lt, Option, Some, None, int_cmp, int_le, nat_cmp, Ordering, Less, Equal, Greater, is_gt, refl, sym, ap, ap₂, subst, ◌∙◌, arith, min, true≢false}
+use Rattle.std.proofs.Common.{◌≡◌, ◌<◌, ◌≤◌, ◌+◌, ◌-◌, ◌^◌, ◌==◌, ℕ, zero, suc, pos, Bool, true, false, not, ◌&&◌, ◌||◌}
+use Rattle.std.proofs.Common.{cond, List, [], ◌∷◌, length, map, filter, take, drop, slice_get, nat_le, nat_lt, Option}
+use Rattle.std.proofs.Common.{Some, None, int_cmp, int_le, nat_cmp, Ordering, Less, Equal, Greater, is_gt, refl, sym}
+use Rattle.std.proofs.Common.{ap, ap₂, subst, ◌∙◌, arith, min, true≢false}
 use Rattle.std.specs.List.{AllByRecursion, All, list_any}
 use Rattle.std.specs.Cmp.{IsTotalOrder}
 use Rattle.std.specs.Cmp.Lexicographic.{slice_cmp}
@@ -12,7 +15,8 @@ use Rattle.std.proofs.lemmas.List.Elements.{All-from_recursion, recursion_from_A
 use Rattle.std.proofs.lemmas.List.Sorted.{IsPermutation-sym, All-permutation}
 use Rattle.sqlite_trees.specs.Tree.{IsAscending}
 use Rattle.sqlite_keyed.specs.Lists.{sort_by, insert_sorted}
-use Rattle.sqlite_keyed.proofs.ListLemmas.{all_weaker, all-filter, all_map, ascending-filter, ascending_weaker, filter_all, filter_none, filter-filter, filter-map, map-map, none_from_any}
+use Rattle.sqlite_keyed.proofs.ListLemmas.{all_weaker, all-filter, all_map, ascending-filter, ascending_weaker}
+use Rattle.sqlite_keyed.proofs.ListLemmas.{filter_all, filter_none, filter-filter, filter-map, map-map, none_from_any}
 use Rattle.sqlite_keyed.proofs.SortLemmas.{sort_by-map}
 use Rattle.class_plan.specs.Plans.{Listing}
 use Rattle.record_archive.specs.Archive.{Record, Archive, Hold, IsArchive, IsRecord, is_live, has_number}
@@ -22,7 +26,8 @@ use Rattle.record_adoption.specs.Adoption.{named_hold, sorted_holds}
 use Rattle.record_adoption.specs.Keeping.{hold_count}
 use Rattle.record_adoption.proofs.AdoptHolds.{named_total, cmp_is, holds_apart, holds_rise, holds_permuted}
 use Rattle.record_adoption.proofs.Sorting.{all-sort, filter-sort_by}
-use Rattle.record_store.specs.Entries.{Entry, listed, entry_of, hold_names, records_from, entries_from, names_at_front, listed_beside, is_on_any, AreHoldsOf, IsPage}
+use Rattle.record_store.specs.Entries.{Entry, listed, entry_of, hold_names, records_from, entries_from, names_at_front}
+use Rattle.record_store.specs.Entries.{listed_beside, is_on_any, AreHoldsOf, IsPage}
 use Rattle.record_store.proofs.DueLemmas.{map_same_on, free_if}
 
 -- ---- lists

@@ -1,5 +1,6 @@
 -- Reads of a page, as looks at the archive's tables.
-use Rattle.std.proofs.Common.{◌≡◌, ℕ, pos, false, List, filter, take, length, map, nat_le, int_le, Some, None, slice_get, [], ◌∷◌, zero, suc, ◌-◌, ◌<◌, refl, ap, ◌∙◌, arith, IsTrue}
+use Rattle.std.proofs.Common.{◌≡◌, ℕ, pos, false, List, filter, take, length, map, nat_le, int_le, Some, None}
+use Rattle.std.proofs.Common.{slice_get, [], ◌∷◌, zero, suc, ◌-◌, ◌<◌, refl, ap, ◌∙◌, arith, IsTrue}
 use Rattle.std.proofs.lemmas.Int.{ints}
 use Rattle.sqlite.specs.Store.{Ghosts}
 use Rattle.sqlite.specs.State.{HasCleanDisk, Survives}

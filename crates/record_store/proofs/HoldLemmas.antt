@@ -1,5 +1,7 @@
 -- Holds that are placed and ended.
-use Rattle.std.proofs.Common.{◌≡◌, ◌+◌, ◌==◌, ℕ, Bool, true, false, not, cond, ◌&&◌, ◌||◌, List, [], ◌∷◌, ◌++◌, map, filter, find, Option, Some, None, Ok, Err, refl, sym, ap, subst, ◌∙◌, arith, true≢false, int_eq, pos, rules}
+use Rattle.std.proofs.Common.{◌≡◌, ◌+◌, ◌==◌, ℕ, Bool, true, false, not, cond, ◌&&◌, ◌||◌, List, [], ◌∷◌, ◌++◌, map}
+use Rattle.std.proofs.Common.{filter, find, Option, Some, None, Ok, Err, refl, sym, ap, subst, ◌∙◌, arith, true≢false}
+use Rattle.std.proofs.Common.{int_eq, pos, rules}
 use Rattle.std.specs.List.{AllByRecursion, list_any}
 use Rattle.std.specs.Str.{bytes_eq}
 use Rattle.std.proofs.lemmas.Map.Text.{is_eq-slice_cmp}
@@ -11,7 +13,8 @@ use Rattle.sqlite_trees.specs.Tree.{IsAscending}
 use Rattle.sqlite_keyed.specs.Lists.{delete_where}
 use Rattle.sqlite_keyed.proofs.ListLemmas.{filter-map, filter_same, ascending-filter, none_from_any}
 use Rattle.sqlite.specs.Effect.{Database}
-use Rattle.record_archive.specs.Archive.{Record, Archive, Hold, IsArchive, record_at, has_number, is_live, is_hold, is_held_by, hold, hold_one, release, release_one, with_hold, without_hold}
+use Rattle.record_archive.specs.Archive.{Record, Archive, Hold, IsArchive, record_at, has_number, is_live, is_hold}
+use Rattle.record_archive.specs.Archive.{is_held_by, hold, hold_one, release, release_one, with_hold, without_hold}
 use Rattle.record_tables.specs.Rows.{Hold as HoldRow}
 use Rattle.record_tables.specs.Changes as tables
 use Rattle.record_tables.specs.Changes.{Turns, Always}
@@ -38,7 +41,9 @@ any_found p q (y ∷ xs) x e h = go (p y) refl e (λ e. any_found p q xs x e h)
     or_true true b e = refl
     or_true false b e = e
 
-    go : (b : Bool) → p y ≡ b → cond b (Some y) (find p xs) ≡ Some x → (find p xs ≡ Some x → list_any (λ y. q y && p y) xs ≡ true) → ((q y && p y) || list_any (λ y. q y && p y) xs) ≡ true
+    go : (b : Bool) → p y ≡ b → cond b (Some y) (find p xs) ≡ Some x
+        → (find p xs ≡ Some x → list_any (λ y. q y && p y) xs ≡ true)
+        → ((q y && p y) || list_any (λ y. q y && p y) xs) ≡ true
     go true is e more = let same : y ≡ x = cc in let live : q y ≡ true = subst (λ z. q z ≡ true) (sym same) h in rw (live, is) refl
     go false is e more = or_true (q y && p y) _ (more e)
 
@@ -54,7 +59,9 @@ pub record MayHold (a : Archive) (name : List ℕ) (n : ℕ) : Type 0 where
 pub may_hold : (a : Archive) (name : List ℕ) (n : ℕ) → hold a name n ≡ Ok (with_hold a name n) → MayHold a name n
 may_hold a name n e = go (record_at a n) refl e
   where
-    at_last : (r : Record) → record_at a n ≡ Some r → (d h : Bool) → r.destroyed ≡ d → is_held_by a name n ≡ h → cond d (Err fault.Destroyed) (cond h (Err fault.HoldThere) (Ok (with_hold a name n))) ≡ Ok (with_hold a name n) → MayHold a name n
+    at_last : (r : Record) → record_at a n ≡ Some r → (d h : Bool) → r.destroyed ≡ d → is_held_by a name n ≡ h
+        → cond d (Err fault.Destroyed) (cond h (Err fault.HoldThere) (Ok (with_hold a name n)))
+        ≡ Ok (with_hold a name n) → MayHold a name n
     at_last r is false false live apart e = record { at = r; found = is; live = live; apart = apart }
     at_last r is true h live apart e = absurd cc
     at_last r is false true live apart e = absurd cc
@@ -63,7 +70,8 @@ may_hold a name n e = go (record_at a n) refl e
     go None is e = absurd cc
     go (Some r) is e = at_last r is r.destroyed (is_held_by a name n) refl refl e
 
-ascending-push : {X : Type 0} (R : X → X → Type 0) (xs : List X) (x : X) → IsAscending R xs → AllByRecursion (λ y. R y x) xs → IsAscending R (xs ++ x ∷ [])
+ascending-push : {X : Type 0} (R : X → X → Type 0) (xs : List X) (x : X) → IsAscending R xs
+    → AllByRecursion (λ y. R y x) xs → IsAscending R (xs ++ x ∷ [])
 ascending-push R [] x up all = (tt, tt)
 ascending-push R (y ∷ xs) x up all = (both y xs up.0 all.0, ascending-push R xs x up.1 all.1)
   where
@@ -93,16 +101,26 @@ held_is_archive a name n is e =
     let live : is_live may.at ≡ true = ap not may.live in
     record {
       plan = is.plan;
-      records = λ i d low. let r = is.records i d low in record { number = r.number; message = r.message; day = r.day; class = r.class; stored = r.stored };
+      records = λ i d low. let r = is.records i d low in record {
+        number = r.number;
+        message = r.message;
+        day = r.day;
+        class = r.class;
+        stored = r.stored;
+      };
       in_order = is.in_order;
       messages = is.messages;
       named = is.named;
-      held = All-push (λ (h : Hold). list_any (λ (r : Record). is_live r && has_number h.number r) a.records ≡ true) a.holds (record { name = name; number = n }) is.held (any_found (has_number n) is_live a.records may.at may.found live);
+      held = All-push (λ (h : Hold). list_any (λ (r : Record). is_live r && has_number h.number r) a.records
+          ≡ true) a.holds (record { name = name; number = n }) is.held
+          (any_found (has_number n) is_live a.records may.at may.found live);
       once = ascending-push (λ (x y : Hold). is_hold x.name x.number y ≡ false) a.holds (record { name = name; number = n }) is.once
-          (all_weaker (λ x. is_hold name n x ≡ false) (λ x. is_hold x.name x.number (record { name = name; number = n }) ≡ false) (other_way name n) a.holds (none_from_any (is_hold name n) a.holds may.apart));
+          (all_weaker (λ x. is_hold name n x ≡ false) (λ x. is_hold x.name x.number (record { name = name; number = n })
+          ≡ false) (other_way name n) a.holds (none_from_any (is_hold name n) a.holds may.apart));
     }
 
-pub stores_held : (name : List ℕ) (n : ℕ) (a : Archive) (was db : Database) → StoresArchive was a → Turns was db Always (tables.with_hold name n) → StoresArchive db (with_hold a name n)
+pub stores_held : (name : List ℕ) (n : ℕ) (a : Archive) (was db : Database) → StoresArchive was a
+    → Turns was db Always (tables.with_hold name n) → StoresArchive db (with_hold a name n)
 stores_held name n a was db s turns =
     let made = turns.stored s.tables s.stored s.keyed tt in
     record {
@@ -147,12 +165,14 @@ any-map p q f same (x ∷ xs) = λ i. same x i || any-map p q f same xs i
 
 -- the tables decide whether a hold is there
 pub hold_told : (name : List ℕ) (n : ℕ) (a : Archive) (db : Database) (s : StoresArchive db a) → has_hold_of name n s.tables ≡ is_held_by a name n
-hold_told name n a db s = any-map (is_hold name n) (tables.is_hold name n) hold_of (same_hold name n) s.tables.holds ∙ ap (list_any (is_hold name n)) s.keeps.holds
+hold_told name n a db s = any-map (is_hold name n) (tables.is_hold name n) hold_of (same_hold name n) s.tables.holds
+    ∙ ap (list_any (is_hold name n)) s.keeps.holds
 
 pub is_there : (a : Archive) (name : List ℕ) (n : ℕ) → release a name n ≡ Ok (without_hold a name n) → is_held_by a name n ≡ true
 is_there a name n e = go (record_at a n) e
   where
-    last : (h : Bool) → is_held_by a name n ≡ h → cond h (Ok (without_hold a name n)) (Err fault.NoHold) ≡ Ok (without_hold a name n) → is_held_by a name n ≡ true
+    last : (h : Bool) → is_held_by a name n ≡ h → cond h (Ok (without_hold a name n)) (Err fault.NoHold)
+        ≡ Ok (without_hold a name n) → is_held_by a name n ≡ true
     last true is e = is
     last false is e = absurd cc
 
@@ -163,15 +183,23 @@ is_there a name n e = go (record_at a n) e
 pub released_is_archive : (a : Archive) (name : List ℕ) (n : ℕ) → IsArchive a → IsArchive (without_hold a name n)
 released_is_archive a name n is = record {
   plan = is.plan;
-  records = λ i d low. let r = is.records i d low in record { number = r.number; message = r.message; day = r.day; class = r.class; stored = r.stored };
+  records = λ i d low. let r = is.records i d low in record {
+    number = r.number;
+    message = r.message;
+    day = r.day;
+    class = r.class;
+    stored = r.stored;
+  };
   in_order = is.in_order;
   messages = is.messages;
   named = is.named;
-  held = All-filter (λ (h : Hold). not (is_hold name n h)) (λ (h : Hold). list_any (λ (r : Record). is_live r && has_number h.number r) a.records ≡ true) a.holds is.held;
+  held = All-filter (λ (h : Hold). not (is_hold name n h)) (λ (h : Hold).
+      list_any (λ (r : Record). is_live r && has_number h.number r) a.records ≡ true) a.holds is.held;
   once = ascending-filter (λ (x y : Hold). is_hold x.name x.number y ≡ false) (λ (h : Hold). not (is_hold name n h)) a.holds is.once;
 }
 
-pub stores_released : (name : List ℕ) (n : ℕ) (a : Archive) (was db : Database) → StoresArchive was a → Turns was db Always (tables.without_hold name n) → StoresArchive db (without_hold a name n)
+pub stores_released : (name : List ℕ) (n : ℕ) (a : Archive) (was db : Database) → StoresArchive was a
+    → Turns was db Always (tables.without_hold name n) → StoresArchive db (without_hold a name n)
 stores_released name n a was db s turns =
     let made = turns.stored s.tables s.stored s.keyed tt in
     let gone : Hold → Bool = λ h. not (is_hold name n h) in
@@ -182,7 +210,8 @@ stores_released name n a was db s turns =
       keeps = record {
         messages = s.keeps.messages;
         records = s.keeps.records;
-        holds = ap (map hold_of) (filter_same (λ h. not (tables.is_hold name n h)) (λ h. gone (hold_of h)) (λ h. ap not (same_hold name n h)) s.tables.holds)
+        holds = ap (map hold_of) (filter_same (λ h. not (tables.is_hold name n h)) (λ h. gone (hold_of h)) (λ h.
+            ap not (same_hold name n h)) s.tables.holds)
             ∙ sym (filter-map gone hold_of s.tables.holds) ∙ ap (filter gone) s.keeps.holds;
         settings = s.keeps.settings;
         classes = s.keeps.classes;
@@ -205,7 +234,8 @@ none_gone : {X : Type 0} (q : X → Bool) (xs : List X) → AllByRecursion (λ x
 none_gone q [] h = refl
 none_gone q (x ∷ xs) h = let first = h.0 in rw first (ap (λ l. x ∷ l) (none_gone q xs h.1))
 
-pub count_released : (name : List ℕ) (n m : ℕ) (hs : List Hold) → IsAscending (λ (x y : Hold). is_hold x.name x.number y ≡ false) hs → list_any (is_hold name n) hs ≡ true
+pub count_released : (name : List ℕ) (n m : ℕ) (hs : List Hold)
+    → IsAscending (λ (x y : Hold). is_hold x.name x.number y ≡ false) hs → list_any (is_hold name n) hs ≡ true
     → tally (λ (h : Hold). h.number == m) (delete_where (is_hold name n) hs) + only_at n 1 m ≡ tally (λ (h : Hold). h.number == m) hs
 count_released name n m [] up there = absurd (true≢false (sym there))
 count_released name n m (x ∷ hs) up there = go (is_hold name n x) refl there (count_released name n m hs up.1)
@@ -213,18 +243,30 @@ count_released name n m (x ∷ hs) up there = go (is_hold name n x) refl there (
     p : Hold → Bool
     p h = h.number == m
 
-    go : (b : Bool) → is_hold name n x ≡ b → (b || list_any (is_hold name n) hs) ≡ true → (list_any (is_hold name n) hs ≡ true → tally (λ (h : Hold). h.number == m) (delete_where (is_hold name n) hs) + only_at n 1 m ≡ tally (λ (h : Hold). h.number == m) hs)
-        → tally (λ (h : Hold). h.number == m) (cond (not b) (x ∷ delete_where (is_hold name n) hs) (delete_where (is_hold name n) hs)) + only_at n 1 m ≡ cond {A = ℕ} (x.number == m) 1 0 + tally (λ (h : Hold). h.number == m) hs
+    go : (b : Bool) → is_hold name n x ≡ b → (b || list_any (is_hold name n) hs) ≡ true
+        → (list_any (is_hold name n) hs ≡ true
+        → tally (λ (h : Hold). h.number == m) (delete_where (is_hold name n) hs) + only_at n 1 m
+        ≡ tally (λ (h : Hold). h.number == m) hs)
+        → tally (λ (h : Hold).
+        h.number == m) (cond (not b) (x ∷ delete_where (is_hold name n) hs) (delete_where (is_hold name n) hs)) +
+        only_at n 1 m ≡ cond {A = ℕ} (x.number == m) 1 0 + tally (λ (h : Hold). h.number == m) hs
     go true is there more =
         let parts = both_true (bytes_eq x.name name) (x.number == n) is in
         let named : x.name ≡ name = same_name x.name name parts.0 in
         let numbered : x.number ≡ n = is_number x.number n parts.1 in
-        let apart = subst (λ k. AllByRecursion (λ y. is_hold k n y ≡ false) hs) named (subst (λ k. AllByRecursion (λ y. is_hold x.name k y ≡ false) hs) numbered up.0) in
-        let rest : tally (λ (h : Hold). h.number == m) (delete_where (is_hold name n) hs) ≡ tally (λ (h : Hold). h.number == m) hs = ap (tally (λ (h : Hold). h.number == m)) (none_gone (is_hold name n) hs apart) in
-        let here : only_at n 1 m ≡ cond {A = ℕ} (x.number == m) 1 0 = ap (λ b. cond {A = ℕ} b 1 0) (number_eq-sym m n ∙ ap (λ k. k == m) (sym numbered)) in
-        let step : tally (λ (h : Hold). h.number == m) (delete_where (is_hold name n) hs) + only_at n 1 m ≡ cond {A = ℕ} (x.number == m) 1 0 + tally (λ (h : Hold). h.number == m) hs = omega (arith, rest, here) in
+        let apart = subst (λ k. AllByRecursion (λ y. is_hold k n y ≡ false) hs) named (subst (λ k.
+        AllByRecursion (λ y. is_hold x.name k y ≡ false) hs) numbered up.0) in
+        let rest : tally (λ (h : Hold). h.number == m) (delete_where (is_hold name n) hs)
+        ≡ tally (λ (h : Hold). h.number == m) hs =
+        ap (tally (λ (h : Hold). h.number == m)) (none_gone (is_hold name n) hs apart) in
+        let here : only_at n 1 m ≡ cond {A = ℕ} (x.number == m) 1 0 = ap (λ b. cond {A = ℕ} b 1 0) (number_eq-sym m n
+        ∙ ap (λ k. k == m) (sym numbered)) in
+        let step : tally (λ (h : Hold). h.number == m) (delete_where (is_hold name n) hs) + only_at n 1 m
+        ≡ cond {A = ℕ} (x.number == m) 1 0 + tally (λ (h : Hold). h.number == m) hs = omega (arith, rest, here) in
         step
     go false is there more =
         let it = more there in
-        let step : (cond {A = ℕ} (x.number == m) 1 0 + tally (λ (h : Hold). h.number == m) (delete_where (is_hold name n) hs)) + only_at n 1 m ≡ cond {A = ℕ} (x.number == m) 1 0 + tally (λ (h : Hold). h.number == m) hs = omega (arith, it) in
+        let step : (cond {A = ℕ} (x.number == m) 1 0 + tally (λ (h : Hold).
+        h.number == m) (delete_where (is_hold name n) hs)) + only_at n 1 m
+        ≡ cond {A = ℕ} (x.number == m) 1 0 + tally (λ (h : Hold). h.number == m) hs = omega (arith, it) in
         step

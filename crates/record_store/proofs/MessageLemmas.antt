@@ -19,5 +19,7 @@ found_body (m ∷ ms) n = go (m.number == n) (found_body ms n)
 pub body_told : (n : ℕ) (a : Archive) (db : Database) (s : StoresArchive db a) → body_with n s.tables ≡ body_of a.messages n
 body_told n a db s = found_body s.tables.messages n ∙ ap (λ ms. body_of ms n) s.keeps.messages
 
-pub message_is : (a : Archive) (n : ℕ) (r : Record) (b : List ℕ) → record_at a n ≡ Some r → r.destroyed ≡ false → Some b ≡ body_of a.messages r.message → message a n ≡ Ok (Some b)
-message_is a n r b at live body = ap (message_one a) at ∙ ap (λ d. cond d (Err fault.Destroyed) (Ok (body_of a.messages r.message))) live ∙ ap (λ o. Ok o) (sym body)
+pub message_is : (a : Archive) (n : ℕ) (r : Record) (b : List ℕ) → record_at a n ≡ Some r → r.destroyed ≡ false
+    → Some b ≡ body_of a.messages r.message → message a n ≡ Ok (Some b)
+message_is a n r b at live body = ap (message_one a) at
+    ∙ ap (λ d. cond d (Err fault.Destroyed) (Ok (body_of a.messages r.message))) live ∙ ap (λ o. Ok o) (sym body)

@@ -1,5 +1,7 @@
 -- Another plan: its rows, and the due days by it.
-use Rattle.std.proofs.Common.{◌≡◌, ◌<◌, ◌+◌, ◌-◌, ℕ, zero, suc, pos, slice_get, Bool, true, false, not, cond, ◌&&◌, is_some, unwrap_or, List, [], ◌∷◌, ◌++◌, map, filter, take, length, get_or, Option, Some, None, Ok, refl, sym, ap, subst, ◌∙◌, arith, rules, IsTrue}
+use Rattle.std.proofs.Common.{◌≡◌, ◌<◌, ◌+◌, ◌-◌, ℕ, zero, suc, pos, slice_get, Bool, true, false, not, cond, ◌&&◌}
+use Rattle.std.proofs.Common.{is_some, unwrap_or, List, [], ◌∷◌, ◌++◌, map, filter, take, length, get_or, Option, Some}
+use Rattle.std.proofs.Common.{None, Ok, refl, sym, ap, subst, ◌∙◌, arith, rules, IsTrue}
 use Rattle.std.specs.Str.{bytes_eq}
 use Rattle.std.specs.List.{AllByRecursion, list_all}
 use Rattle.std.proofs.lemmas.List.{take_more, map-append}
@@ -32,7 +34,8 @@ use Rattle.record_adoption.proofs.LaidLemmas.{listed-numbered, rules-numbered, s
 same_path : (q r : List ℕ) → bytes_eq q r ≡ true → q ≡ r
 same_path q r h = search rules
 
-has_kept : (K : List ℕ → Bool) (rows : List plans.Row) (q : List ℕ) → has rows q ≡ true → list_all (λ (r : plans.Row). K r.path) rows ≡ true → K q ≡ true
+has_kept : (K : List ℕ → Bool) (rows : List plans.Row) (q : List ℕ) → has rows q ≡ true
+    → list_all (λ (r : plans.Row). K r.path) rows ≡ true → K q ≡ true
 has_kept K [] q h all = absurd cc
 has_kept K (x ∷ rows) q h all = go (bytes_eq q x.path) refl h (has_kept K rows q)
   where
@@ -49,7 +52,13 @@ has_kept K (x ∷ rows) q h all = go (bytes_eq q x.path) refl h (has_kept K rows
 pub revised_is_archive : (a : Archive) (p : Listing) → IsArchive a → IsPlan p → keeps a.plan p ≡ true → IsArchive (with_plan a p)
 revised_is_archive a p is plan kept = record {
   plan = plan;
-  records = λ i d low. let r = is.records i d low in record { number = r.number; message = r.message; day = r.day; class = has_kept (has p.rows) a.plan.rows _ r.class kept; stored = r.stored };
+  records = λ i d low. let r = is.records i d low in record {
+    number = r.number;
+    message = r.message;
+    day = r.day;
+    class = has_kept (has p.rows) a.plan.rows _ r.class kept;
+    stored = r.stored;
+  };
   in_order = is.in_order;
   messages = is.messages;
   named = is.named;
@@ -62,7 +71,8 @@ is_revised a p h = rw h refl
 
 -- ---- the tables
 
-pub stores_revised : (a : Archive) (p : Listing) (rules : List Rule) (classes : List ClassEntry) (dues : List Due) → rules ≡ rules_of p → classes ≡ classes_of p → dues ≡ dues_in p a.records
+pub stores_revised : (a : Archive) (p : Listing) (rules : List Rule) (classes : List ClassEntry) (dues : List Due)
+    → rules ≡ rules_of p → classes ≡ classes_of p → dues ≡ dues_in p a.records
     → (was db : Database) → StoresArchive was a → IsRevised rules classes dues was db → StoresArchive db (with_plan a p)
 stores_revised a p rules classes dues same_rules same_classes same_dues was db s turns =
     let made = turns.stored s.tables s.stored s.keyed tt in
@@ -87,10 +97,19 @@ pub common_schema : (schema : Rattle.sqlite.specs.Schema.Schema) → IsArchiveSc
 common_schema schema is = record { foreign = schedules_and_dues_beside is.foreign; is = is.is }
 
 pub common_of : (db : Database) (t : Tables) → Stores db t → StoresCommon db t
-common_of db t s = record { schema = common_schema db.schema s.schema; messages = s.messages; records = s.records; holds = s.holds; settings = s.settings; classes = s.classes }
+common_of db t s = record {
+  schema = common_schema db.schema s.schema;
+  messages = s.messages;
+  records = s.records;
+  holds = s.holds;
+  settings = s.settings;
+  classes = s.classes;
+}
 
 -- a read of the common tables is a look at an archive's
-pub looks_common : {S : Type 0} (g : Ghosts S) (old new : Held S) → (old.in_transaction ≡ false → new.in_transaction ≡ false) → (HasCleanDisk (state g new) → HasCleanDisk (state g old))
+pub looks_common : {S : Type 0} (g : Ghosts S) (old new : Held S)
+    → (old.in_transaction ≡ false → new.in_transaction ≡ false)
+    → (HasCleanDisk (state g new) → HasCleanDisk (state g old))
     → IsQuiet g old new → Survives (state g old) (state g new) (λ _. HasCommonTables (state g old).now.schema → ⊥) → Looks g old new
 looks_common g old new idle falls quiet survives = record {
   idle = idle;
@@ -102,9 +121,11 @@ looks_common g old new idle falls quiet survives = record {
 -- ---- the command
 
 -- the plan may replace the store's, and the due days are those by it
-pub judged_revision : {S : Type 0} (g : Ghosts S) (old mid : Store S) (p q : Listing) (rows : List Record) (ds : List Due) → keeps old.plan p ≡ true → q ≡ p → ds ≡ dues_in q rows
+pub judged_revision : {S : Type 0} (g : Ghosts S) (old mid : Store S) (p q : Listing) (rows : List Record)
+    (ds : List Due) → keeps old.plan p ≡ true → q ≡ p → ds ≡ dues_in q rows
     → ((a : Archive) → StandsFor g old a → StandsFor g mid a × (HasCleanDisk (state g mid.conn) → rows ≡ a.records))
-    → (a : Archive) → StandsFor g old a → StandsFor g mid a × (HasCleanDisk (state g mid.conn) → IsRevision a q ds × (revise a p ≡ Ok (with_plan a q)))
+    → (a : Archive) → StandsFor g old a → StandsFor g mid a × (HasCleanDisk (state g mid.conn) → IsRevision a q ds
+    × (revise a p ≡ Ok (with_plan a q)))
 judged_revision g old mid p q rows ds kept same days told a s =
     let t = told a s in
     let keeps_it : keeps a.plan p ≡ true = subst (λ l. keeps l p ≡ true) s.plan kept in (

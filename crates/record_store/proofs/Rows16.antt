@@ -11,7 +11,16 @@ use Rattle.class_plan.specs.Calendar.{civil, due_on, due_by}
 use Rattle.record_archive.specs.Archive
 
 abbrev plan_of_years : ℕ → Listing
-plan_of_years n = record { root = Permanent; rows = record { path = codes "tax"; is_open = true; schedule = Some (After n Years Destroy false) } ∷ open_row unfiled ∷ [] }
+plan_of_years n =
+    record {
+      root = Permanent;
+      rows = record {
+        path = codes "tax";
+        is_open = true;
+        schedule =
+            Some (After n Years Destroy false);
+      } ∷ open_row unfiled ∷ [];
+    }
 
 -- day 19675 is 2023-11-14
 day_is : civil 19675 ≡ record { year = 2023; month = 11; day = 14 }
@@ -47,21 +56,29 @@ captured_is : (Archive.capture a0 [] 19675 (codes "tax" ∷ []) ≡ Ok a1) × (A
 unfolding days_from_civil day_count days_of_years days_of_months
 captured_is = (refl, refl)
 
-dues_are : (Archive.due_list a1 20040 ≡ []) × (Archive.due_list a1 20041 ≡ tax_line 20041 ∷ []) × (Archive.due_list a2 20041 ≡ []) × (Archive.due_list a3 20406 ≡ tax_line 20406 ∷ [])
+dues_are : (Archive.due_list a1 20040 ≡ []) × (Archive.due_list a1 20041 ≡ tax_line 20041 ∷ [])
+    × (Archive.due_list a2 20041 ≡ []) × (Archive.due_list a3 20406 ≡ tax_line 20406 ∷ [])
 unfolding days_from_civil day_count days_of_years days_of_months
 dues_are = (refl, refl, refl, refl)
 
-holds_are : (Archive.hold a1 (codes "case-7") 1 ≡ Ok a2) × (Archive.hold a2 (codes "case-7") 1 ≡ Err fault.HoldThere) × (Archive.release a2 (codes "case-7") 1 ≡ Ok a1) × (Archive.release a1 (codes "case-7") 1 ≡ Err fault.NoHold)
+holds_are : (Archive.hold a1 (codes "case-7") 1 ≡ Ok a2) × (Archive.hold a2 (codes "case-7") 1 ≡ Err fault.HoldThere)
+    × (Archive.release a2 (codes "case-7") 1 ≡ Ok a1) × (Archive.release a1 (codes "case-7") 1 ≡ Err fault.NoHold)
 holds_are = (refl, refl, refl, refl)
 
-destroyed_is : (Archive.destroy a2 1 20041 ≡ Err fault.Held) × (Archive.destroy a3 1 20041 ≡ Err fault.NotDue) × (Archive.destroy a3 1 20406 ≡ Ok a4) × (Archive.destroy a4 1 20406 ≡ Err fault.Destroyed) × (Archive.destroy a3 3 20406 ≡ Err fault.NoRecord)
+destroyed_is : (Archive.destroy a2 1 20041 ≡ Err fault.Held) × (Archive.destroy a3 1 20041 ≡ Err fault.NotDue)
+    × (Archive.destroy a3 1 20406 ≡ Ok a4) × (Archive.destroy a4 1 20406 ≡ Err fault.Destroyed)
+    × (Archive.destroy a3 3 20406 ≡ Err fault.NoRecord)
 unfolding days_from_civil day_count days_of_years days_of_months
 destroyed_is = (refl, refl, refl, refl, refl)
 
-revised_is : (Archive.revise a1 (plan_of_years 2) ≡ Ok a3) × (Archive.revise a1 (record { root = Permanent; rows = open_row unfiled ∷ [] }) ≡ Err (fault.Plan Rattle.class_plan.specs.declared.faults.PlanFault.TheVariants.PathDropped))
+revised_is : (Archive.revise a1 (plan_of_years 2) ≡ Ok a3)
+    × (Archive.revise a1 (record { root = Permanent; rows = open_row unfiled ∷ [] })
+    ≡ Err (fault.Plan Rattle.class_plan.specs.declared.faults.PlanFault.TheVariants.PathDropped))
 revised_is = (refl, refl)
 
 -- months: 2024-01-31 and one month is 2024-02-29; years: 2024-02-28 and one year is 2025-02-28, 2024-02-29 too
-months_are : (civil 19753 ≡ record { year = 2024; month = 1; day = 31 }) × (due_by 19753 (After 1 Months Destroy false) ≡ Some 19782) × (due_by 19782 (After 1 Years Destroy false) ≡ Some 20147)
+months_are : (civil 19753 ≡ record { year = 2024; month = 1; day = 31 })
+    × (due_by 19753 (After 1 Months Destroy false) ≡ Some 19782)
+    × (due_by 19782 (After 1 Years Destroy false) ≡ Some 20147)
 unfolding days_from_civil day_count days_of_years days_of_months
 months_are = (refl, refl, refl)

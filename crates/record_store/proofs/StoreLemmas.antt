@@ -14,9 +14,13 @@ use Rattle.record_adoption.proofs.LaidLemmas.{stores_laid, empty_is_archive}
 use Rattle.record_store.specs.Stores.{StandsFor}
 use Rattle.record_store.specs.declared.store.Store.{Store}
 
-pub stands_laid : {S : Type 0} (g : Ghosts S) (old : Held S) (new : Store S) (rules : List Rule) (classes : List ClassEntry) → IsPlan first_plan → rules ≡ rules_of first_plan → classes ≡ classes_of first_plan
-    → new.conn.in_transaction ≡ false → new.plan ≡ first_plan → new.next ≡ 1 → ((n : ℕ) → count_at new.held n ≡ 0) → ((m : ℕ) → count_at new.others m ≡ 0)
-    → (state g old).now.schema ≡ no_schema → (HasCleanDisk (state g new.conn) → IsLaid rules classes (state g old).now (state g new.conn).now) → StandsFor g new empty_archive
+pub stands_laid : {S : Type 0} (g : Ghosts S) (old : Held S) (new : Store S) (rules : List Rule)
+    (classes : List ClassEntry) → IsPlan first_plan → rules ≡ rules_of first_plan → classes ≡ classes_of first_plan
+    → new.conn.in_transaction ≡ false → new.plan ≡ first_plan → new.next ≡ 1 → ((n : ℕ) → count_at new.held n ≡ 0)
+    → ((m : ℕ) → count_at new.others m ≡ 0)
+    → (state g old).now.schema ≡ no_schema
+    → (HasCleanDisk (state g new.conn) → IsLaid rules classes (state g old).now (state g new.conn).now)
+    → StandsFor g new empty_archive
 stands_laid g old new rules classes is same_rules same_classes idle plan next held others empty laid = record {
   idle = idle;
   plan = plan;
@@ -26,5 +30,6 @@ stands_laid g old new rules classes is same_rules same_classes idle plan next he
   archive = empty_is_archive is;
   rows = λ clean is_open.
       stores_laid (state g old).now (state g new.conn).now empty
-      (subst (λ c. IsLaid (rules_of first_plan) c (state g old).now (state g new.conn).now) same_classes (subst (λ r. IsLaid r classes (state g old).now (state g new.conn).now) same_rules (laid clean)));
+      (subst (λ c. IsLaid (rules_of first_plan) c (state g old).now (state g new.conn).now) same_classes (subst (λ r.
+      IsLaid r classes (state g old).now (state g new.conn).now) same_rules (laid clean)));
 }

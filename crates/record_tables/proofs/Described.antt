@@ -1,5 +1,6 @@
 -- Each table of the archive, described once, and what a statement on one of them leaves in all.
-use Rattle.std.proofs.Common.{◌≡◌, ◌≢◌, ◌==◌, ◌⊎◌, inl, inr, ℕ, ℤ, List, [], ◌∷◌, map, Bool, true, false, Some, refl, sym, ap, subst, ◌∙◌, if◌then◌else◌, slice_get}
+use Rattle.std.proofs.Common.{◌≡◌, ◌≢◌, ◌==◌, ◌⊎◌, inl, inr, ℕ, ℤ, List, [], ◌∷◌, map, Bool, true, false, Some, refl}
+use Rattle.std.proofs.Common.{sym, ap, subst, ◌∙◌, if◌then◌else◌, slice_get}
 use Rattle.std.specs.List.{AllByRecursion, flat_map, filter_map}
 use Rattle.std.proofs.lemmas.Bool.Decides.{eqb_tells}
 use Rattle.sqlite.specs.declared.types.Value.TheVariants.{Int}
@@ -12,9 +13,12 @@ use Rattle.sqlite_rules.specs.Action.{work_for}
 use Rattle.sqlite_schema.specs.declared.schema.Keys.{Keys}
 use Rattle.sqlite_sql.specs.Program.{overlay}
 use Rattle.sqlite_keyed.specs.Keyed.{IsKeyedBy}
-use Rattle.record_tables.specs.Tables.{Foreign, HasNoReferences, IsArchiveSchema, archive_beside, message_table, record_table, hold_table, meta_table, class_table, schedule_table, due_table}
+use Rattle.record_tables.specs.Tables.{Foreign, HasNoReferences, IsArchiveSchema, archive_beside, message_table}
+use Rattle.record_tables.specs.Tables.{record_table, hold_table, meta_table, class_table, schedule_table, due_table}
 use Rattle.record_archive.specs.Archive.{Message, Record}
-use Rattle.record_tables.specs.Rows.{Tables, message_key, message_row, record_key, record_row, Hold, hold_key, hold_row, Setting, setting_key, setting_row, Class, class_key, class_row, Schedule, schedule_key, schedule_row, Due, due_key, due_row, Stores, StoresKeyed, AreKeyed}
+use Rattle.record_tables.specs.Rows.{Tables, message_key, message_row, record_key, record_row, Hold, hold_key, hold_row}
+use Rattle.record_tables.specs.Rows.{Setting, setting_key, setting_row, Class, class_key, class_row, Schedule}
+use Rattle.record_tables.specs.Rows.{schedule_key, schedule_row, Due, due_key, due_row, Stores, StoresKeyed, AreKeyed}
 use Rattle.record_tables.proofs.WriteLemmas.{IsQuiet}
 
 -- a tree of the database, and the rows in it
@@ -27,7 +31,8 @@ kept_in tree rows = record { tree = tree; rows = rows }
 
 -- the tree and the rows of each table
 abbrev pub kept : Tables → List Kept
-kept t = kept_in 0 (map message_row t.messages) ∷ kept_in 1 (map record_row t.records) ∷ kept_in 2 (map hold_row t.holds) ∷ kept_in 4 (map setting_row t.settings) ∷
+kept t = kept_in 0 (map message_row t.messages) ∷ kept_in 1 (map record_row t.records)
+    ∷ kept_in 2 (map hold_row t.holds) ∷ kept_in 4 (map setting_row t.settings) ∷
     kept_in 6 (map class_row t.classes) ∷ kept_in 8 (map schedule_row t.schedules) ∷ kept_in 10 (map due_row t.dues) ∷ []
 
 abbrev pub AreIn : Trees → List Kept → Type 0
@@ -41,11 +46,13 @@ put_in tree rows k = record { tree = k.tree; rows = if k.tree == tree then rows 
 abbrev pub OthersOf : ℕ → (old new : Trees) → List Kept → Type 0
 OthersOf tree old new ks = AllByRecursion (λ (k : Kept). k.tree ≢ tree → new k.tree ≡ old k.tree) ks
 
-put_all_in : (old new : Trees) (tree : ℕ) (rows : List Row) (ks : List Kept) → new tree ≡ rows → OthersOf tree old new ks → AreIn old ks → AreIn new (map (put_in tree rows) ks)
+put_all_in : (old new : Trees) (tree : ℕ) (rows : List Row) (ks : List Kept) → new tree ≡ rows
+    → OthersOf tree old new ks → AreIn old ks → AreIn new (map (put_in tree rows) ks)
 put_all_in old new tree rows [] is others was = tt
 put_all_in old new tree rows (k ∷ ks) is others was = (one (eqb_tells k.tree tree), put_all_in old new tree rows ks is others.1 was.1)
   where
-    one : ((k.tree == tree ≡ true) × (k.tree ≡ tree)) ⊎ ((k.tree == tree ≡ false) × (k.tree ≢ tree)) → new k.tree ≡ (if k.tree == tree then rows else k.rows)
+    one : ((k.tree == tree ≡ true) × (k.tree ≡ tree)) ⊎ ((k.tree == tree ≡ false) × (k.tree ≢ tree))
+        → new k.tree ≡ (if k.tree == tree then rows else k.rows)
     one (inl h) = rw h.0 (ap new h.1 ∙ is)
     one (inr h) = rw h.0 (others.0 h.1 ∙ was.0)
 
@@ -83,7 +90,15 @@ messages = record {
   stored = λ db t s. s.messages;
   ordered = λ t k. k.messages;
   kept_with = λ xs t. refl;
-  keyed_with = λ xs t k up. record { messages = up; records = k.records; holds = k.holds; settings = k.settings; classes = k.classes; schedules = k.schedules; dues = k.dues };
+  keyed_with = λ xs t k up. record {
+    messages = up;
+    records = k.records;
+    holds = k.holds;
+    settings = k.settings;
+    classes = k.classes;
+    schedules = k.schedules;
+    dues = k.dues;
+  };
 }
 
 abbrev pub records : Described Record
@@ -102,7 +117,15 @@ records = record {
   stored = λ db t s. s.records;
   ordered = λ t k. k.records;
   kept_with = λ xs t. refl;
-  keyed_with = λ xs t k up. record { messages = k.messages; records = up; holds = k.holds; settings = k.settings; classes = k.classes; schedules = k.schedules; dues = k.dues };
+  keyed_with = λ xs t k up. record {
+    messages = k.messages;
+    records = up;
+    holds = k.holds;
+    settings = k.settings;
+    classes = k.classes;
+    schedules = k.schedules;
+    dues = k.dues;
+  };
 }
 
 abbrev pub holds : Described Hold
@@ -121,7 +144,15 @@ holds = record {
   stored = λ db t s. s.holds;
   ordered = λ t k. k.holds;
   kept_with = λ xs t. refl;
-  keyed_with = λ xs t k up. record { messages = k.messages; records = k.records; holds = up; settings = k.settings; classes = k.classes; schedules = k.schedules; dues = k.dues };
+  keyed_with = λ xs t k up. record {
+    messages = k.messages;
+    records = k.records;
+    holds = up;
+    settings = k.settings;
+    classes = k.classes;
+    schedules = k.schedules;
+    dues = k.dues;
+  };
 }
 
 abbrev pub settings : Described Setting
@@ -140,7 +171,15 @@ settings = record {
   stored = λ db t s. s.settings;
   ordered = λ t k. k.settings;
   kept_with = λ xs t. refl;
-  keyed_with = λ xs t k up. record { messages = k.messages; records = k.records; holds = k.holds; settings = up; classes = k.classes; schedules = k.schedules; dues = k.dues };
+  keyed_with = λ xs t k up. record {
+    messages = k.messages;
+    records = k.records;
+    holds = k.holds;
+    settings = up;
+    classes = k.classes;
+    schedules = k.schedules;
+    dues = k.dues;
+  };
 }
 
 abbrev pub classes : Described Class
@@ -159,7 +198,15 @@ classes = record {
   stored = λ db t s. s.classes;
   ordered = λ t k. k.classes;
   kept_with = λ xs t. refl;
-  keyed_with = λ xs t k up. record { messages = k.messages; records = k.records; holds = k.holds; settings = k.settings; classes = up; schedules = k.schedules; dues = k.dues };
+  keyed_with = λ xs t k up. record {
+    messages = k.messages;
+    records = k.records;
+    holds = k.holds;
+    settings = k.settings;
+    classes = up;
+    schedules = k.schedules;
+    dues = k.dues;
+  };
 }
 
 abbrev pub schedules : Described Schedule
@@ -178,7 +225,15 @@ schedules = record {
   stored = λ db t s. s.schedules;
   ordered = λ t k. k.schedules;
   kept_with = λ xs t. refl;
-  keyed_with = λ xs t k up. record { messages = k.messages; records = k.records; holds = k.holds; settings = k.settings; classes = k.classes; schedules = up; dues = k.dues };
+  keyed_with = λ xs t k up. record {
+    messages = k.messages;
+    records = k.records;
+    holds = k.holds;
+    settings = k.settings;
+    classes = k.classes;
+    schedules = up;
+    dues = k.dues;
+  };
 }
 
 abbrev pub dues : Described Due
@@ -197,7 +252,15 @@ dues = record {
   stored = λ db t s. s.dues;
   ordered = λ t k. k.dues;
   kept_with = λ xs t. refl;
-  keyed_with = λ xs t k up. record { messages = k.messages; records = k.records; holds = k.holds; settings = k.settings; classes = k.classes; schedules = k.schedules; dues = up };
+  keyed_with = λ xs t k up. record {
+    messages = k.messages;
+    records = k.records;
+    holds = k.holds;
+    settings = k.settings;
+    classes = k.classes;
+    schedules = k.schedules;
+    dues = up;
+  };
 }
 
 -- ---- any of them
@@ -212,7 +275,10 @@ quiet d f apart = record {
   listed = d.listed f;
   uncounted = d.uncounted;
   unstamped = d.unstamped;
-  quiet = λ keys olds news. no_works (archive_beside f) keys d.table.tree olds news (archive_beside f).tables (refl, (refl, (refl, (refl, (refl, (refl, (refl, apart)))))));
+  quiet = λ keys olds news. no_works (archive_beside f) keys d.table.tree olds news (archive_beside f).tables (
+    refl,
+    (refl, (refl, (refl, (refl, (refl, (refl, apart)))))),
+  );
 }
 
 -- the trees of the other tables are as they were
@@ -235,9 +301,20 @@ stores_rows db t schema h = record {
 }
 
 -- one table has these rows, and the others stay
-pub changed : {X : Type 0} (d : Described X) (old new : Database) (t : Tables) (xs : List X) (s : Stores old t) → AreKeyed t → new.schema ≡ archive_beside s.schema.foreign
-    → Others s.schema.foreign d.table.tree old.trees new.trees → new.trees d.table.tree ≡ map d.to_row xs → IsKeyedBy d.key xs → StoresKeyed new (d.with_rows xs t)
+pub changed : {X : Type 0} (d : Described X) (old new : Database) (t : Tables) (xs : List X) (s : Stores old t)
+    → AreKeyed t → new.schema ≡ archive_beside s.schema.foreign
+    → Others s.schema.foreign d.table.tree old.trees new.trees → new.trees d.table.tree ≡ map d.to_row xs
+    → IsKeyedBy d.key xs → StoresKeyed new (d.with_rows xs t)
 changed d old new t xs s keyed schema others rows up =
-    let o : OthersOf d.table.tree old.trees new.trees (kept t) = (others.0, (others.1.0, (others.1.1.0, (others.1.1.1.0, (others.1.1.1.1.0, (others.1.1.1.1.1.0, (others.1.1.1.1.1.1.0, tt))))))) in
-    let all = put_all_in old.trees new.trees d.table.tree (map d.to_row xs) (kept t) rows o (stored_rows old t s) in
-    (stores_rows new (d.with_rows xs t) (record { foreign = s.schema.foreign; is = schema; apart = s.schema.apart }) (subst (AreIn new.trees) (sym (d.kept_with xs t)) all), d.keyed_with xs t keyed up)
+    let o : OthersOf d.table.tree old.trees new.trees (kept t) = (
+      others.0,
+      (
+        others.1.0,
+        (others.1.1.0, (others.1.1.1.0, (others.1.1.1.1.0, (others.1.1.1.1.1.0, (others.1.1.1.1.1.1.0, tt))))),
+      ),
+    ) in
+    let all = put_all_in old.trees new.trees d.table.tree (map d.to_row xs) (kept t) rows o (stored_rows old t s) in (
+      stores_rows new (d.with_rows xs t) (record { foreign = s.schema.foreign; is = schema; apart = s.schema.apart })
+          (subst (AreIn new.trees) (sym (d.kept_with xs t)) all),
+      d.keyed_with xs t keyed up,
+    )

@@ -42,7 +42,12 @@ dropped_first : (old new : State) (count : ℕ) → ExecutesInside 0 drop_dues [
     → (new.now.schema ≡ first_schema) × KeepsRows first_schema.tables old.now.trees new.now.trees
 dropped_first old new count h has =
     let w = runs_as drop_dues [] old new first_schema_with_dues has (DropTable 5) drop_dues_is.is drop_dues_is.plain count h.0 in
-    let whole = subst (λ s. Does old.step_limit (mode_of old) [] (record old.now { schema = s }) (statement_of drop_dues (understood first_schema_with_dues drop_dues)) None (DropTable 5) (Ok (w.tally, new.now))) has w.changed in
+    let whole = subst (λ s.
+    Does old.step_limit (mode_of old) [] (record old.now { schema = s })
+    (statement_of drop_dues (understood first_schema_with_dues drop_dues)) None (DropTable 5) (Ok (
+      w.tally,
+      new.now,
+    ))) has w.changed in
     let emptied = went whole in
     let uncounted = went emptied.2 in
     let tested = went uncounted.2 in
@@ -51,14 +56,18 @@ dropped_first old new count h has =
     let second : uncounted.0 ≡ emptied.0 = same_value uncounted.1 in
     let now : new.now ≡ left.0 = ap (λ (p : Tally × Database). p.1) (same_value left.2) in (
       ap (λ (d : Database). d.schema) now ∙ left.1.0 ∙ left_is,
-      subst (λ (d : Database). KeepsRows first_schema.tables old.now.trees d.trees) (sym now) (subst (λ (t : Trees). KeepsRows first_schema.tables t left.0.trees) (second ∙ first) left.1.1),
+      subst (λ (d : Database). KeepsRows first_schema.tables old.now.trees d.trees) (sym now) (subst (λ (t : Trees).
+          KeepsRows first_schema.tables t left.0.trees) (second ∙ first) left.1.1),
     )
 
 dropped_last : (old new : State) (count : ℕ) → ExecutesInside 0 drop_dues [] old new (Ok count) → old.now.schema ≡ archive_schema
     → (new.now.schema ≡ schema_6) × KeepsRows schema_6.tables old.now.trees new.now.trees
 dropped_last old new count h has =
     let w = runs_as drop_dues [] old new archive_schema has (DropTable 6) drop_last_is.is drop_last_is.plain count h.0 in
-    let whole = subst (λ s. Does old.step_limit (mode_of old) [] (record old.now { schema = s }) (statement_of drop_dues (understood archive_schema drop_dues)) None (DropTable 6) (Ok (w.tally, new.now))) has w.changed in
+    let whole = subst (λ s.
+    Does old.step_limit (mode_of old) [] (record old.now { schema = s })
+    (statement_of drop_dues (understood archive_schema drop_dues)) None (DropTable 6) (Ok (w.tally, new.now))) has
+    w.changed in
     let emptied = went whole in
     let uncounted = went emptied.2 in
     let tested = went uncounted.2 in
@@ -67,10 +76,12 @@ dropped_last old new count h has =
     let second : uncounted.0 ≡ emptied.0 = same_value uncounted.1 in
     let now : new.now ≡ left.0 = ap (λ (p : Tally × Database). p.1) (same_value left.2) in (
       ap (λ (d : Database). d.schema) now ∙ left.1.0 ∙ left_last_is,
-      subst (λ (d : Database). KeepsRows schema_6.tables old.now.trees d.trees) (sym now) (subst (λ (t : Trees). KeepsRows schema_6.tables t left.0.trees) (second ∙ first) left.1.1),
+      subst (λ (d : Database). KeepsRows schema_6.tables old.now.trees d.trees) (sym now) (subst (λ (t : Trees).
+          KeepsRows schema_6.tables t left.0.trees) (second ∙ first) left.1.1),
     )
 
-pub drops_dues : (old new : State) (count : ℕ) → IsTrue old.in_transaction → ExecutesInside 0 drop_dues [] old new (Ok count) → Drops old new first_schema_with_dues first_schema
+pub drops_dues : (old new : State) (count : ℕ) → IsTrue old.in_transaction
+    → ExecutesInside 0 drop_dues [] old new (Ok count) → Drops old new first_schema_with_dues first_schema
 drops_dues old new count inside h = record {
   schema = λ has. (dropped_first old new count h has).0;
   kept = λ has. (dropped_first old new count h has).1;
@@ -79,7 +90,8 @@ drops_dues old new count inside h = record {
   is_open = h.1.is_open ∙ sym h.1.was_open;
 }
 
-pub drops_last : (old new : State) (count : ℕ) → IsTrue old.in_transaction → ExecutesInside 0 drop_dues [] old new (Ok count) → Drops old new archive_schema schema_6
+pub drops_last : (old new : State) (count : ℕ) → IsTrue old.in_transaction
+    → ExecutesInside 0 drop_dues [] old new (Ok count) → Drops old new archive_schema schema_6
 drops_last old new count inside h = record {
   schema = λ has. (dropped_last old new count h has).0;
   kept = λ has. (dropped_last old new count h has).1;
@@ -104,7 +116,15 @@ emptied old mid new d l = record {
           schedules = m.1.1.1.1.1.0 ∙ k.1.1.1.1.1.0 ∙ s.schedules;
           dues = (l.empty (d.schema has)).0;
         },
-        record { messages = keyed.messages; records = keyed.records; holds = keyed.holds; settings = keyed.settings; classes = keyed.classes; schedules = keyed.schedules; dues = tt },
+        record {
+          messages = keyed.messages;
+          records = keyed.records;
+          holds = keyed.holds;
+          settings = keyed.settings;
+          classes = keyed.classes;
+          schedules = keyed.schedules;
+          dues = tt;
+        },
       );
   committed = l.committed ∙ d.committed;
   mode = l.mode ∙ d.mode;
@@ -112,7 +132,8 @@ emptied old mid new d l = record {
 }
 
 -- the due days are removed, and the plan's rows are written
-pub renewed : (old mid new : State) (change : Tables → Tables) → ((t : Tables) → change (without_dues t) ≡ change t) → TellsAlone old.now.schema true → Empties old mid → Puts mid new Always change → Puts old new Always change
+pub renewed : (old mid new : State) (change : Tables → Tables) → ((t : Tables) → change (without_dues t) ≡ change t)
+    → TellsAlone old.now.schema true → Empties old mid → Puts mid new Always change → Puts old new Always change
 renewed old mid new change same tells e p = record {
   stored = λ t s keyed allowed.
       let none_left = e.stored t s keyed (tells refl s.schema) in
@@ -123,7 +144,9 @@ renewed old mid new change same tells e p = record {
 }
 
 -- the rows of version 1 stay where its due days are dropped and the later tables created
-pub widened : (old mid new : State) (t : Tables) → Drops old mid first_schema_with_dues first_schema → Lays mid new first_schema (schedule_table ∷ due_table ∷ []) archive_schema → old.now.schema ≡ first_schema_with_dues → StoresFirst old.now t → Stores new.now t
+pub widened : (old mid new : State) (t : Tables) → Drops old mid first_schema_with_dues first_schema
+    → Lays mid new first_schema (schedule_table ∷ due_table ∷ []) archive_schema
+    → old.now.schema ≡ first_schema_with_dues → StoresFirst old.now t → Stores new.now t
 widened old mid new t d l has s =
     let k = d.kept has in
     let first : StoresFirst mid.now t = record {

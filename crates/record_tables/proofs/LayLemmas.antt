@@ -14,13 +14,15 @@ use Rattle.sqlite.specs.Listing.{understood}
 use Rattle.sqlite.specs.State.{State, Writes, ExecutesInside, mode_of}
 use Rattle.sqlite.proofs.Callers.{runs_as}
 use Rattle.sqlite_tied.specs.Compute.{everything}
-use Rattle.record_tables.specs.Tables.{none, no_schema, first_schema, archive_schema, message_table, record_table, hold_table, meta_table, class_table, schedule_table, due_table, due_index}
+use Rattle.record_tables.specs.Tables.{none, no_schema, first_schema, archive_schema, message_table, record_table}
+use Rattle.record_tables.specs.Tables.{hold_table, meta_table, class_table, schedule_table, due_table, due_index}
 use Rattle.record_tables.specs.Rows.{Tables, Stores, StoresFirst, StoresKeyed, schedule_row, due_row}
 use Rattle.record_tables.specs.Layouts.{Lays, AreEmpty, no_rows, Defines, DefinesIndex}
 use Rattle.record_tables.specs.Shapes.{schema_1, schema_2, schema_3, schema_4, schema_6, schema_7, archive_tables}
 use Rattle.record_tables.proofs.WriteLemmas.{went, same_value}
 
-pub lays_table : (old new : State) (schema : Schema) (text : List ℕ) (table : Table) (count : ℕ) → Defines schema text table → IsTrue old.in_transaction → ExecutesInside 0 text [] old new (Ok count)
+pub lays_table : (old new : State) (schema : Schema) (text : List ℕ) (table : Table) (count : ℕ)
+    → Defines schema text table → IsTrue old.in_transaction → ExecutesInside 0 text [] old new (Ok count)
     → Lays old new schema (record table { tree = next_tree schema } ∷ []) (created schema table)
 lays_table old new schema text table count d inside h = record {
   schema = λ has. (made has).0;
@@ -31,9 +33,11 @@ lays_table old new schema text table count d inside h = record {
   is_open = h.1.is_open ∙ sym h.1.was_open;
 }
   where
-    made : old.now.schema ≡ schema → (new.now.schema ≡ created schema table) × ((new.now.trees (next_tree schema) ≡ []) × KeepsRows schema.tables old.now.trees new.now.trees)
+    made : old.now.schema ≡ schema → (new.now.schema ≡ created schema table)
+        × ((new.now.trees (next_tree schema) ≡ []) × KeepsRows schema.tables old.now.trees new.now.trees)
     made has =
-        let w = subst (λ t. Writes old new None CreateTable t [] count) d.whole (runs_as text [] old new schema has CreateTable d.creates d.plain count h.0) in
+        let w = subst (λ t. Writes old new None CreateTable t [] count) d.whole
+        (runs_as text [] old new schema has CreateTable d.creates d.plain count h.0) in
         let all = went w.changed in
         let first = went all.1 in
         let made = first.1 in
@@ -45,11 +49,14 @@ lays_table old new schema text table count d inside h = record {
           ap (λ (d : Database). d.schema) now ∙ now_schema ∙ ap (λ s. created s table) has,
           (
             ap (λ (d : Database). d.trees (next_tree schema)) now ∙ ap (λ s. first.0.trees (next_tree s)) (sym has) ∙ made.empty,
-            subst (λ (s : Schema). KeepsRows s.tables old.now.trees new.now.trees) has (subst (λ (d : Database). KeepsRows old.now.schema.tables old.now.trees d.trees) (sym now) made.others),
+            subst (λ (s : Schema). KeepsRows s.tables old.now.trees new.now.trees) has (subst (λ (d : Database).
+                KeepsRows old.now.schema.tables old.now.trees d.trees) (sym now) made.others),
           ),
         )
 
-pub lays_index : (old new : State) (schema : Schema) (text : List ℕ) (at : ℕ) (table : Table) (index : Index) (count : ℕ) → DefinesIndex schema text at table index → IsTrue old.in_transaction → ExecutesInside 0 text [] old new (Ok count)
+pub lays_index : (old new : State) (schema : Schema) (text : List ℕ) (at : ℕ) (table : Table) (index : Index)
+    (count : ℕ) → DefinesIndex schema text at table index → IsTrue old.in_transaction
+    → ExecutesInside 0 text [] old new (Ok count)
     → Lays old new schema [] (indexed schema table index)
 lays_index old new schema text at table index count d inside h = record {
   schema = λ has. (made has).0;
@@ -62,8 +69,11 @@ lays_index old new schema text at table index count d inside h = record {
   where
     made : old.now.schema ≡ schema → (new.now.schema ≡ indexed schema table index) × KeepsRows schema.tables old.now.trees new.now.trees
     made has =
-        let w = subst (λ t. Writes old new None (CreateIndex at) t [] count) d.whole (runs_as text [] old new schema has (CreateIndex at) d.creates d.plain count h.0) in
-        let whole = subst (λ s. Does old.step_limit (mode_of old) [] (record old.now { schema = s }) text None (CreateIndex at) (Ok (w.tally, new.now))) has w.changed in
+        let w = subst (λ t. Writes old new None (CreateIndex at) t [] count) d.whole
+        (runs_as text [] old new schema has (CreateIndex at) d.creates d.plain count h.0) in
+        let whole = subst (λ s.
+        Does old.step_limit (mode_of old) [] (record old.now { schema = s }) text None (CreateIndex at)
+        (Ok (w.tally, new.now))) has w.changed in
         let all = went (rw d.listed at whole) in
         let made = all.1 in
         let both : Ok made.index ≡ Ok index = sym made.defined ∙ d.defined in
@@ -89,14 +99,19 @@ still_empty : (tables : List Table) (a b : Trees) → AreEmpty tables a → Keep
 still_empty [] a b h k = tt
 still_empty (t ∷ ts) a b h k = (k.0 ∙ h.0, still_empty ts a b h.1 k.1)
 
-pub lays_then : (a b c : State) (s0 s1 s2 : Schema) (xs ys : List Table) → s1.tables ≡ s0.tables ++ xs → Lays a b s0 xs s1 → Lays b c s1 ys s2 → Lays a c s0 (xs ++ ys) s2
+pub lays_then : (a b c : State) (s0 s1 s2 : Schema) (xs ys : List Table) → s1.tables ≡ s0.tables ++ xs
+    → Lays a b s0 xs s1 → Lays b c s1 ys s2 → Lays a c s0 (xs ++ ys) s2
 lays_then a b c s0 s1 s2 xs ys are one two = record {
   schema = λ has. two.schema (one.schema has);
   empty = λ has.
-      let kept = all_front (λ (t : Table). c.now.trees t.tree ≡ b.now.trees t.tree) s0.tables xs (subst (λ ts. KeepsRows ts b.now.trees c.now.trees) are (two.kept (one.schema has))) in
-      all_both (λ (t : Table). c.now.trees t.tree ≡ []) xs ys (still_empty xs b.now.trees c.now.trees (one.empty has) kept.1) (two.empty (one.schema has));
+      let kept = all_front (λ (t : Table). c.now.trees t.tree ≡ b.now.trees t.tree) s0.tables xs (subst (λ ts.
+      KeepsRows ts b.now.trees c.now.trees) are (two.kept (one.schema has))) in
+      all_both (λ (t : Table).
+      c.now.trees t.tree ≡ []) xs ys (still_empty xs b.now.trees c.now.trees (one.empty has) kept.1)
+      (two.empty (one.schema has));
   kept = λ has.
-      let kept = all_front (λ (t : Table). c.now.trees t.tree ≡ b.now.trees t.tree) s0.tables xs (subst (λ ts. KeepsRows ts b.now.trees c.now.trees) are (two.kept (one.schema has))) in
+      let kept = all_front (λ (t : Table). c.now.trees t.tree ≡ b.now.trees t.tree) s0.tables xs (subst (λ ts.
+      KeepsRows ts b.now.trees c.now.trees) are (two.kept (one.schema has))) in
       rows_then s0.tables a.now.trees b.now.trees c.now.trees (one.kept has) kept.0;
   committed = two.committed ∙ one.committed;
   mode = two.mode ∙ one.mode;
@@ -109,7 +124,8 @@ abbrev pub create_message : List ℕ
 create_message = codes "CREATE TABLE message (number INTEGER PRIMARY KEY, body BLOB NOT NULL) STRICT"
 
 abbrev pub create_record : List ℕ
-create_record = codes "CREATE TABLE record (number INTEGER PRIMARY KEY, message INTEGER NOT NULL, path TEXT NOT NULL, day INTEGER NOT NULL, destroyed INTEGER NOT NULL) STRICT"
+create_record =
+    codes "CREATE TABLE record (number INTEGER PRIMARY KEY, message INTEGER NOT NULL, path TEXT NOT NULL, day INTEGER NOT NULL, destroyed INTEGER NOT NULL) STRICT"
 
 abbrev pub create_hold : List ℕ
 create_hold = codes "CREATE TABLE hold (name TEXT NOT NULL, record INTEGER NOT NULL, PRIMARY KEY (name, record)) STRICT"
@@ -121,7 +137,8 @@ abbrev pub create_class : List ℕ
 create_class = codes "CREATE TABLE class (path TEXT NOT NULL PRIMARY KEY, is_open INTEGER NOT NULL, schedule TEXT) STRICT"
 
 abbrev pub create_schedule : List ℕ
-create_schedule = codes "CREATE TABLE schedule (path TEXT NOT NULL PRIMARY KEY, count INTEGER NOT NULL, unit INTEGER NOT NULL, action INTEGER NOT NULL, year_end INTEGER NOT NULL) STRICT"
+create_schedule =
+    codes "CREATE TABLE schedule (path TEXT NOT NULL PRIMARY KEY, count INTEGER NOT NULL, unit INTEGER NOT NULL, action INTEGER NOT NULL, year_end INTEGER NOT NULL) STRICT"
 
 abbrev pub create_due : List ℕ
 create_due = codes "CREATE TABLE due_day (record INTEGER PRIMARY KEY, day INTEGER NOT NULL) STRICT"
@@ -179,7 +196,9 @@ laid_empty old new l has =
       record { messages = tt; records = tt; holds = tt; settings = tt; classes = tt; schedules = tt; dues = tt },
     )
 
-pub laid_beside : (old new : State) (t : Tables) → Lays old new first_schema (schedule_table ∷ due_table ∷ []) archive_schema → old.now.schema ≡ first_schema → StoresFirst old.now t → Stores new.now t
+pub laid_beside : (old new : State) (t : Tables)
+    → Lays old new first_schema (schedule_table ∷ due_table ∷ []) archive_schema → old.now.schema ≡ first_schema
+    → StoresFirst old.now t → Stores new.now t
 laid_beside old new t l has s =
     let k = l.kept has in
     let e = l.empty has in

@@ -2,7 +2,9 @@
 use Rattle.std.proofs.Common.{◌≡◌, ◌↔◌, Bool, true, false, not, IsTrue, codes, refl, subst, sym}
 use Rattle.sqlite.specs.Schema.{Schema}
 use Rattle.sqlite_tied.specs.Compute.{everything}
-use Rattle.record_tables.specs.Tables.{Foreign, none, first_dues, no_schema, first_schema, first_schema_with_dues, common_beside, archive_beside, IsArchiveSchema, schedule_table, due_table, message_table}
+use Rattle.record_tables.specs.Tables.{Foreign, none, first_dues, no_schema, first_schema, first_schema_with_dues}
+use Rattle.record_tables.specs.Tables.{common_beside, archive_beside, IsArchiveSchema, schedule_table, due_table}
+use Rattle.record_tables.specs.Tables.{message_table}
 use Rattle.record_tables.specs.Layouts.{TellsDues}
 use Rattle.record_tables.specs.Layout.{HasNone, HasCommon, HasTable, IsLayout, Lacks}
 use Rattle.record_tables.specs.declared.layout.Layout.{Layout}
@@ -97,4 +99,9 @@ is_second schema r h s = of_second s.foreign r (subst (λ x. IsLayout x r) s.is 
 -- version 1 has due days exactly where `due_day` is not lacking
 pub tells : (schema : Schema) (b : Bool) → (IsTrue b ↔ Lacks schema (codes "due_day")) → TellsDues schema (not b)
 tells schema true h = record { without = λ e. refl; with_them = λ e. absurd (dated_due (subst (λ s. Lacks s (codes "due_day")) e (h.0 refl))) }
-tells schema false h = record { without = λ e. absurd (let lacks = h.1 (subst (λ s. Lacks s (codes "due_day")) (sym e) first_lacks.1) in cc); with_them = λ e. refl }
+tells schema false h =
+    record {
+      without = λ e. absurd (let lacks = h.1 (subst (λ s. Lacks s (codes "due_day")) (sym e) first_lacks.1) in
+          cc);
+      with_them = λ e. refl;
+    }

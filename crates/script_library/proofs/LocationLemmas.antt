@@ -1,5 +1,6 @@
 -- What a location has at each name, and what putting a script there changes.
-use Rattle.std.proofs.Common.{◌≡◌, ℕ, suc, ◌+◌, ◌<◌, ◌≤◌, List, [], ◌∷◌, ◌++◌, Bool, true, false, not, cond, Some, None, option_map, map, length, set, refl, sym, ap, ◌∙◌, arith, position, length-append}
+use Rattle.std.proofs.Common.{◌≡◌, ℕ, suc, ◌+◌, ◌<◌, ◌≤◌, List, [], ◌∷◌, ◌++◌, Bool, true, false, not, cond, Some, None}
+use Rattle.std.proofs.Common.{option_map, map, length, set, refl, sym, ap, ◌∙◌, arith, position, length-append}
 use Rattle.std.specs.Prelude.{find}
 use Rattle.std.specs.List.{position_or_len, slice_get}
 use Rattle.std.specs.Str.{bytes_eq}
@@ -40,26 +41,32 @@ differ a b h e = cc (h, (bytes_eq-Decides a b).1 e)
 -- LOOKING UP
 
 pub missing : (name : List ℕ) (es : List NamedScript) → position (is_named name) es ≡ None → script_under name es ≡ None
-missing name es e = ap (option_map (λ (x : NamedScript). x.script)) (find_at (is_named name) es ∙ slice_get_past es (position_or_len (is_named name) es) (not_placed (is_named name) es e))
+missing name es e = ap (option_map (λ (x : NamedScript). x.script)) (find_at (is_named name) es
+    ∙ slice_get_past es (position_or_len (is_named name) es) (not_placed (is_named name) es e))
 
 pub found_passes : (name : List ℕ) (es : List NamedScript) (x : NamedScript) → find (is_named name) es ≡ Some x → is_named name x ≡ true
 found_passes name [] x k = absurd (cc k)
 found_passes name (y ∷ ys) x k = by (is_named name y) refl k (found_passes name ys x)
   where
-    by : (b : Bool) → is_named name y ≡ b → cond b (Some y) (find (is_named name) ys) ≡ Some x → (find (is_named name) ys ≡ Some x → is_named name x ≡ true) → is_named name x ≡ true
+    by : (b : Bool) → is_named name y ≡ b → cond b (Some y) (find (is_named name) ys) ≡ Some x
+        → (find (is_named name) ys ≡ Some x → is_named name x ≡ true) → is_named name x ≡ true
     by true t e rest = let same : y ≡ x = cc e in ap (is_named name) (sym same) ∙ t
     by false t e rest = rest e
 
-pub there : (name : List ℕ) (es : List NamedScript) (i : ℕ) (x : NamedScript) → position (is_named name) es ≡ Some i → slice_get es i ≡ Some x → find (is_named name) es ≡ Some x
+pub there : (name : List ℕ) (es : List NamedScript) (i : ℕ) (x : NamedScript) → position (is_named name) es ≡ Some i
+    → slice_get es i ≡ Some x → find (is_named name) es ≡ Some x
 there name es i x e h = find_at (is_named name) es ∙ ap (slice_get es) (placed (is_named name) es i e).0 ∙ h
 
 -- PUTTING
 
-pub put_there : (x : NamedScript) (es : List NamedScript) → position_or_len (is_named x.name) es < length es → with_entry x es ≡ set es (position_or_len (is_named x.name) es) x
+pub put_there : (x : NamedScript) (es : List NamedScript) → position_or_len (is_named x.name) es < length es
+    → with_entry x es ≡ set es (position_or_len (is_named x.name) es) x
 put_there x [] h = absurd (omega arith)
 put_there x (e ∷ es) h = by (is_named x.name e) h (put_there x es)
   where
-    by : (b : Bool) → cond (not b) (1 + position_or_len (is_named x.name) es) 0 < length (e ∷ es) → (position_or_len (is_named x.name) es < length es → with_entry x es ≡ set es (position_or_len (is_named x.name) es) x)
+    by : (b : Bool) → cond (not b) (1 + position_or_len (is_named x.name) es) 0 < length (e ∷ es)
+        → (position_or_len (is_named x.name) es < length es
+        → with_entry x es ≡ set es (position_or_len (is_named x.name) es) x)
         → cond b (x ∷ es) (e ∷ with_entry x es) ≡ set (e ∷ es) (cond (not b) (1 + position_or_len (is_named x.name) es) 0) x
     by true k rest = refl
     by false k rest =
@@ -70,7 +77,9 @@ pub put_last : (x : NamedScript) (es : List NamedScript) → script_under x.name
 put_last x [] h = refl
 put_last x (e ∷ es) h = by (is_named x.name e) h (put_last x es)
   where
-    by : (b : Bool) → option_map (λ (y : NamedScript). y.script) (cond b (Some e) (find (is_named x.name) es)) ≡ None → (script_under x.name es ≡ None → with_entry x es ≡ es ++ x ∷ []) → cond b (x ∷ es) (e ∷ with_entry x es) ≡ e ∷ (es ++ x ∷ [])
+    by : (b : Bool) → option_map (λ (y : NamedScript). y.script) (cond b (Some e) (find (is_named x.name) es)) ≡ None
+        → (script_under x.name es ≡ None → with_entry x es ≡ es ++ x ∷ [])
+        → cond b (x ∷ es) (e ∷ with_entry x es) ≡ e ∷ (es ++ x ∷ [])
     by true k rest = absurd (cc k)
     by false k rest = ap (λ t. e ∷ t) (rest k)
 
@@ -81,23 +90,30 @@ module _ (x : NamedScript) (n : List ℕ) where
   only false = refl
 
   -- in the place of e
-  over : (e : NamedScript) (es : List NamedScript) (b : Bool) → option_map (λ (y : NamedScript). y.script) (cond b (Some x) (find (is_named n) es)) ≡ cond b (Some x.script) (option_map (λ (y : NamedScript). y.script) (cond b (Some e) (find (is_named n) es)))
+  over : (e : NamedScript) (es : List NamedScript) (b : Bool)
+      → option_map (λ (y : NamedScript). y.script) (cond b (Some x) (find (is_named n) es))
+      ≡ cond b (Some x.script) (option_map (λ (y : NamedScript). y.script) (cond b (Some e) (find (is_named n) es)))
   over e es true = refl
   over e es false = refl
 
   -- after e, which has another name
-  past : (e : NamedScript) (es : List NamedScript) (b : Bool) → bytes_eq e.name n ≡ b → bytes_eq e.name x.name ≡ false → script_under n (with_entry x es) ≡ cond (bytes_eq x.name n) (Some x.script) (script_under n es)
-      → option_map (λ (y : NamedScript). y.script) (cond b (Some e) (find (is_named n) (with_entry x es))) ≡ cond (bytes_eq x.name n) (Some x.script) (option_map (λ (y : NamedScript). y.script) (cond b (Some e) (find (is_named n) es)))
+  past : (e : NamedScript) (es : List NamedScript) (b : Bool) → bytes_eq e.name n ≡ b → bytes_eq e.name x.name ≡ false
+      → script_under n (with_entry x es) ≡ cond (bytes_eq x.name n) (Some x.script) (script_under n es)
+      → option_map (λ (y : NamedScript). y.script) (cond b (Some e) (find (is_named n) (with_entry x es)))
+      ≡ cond (bytes_eq x.name n) (Some x.script) (option_map (λ (y : NamedScript).
+      y.script) (cond b (Some e) (find (is_named n) es)))
   past e es true k d rest =
       let other : bytes_eq x.name n ≡ false = other_name x.name n (λ h. differ e.name x.name d (same_name e.name n k ∙ sym h)) in
       ap (λ b. cond b (Some x.script) (Some e.script)) (sym other)
   past e es false k d rest = rest
 
-  put_before : (e : NamedScript) (es : List NamedScript) (b : Bool) → bytes_eq e.name x.name ≡ b → script_under n (with_entry x es) ≡ cond (bytes_eq x.name n) (Some x.script) (script_under n es)
+  put_before : (e : NamedScript) (es : List NamedScript) (b : Bool) → bytes_eq e.name x.name ≡ b
+      → script_under n (with_entry x es) ≡ cond (bytes_eq x.name n) (Some x.script) (script_under n es)
       → script_under n (cond b (x ∷ es) (e ∷ with_entry x es)) ≡ cond (bytes_eq x.name n) (Some x.script) (script_under n (e ∷ es))
   put_before e es true k rest =
       let same : bytes_eq x.name n ≡ bytes_eq e.name n = ap (λ a. bytes_eq a n) (sym (same_name e.name x.name k)) in
-      ap (λ b. option_map (λ (y : NamedScript). y.script) (cond b (Some x) (find (is_named n) es))) same ∙ over e es (bytes_eq e.name n) ∙ ap (λ b. cond b (Some x.script) (script_under n (e ∷ es))) (sym same)
+      ap (λ b. option_map (λ (y : NamedScript). y.script) (cond b (Some x) (find (is_named n) es))) same
+      ∙ over e es (bytes_eq e.name n) ∙ ap (λ b. cond b (Some x.script) (script_under n (e ∷ es))) (sym same)
   put_before e es false k rest = past e es (bytes_eq e.name n) refl k rest
 
   pub named_put : (es : List NamedScript) → script_under n (with_entry x es) ≡ cond (bytes_eq x.name n) (Some x.script) (script_under n es)
@@ -116,8 +132,20 @@ once_put x (e ∷ es) h = by (bytes_eq e.name x.name) refl (once_put x es h.1)
         let other : bytes_eq x.name e.name ≡ false = other_name x.name e.name (λ s. differ e.name x.name k (sym s)) in
         (named_put x e.name es ∙ ap (λ b. cond b (Some x.script) (script_under e.name es)) other ∙ h.0, rest)
 
-pub location_there : (x : NamedScript) (es : List NamedScript) → position_or_len (is_named x.name) es < length es → IsLocation es → IsLocation (with_entry x es)
-location_there x es h l = record { once = once_put x es l.once; few = let long : length (with_entry x es) ≡ length es = ap length (put_there x es h) ∙ length-set es (position_or_len (is_named x.name) es) x in omega (arith, long, l.few) }
+pub location_there : (x : NamedScript) (es : List NamedScript) → position_or_len (is_named x.name) es < length es
+    → IsLocation es → IsLocation (with_entry x es)
+location_there x es h l = record {
+  once = once_put x es l.once;
+  few = let long : length (with_entry x es) ≡ length es =
+      ap length (put_there x es h) ∙ length-set es (position_or_len (is_named x.name) es) x in
+      omega (arith, long, l.few);
+}
 
-pub location_last : (x : NamedScript) (es : List NamedScript) → script_under x.name es ≡ None → length es < most_scripts → IsLocation es → IsLocation (with_entry x es)
-location_last x es h n l = record { once = once_put x es l.once; few = let long : length (with_entry x es) ≡ length es + 1 = ap length (put_last x es h) ∙ length-append es (x ∷ []) in omega (arith, long, n) }
+pub location_last : (x : NamedScript) (es : List NamedScript) → script_under x.name es ≡ None → length es < most_scripts
+    → IsLocation es → IsLocation (with_entry x es)
+location_last x es h n l =
+    record {
+      once = once_put x es l.once;
+      few = let long : length (with_entry x es) ≡ length es + 1 =
+          ap length (put_last x es h) ∙ length-append es (x ∷ []) in omega (arith, long, n);
+    }

@@ -9,11 +9,16 @@ use Rattle.sieve_syntax.specs.declared.tree.StringList.{StringList}
 use Rattle.sieve_syntax.specs.declared.tree.StringList.TheVariants as string_lists
 use Rattle.sieve_syntax.specs.declared.tree.Argument.{Argument}
 use Rattle.sieve_syntax.specs.declared.tree.Argument.TheVariants as arguments
-use Rattle.sieve_syntax.specs.Tree.{TestTree, test, InnerTests, no_tests, one_test, listed_tests, TestRow, last_test, next_test, CommandTree, command, EndingTree, semicolon, block, CommandTrees, no_commands, command_then, other_string_tokens, string_list_tokens, argument_tokens, arguments_tokens, test_tokens, inner_tokens, row_tokens, command_tokens, ending_tokens, commands_tokens}
+use Rattle.sieve_syntax.specs.Tree.{TestTree, test, InnerTests, no_tests, one_test, listed_tests, TestRow, last_test}
+use Rattle.sieve_syntax.specs.Tree.{next_test, CommandTree, command, EndingTree, semicolon, block, CommandTrees}
+use Rattle.sieve_syntax.specs.Tree.{no_commands, command_then, other_string_tokens, string_list_tokens, argument_tokens}
+use Rattle.sieve_syntax.specs.Tree.{arguments_tokens, test_tokens, inner_tokens, row_tokens, command_tokens}
+use Rattle.sieve_syntax.specs.Tree.{ending_tokens, commands_tokens}
 use Rattle.sieve_text.specs.Grammar.{kinds, Spells}
 use Rattle.sieve_text.specs.Tokens.{IsScan}
 use Rattle.sieve_text.proofs.ScanLemmas.{one_scan}
-use Rattle.script_places.specs.Heads.{is_name, named, name_and, names_among, test_names, inner_names, row_names, command_names, ending_names, commands_names, HeadsAreNamed}
+use Rattle.script_places.specs.Heads.{is_name, named, name_and, names_among, test_names, inner_names, row_names}
+use Rattle.script_places.specs.Heads.{command_names, ending_names, commands_names, HeadsAreNamed}
 
 join : {X : Type 0} {a b c d : List X} → a ≡ b → c ≡ d → a ++ c ≡ b ++ d
 join e f = rw (e, f) refl
@@ -65,11 +70,14 @@ mutual
 
 mutual
   command_named : (c : CommandTree) → names_among (command_tokens c) ≡ command_names c
-  command_named (command name args inner finish) = ap (λ ns. name ∷ ns) (past_arguments args (inner_tokens inner ++ ending_tokens finish) ∙ names_among-append (inner_tokens inner) (ending_tokens finish) ∙ join (inner_named inner) (ending_named finish))
+  command_named (command name args inner finish) =
+      ap (λ ns. name ∷ ns) (past_arguments args (inner_tokens inner ++ ending_tokens finish)
+      ∙ names_among-append (inner_tokens inner) (ending_tokens finish) ∙ join (inner_named inner) (ending_named finish))
 
   ending_named : (e : EndingTree) → names_among (ending_tokens e) ≡ ending_names e
   ending_named semicolon = refl
-  ending_named (block cs) = names_among-append (commands_tokens cs) (tokens.Mark CloseBrace ∷ []) ∙ append-nil (names_among (commands_tokens cs)) ∙ commands_named cs
+  ending_named (block cs) = names_among-append (commands_tokens cs) (tokens.Mark CloseBrace ∷ [])
+      ∙ append-nil (names_among (commands_tokens cs)) ∙ commands_named cs
 
   commands_named : (cs : CommandTrees) → names_among (commands_tokens cs) ≡ commands_names cs
   commands_named no_commands = refl
@@ -80,7 +88,8 @@ kinds-cond : (b : Bool) (t : Token) (ts : List Token) → kinds (cond b (t ∷ t
 kinds-cond true t ts = refl
 kinds-cond false t ts = refl
 
-by_kind : (k : TokenKind) (kept all : List TokenKind) → names_among kept ≡ names_among all → names_among (cond (is_name k) (k ∷ kept) kept) ≡ name_and k (names_among all)
+by_kind : (k : TokenKind) (kept all : List TokenKind) → names_among kept ≡ names_among all
+    → names_among (cond (is_name k) (k ∷ kept) kept) ≡ name_and k (names_among all)
 by_kind (tokens.Identifier name) kept all h = ap (λ ns. name ∷ ns) h
 by_kind (tokens.Tag name) kept all h = h
 by_kind (tokens.Number n) kept all h = h
@@ -92,4 +101,5 @@ names_kept [] = refl
 names_kept (t ∷ ts) = ap names_among (kinds-cond (is_name t.kind) t (named ts)) ∙ by_kind t.kind (kinds (named ts)) (kinds ts) (names_kept ts)
 
 pub heads_named : HeadsAreNamed
-heads_named script ts t scanned s = names_kept ts ∙ ap (λ us. names_among (kinds us)) (one_scan script ts s.0 scanned s.1) ∙ ap names_among s.2 ∙ commands_named t
+heads_named script ts t scanned s = names_kept ts
+    ∙ ap (λ us. names_among (kinds us)) (one_scan script ts s.0 scanned s.1) ∙ ap names_among s.2 ∙ commands_named t

@@ -3,7 +3,8 @@ use Rattle.std.proofs.Common.{◌≡◌, ℕ, ◌+◌, ◌-◌, ◌<◌, ◌≤�
 use Rattle.std.specs.Prelude.{if◌then◌else◌, min}
 use Rattle.std.specs.List.{suffix_len, count_by}
 use Rattle.std.proofs.lemmas.List.{length-take}
-use Rattle.std.proofs.lemmas.List.Sums.{count_by_more_yes, count_by_more_no, count_by-le-length, suffix_len-take_yes, suffix_len-take_no, suffix_len-le-length}
+use Rattle.std.proofs.lemmas.List.Sums.{count_by_more_yes, count_by_more_no, count_by-le-length, suffix_len-take_yes}
+use Rattle.std.proofs.lemmas.List.Sums.{suffix_len-take_no, suffix_len-le-length}
 use Rattle.tool_texts.specs.declared.places.Place.{Place}
 use Rattle.tool_texts.specs.Places.{line_of, column_of, is_line_feed}
 use Rattle.script_places.specs.Places.{place_at, past}
@@ -30,8 +31,14 @@ place_next text i lt = by (is_line_feed (get_or text i 0)) refl
     other_at : (b : Bool) → is_line_feed (get_or text i 0) ≡ b → is_other (get_or text (i + 1 - 1) 0) ≡ not b
     other_at b e = ap (λ k. is_other (get_or text k 0)) last ∙ ap not e
 
-    by : (b : Bool) → is_line_feed (get_or text i 0) ≡ b → place_at text (i + 1) ≡ (if b then record { line = line_of text i + 1; column = 1 } else record { line = line_of text i; column = column_of text i + 1 })
-    by true e = same (ap (λ n. n + 1) (count_by_more_yes is_line_feed text i 0 lt e)) (ap (λ n. n + 1) (suffix_len-take_no is_other text (i + 1) 0 some within (other_at true e)))
+    by : (b : Bool) → is_line_feed (get_or text i 0) ≡ b
+        → place_at text (i + 1) ≡ (if b then record { line = line_of text i + 1; column = 1 } else record {
+          line =
+              line_of text i;
+          column = column_of text i + 1;
+        })
+    by true e = same (ap (λ n. n + 1) (count_by_more_yes is_line_feed text i 0 lt e)) (ap (λ n.
+        n + 1) (suffix_len-take_no is_other text (i + 1) 0 some within (other_at true e)))
     by false e =
         let more : suffix_len is_other (take (i + 1) text) ≡ 1 + suffix_len is_other (take i text) =
         suffix_len-take_yes is_other text (i + 1) 0 some within (other_at false e) ∙ ap (λ k. 1 + suffix_len is_other (take k text)) last in

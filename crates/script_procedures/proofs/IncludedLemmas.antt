@@ -2,7 +2,9 @@
 use Rattle.std.proofs.Common.{◌≡◌, List, [], ◌∷◌, ◌++◌, map, Bool, true, ◌||◌, refl, sym, ap, ◌∙◌, subst}
 use Rattle.std.specs.List.{list_any}
 use Rattle.std.proofs.lemmas.List.{map-append}
-use Rattle.sieve_meaning.specs.Program.{Include, Command, require, keep, discard, stop, return, file_into, branch, include, Commands, no_command, command_then, Branches, no_branch, otherwise, if_then}
+use Rattle.sieve_meaning.specs.Program.{Include, Command, require, keep, discard, stop, return, file_into, branch}
+use Rattle.sieve_meaning.specs.Program.{include, Commands, no_command, command_then, Branches, no_branch, otherwise}
+use Rattle.sieve_meaning.specs.Program.{if_then}
 use Rattle.sieve_meaning.specs.Meaning.{Library, ScriptName, script_named, same_script}
 use Rattle.sieve_meaning.specs.Procedures.{includes_of, includes_in, branch_includes}
 use Rattle.sieve_meaning.proofs.SharingLemmas.{same_is}
@@ -21,14 +23,17 @@ module _ (lib : Library) where
   abbrev gathered : List ScriptName → List ScriptName → List ScriptName
   gathered names more = puts same_script (is_there lib) names more
 
-  joined : (is js : List Include) (names : List ScriptName) → gathered names (names_of (is ++ js)) ≡ gathered (gathered names (names_of is)) (names_of js)
+  joined : (is js : List Include) (names : List ScriptName)
+      → gathered names (names_of (is ++ js)) ≡ gathered (gathered names (names_of is)) (names_of js)
   joined is js names = ap (gathered names) (map-append script_named is js) ∙ puts_append same_script (is_there lib) names (names_of is) (names_of js)
 
   mutual
     gathers : (x : Commands) (names : List ScriptName) → with_included lib x names ≡ gathered names (names_of (includes_of x))
     gathers no_command names = refl
     gathers (command_then x xs) names =
-        gathers xs (with_one lib x names) ∙ ap (λ (ns : List ScriptName). gathered ns (names_of (includes_of xs))) (gathers_one x names) ∙ sym (joined (includes_in x) (includes_of xs) names)
+        gathers xs (with_one lib x names)
+        ∙ ap (λ (ns : List ScriptName). gathered ns (names_of (includes_of xs))) (gathers_one x names)
+        ∙ sym (joined (includes_in x) (includes_of xs) names)
 
     gathers_one : (x : Command) (names : List ScriptName) → with_one lib x names ≡ gathered names (names_of (includes_in x))
     gathers_one require names = refl
@@ -44,7 +49,9 @@ module _ (lib : Library) where
     gathers_branches no_branch names = refl
     gathers_branches (otherwise xs) names = gathers xs names
     gathers_branches (if_then t xs bs) names =
-        gathers_branches bs (with_included lib xs names) ∙ ap (λ (ns : List ScriptName). gathered ns (names_of (branch_includes bs))) (gathers xs names) ∙ sym (joined (includes_of xs) (branch_includes bs) names)
+        gathers_branches bs (with_included lib xs names)
+        ∙ ap (λ (ns : List ScriptName). gathered ns (names_of (branch_includes bs))) (gathers xs names)
+        ∙ sym (joined (includes_of xs) (branch_includes bs) names)
 
   all_names : (names : List ScriptName) → AllOf (λ s. Unit {0}) names
   all_names [] = tt

@@ -1,5 +1,6 @@
 -- A test of some of a list, item by item.
-use Rattle.std.proofs.Common.{◌≡◌, ℕ, zero, suc, ◌+◌, ◌<◌, ◌≤◌, List, [], ◌∷◌, take, length, map, get_or, Bool, true, false, cond, ◌||◌, Option, Some, None, option_map, is_some, refl, sym, ap, ◌∙◌, arith}
+use Rattle.std.proofs.Common.{◌≡◌, ℕ, zero, suc, ◌+◌, ◌<◌, ◌≤◌, List, [], ◌∷◌, take, length, map, get_or, Bool, true}
+use Rattle.std.proofs.Common.{false, cond, ◌||◌, Option, Some, None, option_map, is_some, refl, sym, ap, ◌∙◌, arith}
 use Rattle.std.specs.List.{list_any}
 use Rattle.std.proofs.lemmas.List.Folds.{list_any-append}
 use Rattle.std.proofs.lemmas.Grind.{common_steps}
@@ -36,9 +37,12 @@ module _ (lib : Library) (e : Procedure) where
   shares p = is_shared lib (procedure_of p) e
 
   -- the number of the first one that is shared
-  pub number_found : (ps : List code.Procedure) (i : ℕ) (p : code.Procedure) → i < length ps → p ≡ get_or ps i p → shares p ≡ true → list_any shares (take i ps) ≡ false → Some i ≡ number_of lib (map procedure_of ps) e
+  pub number_found : (ps : List code.Procedure) (i : ℕ) (p : code.Procedure) → i < length ps → p ≡ get_or ps i p
+      → shares p ≡ true → list_any shares (take i ps) ≡ false → Some i ≡ number_of lib (map procedure_of ps) e
   number_found [] i p below is h none = absurd (omega (arith, below))
-  number_found (q ∷ ps) zero p below is h none = ap (λ (b : Bool). cond b (Some 0) (option_map suc (number_of lib (map procedure_of ps) e))) (sym (ap shares (sym is) ∙ h))
+  number_found (q ∷ ps) zero p below is h none =
+      ap (λ (b : Bool). cond b (Some 0) (option_map suc (number_of lib (map procedure_of ps) e)))
+      (sym (ap shares (sym is) ∙ h))
   number_found (q ∷ ps) (suc i) p below is h none =
       let parts = neither_before (shares q) (list_any shares (take i ps)) none in
       ap (option_map suc) (number_found ps i p (omega (arith, below)) is h parts.1)
@@ -48,7 +52,8 @@ module _ (lib : Library) (e : Procedure) where
   no_number [] none = refl
   no_number (q ∷ ps) none =
       let parts = neither_before (shares q) (list_any shares ps) none in
-      ap (option_map suc) (no_number ps parts.1) ∙ ap (λ (b : Bool). cond b (Some 0) (option_map suc (number_of lib (map procedure_of ps) e))) (sym parts.0)
+      ap (option_map suc) (no_number ps parts.1)
+      ∙ ap (λ (b : Bool). cond b (Some 0) (option_map suc (number_of lib (map procedure_of ps) e))) (sym parts.0)
 
   is_some_next : (o : Option ℕ) → is_some (option_map suc o) ≡ is_some o
   is_some_next None = refl
@@ -57,7 +62,9 @@ module _ (lib : Library) (e : Procedure) where
   -- one of them has a number where it is shared
   pub number_there : (ps : List code.Procedure) → is_some (number_of lib (map procedure_of ps) e) ≡ list_any shares ps
   number_there [] = refl
-  number_there (q ∷ ps) = elim (shares q) as (λ b. is_some (cond b (Some 0) (option_map suc (number_of lib (map procedure_of ps) e))) ≡ (b || list_any shares ps)) [
-    | true ↦ refl
-    | false ↦ is_some_next (number_of lib (map procedure_of ps) e) ∙ number_there ps
-  ]
+  number_there (q ∷ ps) =
+      elim (shares q) as (λ b. is_some (cond b (Some 0) (option_map suc (number_of lib (map procedure_of ps) e)))
+      ≡ (b || list_any shares ps)) [
+        | true ↦ refl
+        | false ↦ is_some_next (number_of lib (map procedure_of ps) e) ∙ number_there ps
+      ]

@@ -22,13 +22,18 @@ module _ {A : Type 0} where
   filter_all q h (x ∷ xs) = ap (λ (b : Bool). cond b (x ∷ filter q xs) (filter q xs)) (h x) ∙ ap (λ (l : List A). x ∷ l) (filter_all q h xs)
 
   -- to filter twice
-  filter_both : (P : A → Type 0) (p q r : A → Bool) → ((x : A) → P x → r x ≡ (p x && q x)) → (xs : List A) → AllOf P xs → filter p (filter q xs) ≡ filter r xs
+  filter_both : (P : A → Type 0) (p q r : A → Bool) → ((x : A) → P x → r x ≡ (p x && q x)) → (xs : List A) → AllOf P xs
+      → filter p (filter q xs) ≡ filter r xs
   filter_both P p q r h [] all = refl
   filter_both P p q r h (x ∷ xs) all =
       by (p x) refl (q x) refl (r x) (h x all.0) (filter_both P p q r h xs all.1)
     where
-      by : (a : Bool) → p x ≡ a → (b : Bool) → q x ≡ b → (d : Bool) → d ≡ (p x && q x) → filter p (filter q xs) ≡ filter r xs → filter p (cond b (x ∷ filter q xs) (filter q xs)) ≡ cond d (x ∷ filter r xs) (filter r xs)
-      by true pa true qb true is rest = ap (λ (c : Bool). cond c (x ∷ filter p (filter q xs)) (filter p (filter q xs))) pa ∙ ap (λ (l : List A). x ∷ l) rest
+      by : (a : Bool) → p x ≡ a → (b : Bool) → q x ≡ b → (d : Bool) → d ≡ (p x && q x)
+          → filter p (filter q xs) ≡ filter r xs
+          → filter p (cond b (x ∷ filter q xs) (filter q xs)) ≡ cond d (x ∷ filter r xs) (filter r xs)
+      by true pa true qb true is rest =
+          ap (λ (c : Bool). cond c (x ∷ filter p (filter q xs)) (filter p (filter q xs))) pa
+          ∙ ap (λ (l : List A). x ∷ l) rest
       by false pa true qb false is rest = ap (λ (c : Bool). cond c (x ∷ filter p (filter q xs)) (filter p (filter q xs))) pa ∙ rest
       by a pa false qb false is rest = rest
       by true pa true qb false is rest = absurd (cc (is, ap (λ (c : Bool). c && q x) pa))
@@ -49,11 +54,13 @@ module _ {A : Type 0} (alike : A → A → Bool) (k : A → Bool) where
   puts_append ys [] zs = refl
   puts_append ys (x ∷ xs) zs = puts_append (put ys x) xs zs
 
-  module _ (P : A → Type 0) (along : (x y z : A) → P x → P y → P z → alike x y ≡ true → alike y z ≡ true → alike x z ≡ true) (kept : (x z : A) → P x → P z → alike x z ≡ true → k x ≡ k z) where
+  module _ (P : A → Type 0) (along : (x y z : A) → P x → P y → P z → alike x y ≡ true → alike y z ≡ true
+      → alike x z ≡ true) (kept : (x z : A) → P x → P z → alike x z ≡ true → k x ≡ k z) where
     abbrev is_new : List A → A → Bool
     is_new ys z = k z && not (list_any (λ y. alike y z) ys)
 
-    any_along : (x z : A) → P x → P z → (ys : List A) → AllOf P ys → alike x z ≡ true → list_any (λ y. alike y x) ys ≡ true → list_any (λ y. alike y z) ys ≡ true
+    any_along : (x z : A) → P x → P z → (ys : List A) → AllOf P ys → alike x z ≡ true
+        → list_any (λ y. alike y x) ys ≡ true → list_any (λ y. alike y z) ys ≡ true
     any_along x z px pz [] all like some = some
     any_along x z px pz (y ∷ ys) all like some = elim (or_cases (alike y x) (list_any (λ y. alike y x) ys) some) [
       | inl here ↦ or_left (alike y z) (list_any (λ y. alike y z) ys) (along y x z all.0 px pz here like)
@@ -61,7 +68,8 @@ module _ {A : Type 0} (alike : A → A → Bool) (k : A → Bool) where
     ]
 
     -- one that is like another that was left out is left out too
-    left_out : (ys : List A) → AllOf P ys → (x : A) → P x → (k x && not (list_any (λ y. alike y x) ys)) ≡ false → (z : A) → P z → is_new ys z ≡ (is_new ys z && not (alike x z))
+    left_out : (ys : List A) → AllOf P ys → (x : A) → P x → (k x && not (list_any (λ y. alike y x) ys)) ≡ false
+        → (z : A) → P z → is_new ys z ≡ (is_new ys z && not (alike x z))
     left_out ys all x px out z pz = by (alike x z) refl
       where
         dropped : (a b c d : Bool) → a ≡ c → (b ≡ true → d ≡ true) → (a && not b) ≡ false → (c && not d) ≡ false
@@ -79,7 +87,9 @@ module _ {A : Type 0} (alike : A → A → Bool) (k : A → Bool) where
             and_true true = refl
             and_true false = refl
         by true is =
-            let none : is_new ys z ≡ false = dropped (k x) (list_any (λ y. alike y x) ys) (k z) (list_any (λ y. alike y z) ys) (kept x z px pz is) (any_along x z px pz ys all is) out in
+            let none : is_new ys z ≡ false =
+            dropped (k x) (list_any (λ y. alike y x) ys) (k z) (list_any (λ y. alike y z) ys) (kept x z px pz is)
+            (any_along x z px pz ys all is) out in
             none ∙ ap (λ (a : Bool). a && false) (sym none)
 
     -- after one more
@@ -100,14 +110,22 @@ module _ {A : Type 0} (alike : A → A → Bool) (k : A → Bool) where
         rest : AllOf P (once alike xs)
         rest = all_once alike P xs all.1
 
-        by : (b : Bool) → (k x && not (list_any (λ y. alike y x) ys)) ≡ b → ((zs : List A) → AllOf P zs → puts zs xs ≡ zs ++ filter (is_new zs) (once alike xs)) → puts (cond b (ys ++ x ∷ []) ys) xs ≡ ys ++ cond b (x ∷ filter (is_new ys) (filter (λ z. not (alike x z)) (once alike xs))) (filter (is_new ys) (filter (λ z. not (alike x z)) (once alike xs)))
+        by : (b : Bool) → (k x && not (list_any (λ y. alike y x) ys)) ≡ b
+            → ((zs : List A) → AllOf P zs → puts zs xs ≡ zs ++ filter (is_new zs) (once alike xs))
+            → puts (cond b (ys ++ x ∷ []) ys) xs ≡ ys
+            ++ cond b (x ∷ filter (is_new ys) (filter (λ z. not (alike x z)) (once alike xs)))
+            (filter (is_new ys) (filter (λ z. not (alike x z)) (once alike xs)))
         by true is go =
             go (ys ++ x ∷ []) (all_append P ys (x ∷ []) ally (all.0, tt))
-            ∙ ap (λ (l : List A). (ys ++ x ∷ []) ++ l) (sym (filter_both P (is_new ys) (λ z. not (alike x z)) (is_new (ys ++ x ∷ [])) (λ z pz. after_one ys x z) (once alike xs) rest))
+            ∙ ap (λ (l : List A). (ys ++ x ∷ [])
+            ++ l) (sym (filter_both P (is_new ys) (λ z. not (alike x z)) (is_new (ys ++ x ∷ [])) (λ z pz.
+            after_one ys x z) (once alike xs) rest))
             ∙ append_assoc ys (x ∷ []) (filter (is_new ys) (filter (λ z. not (alike x z)) (once alike xs)))
         by false is go =
             go ys ally
-            ∙ ap (λ (l : List A). ys ++ l) (sym (filter_both P (is_new ys) (λ z. not (alike x z)) (is_new ys) (λ z pz. left_out ys ally x all.0 is z pz) (once alike xs) rest))
+            ∙ ap (λ (l : List A). ys
+            ++ l) (sym (filter_both P (is_new ys) (λ z. not (alike x z)) (is_new ys) (λ z pz.
+            left_out ys ally x all.0 is z pz) (once alike xs) rest))
 
     -- where nothing is there at first
     pub puts_once : (xs : List A) → AllOf P xs → puts [] xs ≡ filter k (once alike xs)
@@ -117,6 +135,8 @@ module _ {A : Type 0} (alike : A → A → Bool) (k : A → Bool) where
         same_tests [] = refl
         same_tests (z ∷ zs) = by (k z) (same_tests zs)
           where
-            by : (b : Bool) → filter (is_new []) zs ≡ filter k zs → cond (b && true) (z ∷ filter (is_new []) zs) (filter (is_new []) zs) ≡ cond b (z ∷ filter k zs) (filter k zs)
+            by : (b : Bool) → filter (is_new []) zs ≡ filter k zs
+                → cond (b && true) (z ∷ filter (is_new []) zs) (filter (is_new []) zs)
+                ≡ cond b (z ∷ filter k zs) (filter k zs)
             by true e = ap (λ (l : List A). z ∷ l) e
             by false e = e

@@ -1,5 +1,7 @@
 -- The rounds of the tables of what scripts reach.
-use Rattle.std.proofs.Common.{◌≡◌, ◌⊎◌, ℕ, zero, suc, ◌+◌, ◌<◌, List, [], ◌∷◌, ◌++◌, map, filter, length, Bool, true, false, ◌||◌, cond, Option, Some, None, Result, Ok, Err, IfOk, Vec, Global, inl, inr, refl, sym, ap, ◌∙◌, subst, arith, length-append}
+use Rattle.std.proofs.Common.{◌≡◌, ◌⊎◌, ℕ, zero, suc, ◌+◌, ◌<◌, List, [], ◌∷◌, ◌++◌, map, filter, length, Bool, true}
+use Rattle.std.proofs.Common.{false, ◌||◌, cond, Option, Some, None, Result, Ok, Err, IfOk, Vec, Global, inl, inr, refl}
+use Rattle.std.proofs.Common.{sym, ap, ◌∙◌, subst, arith, length-append}
 use Rattle.std.specs.Prelude.{slice_get, nat_eq}
 use Rattle.std.specs.List.{list_any}
 use Rattle.std.specs.Prelude.{take}
@@ -26,7 +28,8 @@ if_ok_more P Q (Ok v) h k = h v k
 if_ok_more P Q (Err e) h k = k
 
 -- what stands in a list with one more at its end
-pub got_pushed : {A : Type 0} (xs : List A) (x y : A) (i : ℕ) → slice_get (xs ++ x ∷ []) i ≡ Some y → (slice_get xs i ≡ Some y) ⊎ ((i ≡ length xs) × (x ≡ y))
+pub got_pushed : {A : Type 0} (xs : List A) (x y : A) (i : ℕ) → slice_get (xs ++ x ∷ []) i ≡ Some y
+    → (slice_get xs i ≡ Some y) ⊎ ((i ≡ length xs) × (x ≡ y))
 got_pushed [] x y zero h = inr (refl, some_is x y h)
 got_pushed [] x y (suc i) h = absurd (cc h)
 got_pushed (z ∷ xs) x y zero h = inl h
@@ -37,7 +40,8 @@ item_more xs i x below is = grind (arith, common_steps)
 
 -- ROWS
 
-pub row_is : (l : Scripts) (slot : ℕ) (script : Commands) → IsAt l slot (Some script) → (row : List ℕ) → row ≡ map (slots_of l) (filter (is_there (library_of l)) (names_there (library_of l) script)) → IsRow l slot row
+pub row_is : (l : Scripts) (slot : ℕ) (script : Commands) → IsAt l slot (Some script) → (row : List ℕ)
+    → row ≡ map (slots_of l) (filter (is_there (library_of l)) (names_there (library_of l) script)) → IsRow l slot row
 row_is l slot script at row is s x h k =
     is ∙ ap (λ (y : Commands). map (slots_of l) (filter (is_there (library_of l)) (names_there (library_of l) y))) (some_is script x (at s x h k))
 
@@ -53,9 +57,13 @@ rows_more l n rows row are is = record {
   ];
 }
 
-pub rows_turn : (l : Scripts) (n : ℕ) (rows new : List (Vec ℕ Global)) (row : Vec ℕ Global) → AreRows l n (map (λ r. r.items) rows) → IsRow l n row.items → new ≡ rows ++ row ∷ [] → AreRows l (n + 1) (map (λ r. r.items) new)
+pub rows_turn : (l : Scripts) (n : ℕ) (rows new : List (Vec ℕ Global)) (row : Vec ℕ Global)
+    → AreRows l n (map (λ r. r.items) rows) → IsRow l n row.items → new ≡ rows ++ row ∷ []
+    → AreRows l (n + 1) (map (λ r. r.items) new)
 rows_turn l n rows new row are is made =
-    subst (AreRows l (n + 1)) (sym (ap (map (λ (r : Vec ℕ Global). r.items)) made ∙ map-append (λ (r : Vec ℕ Global). r.items) rows (row ∷ []))) (rows_more l n (map (λ r. r.items) rows) row.items are is)
+    subst (AreRows l (n + 1)) (sym (ap (map (λ (r : Vec ℕ Global). r.items)) made
+    ∙ map-append (λ (r : Vec ℕ Global). r.items) rows (row ∷ [])))
+    (rows_more l n (map (λ r. r.items) rows) row.items are is)
 
 -- ROUNDS
 
@@ -63,8 +71,10 @@ one_more : (row : List ℕ) (i : ℕ) → i < length row → take (i + 1) row �
 one_more row i below = grind (arith, common_steps)
 
 -- one more slot of a row
-pub turn_some : (sets : List SlotSet) (row : List ℕ) (i : ℕ) (set old mid new : SlotSet) → i < length row → slice_get sets (get_or row i 0) ≡ Some set → ((k : ℕ) → has old k ≡ further sets (take i row) k)
-    → ((k : ℕ) → has mid k ≡ (nat_eq k (get_or row i 0) || has old k)) → ((k : ℕ) → has new k ≡ (has mid k || has set k)) → (k : ℕ) → has new k ≡ further sets (take (i + 1) row) k
+pub turn_some : (sets : List SlotSet) (row : List ℕ) (i : ℕ) (set old mid new : SlotSet) → i < length row
+    → slice_get sets (get_or row i 0) ≡ Some set → ((k : ℕ) → has old k ≡ further sets (take i row) k)
+    → ((k : ℕ) → has mid k ≡ (nat_eq k (get_or row i 0) || has old k))
+    → ((k : ℕ) → has new k ≡ (has mid k || has set k)) → (k : ℕ) → has new k ≡ further sets (take (i + 1) row) k
 turn_some sets row i set old mid new below at before with_slot union k =
     let slot = get_or row i 0 in
     union k
@@ -81,7 +91,9 @@ turn_some sets row i set old mid new below at before with_slot union k =
     swap false false true = refl
     swap false false false = refl
 
-pub turn_none : (sets : List SlotSet) (row : List ℕ) (i : ℕ) (old : SlotSet) → i < length row → slice_get sets (get_or row i 0) ≡ None → ((k : ℕ) → has old k ≡ further sets (take i row) k) → (k : ℕ) → has old k ≡ further sets (take (i + 1) row) k
+pub turn_none : (sets : List SlotSet) (row : List ℕ) (i : ℕ) (old : SlotSet) → i < length row
+    → slice_get sets (get_or row i 0) ≡ None → ((k : ℕ) → has old k ≡ further sets (take i row) k) → (k : ℕ)
+    → has old k ≡ further sets (take (i + 1) row) k
 turn_none sets row i old below at before k =
     let slot = get_or row i 0 in
     before k
@@ -94,12 +106,18 @@ turn_none sets row i old below at before k =
     same true = refl
     same false = refl
 
-pub further_more : (rows : List (List ℕ)) (old new : List SlotSet) (row : List ℕ) (set : SlotSet) → AreFurther rows old new → ((k : ℕ) → has set k ≡ further old row k) → AreFurther (rows ++ row ∷ []) old (new ++ set ∷ [])
+pub further_more : (rows : List (List ℕ)) (old new : List SlotSet) (row : List ℕ) (set : SlotSet)
+    → AreFurther rows old new → ((k : ℕ) → has set k ≡ further old row k)
+    → AreFurther (rows ++ row ∷ []) old (new ++ set ∷ [])
 further_more rows old new row set are is = record {
   long = length-append new (set ∷ []) ∙ ap (λ (m : ℕ). m + 1) are.long ∙ sym (length-append rows (row ∷ []));
   each = λ slot r at k. elim (got_pushed rows row r slot at) [
-    | inl here ↦ ap (λ (o : Option SlotSet). has_at o k) (kept new set slot (subst (λ (m : ℕ). slot < m) (sym are.long) (inside rows slot r here))) ∙ are.each slot r here k
-    | inr last ↦ ap (λ (o : Option SlotSet). has_at o k) (ap (slice_get (new ++ set ∷ [])) (last.0 ∙ sym are.long) ∙ at_end new set) ∙ is k ∙ ap (λ (q : List ℕ). further old q k) last.1
+    | inl here ↦
+        ap (λ (o : Option SlotSet).
+        has_at o k) (kept new set slot (subst (λ (m : ℕ). slot < m) (sym are.long) (inside rows slot r here)))
+        ∙ are.each slot r here k
+    | inr last ↦ ap (λ (o : Option SlotSet). has_at o k) (ap (slice_get (new ++ set ∷ [])) (last.0 ∙ sym are.long)
+        ∙ at_end new set) ∙ is k ∙ ap (λ (q : List ℕ). further old q k) last.1
   ];
 }
   where
@@ -117,10 +135,19 @@ further_more rows old new row set are is = record {
     at_end [] x = refl
     at_end (y ∷ ys) x = at_end ys x
 
-pub round_turn : (rows : List (Vec ℕ Global)) (i : ℕ) (row : Vec ℕ Global) (old new made : List SlotSet) (set : SlotSet) → i < length rows → row ≡ get_or rows i row → AreFurther (map (λ r. r.items) (take i rows)) old new → ((k : ℕ) → has set k ≡ further old row.items k) → made ≡ new ++ set ∷ [] → AreFurther (map (λ r. r.items) (take (i + 1) rows)) old made
+pub round_turn : (rows : List (Vec ℕ Global)) (i : ℕ) (row : Vec ℕ Global) (old new made : List SlotSet) (set : SlotSet)
+    → i < length rows → row ≡ get_or rows i row → AreFurther (map (λ r. r.items) (take i rows)) old new
+    → ((k : ℕ) → has set k ≡ further old row.items k) → made ≡ new ++ set ∷ []
+    → AreFurther (map (λ r. r.items) (take (i + 1) rows)) old made
 round_turn rows i row old new made set below at are is added =
-    let taken : map (λ (r : Vec ℕ Global). r.items) (take (i + 1) rows) ≡ map (λ (r : Vec ℕ Global). r.items) (take i rows) ++ row.items ∷ [] = ap (map (λ (r : Vec ℕ Global). r.items)) (item_more rows i row below at) ∙ map-append (λ (r : Vec ℕ Global). r.items) (take i rows) (row ∷ []) in
-    subst (λ (q : List (List ℕ)). AreFurther q old made) (sym taken) (subst (AreFurther (map (λ (r : Vec ℕ Global). r.items) (take i rows) ++ row.items ∷ []) old) (sym added) (further_more (map (λ r. r.items) (take i rows)) old new row.items set are is))
+    let taken : map (λ (r : Vec ℕ Global). r.items) (take (i + 1) rows) ≡ map (λ (r : Vec ℕ Global).
+    r.items) (take i rows)
+    ++ row.items ∷ [] = ap (map (λ (r : Vec ℕ Global). r.items)) (item_more rows i row below at)
+    ∙ map-append (λ (r : Vec ℕ Global). r.items) (take i rows) (row ∷ []) in
+    subst (λ (q : List (List ℕ)).
+    AreFurther q old made) (sym taken) (subst (AreFurther (map (λ (r : Vec ℕ Global). r.items) (take i rows)
+    ++ row.items ∷ []) old) (sym added) (further_more (map (λ r. r.items) (take i rows)) old new row.items set are
+    is))
 
 got_below : {A : Type 0} (xs : List A) (i : ℕ) → i < length xs → (x : A) × (slice_get xs i ≡ Some x)
 got_below [] i h = absurd (omega (arith, h))
@@ -128,11 +155,15 @@ got_below (x ∷ xs) zero h = (x, refl)
 got_below (x ∷ xs) (suc i) h = got_below xs i (omega (arith, h))
 
 -- a test of the scripts that are there
-any_there : (lib : Library) (p q : ScriptName → Bool) → ((u : ScriptName) (z : Commands) → lib.find u ≡ Some z → p u ≡ q u) → ((u : ScriptName) → lib.find u ≡ None → q u ≡ false) → (names : List ScriptName) → list_any p (filter (is_there lib) names) ≡ list_any q names
+any_there : (lib : Library) (p q : ScriptName → Bool) → ((u : ScriptName) (z : Commands) → lib.find u ≡ Some z
+    → p u ≡ q u) → ((u : ScriptName) → lib.find u ≡ None → q u ≡ false) → (names : List ScriptName)
+    → list_any p (filter (is_there lib) names) ≡ list_any q names
 any_there lib p q same none [] = refl
 any_there lib p q same none (u ∷ us) = by (lib.find u) refl (any_there lib p q same none us)
   where
-    by : (o : Option Commands) → lib.find u ≡ o → list_any p (filter (is_there lib) us) ≡ list_any q us → list_any p (cond (holds_if_there o (λ script. true)) (u ∷ filter (is_there lib) us) (filter (is_there lib) us)) ≡ (q u || list_any q us)
+    by : (o : Option Commands) → lib.find u ≡ o → list_any p (filter (is_there lib) us) ≡ list_any q us
+        → list_any p (cond (holds_if_there o (λ script. true)) (u ∷ filter (is_there lib) us)
+        (filter (is_there lib) us)) ≡ (q u || list_any q us)
     by None at rest = rest ∙ ap (λ (b : Bool). b || list_any q us) (sym (none u at))
     by (Some z) at rest = ap (λ (b : Bool). b || list_any p (filter (is_there lib) us)) (same u z at) ∙ ap (λ (b : Bool). q u || b) rest
 
@@ -140,7 +171,8 @@ module _ (l : Scripts) (count : ℕ) (slots : HasSlots (library_of l) (slots_of 
   lib : Library
   lib = library_of l
 
-  slot_tells : (u t : ScriptName) (z y : Commands) → lib.find u ≡ Some z → lib.find t ≡ Some y → nat_eq (slots_of l t) (slots_of l u) ≡ same_script u t
+  slot_tells : (u t : ScriptName) (z y : Commands) → lib.find u ≡ Some z → lib.find t ≡ Some y
+      → nat_eq (slots_of l t) (slots_of l u) ≡ same_script u t
   unfolding lib
   slot_tells u t z y at there = by (same_script u t) refl
     where
@@ -154,20 +186,29 @@ module _ (l : Scripts) (count : ℕ) (slots : HasSlots (library_of l) (slots_of 
               let same : t ≡ u = slots.own t u y z there at (eqb-true (slots_of l t) (slots_of l u) e) in
               absurd (cc (is, ap (λ (v : ScriptName). same_script u v) same ∙ same_self u))
 
-  pub none_reached : (sets : List SlotSet) → length sets ≡ count → ((i : ℕ) (set : SlotSet) → slice_get sets i ≡ Some set → (k : ℕ) → has set k ≡ false) → AreReached l count 0 sets
-  none_reached sets long empty = record { long = long; is = λ s t x y at there. by (slots_of l s) (slice_get sets (slots_of l s)) refl (slots_of l t) }
+  pub none_reached : (sets : List SlotSet) → length sets ≡ count
+      → ((i : ℕ) (set : SlotSet) → slice_get sets i ≡ Some set → (k : ℕ) → has set k ≡ false)
+      → AreReached l count 0 sets
+  none_reached sets long empty =
+      record {
+        long = long;
+        is = λ s t x y at there.
+            by (slots_of l s) (slice_get sets (slots_of l s)) refl (slots_of l t);
+      }
     where
       by : (i : ℕ) (o : Option SlotSet) → slice_get sets i ≡ o → (k : ℕ) → has_at o k ≡ false
       by i None at k = refl
       by i (Some set) at k = empty i set at k
 
-  module _ (n : ℕ) (rows : List (List ℕ)) (old new : List SlotSet) (are : AreRows l count rows) (reached : AreReached l count n old) (more : AreFurther rows old new) where
+  module _ (n : ℕ) (rows : List (List ℕ)) (old new : List SlotSet) (are : AreRows l count rows)
+      (reached : AreReached l count n old) (more : AreFurther rows old new) where
     none : (t u : ScriptName) → lib.find u ≡ None → holds_if_there (lib.find u) (λ z. same_script u t || reaches_within lib n z t) ≡ false
     none t u is = ap (λ (o : Option Commands). holds_if_there o (λ z. same_script u t || reaches_within lib n z t)) is
 
     -- what a script of a row leads to
     same : (t : ScriptName) (y : Commands) → lib.find t ≡ Some y → (u : ScriptName) (z : Commands) → lib.find u ≡ Some z
-        → leads_to (slice_get old (slots_of l u)) (slots_of l u) (slots_of l t) ≡ holds_if_there (lib.find u) (λ z. same_script u t || reaches_within lib n z t)
+        → leads_to (slice_get old (slots_of l u)) (slots_of l u) (slots_of l t) ≡ holds_if_there (lib.find u) (λ z.
+        same_script u t || reaches_within lib n z t)
     unfolding lib
     same t y there u z is =
         let set = got_below old (slots_of l u) (subst (λ (m : ℕ). slots_of l u < m) (sym reached.long) (slots.inside u z is)) in
@@ -176,7 +217,8 @@ module _ (l : Scripts) (count : ℕ) (slots : HasSlots (library_of l) (slots_of 
         ∙ ap (λ (b : Bool). same_script u t || b) (ap (λ (o : Option SlotSet). has_at o (slots_of l t)) (sym set.1) ∙ reached.is u t z y is there)
         ∙ ap (λ (o : Option Commands). holds_if_there o (λ z. same_script u t || reaches_within (library_of l) n z t)) (sym is)
 
-    round_is : (s t : ScriptName) (x y : Commands) → lib.find s ≡ Some x → lib.find t ≡ Some y → has_at (slice_get new (slots_of l s)) (slots_of l t) ≡ reaches_within lib (suc n) x t
+    round_is : (s t : ScriptName) (x y : Commands) → lib.find s ≡ Some x → lib.find t ≡ Some y
+        → has_at (slice_get new (slots_of l s)) (slots_of l t) ≡ reaches_within lib (suc n) x t
     unfolding lib
     round_is s t x y at there =
         let slot = slots_of l s in

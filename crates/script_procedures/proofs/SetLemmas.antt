@@ -49,4 +49,6 @@ has_one_more a slot k inside = by (nat_eq k slot) refl
         ap (λ (n : ℕ). nat_eq n 1) (bit_at_set_other w64 a slot inside k (λ at. absurd (cc (eq-eqb k slot at, is))))
 
 pub same_bits : (a b : ℕ) → a < 2 ^ 64 → b < 2 ^ 64 → ((k : ℕ) → k < 64 → nat_eq (bit_at a k) 1 ≡ nat_eq (bit_at b k) 1) → nat_eq a b ≡ true
-same_bits a b la lb h = eq-eqb a b (same_from_bits_below 64 a b la lb (λ i inside. same_bit (bit_at a i) (bit_at b i) (bit_at-lt a i) (bit_at-lt b i) (h i inside)))
+same_bits a b la lb h =
+    eq-eqb a b (same_from_bits_below 64 a b la lb (λ i inside.
+    same_bit (bit_at a i) (bit_at b i) (bit_at-lt a i) (bit_at-lt b i) (h i inside)))

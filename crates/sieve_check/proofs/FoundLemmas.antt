@@ -13,9 +13,12 @@ use Rattle.sieve_check.specs.Rules.{has_kind, stands_twice, has_tag_twice, same_
 use Rattle.sieve_check.specs.Findings.{no_findings, findings_with, findings_in}
 
 -- a finding that each piece adds to by itself
-pub any_found : (has : Capability → Bool) (get : Findings → Bool) (test : PieceWord → Bool) → ((f : Findings) (p : PieceWord) → get (findings_with has f p) ≡ (get f || test p)) → (f : Findings) (ps : List PieceWord) → get (findings_in has f ps) ≡ (get f || list_any test ps)
+pub any_found : (has : Capability → Bool) (get : Findings → Bool) (test : PieceWord → Bool)
+    → ((f : Findings) (p : PieceWord) → get (findings_with has f p) ≡ (get f || test p))
+    → (f : Findings) (ps : List PieceWord) → get (findings_in has f ps) ≡ (get f || list_any test ps)
 any_found has get test turn f [] = sym (or-false (get f))
-any_found has get test turn f (p ∷ ps) = any_found has get test turn (findings_with has f p) ps ∙ ap (λ (b : Bool). b || list_any test ps) (turn f p) ∙ or_assoc (get f) (test p) (list_any test ps)
+any_found has get test turn f (p ∷ ps) = any_found has get test turn (findings_with has f p) ps
+    ∙ ap (λ (b : Bool). b || list_any test ps) (turn f p) ∙ or_assoc (get f) (test p) (list_any test ps)
 
 -- whether a tag comes after a positional argument; the flag tells that one came before these pieces
 after_from : Bool → List PieceWord → Bool
@@ -25,7 +28,8 @@ after_from false ps = tag_after ps
 one_more : (n : ℕ) → suc n ≡ 1 + n
 one_more n = omega arith
 
-after_turn : (b q : Bool) (p : PieceWord) (ps : List PieceWord) → ((b || (q && is_tagged p)) || after_from (q || not (is_tagged p)) ps) ≡ (b || after_from q (p ∷ ps))
+after_turn : (b q : Bool) (p : PieceWord) (ps : List PieceWord)
+    → ((b || (q && is_tagged p)) || after_from (q || not (is_tagged p)) ps) ≡ (b || after_from q (p ∷ ps))
 unfolding after_from
 after_turn true q p ps = refl
 after_turn false true p ps = refl
@@ -38,7 +42,8 @@ nothing_after true q = refl
 nothing_after false true = refl
 nothing_after false false = refl
 
-after_found : (has : Capability → Bool) (f : Findings) (ps : List PieceWord) → (findings_in has f ps).late_tag ≡ (f.late_tag || after_from f.positional ps)
+after_found : (has : Capability → Bool) (f : Findings) (ps : List PieceWord)
+    → (findings_in has f ps).late_tag ≡ (f.late_tag || after_from f.positional ps)
 after_found has f [] = nothing_after f.late_tag f.positional
 after_found has f (p ∷ ps) = after_found has (findings_with has f p) ps ∙ after_turn f.late_tag f.positional p ps
 
@@ -52,7 +57,8 @@ second_from true ps = list_any is_tagged ps
 second_from false [] = false
 second_from false (p ∷ ps) = second_from (is_tagged p) ps
 
-second_turn : (b q : Bool) (p : PieceWord) (ps : List PieceWord) → ((b || (q && is_tagged p)) || second_from (q || is_tagged p) ps) ≡ (b || second_from q (p ∷ ps))
+second_turn : (b q : Bool) (p : PieceWord) (ps : List PieceWord)
+    → ((b || (q && is_tagged p)) || second_from (q || is_tagged p) ps) ≡ (b || second_from q (p ∷ ps))
 unfolding second_from
 second_turn true q p ps = refl
 second_turn false true p ps = refl
@@ -87,12 +93,16 @@ once_at_most : (k : TagKind) (ps : List PieceWord) → second_from false ps ≡ 
 unfolding second_from
 once_at_most k [] none = refl
 once_at_most k (tagged None c ∷ ps) none = no_tag_twice k ps none
-once_at_most k (tagged (Some w) c ∷ ps) none = both_false (same_kind k w.kind) (list_any (has_kind k) ps) (stands_twice k ps) (no_kind k ps none) (no_tag_twice k ps none)
+once_at_most k (tagged (Some w) c ∷ ps) none =
+    both_false (same_kind k w.kind) (list_any (has_kind k) ps) (stands_twice k ps) (no_kind k ps none)
+    (no_tag_twice k ps none)
 once_at_most k (positional a ∷ ps) none = once_at_most k ps none
 
-none_twice : (tags : List TagWord) (ps : List PieceWord) → ((k : TagKind) → stands_twice k ps ≡ false) → list_any (λ w. stands_twice w.kind ps) tags ≡ false
+none_twice : (tags : List TagWord) (ps : List PieceWord) → ((k : TagKind) → stands_twice k ps ≡ false)
+    → list_any (λ w. stands_twice w.kind ps) tags ≡ false
 none_twice [] ps none = refl
 none_twice (w ∷ ws) ps none = or_from (stands_twice w.kind ps) (list_any (λ w. stands_twice w.kind ps) ws) (none w.kind) (none_twice ws ps none)
 
-pub two_tags_found : (has : Capability → Bool) (form : WordForm) (ps : List PieceWord) → (findings_in has no_findings ps).two_tags ≡ false → has_tag_twice form ps ≡ false
+pub two_tags_found : (has : Capability → Bool) (form : WordForm) (ps : List PieceWord)
+    → (findings_in has no_findings ps).two_tags ≡ false → has_tag_twice form ps ≡ false
 two_tags_found has form ps none = none_twice form.tags ps (λ k. once_at_most k ps (sym (second_found has no_findings ps) ∙ none))

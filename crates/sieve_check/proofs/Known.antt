@@ -11,7 +11,9 @@ use Rattle.sieve_check.specs.declared.table.Capability.{Capability}
 use Rattle.sieve_check.specs.declared.table.Capability.TheVariants.{Fileinto, Copy, Include, OctetComparator, CasemapComparator}
 use Rattle.sieve_check.specs.Context.{no_capabilities, has_of, set_with, set_and, set_after}
 use Rattle.sieve_check.specs.Lookup.{capability_named, is_capability, names, capability_place}
-use Rattle.sieve_check.specs.Rules.{PlacedCommand, role_of, is_require, strings_in, requires, named_by, has_begun, place_breaches, command_breaches, least, earlier, refusal_from, refusal_of, in_order}
+use Rattle.sieve_check.specs.Rules.{PlacedCommand, role_of, is_require, strings_in, requires, named_by, has_begun}
+use Rattle.sieve_check.specs.Rules.{place_breaches, command_breaches, least, earlier, refusal_from, refusal_of}
+use Rattle.sieve_check.specs.Rules.{in_order}
 use Rattle.sieve_check.specs.Tables.{CapabilityWord}
 use Rattle.sieve_check.specs.Walk.{start, after_command, context_after, breach_of, unless, walk}
 
@@ -66,18 +68,25 @@ record Knows (before : List PlacedCommand) (c : Context) : Type 0 where
   named : (k : Capability) → has_of c.named k ≡ named_by before k
   begun : c.begun ≡ has_begun before
 
-named_more : (before : List PlacedCommand) (c : Context) (p : PlacedCommand) (b : Bool) (k : Capability) → has_of c.named k ≡ named_by before k → has_of (after_command b c p.args).named k ≡ (named_by before k || ((b && list_any (λ s. names s k) (strings_in p.args)) || false))
-named_more before c p true k h = has_after c.named (strings_in p.args) k ∙ ap (λ (x : Bool). x || list_any (λ s. names s k) (strings_in p.args)) h ∙ ap (λ (x : Bool). named_by before k || x) (or_false (list_any (λ s. names s k) (strings_in p.args)))
+named_more : (before : List PlacedCommand) (c : Context) (p : PlacedCommand) (b : Bool) (k : Capability)
+    → has_of c.named k ≡ named_by before k
+    → has_of (after_command b c p.args).named k
+    ≡ (named_by before k || ((b && list_any (λ s. names s k) (strings_in p.args)) || false))
+named_more before c p true k h = has_after c.named (strings_in p.args) k
+    ∙ ap (λ (x : Bool). x || list_any (λ s. names s k) (strings_in p.args)) h
+    ∙ ap (λ (x : Bool). named_by before k || x) (or_false (list_any (λ s. names s k) (strings_in p.args)))
 named_more before c p false k h = h ∙ or_false (named_by before k)
 
-begun_more : (before : List PlacedCommand) (c : Context) (p : PlacedCommand) (b : Bool) → c.begun ≡ has_begun before → (after_command b c p.args).begun ≡ (has_begun before || (not b || false))
+begun_more : (before : List PlacedCommand) (c : Context) (p : PlacedCommand) (b : Bool) → c.begun ≡ has_begun before
+    → (after_command b c p.args).begun ≡ (has_begun before || (not b || false))
 begun_more before c p true h = h ∙ or_false (has_begun before)
 begun_more before c p false h = or_true (has_begun before)
 
 knows_more : (before : List PlacedCommand) (c : Context) (p : PlacedCommand) → Knows before c → Knows (before ++ p ∷ []) (context_after c p)
 knows_more before c p h = record {
   named = λ k. named_more before c p (is_require (role_of p.word)) k (h.named k) ∙ sym (list_any-append (λ q. requires q k) before (p ∷ []));
-  begun = begun_more before c p (is_require (role_of p.word)) h.begun ∙ sym (list_any-append (λ q. not (is_require (role_of q.word))) before (p ∷ []));
+  begun = begun_more before c p (is_require (role_of p.word)) h.begun
+      ∙ sym (list_any-append (λ q. not (is_require (role_of q.word))) before (p ∷ []));
 }
 
 same_function : {A B : Type 0} {f g : A → B} → ((x : A) → f x ≡ g x) → f ≡ g
@@ -102,7 +111,8 @@ walk_refuses before c [] h = refl
 walk_refuses before c (p ∷ ps) h =
     refused_unless (breach_of c p) (walk (context_after c p) ps)
     ∙ ap (λ (o : Option ℕ). earlier o (refused (walk (context_after c p) ps))) (judged_is before c p h)
-    ∙ ap (λ (o : Option ℕ). earlier (least (command_breaches before p)) o) (walk_refuses (before ++ p ∷ []) (context_after c p) ps (knows_more before c p h))
+    ∙ ap (λ (o : Option ℕ). earlier (least (command_breaches before p)) o) (walk_refuses (before
+    ++ p ∷ []) (context_after c p) ps (knows_more before c p h))
 
 has_nothing : (k : Capability) → has_of no_capabilities k ≡ false
 has_nothing Fileinto = refl

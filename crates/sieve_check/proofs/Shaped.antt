@@ -10,7 +10,9 @@ use Rattle.sieve_syntax.specs.declared.tree.StringList.{StringList}
 use Rattle.sieve_syntax.specs.declared.tree.StringList.TheVariants as string_lists
 use Rattle.sieve_syntax.specs.declared.tree.Argument.{Argument}
 use Rattle.sieve_syntax.specs.declared.tree.Argument.TheVariants as arguments
-use Rattle.sieve_syntax.specs.Tree.{TestTree, test, InnerTests, no_tests, one_test, listed_tests, TestRow, last_test, next_test, CommandTree, command, EndingTree, semicolon, block, CommandTrees, no_commands, command_then}
+use Rattle.sieve_syntax.specs.Tree.{TestTree, test, InnerTests, no_tests, one_test, listed_tests, TestRow, last_test}
+use Rattle.sieve_syntax.specs.Tree.{next_test, CommandTree, command, EndingTree, semicolon, block, CommandTrees}
+use Rattle.sieve_syntax.specs.Tree.{no_commands, command_then}
 use Rattle.sieve_check.specs.declared.table.Capability.{Capability}
 use Rattle.sieve_check.specs.declared.table.Positional.{Positional}
 use Rattle.sieve_check.specs.declared.table.Positional.TheVariants as places
@@ -18,12 +20,19 @@ use Rattle.sieve_check.specs.declared.table.TagKind.TheVariants as kinds
 use Rattle.sieve_check.specs.declared.table.Role.TheVariants as roles
 use Rattle.sieve_check.specs.declared.table.TestsForm.{TestsForm}
 use Rattle.sieve_check.specs.declared.table.TestsForm.TheVariants.{NoTest, OneTest, TestList}
-use Rattle.sieve_check.specs.Tables.{WordForm, CommandWord, TestWord, command_table, test_table, plain, command_word, test_word, fileinto_form, header_form, size_form}
+use Rattle.sieve_check.specs.Tables.{WordForm, CommandWord, TestWord, command_table, test_table, plain, command_word}
+use Rattle.sieve_check.specs.Tables.{test_word, fileinto_form, header_form, size_form}
 use Rattle.sieve_check.specs.Lookup.{same_name, row_where, command_named, test_named}
 use Rattle.sieve_check.specs.Pieces.{pieces, positional_arguments}
 use Rattle.sieve_check.specs.Rules
-use Rattle.sieve_check.specs.Rules.{PlacedCommand, Rule, breaches, least, lesser, earlier, form_breaches, test_form_breaches, place_breaches, test_breaches, inner_breaches, row_breaches, command_breaches, refusal_from, refusal_of, command_in_order, ending_in_order, in_order, is_block, is_branch, role_of, command_name, takes, has_wrong_tests, has_wrong_ending, lacks_branch, named_by, has_begun, place_rules}
-use Rattle.sieve_check.specs.Shapes.{Takes, TakesEach, HasTests, HasEnding, HasForm, HasTestRow, TestShape, InnerShape, RowShape, CommandShape, EndingShape, CommandsShape, ShapeLaw, NameLaw, IfLaw, FileintoLaw, HeaderLaw, SizeLaw}
+use Rattle.sieve_check.specs.Rules.{PlacedCommand, Rule, breaches, least, lesser, earlier, form_breaches}
+use Rattle.sieve_check.specs.Rules.{test_form_breaches, place_breaches, test_breaches, inner_breaches, row_breaches}
+use Rattle.sieve_check.specs.Rules.{command_breaches, refusal_from, refusal_of, command_in_order, ending_in_order}
+use Rattle.sieve_check.specs.Rules.{in_order, is_block, is_branch, role_of, command_name, takes, has_wrong_tests}
+use Rattle.sieve_check.specs.Rules.{has_wrong_ending, lacks_branch, named_by, has_begun, place_rules}
+use Rattle.sieve_check.specs.Shapes.{Takes, TakesEach, HasTests, HasEnding, HasForm, HasTestRow, TestShape, InnerShape}
+use Rattle.sieve_check.specs.Shapes.{RowShape, CommandShape, EndingShape, CommandsShape, ShapeLaw, NameLaw, IfLaw}
+use Rattle.sieve_check.specs.Shapes.{FileintoLaw, HeaderLaw, SizeLaw}
 
 -- ---- nothing is broken
 
@@ -84,18 +93,34 @@ has_ending true (block cs) h = (cs, refl)
 has_ending false semicolon h = refl
 has_ending false (block cs) h = absurd cc
 
-form_shape : (has : Capability → Bool) (form : WordForm) (args : List Argument) (inner : InnerTests) → form_breaches has form args inner ≡ [] → HasForm form args inner
+form_shape : (has : Capability → Bool) (form : WordForm) (args : List Argument) (inner : InnerTests)
+    → form_breaches has form args inner ≡ [] → HasForm form args inner
 form_shape has form args inner h =
     let ps = pieces form.tags args in
-    let a = none_broken (Rules.lacks_capability has form ps) 34 ((Rules.has_wrong_tag ps, 35) ∷ (Rules.has_tag_twice form ps, 36) ∷ (Rules.has_wrong_arguments form ps, 37) ∷ (list_any Rules.is_unknown_comparator ps, 38) ∷ (has_wrong_tests form.tests inner, 41) ∷ []) h in
-    let b = none_broken (Rules.has_wrong_tag ps) 35 ((Rules.has_tag_twice form ps, 36) ∷ (Rules.has_wrong_arguments form ps, 37) ∷ (list_any Rules.is_unknown_comparator ps, 38) ∷ (has_wrong_tests form.tests inner, 41) ∷ []) a.1 in
-    let d = none_broken (Rules.has_tag_twice form ps) 36 ((Rules.has_wrong_arguments form ps, 37) ∷ (list_any Rules.is_unknown_comparator ps, 38) ∷ (has_wrong_tests form.tests inner, 41) ∷ []) b.1 in
-    let e = none_broken (Rules.has_wrong_arguments form ps) 37 ((list_any Rules.is_unknown_comparator ps, 38) ∷ (has_wrong_tests form.tests inner, 41) ∷ []) d.1 in
+    let a = none_broken (Rules.lacks_capability has form ps) 34 ((Rules.has_wrong_tag ps, 35)
+    ∷ (Rules.has_tag_twice form ps, 36) ∷ (Rules.has_wrong_arguments form ps, 37)
+    ∷ (list_any Rules.is_unknown_comparator ps, 38) ∷ (has_wrong_tests form.tests inner, 41) ∷ []) h in
+    let b = none_broken (Rules.has_wrong_tag ps) 35 ((Rules.has_tag_twice form ps, 36)
+    ∷ (Rules.has_wrong_arguments form ps, 37) ∷ (list_any Rules.is_unknown_comparator ps, 38)
+    ∷ (has_wrong_tests form.tests inner, 41) ∷ []) a.1 in
+    let d = none_broken (Rules.has_tag_twice form ps) 36 ((Rules.has_wrong_arguments form ps, 37)
+    ∷ (list_any Rules.is_unknown_comparator ps, 38) ∷ (has_wrong_tests form.tests inner, 41) ∷ []) b.1 in
+    let e = none_broken (Rules.has_wrong_arguments form ps) 37 ((list_any Rules.is_unknown_comparator ps, 38)
+    ∷ (has_wrong_tests form.tests inner, 41) ∷ []) d.1 in
     let f = none_broken (list_any Rules.is_unknown_comparator ps) 38 ((has_wrong_tests form.tests inner, 41) ∷ []) e.1 in
     let g = none_broken (has_wrong_tests form.tests inner) 41 [] f.1 in
     let k = or_parts (not (Rules.fits form ps)) (list_any Rules.lacks_string ps || Rules.lacks_tag form.needs_tag ps) e.0 in
     let m = or_parts (list_any Rules.lacks_string ps) (Rules.lacks_tag form.needs_tag ps) k.1 in
-    record { tags = b.0; once = d.0; positional = are_taken form.positional (positional_arguments ps) (not-false (Rules.fits form ps) k.0); strings = m.0; needed = m.1; comparators = f.0; tests = has_tests form.tests inner g.0 }
+    record {
+      tags = b.0;
+      once = d.0;
+      positional =
+          are_taken form.positional (positional_arguments ps) (not-false (Rules.fits form ps) k.0);
+      strings = m.0;
+      needed = m.1;
+      comparators = f.0;
+      tests = has_tests form.tests inner g.0;
+    }
 
 -- ---- tests
 
@@ -103,7 +128,9 @@ record KnownTest (has : Capability → Bool) (name : List ℕ) (args : List Argu
   row : HasTestRow name args inner
   inside : inner_breaches has inner ≡ []
 
-test_at : (has : Capability → Bool) (name : List ℕ) (args : List Argument) (inner : InnerTests) (o : Option TestWord) → test_named name ≡ o → test_form_breaches has o args inner (inner_breaches has inner) ≡ [] → KnownTest has name args inner
+test_at : (has : Capability → Bool) (name : List ℕ) (args : List Argument) (inner : InnerTests) (o : Option TestWord)
+    → test_named name ≡ o → test_form_breaches has o args inner (inner_breaches has inner) ≡ []
+    → KnownTest has name args inner
 test_at has name args inner None e h = absurd cc
 test_at has name args inner (Some w) e h =
     let n = nothing_before (form_breaches has w.form args inner) (inner_breaches has inner) h in
@@ -116,11 +143,13 @@ mutual
   inner_shape : (has : Capability → Bool) (inner : InnerTests) → inner_breaches has inner ≡ [] → InnerShape inner
   inner_shape has no_tests h = tt
   inner_shape has (one_test t) h = test_shape has t h
-  inner_shape has (listed_tests t row) h = let n = nothing_before (test_breaches has t) (row_breaches has row) h in (test_shape has t n.0, row_shape has row n.1)
+  inner_shape has (listed_tests t row) h = let n = nothing_before (test_breaches has t) (row_breaches has row) h in
+      (test_shape has t n.0, row_shape has row n.1)
 
   row_shape : (has : Capability → Bool) (row : TestRow) → row_breaches has row ≡ [] → RowShape row
   row_shape has last_test h = tt
-  row_shape has (next_test t row) h = let n = nothing_before (test_breaches has t) (row_breaches has row) h in (test_shape has t n.0, row_shape has row n.1)
+  row_shape has (next_test t row) h = let n = nothing_before (test_breaches has t) (row_breaches has row) h in
+      (test_shape has t n.0, row_shape has row n.1)
 
 -- ---- commands
 
@@ -132,13 +161,18 @@ record Fine (p : PlacedCommand) : Type 0 where
   branch : lacks_branch word.role p.follows_branch ≡ false
   tests : InnerShape p.inner
 
-fine_at : (has : Capability → Bool) (begun : Bool) (p : PlacedCommand) (o : Option CommandWord) → p.word ≡ o → place_breaches has begun o p ≡ [] → Fine p
+fine_at : (has : Capability → Bool) (begun : Bool) (p : PlacedCommand) (o : Option CommandWord) → p.word ≡ o
+    → place_breaches has begun o p ≡ [] → Fine p
 fine_at has begun p None e h = absurd cc
 fine_at has begun p (Some w) e h =
     let n = nothing_before (breaches (place_rules begun w p)) (form_breaches has w.form p.args p.inner ++ inner_breaches has p.inner) h in
     let m = nothing_before (form_breaches has w.form p.args p.inner) (inner_breaches has p.inner) n.1 in
-    let a = none_broken (Rules.is_require w.role && Rules.names_unknown p.args) 30 ((Rules.is_require w.role && begun, 31) ∷ (lacks_branch w.role p.follows_branch, 39) ∷ (has_wrong_ending w.has_block p.has_block, 40) ∷ []) n.0 in
-    let b = none_broken (Rules.is_require w.role && begun) 31 ((lacks_branch w.role p.follows_branch, 39) ∷ (has_wrong_ending w.has_block p.has_block, 40) ∷ []) a.1 in
+    let a = none_broken (Rules.is_require w.role && Rules.names_unknown p.args) 30 ((
+      Rules.is_require w.role && begun,
+      31,
+    ) ∷ (lacks_branch w.role p.follows_branch, 39) ∷ (has_wrong_ending w.has_block p.has_block, 40) ∷ []) n.0 in
+    let b = none_broken (Rules.is_require w.role && begun) 31 ((lacks_branch w.role p.follows_branch, 39)
+    ∷ (has_wrong_ending w.has_block p.has_block, 40) ∷ []) a.1 in
     let d = none_broken (lacks_branch w.role p.follows_branch) 39 ((has_wrong_ending w.has_block p.has_block, 40) ∷ []) b.1 in
     let f = none_broken (has_wrong_ending w.has_block p.has_block) 40 [] d.1 in
     record { word = w; named = e; form = form_shape has w.form p.args p.inner m.0; ending = f.0; branch = d.0; tests = inner_shape has p.inner m.1 }
@@ -160,7 +194,18 @@ parts_fine (x ∷ xs) ys h = let m = parts_fine xs ys h.1 in ((h.0, m.0), m.1)
 
 mutual
   command_shape : (follows : Bool) (c : CommandTree) → EachFine (command_in_order follows c) → CommandShape follows c
-  command_shape follows (command name args inner finish) h = (record { word = h.0.word; named = h.0.named; form = h.0.form; ending = has_ending h.0.word.has_block finish h.0.ending; branch = h.0.branch; tests = h.0.tests }, ending_shape finish h.1)
+  command_shape follows (command name args inner finish) h = (
+    record {
+      word = h.0.word;
+      named = h.0.named;
+      form = h.0.form;
+      ending =
+          has_ending h.0.word.has_block finish h.0.ending;
+      branch = h.0.branch;
+      tests = h.0.tests;
+    },
+    ending_shape finish h.1,
+  )
 
   ending_shape : (finish : EndingTree) → EachFine (ending_in_order finish) → EndingShape finish
   ending_shape semicolon h = tt
@@ -182,12 +227,17 @@ lower_is : (a b : List ℕ) → same_name a b ≡ true → str_to_ascii_lowercas
 unfolding same_name
 lower_is a b h = (bytes_eq-Decides (str_to_ascii_lowercase a) (str_to_ascii_lowercase b)).0 h
 
-same_row : {R : Type 0} (name : R → List ℕ) (rs : List R) (a b : List ℕ) → str_to_ascii_lowercase a ≡ str_to_ascii_lowercase b → row_where (λ r. same_name a (name r)) rs ≡ row_where (λ r. same_name b (name r)) rs
+same_row : {R : Type 0} (name : R → List ℕ) (rs : List R) (a b : List ℕ)
+    → str_to_ascii_lowercase a ≡ str_to_ascii_lowercase b
+    → row_where (λ r. same_name a (name r)) rs ≡ row_where (λ r. same_name b (name r)) rs
 unfolding same_name
 same_row name rs a b e = ap (λ (l : List ℕ). row_where (λ r. bytes_eq l (str_to_ascii_lowercase (name r))) rs) e
 
 pub name_law : NameLaw
-name_law a b h = (same_row (λ (r : CommandWord). r.name) command_table a b (lower_is a b h), same_row (λ (r : TestWord). r.name) test_table a b (lower_is a b h))
+name_law a b h = (
+  same_row (λ (r : CommandWord). r.name) command_table a b (lower_is a b h),
+  same_row (λ (r : TestWord). r.name) test_table a b (lower_is a b h),
+)
 
 -- ---- rows by name
 
@@ -216,7 +266,8 @@ command_is name row w v h e f = the_same w v (sym e ∙ (name_law name row h).0 
 test_is : (name row : List ℕ) (w v : TestWord) → same_name name row ≡ true → test_named name ≡ Some w → test_named row ≡ Some v → w ≡ v
 test_is name row w v h e f = the_same w v (sym e ∙ (name_law name row h).1 ∙ f)
 
-no_arguments : (args : List Argument) → Rules.has_wrong_tag (pieces [] args) ≡ false → TakesEach [] (positional_arguments (pieces [] args)) → args ≡ []
+no_arguments : (args : List Argument) → Rules.has_wrong_tag (pieces [] args) ≡ false
+    → TakesEach [] (positional_arguments (pieces [] args)) → args ≡ []
 no_arguments [] h k = refl
 no_arguments (arguments.Strings l ∷ more) h k = absurd k
 no_arguments (arguments.Number n ∷ more) h k = absurd k
@@ -232,7 +283,8 @@ one_number [] h = absurd h
 one_number (a ∷ []) h = (h.0.0, ap (λ (b : Argument). b ∷ []) h.0.1)
 one_number (a ∷ b ∷ more) h = absurd h.1
 
-two_lists : (xs : List Argument) → TakesEach (places.StringList ∷ places.StringList ∷ []) xs → (names : StringList) × (keys : StringList) × (xs ≡ arguments.Strings names ∷ arguments.Strings keys ∷ [])
+two_lists : (xs : List Argument) → TakesEach (places.StringList ∷ places.StringList ∷ []) xs → (names : StringList)
+    × (keys : StringList) × (xs ≡ arguments.Strings names ∷ arguments.Strings keys ∷ [])
 two_lists [] h = absurd h
 two_lists (a ∷ []) h = absurd h.1
 two_lists (a ∷ b ∷ []) h = (h.0.0, h.1.0.0, both_are a b (arguments.Strings h.0.0) (arguments.Strings h.1.0.0) h.0.1 h.1.0.1)
@@ -250,8 +302,11 @@ if_law follows name args inner finish h r =
 pub fileinto_law : FileintoLaw
 fileinto_law follows name args inner finish h r =
     let e = command_is name (codes "fileinto") r.word (command_word (codes "fileinto") roles.Other fileinto_form false) h r.named fileinto_row in
-    let f = subst (λ (w : CommandWord). HasForm w.form args inner) e r.form in
-    (one_string (positional_arguments (pieces fileinto_form.tags args)) f.positional, f.tests, subst (λ (w : CommandWord). HasEnding w.has_block finish) e r.ending)
+    let f = subst (λ (w : CommandWord). HasForm w.form args inner) e r.form in (
+      one_string (positional_arguments (pieces fileinto_form.tags args)) f.positional,
+      f.tests,
+      subst (λ (w : CommandWord). HasEnding w.has_block finish) e r.ending,
+    )
 
 pub header_law : HeaderLaw
 header_law name args inner h r =
@@ -262,5 +317,8 @@ header_law name args inner h r =
 pub size_law : SizeLaw
 size_law name args inner h r =
     let e = test_is name (codes "size") r.word (test_word (codes "size") size_form) h r.named size_row in
-    let f = subst (λ (w : TestWord). HasForm w.form args inner) e r.form in
-    (one_number (positional_arguments (pieces size_form.tags args)) f.positional, not-false (list_any (Rules.has_kind kinds.SizeLimit) (pieces size_form.tags args)) f.needed, f.tests)
+    let f = subst (λ (w : TestWord). HasForm w.form args inner) e r.form in (
+      one_number (positional_arguments (pieces size_form.tags args)) f.positional,
+      not-false (list_any (Rules.has_kind kinds.SizeLimit) (pieces size_form.tags args)) f.needed,
+      f.tests,
+    )

@@ -15,7 +15,10 @@ pub drop_at : {X : Type 0} (xs : List X) (i : ℕ) (x : X) → i < length xs →
 drop_at xs i x h e = drop-cons xs i x h ∙ rw (add-one i) (ap (λ (y : _). y ∷ drop (suc i) xs) (sym e))
 
 -- one more argument of a `require`
-pub named_turn : (n m begin : CapabilitySet) (whole : List (List ℕ)) (items : List Argument) (i : ℕ) (a : Argument) → i < length items → a ≡ get_or items i a → set_after n (flat_map argument_strings (drop i items)) ≡ set_after begin whole → m ≡ set_after n (argument_strings a) → set_after m (flat_map argument_strings (drop (i + 1) items)) ≡ set_after begin whole
+pub named_turn : (n m begin : CapabilitySet) (whole : List (List ℕ)) (items : List Argument) (i : ℕ) (a : Argument)
+    → i < length items → a ≡ get_or items i a → set_after n (flat_map argument_strings (drop i items))
+    ≡ set_after begin whole → m ≡ set_after n (argument_strings a)
+    → set_after m (flat_map argument_strings (drop (i + 1) items)) ≡ set_after begin whole
 named_turn n m begin whole items i a lt is h e =
     ap (λ (k : CapabilitySet). set_after k (flat_map argument_strings (drop (i + 1) items))) e
     ∙ sym (named_after_append n (argument_strings a) (flat_map argument_strings (drop (i + 1) items)))

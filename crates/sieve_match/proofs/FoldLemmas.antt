@@ -44,7 +44,8 @@ is_octet c key value r is e =
     let d = bytes_eq-Decides key value in
     rw is (λ t. fold-octet key ∙ d.0 (sym e ∙ t) ∙ sym (fold-octet value), λ q. e ∙ d.1 (sym (fold-octet key) ∙ q ∙ fold-octet value))
 
-pub is_casemap : (c : Comparator) (key value : List ℕ) (r : Bool) → c ≡ Casemap → IsTrue r ↔ (map to_ascii_lowercase key ≡ map to_ascii_lowercase value) → IsTrue r ↔ IsEqualUnder c key value
+pub is_casemap : (c : Comparator) (key value : List ℕ) (r : Bool) → c ≡ Casemap
+    → IsTrue r ↔ (map to_ascii_lowercase key ≡ map to_ascii_lowercase value) → IsTrue r ↔ IsEqualUnder c key value
 is_casemap c key value r is h = let same = ignores_case key value in rw is (λ t. same.0 (h.0 t), λ q. h.1 (same.1 q))
 
 pub nil_from_length : (xs : List ℕ) → length xs ≡ 0 → xs ≡ []

@@ -33,10 +33,15 @@ place_from hay needle h =
 
 -- what a search for a place says of a text around the key
 pub found_is : (hay needle : List ℕ) (r : Option ℕ) → FindsNeedle hay needle 0 r → IsTrue (is_some r) ↔ Around hay needle
-found_is hay needle None h = (λ e. absurd (false≢true e), λ a. let p = place_from hay needle a in absurd (h p.0 (omega arith) (omega (arith, p.1.fits)) p.1))
+found_is hay needle None h = (
+  λ e. absurd (false≢true e),
+  λ a. let p = place_from hay needle a in
+      absurd (h p.0 (omega arith) (omega (arith, p.1.fits)) p.1),
+)
 found_is hay needle (Some k) h = (λ e. around_from hay needle k h.1, λ a. refl)
 
-pub found_octet : (c : Comparator) (key value : List ℕ) (r : Option ℕ) (b : Bool) → c ≡ Octet → FindsNeedle value key 0 r → b ≡ is_some r → IsTrue b ↔ Contains c key value
+pub found_octet : (c : Comparator) (key value : List ℕ) (r : Option ℕ) (b : Bool) → c ≡ Octet
+    → FindsNeedle value key 0 r → b ≡ is_some r → IsTrue b ↔ Contains c key value
 found_octet c key value r b is h e =
     let f = found_is value key r h in
     rw (is, e) (

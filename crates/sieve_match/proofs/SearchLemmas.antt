@@ -1,5 +1,7 @@
 -- The state of a search, and what each of its steps keeps.
-use Rattle.std.proofs.Common.{◌≡◌, ℕ, zero, suc, ◌+◌, ◌-◌, ◌*◌, ◌≤◌, ◌<◌, ◌^◌, Bool, true, false, cond, eqb, List, [], ◌∷◌, length, drop, ◌⊎◌, inl, inr, add-one, Option, Some, None, refl, sym, ap, subst, ◌∙◌, arith}
+use Rattle.std.proofs.Common.{◌≡◌, ℕ, zero, suc, ◌+◌, ◌-◌, ◌*◌, ◌≤◌, ◌<◌, ◌^◌, Bool, true, false, cond, eqb, List, []}
+use Rattle.std.proofs.Common.{◌∷◌, length, drop, ◌⊎◌, inl, inr, add-one, Option, Some, None, refl, sym, ap, subst, ◌∙◌}
+use Rattle.std.proofs.Common.{arith}
 use Rattle.std.proofs.lemmas.List.{drop-drop}
 use Rattle.std.proofs.lemmas.Bool.{eqb-true, eqb-false, false_from_ne_true}
 use Rattle.std.proofs.Math.Nat.{mul-le-mul, mul-le-mul_left, mul-le-mul_right}
@@ -58,7 +60,11 @@ stuck_is : (c : Comparator) (items : List Item) (rest : List ℕ) → turn_of c 
 stuck_is c [] [] e m = cc
 stuck_is c [] (b ∷ bs) e m = m
 stuck_is c (Octet o ∷ is) [] e m = m
-stuck_is c (Octet o ∷ is) (b ∷ bs) e m = elim (chosen (eqb (fold_octet c o) (fold_octet c b)) (goes is bs) stuck stuck e) [ inl h ↦ absurd (apart h.1) | inr h ↦ absurd (not_same _ _ h.0 m.0) ]
+stuck_is c (Octet o ∷ is) (b ∷ bs) e m =
+    elim (chosen (eqb (fold_octet c o) (fold_octet c b)) (goes is bs) stuck stuck e) [
+      | inl h ↦ absurd (apart h.1)
+      | inr h ↦ absurd (not_same _ _ h.0 m.0)
+    ]
   where
     apart : goes is bs ≡ stuck → ⊥
     apart x = cc
@@ -73,7 +79,11 @@ pub ends_is : (c : Comparator) (items : List Item) (rest : List ℕ) → turn_of
 ends_is c [] [] e = (refl, refl)
 ends_is c [] (b ∷ bs) e = absurd cc
 ends_is c (Octet o ∷ is) [] e = absurd cc
-ends_is c (Octet o ∷ is) (b ∷ bs) e = elim (chosen (eqb (fold_octet c o) (fold_octet c b)) (goes is bs) stuck ends e) [ inl h ↦ absurd cc | inr h ↦ absurd cc ]
+ends_is c (Octet o ∷ is) (b ∷ bs) e =
+    elim (chosen (eqb (fold_octet c o) (fold_octet c b)) (goes is bs) stuck ends e) [
+      | inl h ↦ absurd cc
+      | inr h ↦ absurd cc
+    ]
 ends_is c (One ∷ is) [] e = absurd cc
 ends_is c (One ∷ is) (b ∷ bs) e = absurd cc
 ends_is c (Any ∷ is) text e = absurd cc
@@ -82,7 +92,11 @@ pub star_is : (c : Comparator) (items : List Item) (rest : List ℕ) (next : Lis
 star_is c [] [] next e = absurd cc
 star_is c [] (b ∷ bs) next e = absurd cc
 star_is c (Octet o ∷ is) [] next e = absurd cc
-star_is c (Octet o ∷ is) (b ∷ bs) next e = elim (chosen (eqb (fold_octet c o) (fold_octet c b)) (goes is bs) stuck (star next) e) [ inl h ↦ absurd cc | inr h ↦ absurd cc ]
+star_is c (Octet o ∷ is) (b ∷ bs) next e =
+    elim (chosen (eqb (fold_octet c o) (fold_octet c b)) (goes is bs) stuck (star next) e) [
+      | inl h ↦ absurd cc
+      | inr h ↦ absurd cc
+    ]
 star_is c (One ∷ is) [] next e = absurd cc
 star_is c (One ∷ is) (b ∷ bs) next e = absurd cc
 star_is c (Any ∷ is) text next e = cc
@@ -130,14 +144,21 @@ one_made c b is bs = record {
 same_goes : (a x : List Item) (b y : List ℕ) → goes a b ≡ goes x y → (a ≡ x) × (b ≡ y)
 same_goes a x b y e = (cc, cc)
 
-moved : (c : Comparator) (items : List Item) (rest : List ℕ) (a x : List Item) (b y : List ℕ) → Goes c items rest a b → goes a b ≡ goes x y → Goes c items rest x y
+moved : (c : Comparator) (items : List Item) (rest : List ℕ) (a x : List Item) (b y : List ℕ) → Goes c items rest a b
+    → goes a b ≡ goes x y → Goes c items rest x y
 moved c items rest a x b y g e = let s = same_goes a x b y e in rw (← s.0, ← s.1) g
 
-goes_is : (c : Comparator) (items : List Item) (rest : List ℕ) (next : List Item) (following : List ℕ) → turn_of c items rest ≡ goes next following → Goes c items rest next following
+goes_is : (c : Comparator) (items : List Item) (rest : List ℕ) (next : List Item) (following : List ℕ)
+    → turn_of c items rest ≡ goes next following → Goes c items rest next following
 goes_is c [] [] next following e = absurd cc
 goes_is c [] (b ∷ bs) next following e = absurd cc
 goes_is c (Octet o ∷ is) [] next following e = absurd cc
-goes_is c (Octet o ∷ is) (b ∷ bs) next following e = elim (chosen (eqb (fold_octet c o) (fold_octet c b)) (goes is bs) stuck (goes next following) e) [ inl h ↦ moved c (Octet o ∷ is) (b ∷ bs) is next bs following (goes_made c o b is bs (eqb-true _ _ h.0)) h.1 | inr h ↦ absurd cc ]
+goes_is c (Octet o ∷ is) (b ∷ bs) next following e =
+    elim (chosen (eqb (fold_octet c o) (fold_octet c b)) (goes is bs) stuck (goes next following) e) [
+      | inl h ↦
+          moved c (Octet o ∷ is) (b ∷ bs) is next bs following (goes_made c o b is bs (eqb-true _ _ h.0)) h.1
+      | inr h ↦ absurd cc
+    ]
 goes_is c (One ∷ is) [] next following e = absurd cc
 goes_is c (One ∷ is) (b ∷ bs) next following e = moved c (One ∷ is) (b ∷ bs) is next bs following (one_made c b is bs) e
 goes_is c (Any ∷ is) text next following e = absurd cc
@@ -151,7 +172,8 @@ pub record Fresh (c : Comparator) (all : List Item) (value : List ℕ) (items : 
   pub least : octet_count all ≤ count + octet_count items
 
 -- a star has been met: some place from where it was tried last on decides
-pub record Tried (c : Comparator) (all : List Item) (value : List ℕ) (items : List Item) (rest : List ℕ) (after : List Item) (since : List ℕ) (count : ℕ) : Type 0 where
+pub record Tried (c : Comparator) (all : List Item) (value : List ℕ) (items : List Item) (rest : List ℕ)
+    (after : List Item) (since : List ℕ) (count : ℕ) : Type 0 where
   pub to : Matches c all value → SomeTail c after since
   pub from : SomeTail c after since → Matches c all value
   pub walked : Walked c after items since rest
@@ -176,7 +198,9 @@ Fresh-first c all value = record {
   least = omega arith;
 }
 
-pub Fresh-goes : (c : Comparator) (all : List Item) (value : List ℕ) (items next : List Item) (rest following : List ℕ) (count more : ℕ) → Fresh c all value items rest count → Goes c items rest next following → more ≡ compared_length items rest → Fresh c all value next following (count + more)
+pub Fresh-goes : (c : Comparator) (all : List Item) (value : List ℕ) (items next : List Item) (rest following : List ℕ)
+    (count more : ℕ) → Fresh c all value items rest count → Goes c items rest next following
+    → more ≡ compared_length items rest → Fresh c all value next following (count + more)
 Fresh-goes c all value items next rest following count more h g m = record {
   to = λ x. g.ahead 0 (h.to x);
   from = λ x. h.from (g.back x);
@@ -185,7 +209,10 @@ Fresh-goes c all value items next rest following count more h g m = record {
   least = omega (arith, h.least, g.octets, m);
 }
 
-pub Tried-goes : (c : Comparator) (all : List Item) (value : List ℕ) (items next : List Item) (rest following : List ℕ) (after : List Item) (since : List ℕ) (count more : ℕ) → Tried c all value items rest after since count → Goes c items rest next following → more ≡ compared_length items rest → Tried c all value next following after since (count + more)
+pub Tried-goes : (c : Comparator) (all : List Item) (value : List ℕ) (items next : List Item) (rest following : List ℕ)
+    (after : List Item) (since : List ℕ) (count more : ℕ) → Tried c all value items rest after since count
+    → Goes c items rest next following → more ≡ compared_length items rest
+    → Tried c all value next following after since (count + more)
 Tried-goes c all value items next rest following after since count more h g m = record {
   to = h.to;
   from = h.from;
@@ -206,7 +233,8 @@ Tried-goes c all value items next rest following after since count more h g m = 
 walked_none : (c : Comparator) (is : List Item) (rest : List ℕ) → Walked c is is rest rest
 walked_none c is rest = record { ahead = λ n x. x; back = λ x. x }
 
-pub Fresh-star : (c : Comparator) (all : List Item) (value : List ℕ) (next : List Item) (rest : List ℕ) (count more : ℕ) → Fresh c all value (Any ∷ next) rest count → more ≤ 1 → Tried c all value next rest next rest (count + more)
+pub Fresh-star : (c : Comparator) (all : List Item) (value : List ℕ) (next : List Item) (rest : List ℕ) (count more : ℕ)
+    → Fresh c all value (Any ∷ next) rest count → more ≤ 1 → Tried c all value next rest next rest (count + more)
 Fresh-star c all value next rest count more h m =
     let d = length all - length next in
     let e : d + length next ≡ length all = omega (arith, h.used) in
@@ -228,7 +256,9 @@ Fresh-star c all value next rest count more h m =
       least_since = omega (arith, h.least);
     }
 
-pub Tried-star : (c : Comparator) (all : List Item) (value : List ℕ) (next : List Item) (rest : List ℕ) (after : List Item) (since : List ℕ) (count more : ℕ) → Tried c all value (Any ∷ next) rest after since count → more ≤ 1 → Tried c all value next rest next rest (count + more)
+pub Tried-star : (c : Comparator) (all : List Item) (value : List ℕ) (next : List Item) (rest : List ℕ)
+    (after : List Item) (since : List ℕ) (count more : ℕ) → Tried c all value (Any ∷ next) rest after since count
+    → more ≤ 1 → Tried c all value next rest next rest (count + more)
 Tried-star c all value next rest after since count more h m =
     let f : fixed after ≡ h.steps = omega (arith, h.fixed_is) in
     let l : h.gone * fixed after ≤ length value * fixed after = mul-le-mul_right (fixed after) (omega (arith, h.gone_is)) in
@@ -253,7 +283,10 @@ Tried-star c all value next rest after since count more h m =
     place_to : SomeTail c after since → SomeTail c next rest
     place_to x = let y = h.walked.ahead x.0 x.1 in (x.0 + y.0, subst (λ (t : List ℕ). Matches c next t) (drop-drop y.0 x.0 rest) y.1)
 
-pub Tried-stuck : (c : Comparator) (all : List Item) (value : List ℕ) (items : List Item) (rest : List ℕ) (after : List Item) (b : ℕ) (following : List ℕ) (count more : ℕ) → Tried c all value items rest after (b ∷ following) count → (Matches c items rest → ⊥) → more ≤ fixed items → Tried c all value after following after following (count + more)
+pub Tried-stuck : (c : Comparator) (all : List Item) (value : List ℕ) (items : List Item) (rest : List ℕ)
+    (after : List Item) (b : ℕ) (following : List ℕ) (count more : ℕ)
+    → Tried c all value items rest after (b ∷ following) count → (Matches c items rest → ⊥) → more ≤ fixed items
+    → Tried c all value after following after following (count + more)
 Tried-stuck c all value items rest after b following count more h refused m = record {
   to = λ x. past (h.to x);
   from = λ x. h.from (suc x.0, x.1);
@@ -276,15 +309,20 @@ Tried-stuck c all value items rest after b following count more h refused m = re
     past (suc n, x) = (n, x)
 
 -- the bound on comparisons, at an end
-pub Fresh-bound : (c : Comparator) (all : List Item) (value : List ℕ) (items : List Item) (rest : List ℕ) (count more : ℕ) → Fresh c all value items rest count → more ≤ fixed items → count + more ≤ (length all + 1) * (length value + 1)
+pub Fresh-bound : (c : Comparator) (all : List Item) (value : List ℕ) (items : List Item) (rest : List ℕ)
+    (count more : ℕ) → Fresh c all value items rest count → more ≤ fixed items
+    → count + more ≤ (length all + 1) * (length value + 1)
 Fresh-bound c all value items rest count more h m =
     let l : (length all + 1) * 1 ≤ (length all + 1) * (length value + 1) = mul-le-mul_left (length all + 1) (omega arith) in
     omega (arith, h.used, fixed-le items, l)
 
-pub Tried-bound : (c : Comparator) (all : List Item) (value : List ℕ) (items : List Item) (rest : List ℕ) (after : List Item) (since : List ℕ) (count more : ℕ) → Tried c all value items rest after since count → more ≤ fixed items → count + more ≤ (length all + 1) * (length value + 1)
+pub Tried-bound : (c : Comparator) (all : List Item) (value : List ℕ) (items : List Item) (rest : List ℕ)
+    (after : List Item) (since : List ℕ) (count more : ℕ) → Tried c all value items rest after since count
+    → more ≤ fixed items → count + more ≤ (length all + 1) * (length value + 1)
 Tried-bound c all value items rest after since count more h m =
     let l : h.gone * fixed after ≤ length value * fixed after = mul-le-mul_right (fixed after) (omega (arith, h.gone_is)) in
-    let k : (h.done + fixed after) * (length value + 1) ≤ length all * (length value + 1) = mul-le-mul_right (length value + 1) (omega (arith, h.done_is, fixed-le after)) in
+    let k : (h.done + fixed after) * (length value + 1) ≤ length all * (length value + 1) =
+    mul-le-mul_right (length value + 1) (omega (arith, h.done_is, fixed-le after)) in
     omega (arith, h.used, h.fixed_is, l, k)
 
 abbrev pub State : Comparator → List Item → List ℕ → List Item → List ℕ → Option (Bor (List ℕ) × Bor (List ℕ)) → ℕ → Type 0
@@ -296,23 +334,56 @@ abbrev pub left : List ℕ → Option (Bor (List ℕ) × Bor (List ℕ)) → ℕ
 left value None = length value
 left value (Some s) = length s.1.now
 
-pub State-goes : (c : Comparator) (all : List Item) (value : List ℕ) (items next : List Item) (rest following : List ℕ) (s : Option (Bor (List ℕ) × Bor (List ℕ))) (count more : ℕ) → State c all value items rest s count → turn_of c items rest ≡ goes next following → more ≡ compared_length items rest → State c all value next following s (count + more)
-State-goes c all value items next rest following None count more h g m = Fresh-goes c all value items next rest following count more h (goes_is c items rest next following g) m
-State-goes c all value items next rest following (Some s) count more h g m = Tried-goes c all value items next rest following (items_of s.0.now) s.1.now count more h (goes_is c items rest next following g) m
+pub State-goes : (c : Comparator) (all : List Item) (value : List ℕ) (items next : List Item) (rest following : List ℕ)
+    (s : Option (Bor (List ℕ) × Bor (List ℕ))) (count more : ℕ) → State c all value items rest s count
+    → turn_of c items rest ≡ goes next following → more ≡ compared_length items rest
+    → State c all value next following s (count + more)
+State-goes c all value items next rest following None count more h g m =
+    Fresh-goes c all value items next rest following count more h (goes_is c items rest next following g) m
+State-goes c all value items next rest following (Some s) count more h g m =
+    Tried-goes c all value items next rest following (items_of s.0.now) s.1.now count more h
+    (goes_is c items rest next following g) m
 
-pub State-star : (c : Comparator) (all : List Item) (value : List ℕ) (items next : List Item) (rest : List ℕ) (s : Option (Bor (List ℕ) × Bor (List ℕ))) (count more : ℕ) → State c all value items rest s count → turn_of c items rest ≡ star next → more ≡ compared_length items rest → Tried c all value next rest next rest (count + more)
-State-star c all value items next rest None count more h g m = Fresh-star c all value next rest count more (rw (star_is c items rest next g) at h) (omega (arith, m, compared-one items rest))
-State-star c all value items next rest (Some s) count more h g m = Tried-star c all value next rest (items_of s.0.now) s.1.now count more (rw (star_is c items rest next g) at h) (omega (arith, m, compared-one items rest))
+pub State-star : (c : Comparator) (all : List Item) (value : List ℕ) (items next : List Item) (rest : List ℕ)
+    (s : Option (Bor (List ℕ) × Bor (List ℕ))) (count more : ℕ) → State c all value items rest s count
+    → turn_of c items rest ≡ star next → more ≡ compared_length items rest
+    → Tried c all value next rest next rest (count + more)
+State-star c all value items next rest None count more h g m =
+    Fresh-star c all value next rest count more (rw (star_is c items rest next g) at h) (omega (
+      arith,
+      m,
+      compared-one items rest,
+    ))
+State-star c all value items next rest (Some s) count more h g m =
+    Tried-star c all value next rest (items_of s.0.now) s.1.now count more (rw (star_is c items rest next g) at h)
+    (omega (arith, m, compared-one items rest))
 
-pub State-stuck : (c : Comparator) (all : List Item) (value : List ℕ) (items : List Item) (rest : List ℕ) (after : List Item) (since : List ℕ) (b : ℕ) (following : List ℕ) (count more : ℕ) → Tried c all value items rest after since count → since ≡ b ∷ following → turn_of c items rest ≡ stuck → more ≡ compared_length items rest → Tried c all value after following after following (count + more)
-State-stuck c all value items rest after since b following count more h e g m = Tried-stuck c all value items rest after b following count more (rw e at h) (stuck_is c items rest g) (omega (arith, m, compared-le items rest))
+pub State-stuck : (c : Comparator) (all : List Item) (value : List ℕ) (items : List Item) (rest : List ℕ)
+    (after : List Item) (since : List ℕ) (b : ℕ) (following : List ℕ) (count more : ℕ)
+    → Tried c all value items rest after since count → since ≡ b ∷ following → turn_of c items rest ≡ stuck
+    → more ≡ compared_length items rest → Tried c all value after following after following (count + more)
+State-stuck c all value items rest after since b following count more h e g m =
+    Tried-stuck c all value items rest after b following count more (rw e at h) (stuck_is c items rest g) (omega (
+      arith,
+      m,
+      compared-le items rest,
+    ))
 
-pub State-bound : (c : Comparator) (all : List Item) (value : List ℕ) (items : List Item) (rest : List ℕ) (s : Option (Bor (List ℕ) × Bor (List ℕ))) (count more : ℕ) → State c all value items rest s count → more ≡ compared_length items rest → count + more ≤ (length all + 1) * (length value + 1)
+pub State-bound : (c : Comparator) (all : List Item) (value : List ℕ) (items : List Item) (rest : List ℕ)
+    (s : Option (Bor (List ℕ) × Bor (List ℕ))) (count more : ℕ) → State c all value items rest s count
+    → more ≡ compared_length items rest → count + more ≤ (length all + 1) * (length value + 1)
 State-bound c all value items rest None count more h m = Fresh-bound c all value items rest count more h (omega (arith, m, compared-le items rest))
-State-bound c all value items rest (Some s) count more h m = Tried-bound c all value items rest (items_of s.0.now) s.1.now count more h (omega (arith, m, compared-le items rest))
+State-bound c all value items rest (Some s) count more h m =
+    Tried-bound c all value items rest (items_of s.0.now) s.1.now count more h (omega (
+      arith,
+      m,
+      compared-le items rest,
+    ))
 
 -- at an end the answer is known
-pub State-ends : (c : Comparator) (all : List Item) (value : List ℕ) (items : List Item) (rest : List ℕ) (s : Option (Bor (List ℕ) × Bor (List ℕ))) (count : ℕ) → State c all value items rest s count → turn_of c items rest ≡ ends → true ≡ covers c all value
+pub State-ends : (c : Comparator) (all : List Item) (value : List ℕ) (items : List Item) (rest : List ℕ)
+    (s : Option (Bor (List ℕ) × Bor (List ℕ))) (count : ℕ) → State c all value items rest s count
+    → turn_of c items rest ≡ ends → true ≡ covers c all value
 State-ends c all value items rest s count h e = sym (covers_from c all value (whole s h))
   where
     here : Matches c items rest
@@ -326,24 +397,32 @@ no_octets : (c : Comparator) (items : List Item) (rest : List ℕ) → turn_of c
 no_octets c items rest e = ap octet_count (ends_is c items rest e).0
 
 -- where the pattern covers the value, each of its octets was compared
-pub State-least : (c : Comparator) (all : List Item) (value : List ℕ) (items : List Item) (rest : List ℕ) (s : Option (Bor (List ℕ) × Bor (List ℕ))) (count more : ℕ) → State c all value items rest s count → turn_of c items rest ≡ ends → octet_count all ≤ count + more
+pub State-least : (c : Comparator) (all : List Item) (value : List ℕ) (items : List Item) (rest : List ℕ)
+    (s : Option (Bor (List ℕ) × Bor (List ℕ))) (count more : ℕ) → State c all value items rest s count
+    → turn_of c items rest ≡ ends → octet_count all ≤ count + more
 State-least c all value items rest None count more h e = omega (arith, h.least, no_octets c items rest e)
 State-least c all value items rest (Some s) count more h e = omega (arith, h.least, no_octets c items rest e)
 
 refuted : (c : Comparator) (all : List Item) (value : List ℕ) → (Matches c all value → ⊥) → false ≡ covers c all value
 refuted c all value fails = sym (false_from_ne_true (covers c all value) (λ e. fails (covers_to c all value e)))
 
-pub Fresh-fails : (c : Comparator) (all : List Item) (value : List ℕ) (items : List Item) (rest : List ℕ) (count : ℕ) → Fresh c all value items rest count → turn_of c items rest ≡ stuck → false ≡ covers c all value
+pub Fresh-fails : (c : Comparator) (all : List Item) (value : List ℕ) (items : List Item) (rest : List ℕ) (count : ℕ)
+    → Fresh c all value items rest count → turn_of c items rest ≡ stuck → false ≡ covers c all value
 Fresh-fails c all value items rest count h e = refuted c all value (λ x. stuck_is c items rest e (h.to x))
 
-pub Tried-fails : (c : Comparator) (all : List Item) (value : List ℕ) (items : List Item) (rest : List ℕ) (after : List Item) (since : List ℕ) (count : ℕ) → Tried c all value items rest after since count → length since ≡ 0 → turn_of c items rest ≡ stuck → false ≡ covers c all value
+pub Tried-fails : (c : Comparator) (all : List Item) (value : List ℕ) (items : List Item) (rest : List ℕ)
+    (after : List Item) (since : List ℕ) (count : ℕ) → Tried c all value items rest after since count → length since ≡ 0
+    → turn_of c items rest ≡ stuck → false ≡ covers c all value
 Tried-fails c all value items rest after since count h empty e = refuted c all value (λ x. fails (h.to x))
   where
     none : since ≡ []
     none = nil_from_length since empty
 
     fails : SomeTail c after since → ⊥
-    fails (n, m) = stuck_is c items rest e (h.walked.ahead 0 (subst (λ (t : List ℕ). Matches c after t) (ap (λ (t : List ℕ). drop n t) none ∙ drop-nil n ∙ sym none) m))
+    fails (n, m) =
+        stuck_is c items rest e
+        (h.walked.ahead 0 (subst (λ (t : List ℕ). Matches c after t) (ap (λ (t : List ℕ). drop n t) none ∙ drop-nil n
+        ∙ sym none) m))
 
 -- a pattern has no more items than octets
 pub items-le : (e : Bool) (bs : List ℕ) → length (items_from e bs) ≤ length bs + 1
@@ -353,10 +432,13 @@ items-le false [] = omega arith
 items-le true (b ∷ bs) = omega (arith, items-le false bs)
 items-le false (b ∷ bs) = shorter (eqb b 92) (items-le true bs) (items-le false bs)
   where
-    shorter : (t : Bool) → length (items_from true bs) ≤ length bs + 1 → length (items_from false bs) ≤ length bs + 1 → length (cond t (items_from true bs) (item_of b ∷ items_from false bs)) ≤ suc (length bs) + 1
+    shorter : (t : Bool) → length (items_from true bs) ≤ length bs + 1 → length (items_from false bs) ≤ length bs + 1
+        → length (cond t (items_from true bs) (item_of b ∷ items_from false bs)) ≤ suc (length bs) + 1
     shorter true h k = omega arith
     shorter false h k = omega arith
 
 pub bound_fits : (n p l : ℕ) → n ≤ (p + 1) * (l + 1) → p ≤ 2 ^ 63 → l < 2 ^ 63 → n < 2 ^ 128
 bound_fits n p l h i j =
-    let k : (p + 1) * (l + 1) ≤ (2 ^ 63 + 1) * (2 ^ 63 + 1) = mul-le-mul {n₁ = p + 1} {m₁ = l + 1} {n₂ = 2 ^ 63 + 1} {m₂ = 2 ^ 63 + 1} (omega arith) (omega arith) in omega (arith, k)
+    let k : (p + 1) * (l + 1) ≤ (2 ^ 63 + 1) * (2 ^ 63 + 1) =
+    mul-le-mul {n₁ = p + 1} {m₁ = l + 1} {n₂ = 2 ^ 63 + 1} {m₂ = 2 ^ 63 + 1} (omega arith) (omega arith) in
+    omega (arith, k)

@@ -1,5 +1,6 @@
 -- What a search for a key under `i;ascii-casemap` knows of the key and of the places that it passes over.
-use Rattle.std.proofs.Common.{◌≡◌, ℕ, ◌+◌, ◌-◌, ◌<◌, ◌≤◌, Bool, true, false, eqb, ◌||◌, List, length, take, drop, slice_index, max, Some, IsTrue, ◌↔◌, ⊎_elim, inl, inr, sym, ap, subst, ◌∙◌, arith}
+use Rattle.std.proofs.Common.{◌≡◌, ℕ, ◌+◌, ◌-◌, ◌<◌, ◌≤◌, Bool, true, false, eqb, ◌||◌, List, length, take, drop}
+use Rattle.std.proofs.Common.{slice_index, max, Some, IsTrue, ◌↔◌, ⊎_elim, inl, inr, sym, ap, subst, ◌∙◌, arith}
 use Rattle.std.specs.Char.{to_ascii_lowercase, to_ascii_uppercase}
 use Rattle.std.proofs.Math.ListN.{get_or-map}
 use Rattle.std.proofs.lemmas.List.{length-map, length-take-le, length-drop, get_or-take, get_or-drop}
@@ -74,7 +75,9 @@ stands_casemap c key value r is h = rw is (
 )
 
 -- the key occurs at no place where its rare octet occurs in neither case
-module _ (key value : List ℕ) (at rare upper lower : ℕ) (inside : rare < length key) (within : at + length key ≤ length value) (is_upper : upper ≡ to_ascii_uppercase (slice_index key rare)) (is_lower : lower ≡ to_ascii_lowercase (slice_index key rare)) where
+module _ (key value : List ℕ) (at rare upper lower : ℕ) (inside : rare < length key)
+    (within : at + length key ≤ length value) (is_upper : upper ≡ to_ascii_uppercase (slice_index key rare))
+    (is_lower : lower ≡ to_ascii_lowercase (slice_index key rare)) where
   -- the octets of the value at which the rare octet may be
   abbrev ahead : List ℕ
   ahead = take (length value - length key + rare + 1 - (at + rare)) (drop (at + rare) value)
@@ -92,13 +95,15 @@ module _ (key value : List ℕ) (at rare upper lower : ℕ) (inside : rare < len
   passes k low high h =
       let e : fold_octet Casemap (slice_index value (k + rare)) ≡ fold_octet Casemap (slice_index key rare) = h.reads rare inside in
       let place : at + rare + (k - at) ≡ k + rare = omega arith in
-      let octet : slice_index ahead (k - at) ≡ slice_index value (k + rare) = at-ahead (k - at) (omega arith) ∙ ap (λ (q : ℕ). slice_index value q) place in
+      let octet : slice_index ahead (k - at) ≡ slice_index value (k + rare) = at-ahead (k - at) (omega arith)
+      ∙ ap (λ (q : ℕ). slice_index value q) place in
       rw (octet, is_upper, is_lower) (either_case (slice_index value (k + rare)) (slice_index key rare) e)
 
   pub skipped_all : Nowhere (Passes (is_byte2 upper lower) ahead) 0 (length ahead) → Nowhere (StandsAt value key) at (length value + 1 - length key)
   skipped_all h k low high stands = h (k - at) (omega arith) (omega (arith, length-ahead)) (passes k low high stands)
 
-  pub skipped_to : (j : ℕ) → NoneBefore (Passes (is_byte2 upper lower) ahead) 0 (length ahead) j → (at + j < length value + 1 - length key) × Nowhere (StandsAt value key) at (at + j)
+  pub skipped_to : (j : ℕ) → NoneBefore (Passes (is_byte2 upper lower) ahead) 0 (length ahead) j
+      → (at + j < length value + 1 - length key) × Nowhere (StandsAt value key) at (at + j)
   skipped_to j h = (
     omega (arith, h.high, length-ahead),
     λ k low high stands. h.before (k - at) (omega arith) (omega arith) (passes k low (omega (arith, h.high, length-ahead)) stands),
@@ -106,9 +111,12 @@ module _ (key value : List ℕ) (at rare upper lower : ℕ) (inside : rare < len
 
 -- one place at which the search compares: the octets from `start` up to `end` fit, and those before `known`
 module _ (key value : List ℕ) (p : Plan) (plan : IsPlan (folded_octet key) (length key) p) (some : 0 < length key) (at next known start end : ℕ)
-    (passed : Nowhere (StandsAt value key) 0 at) (small : known < length key) (fits : (k : ℕ) → k < known → folded_octet key k ≡ folded_octet value (at + k))
-    (candidate : (at ≤ next) × (next < length value + 1 - length key) × Nowhere (StandsAt value key) at next) (stays : 0 < known → Some next ≡ Some at)
-    (start_is : start ≡ max p.cut known) (low : start ≤ end) (high : end ≤ length key) (same : (k : ℕ) → start ≤ k → k < end → folded_octet key k ≡ folded_octet value (next + k)) where
+    (passed : Nowhere (StandsAt value key) 0 at) (small : known < length key) (fits : (k : ℕ) → k < known
+    → folded_octet key k ≡ folded_octet value (at + k))
+    (candidate : (at ≤ next) × (next < length value + 1 - length key)
+    × Nowhere (StandsAt value key) at next) (stays : 0 < known → Some next ≡ Some at)
+    (start_is : start ≡ max p.cut known) (low : start ≤ end) (high : end ≤ length key) (same : (k : ℕ) → start ≤ k
+    → k < end → folded_octet key k ≡ folded_octet value (next + k)) where
   before : Nowhere (StandsAt value key) 0 next
   before = Nowhere-then passed candidate.2
 
@@ -121,8 +129,11 @@ module _ (key value : List ℕ) (p : Plan) (plan : IsPlan (folded_octet key) (le
   right : (k : ℕ) → p.cut ≤ k → k < end → folded_octet key k ≡ folded_octet value (next + k)
   right k a b = ⊎_elim (λ inside. front k (omega arith)) (λ outside. same k outside b) (cases_lt k start)
 
-  pub after_right : end < length key → (folded_octet key end ≡ folded_octet value (next + end) → ⊥) → Nowhere (StandsAt value key) 0 (next + (end - p.cut + 1))
-  after_right below differs = Nowhere-then before (Nowhere-right (folded_octet key) (length key) (folded_octet value) (length value) p.cut plan.critical next end (omega arith) below right differs)
+  pub after_right : end < length key → (folded_octet key end ≡ folded_octet value (next + end) → ⊥)
+      → Nowhere (StandsAt value key) 0 (next + (end - p.cut + 1))
+  after_right below differs =
+      Nowhere-then before (Nowhere-right (folded_octet key) (length key) (folded_octet value) (length value) p.cut
+      plan.critical next end (omega arith) below right differs)
 
   pub found : length key ≤ end → ((k : ℕ) → known ≤ k → k < p.cut → folded_octet key k ≡ folded_octet value (next + k)) → StandsIn value key
   found full left = (
@@ -136,19 +147,25 @@ module _ (key value : List ℕ) (p : Plan) (plan : IsPlan (folded_octet key) (le
     },
   )
 
-  pub after_left : length key ≤ end → (((k : ℕ) → known ≤ k → k < p.cut → folded_octet key k ≡ folded_octet value (next + k)) → ⊥) → Nowhere (StandsAt value key) 0 (next + p.shift)
-  after_left full differs = Nowhere-then before (Nowhere-left (folded_octet key) (length key) (folded_octet value) (length value) p.cut p.shift plan.critical plan.short next
+  pub after_left : length key ≤ end
+      → (((k : ℕ) → known ≤ k → k < p.cut → folded_octet key k ≡ folded_octet value (next + k)) → ⊥)
+      → Nowhere (StandsAt value key) 0 (next + p.shift)
+  after_left full differs =
+      Nowhere-then before (Nowhere-left (folded_octet key) (length key) (folded_octet value) (length value) p.cut
+      p.shift plan.critical plan.short next
       (λ k a b. right k a (omega arith)) (λ occurs. differs (λ k a b. sym (occurs.reads k (omega (arith, plan.below))))))
 
   pub kept_fits : length key ≤ end → (k : ℕ) → k < p.kept → folded_octet key k ≡ folded_octet value (next + p.shift + k)
   kept_fits full k l = ⊎_elim
       (λ none. absurd (omega (arith, none)))
-      (λ s. known-next (folded_octet key) (length key) (folded_octet value) (length value) p.cut p.shift s.2 s.1 next (λ j a b. right j a (omega arith)) k (omega (arith, s.0)))
+      (λ s. known-next (folded_octet key) (length key) (folded_octet value) (length value) p.cut p.shift s.2 s.1 next
+      (λ j a b. right j a (omega arith)) k (omega (arith, s.0)))
       plan.kept
 
 pub kept_below : (x : ℕ → ℕ) (m : ℕ) (p : Plan) → IsPlan x m p → 0 < m → p.kept < m
 kept_below x m p plan some = ⊎_elim (λ none. omega (arith, none)) (λ s. omega (arith, s.0, plan.some)) plan.kept
 
 -- if each place at which the key could be was passed over, it occurs nowhere
-pub stands_nowhere : (key value : List ℕ) (bound : ℕ) → Nowhere (StandsAt value key) 0 bound → length value < bound + length key → IsTrue false ↔ StandsIn value key
+pub stands_nowhere : (key value : List ℕ) (bound : ℕ) → Nowhere (StandsAt value key) 0 bound
+    → length value < bound + length key → IsTrue false ↔ StandsIn value key
 stands_nowhere key value bound h past = (λ e. absurd (false≢true e), λ s. absurd (h s.0 (omega arith) (omega (arith, s.1.fits)) s.1))

@@ -10,25 +10,31 @@ use Rattle.sieve_meaning.specs.Program.{Test, Commands, Branches, branch, comman
 use Rattle.sieve_meaning.specs.Reading.{command_named, branch_named, only_in, block_in, branches_of, program_of}
 use Rattle.sieve_meaning.specs.Words.{command_word}
 
-begins_named : (w : CommandWord) (args : List Argument) (t : Test) (inner : Commands) (rest : Branches) (more : Commands) → part_of w false ≡ Branch → command_named w args t inner rest more ≡ command_then (branch (if_then t inner rest)) more
+begins_named : (w : CommandWord) (args : List Argument) (t : Test) (inner : Commands) (rest : Branches)
+    (more : Commands) → part_of w false ≡ Branch
+    → command_named w args t inner rest more ≡ command_then (branch (if_then t inner rest)) more
 begins_named If args t inner rest more e = refl
 begins_named w args t inner rest more e = absurd (cc)
 
-goes_on_named : (w : CommandWord) (t : Test) (inner : Commands) (rest : Branches) → part_of w true ≡ Branch → (part_of w false ≡ Branch → ⊥) → branch_named w t inner rest ≡ if_then t inner rest
+goes_on_named : (w : CommandWord) (t : Test) (inner : Commands) (rest : Branches) → part_of w true ≡ Branch
+    → (part_of w false ≡ Branch → ⊥) → branch_named w t inner rest ≡ if_then t inner rest
 goes_on_named If t inner rest e none = absurd (none refl)
 goes_on_named ElsIf t inner rest e none = refl
 goes_on_named w t inner rest e none = absurd (cc)
 
-ends_named : (w : CommandWord) (t : Test) (inner : Commands) (rest : Branches) → part_of w true ≡ Otherwise → branch_named w t inner rest ≡ otherwise inner
+ends_named : (w : CommandWord) (t : Test) (inner : Commands) (rest : Branches) → part_of w true ≡ Otherwise
+    → branch_named w t inner rest ≡ otherwise inner
 ends_named Else t inner rest e = refl
 ends_named w t inner rest e = absurd (cc)
 
-stays_named : (w : CommandWord) (t : Test) (inner : Commands) (rest : Branches) → part_of w true ≡ part_of w false → branch_named w t inner rest ≡ no_branch
+stays_named : (w : CommandWord) (t : Test) (inner : Commands) (rest : Branches) → part_of w true ≡ part_of w false
+    → branch_named w t inner rest ≡ no_branch
 stays_named ElsIf t inner rest e = absurd (cc)
 stays_named Else t inner rest e = absurd (cc)
 stays_named w t inner rest e = refl
 
-passes_named : (w : CommandWord) (args : List Argument) (t : Test) (inner : Commands) (rest : Branches) (more : Commands) → (part_of w true ≡ part_of w false → ⊥) → command_named w args t inner rest more ≡ more
+passes_named : (w : CommandWord) (args : List Argument) (t : Test) (inner : Commands) (rest : Branches)
+    (more : Commands) → (part_of w true ≡ part_of w false → ⊥) → command_named w args t inner rest more ≡ more
 passes_named ElsIf args t inner rest more other = refl
 passes_named Else args t inner rest more other = refl
 passes_named w args t inner rest more other = absurd (other refl)

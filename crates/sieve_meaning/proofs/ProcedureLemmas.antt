@@ -1,11 +1,14 @@
 -- Each include of a procedure that enters a script has its procedure among those after the include's own.
-use Rattle.std.proofs.Common.{◌≡◌, ◌≤◌, ◌⊎◌, ℕ, zero, suc, List, [], ◌∷◌, ◌++◌, map, filter, flat_map, filter_map, Bool, true, false, not, ◌&&◌, ◌||◌, cond, Option, Some, None, inl, inr, refl, sym, ap, ◌∙◌, subst, arith}
+use Rattle.std.proofs.Common.{◌≡◌, ◌≤◌, ◌⊎◌, ℕ, zero, suc, List, [], ◌∷◌, ◌++◌, map, filter, flat_map, filter_map, Bool}
+use Rattle.std.proofs.Common.{true, false, not, ◌&&◌, ◌||◌, cond, Option, Some, None, inl, inr, refl, sym, ap, ◌∙◌}
+use Rattle.std.proofs.Common.{subst, arith}
 use Rattle.std.specs.Prelude.{nat_eq}
 use Rattle.std.specs.List.{list_any, cons_option}
 use Rattle.std.proofs.lemmas.Bool.{and_from, or_right, or_left, eq-eqb, false_from_ne_true}
 use Rattle.sieve_meaning.specs.Program.{Include, Commands}
 use Rattle.sieve_meaning.specs.Meaning.{ScriptName, script_named, same_script, is_among, Library}
-use Rattle.sieve_meaning.specs.Procedures.{includes_of, once, included_names, reaches, Procedure, same_first, are_among, is_shared, entered_if, entry, called_by, led_to, main_procedure, procedures}
+use Rattle.sieve_meaning.specs.Procedures.{includes_of, once, included_names, reaches, Procedure, same_first, are_among}
+use Rattle.sieve_meaning.specs.Procedures.{is_shared, entered_if, entry, called_by, led_to, main_procedure, procedures}
 use Rattle.sieve_meaning.proofs.SharingLemmas.{IsIn, same_is, same_self, not_false, or_else, kept_step, among_those, shared_tests}
 
 -- LISTS
@@ -74,7 +77,8 @@ in_filter_map f y x [] there at = absurd there
 in_filter_map f y x (z ∷ xs) (inl e) at = subst (λ o. IsElement y (cons_option o (filter_map f xs))) (sym at ∙ ap f e) (inl refl)
 in_filter_map f y x (z ∷ xs) (inr there) at = in_option (f z) y (filter_map f xs) (in_filter_map f y x xs there at)
 
-pub all_filter_map : {A B : Type 0} (P : B → Type 0) (f : A → Option B) (xs : List A) → ((x : A) (y : B) → f x ≡ Some y → P y) → AllOf P (filter_map f xs)
+pub all_filter_map : {A B : Type 0} (P : B → Type 0) (f : A → Option B) (xs : List A)
+    → ((x : A) (y : B) → f x ≡ Some y → P y) → AllOf P (filter_map f xs)
 all_filter_map P f [] h = tt
 all_filter_map P f (x ∷ xs) h = all_option P (f x) (filter_map f xs) (h x) (all_filter_map P f xs h)
 
@@ -88,8 +92,11 @@ any_second t (x ∷ xs) ys h = or_right (t x) (list_any t (xs ++ ys)) (any_secon
 
 -- THE FIRST OF THOSE THAT ARE ALIKE
 
-module _ {A : Type 0} (alike : A → A → Bool) (P : A → Type 0) (self : (x : A) → P x → alike x x ≡ true) (along : (x y z : A) → P x → P y → P z → alike x y ≡ true → alike y z ≡ true → alike x z ≡ true) where
-  kept_like : (x e : A) (ys : List A) → P x → P e → AllOf P ys → alike x e ≡ false → list_any (λ y. alike y e) ys ≡ true → list_any (λ y. alike y e) (filter (λ y. not (alike x y)) ys) ≡ true
+module _ {A : Type 0} (alike : A → A → Bool) (P : A → Type 0) (self : (x : A) → P x
+    → alike x x ≡ true) (along : (x y z : A) → P x → P y → P z → alike x y ≡ true → alike y z ≡ true
+    → alike x z ≡ true) where
+  kept_like : (x e : A) (ys : List A) → P x → P e → AllOf P ys → alike x e ≡ false → list_any (λ y. alike y e) ys ≡ true
+      → list_any (λ y. alike y e) (filter (λ y. not (alike x y)) ys) ≡ true
   kept_like x e [] px pe all other h = h
   kept_like x e (y ∷ ys) px pe all other h =
       kept_step (λ z. alike z e) y ys (filter (λ z. not (alike x z)) ys) (not (alike x y))
@@ -98,12 +105,17 @@ module _ {A : Type 0} (alike : A → A → Bool) (P : A → Type 0) (self : (x :
 
   once_covers : (xs : List A) → AllOf P xs → (e : A) → IsElement e xs → list_any (λ y. alike y e) (once alike xs) ≡ true
   once_covers [] all e there = absurd there
-  once_covers (x ∷ xs) all e (inl is) = or_left (alike x e) (list_any (λ y. alike y e) (filter (λ y. not (alike x y)) (once alike xs))) (subst (λ z. alike x z ≡ true) (sym is) (self x all.0))
+  once_covers (x ∷ xs) all e (inl is) =
+      or_left (alike x e) (list_any (λ y. alike y e) (filter (λ y. not (alike x y)) (once alike xs))) (subst (λ z.
+      alike x z ≡ true) (sym is) (self x all.0))
   once_covers (x ∷ xs) all e (inr there) = by (alike x e) refl (once_covers xs all.1 e there)
     where
-      by : (b : Bool) → alike x e ≡ b → list_any (λ y. alike y e) (once alike xs) ≡ true → (alike x e || list_any (λ y. alike y e) (filter (λ y. not (alike x y)) (once alike xs))) ≡ true
+      by : (b : Bool) → alike x e ≡ b → list_any (λ y. alike y e) (once alike xs) ≡ true
+          → (alike x e || list_any (λ y. alike y e) (filter (λ y. not (alike x y)) (once alike xs))) ≡ true
       by true is h = or_left (alike x e) (list_any (λ y. alike y e) (filter (λ y. not (alike x y)) (once alike xs))) is
-      by false is h = or_right (alike x e) (list_any (λ y. alike y e) (filter (λ y. not (alike x y)) (once alike xs))) (kept_like x e (once alike xs) all.0 (all_element P e xs all.1 there) (all_once alike P xs all.1) is h)
+      by false is h =
+          or_right (alike x e) (list_any (λ y. alike y e) (filter (λ y. not (alike x y)) (once alike xs)))
+          (kept_like x e (once alike xs) all.0 (all_element P e xs all.1 there) (all_once alike P xs all.1) is h)
 
 -- NAMES
 
@@ -121,7 +133,8 @@ in_once s [] there = absurd there
 in_once s (t ∷ ts) (inl e) = inl e
 in_once s (t ∷ ts) (inr there) = by (same_script t s) refl (in_once s ts there)
   where
-    by : (b : Bool) → same_script t s ≡ b → IsElement s (once same_script ts) → IsElement s (t ∷ filter (λ u. not (same_script t u)) (once same_script ts))
+    by : (b : Bool) → same_script t s ≡ b → IsElement s (once same_script ts)
+        → IsElement s (t ∷ filter (λ u. not (same_script t u)) (once same_script ts))
     by true is h = inl (sym (same_is t s is))
     by false is h = inr (in_filter (λ u. not (same_script t u)) s (once same_script ts) h (ap not is))
 
@@ -154,14 +167,18 @@ implied true b h = h refl
 implied false b h = refl
 
 module _ (lib : Library) where
-  pub are_among_from : (x : Commands) (these others : List ScriptName) → ((s : ScriptName) → is_among these s ≡ true → reaches lib x s ≡ true → is_among others s ≡ true) → are_among lib x these others ≡ true
+  pub are_among_from : (x : Commands) (these others : List ScriptName)
+      → ((s : ScriptName) → is_among these s ≡ true → reaches lib x s ≡ true → is_among others s ≡ true)
+      → are_among lib x these others ≡ true
   are_among_from x [] others h = refl
   are_among_from x (u ∷ us) others h =
       and_from (not (reaches lib x u) || is_among others u) (are_among lib x us others)
       (implied (reaches lib x u) (is_among others u) (λ r. h u (or_left (same_script u u) (is_among us u) (same_self u)) r))
       (are_among_from x us others (λ s there r. h s (or_right (same_script s u) (is_among us s) there) r))
 
-  pub shared_from : (p q : Procedure) → same_first p.chain q.chain ≡ true → p.left ≡ q.left → are_among lib p.script p.chain q.chain ≡ true → are_among lib p.script q.chain p.chain ≡ true → is_shared lib p q ≡ true
+  pub shared_from : (p q : Procedure) → same_first p.chain q.chain ≡ true → p.left ≡ q.left
+      → are_among lib p.script p.chain q.chain ≡ true → are_among lib p.script q.chain p.chain ≡ true
+      → is_shared lib p q ≡ true
   shared_from p q first as_many here there =
       and_from (same_first p.chain q.chain && nat_eq p.left q.left && are_among lib p.script p.chain q.chain) (are_among lib p.script q.chain p.chain)
       (and_from (same_first p.chain q.chain && nat_eq p.left q.left) (are_among lib p.script p.chain q.chain)
@@ -169,7 +186,9 @@ module _ (lib : Library) where
 
   pub first_is : (a b : List ScriptName) (s t : ScriptName) (ss ts : List ScriptName) → a ≡ s ∷ ss → b ≡ t ∷ ts → same_first a b ≡ true → s ≡ t
   first_is a b s t ss ts ea eb h =
-      let first : same_first (s ∷ ss) (t ∷ ts) ≡ true = subst (λ (c : List ScriptName). same_first c (t ∷ ts) ≡ true) ea (subst (λ (c : List ScriptName). same_first a c ≡ true) eb h) in
+      let first : same_first (s ∷ ss) (t ∷ ts) ≡ true =
+      subst (λ (c : List ScriptName). same_first c (t ∷ ts) ≡ true) ea (subst (λ (c : List ScriptName).
+      same_first a c ≡ true) eb h) in
       same_is s t first
 
   pub first_from : (a b : List ScriptName) (s t : ScriptName) (ss ts : List ScriptName) → a ≡ s ∷ ss → b ≡ t ∷ ts → s ≡ t → same_first a b ≡ true
@@ -183,24 +202,32 @@ module _ (lib : Library) where
         let all = are_among_from p.script p.chain p.chain (λ s there r. there) in
         shared_from p p (first_from p.chain p.chain h.name h.name h.before h.before h.chain h.chain refl) refl all all
 
-    pub same_scripts : (p q : Procedure) → IsEntered lib left p → IsEntered lib left q → is_shared lib p q ≡ true → (p.script ≡ q.script) × ((h : IsEntered lib left p) → (k : IsEntered lib left q) → h.name ≡ k.name)
+    pub same_scripts : (p q : Procedure) → IsEntered lib left p → IsEntered lib left q → is_shared lib p q ≡ true
+        → (p.script ≡ q.script) × ((h : IsEntered lib left p) → (k : IsEntered lib left q) → h.name ≡ k.name)
     same_scripts p q h k shared =
         let t = shared_tests lib p q shared in
-        let names : (h : IsEntered lib left p) → (k : IsEntered lib left q) → h.name ≡ k.name = λ h k. first_is p.chain q.chain h.name k.name h.before k.before h.chain k.chain t.0 in
+        let names : (h : IsEntered lib left p) → (k : IsEntered lib left q) → h.name ≡ k.name = λ h k.
+        first_is p.chain q.chain h.name k.name h.before k.before h.chain k.chain t.0 in
         (some_is p.script q.script (sym h.there ∙ ap (λ (s : ScriptName). lib.find s) (names h k) ∙ k.there), names)
 
-    pub shared_along : (x y z : Procedure) → IsEntered lib left x → IsEntered lib left y → IsEntered lib left z → is_shared lib x y ≡ true → is_shared lib y z ≡ true → is_shared lib x z ≡ true
+    pub shared_along : (x y z : Procedure) → IsEntered lib left x → IsEntered lib left y → IsEntered lib left z
+        → is_shared lib x y ≡ true → is_shared lib y z ≡ true → is_shared lib x z ≡ true
     shared_along x y z hx hy hz xy yz =
         let tx = shared_tests lib x y xy in
         let ty = shared_tests lib y z yz in
         let sx = same_scripts x y hx hy xy in
         let sy = same_scripts y z hy hz yz in
-        let back : (s : ScriptName) → reaches lib x.script s ≡ true → reaches lib y.script s ≡ true = λ s r. subst (λ (c : Commands). reaches lib c s ≡ true) sx.0 r in
+        let back : (s : ScriptName) → reaches lib x.script s ≡ true → reaches lib y.script s ≡ true = λ s r.
+        subst (λ (c : Commands). reaches lib c s ≡ true) sx.0 r in
         shared_from x z
         (first_from x.chain z.chain hx.name hz.name hx.before hz.before hx.chain hz.chain (sx.1 hx hy ∙ sy.1 hy hz))
         (hx.left_is ∙ sym hz.left_is)
-        (are_among_from x.script x.chain z.chain (λ s there r. among_those lib y.script y.chain z.chain s ty.2 (back s r) (among_those lib x.script x.chain y.chain s tx.2 r there)))
-        (are_among_from x.script z.chain x.chain (λ s there r. among_those lib x.script y.chain x.chain s tx.3 r (among_those lib y.script z.chain y.chain s ty.3 (back s r) there)))
+        (are_among_from x.script x.chain z.chain (λ s there r.
+        among_those lib y.script y.chain z.chain s ty.2 (back s r)
+        (among_those lib x.script x.chain y.chain s tx.2 r there)))
+        (are_among_from x.script z.chain x.chain (λ s there r.
+        among_those lib x.script y.chain x.chain s tx.3 r
+        (among_those lib y.script z.chain y.chain s ty.3 (back s r) there)))
 
     pub entered_is : (chain : List ScriptName) (s : ScriptName) (e : Procedure) → entry lib left chain s ≡ Some e → IsEntered lib left e
     entered_is chain s e h = go (lib.find s) refl (is_among chain s) h
@@ -220,23 +247,32 @@ module _ (lib : Library) where
         all_flat_map (IsEntered lib left) (λ p. filter_map (entry lib left p.chain) (included_names p.script)) ps
         (λ p. all_filter_map (IsEntered lib left) (entry lib left p.chain) (included_names p.script) (λ s e h. entered_is p.chain s e h))
 
-    called_found : (ps : List Procedure) (p : Procedure) → IsElement p ps → (s : ScriptName) (e : Procedure) → IsElement s (included_names p.script) → entry lib left p.chain s ≡ Some e → list_any (λ q. is_shared lib q e) (called_by lib left ps) ≡ true
+    called_found : (ps : List Procedure) (p : Procedure) → IsElement p ps → (s : ScriptName) (e : Procedure)
+        → IsElement s (included_names p.script) → entry lib left p.chain s ≡ Some e
+        → list_any (λ q. is_shared lib q e) (called_by lib left ps) ≡ true
     called_found ps p there s e named h =
         once_covers (is_shared lib) (IsEntered lib left) shared_self shared_along (all_entered ps) (are_entered ps) e
-        (in_flat_map (λ p. filter_map (entry lib left p.chain) (included_names p.script)) e p ps there (in_filter_map (entry lib left p.chain) e s (included_names p.script) named h))
+        (in_flat_map (λ p. filter_map (entry lib left p.chain) (included_names p.script)) e p ps there
+        (in_filter_map (entry lib left p.chain) e s (included_names p.script) named h))
 
     pub called_left : (ps : List Procedure) → AllOf (λ p. p.left ≡ left) (called_by lib left ps)
-    called_left ps = all_mapped (IsEntered lib left) (λ p. p.left ≡ left) (called_by lib left ps) (λ p h. h.left_is) (all_once (is_shared lib) (IsEntered lib left) (all_entered ps) (are_entered ps))
+    called_left ps = all_mapped (IsEntered lib left) (λ p. p.left ≡ left) (called_by lib left ps) (λ p h.
+        h.left_is) (all_once (is_shared lib) (IsEntered lib left) (all_entered ps) (are_entered ps))
 
   -- an include that shares a procedure enters its script
-  pub shared_script : (q e : Procedure) (left : ℕ) → IsEntered lib left q → (s : ScriptName) (before : List ScriptName) → e.chain ≡ s ∷ before → lib.find s ≡ Some e.script → is_shared lib q e ≡ true → q.script ≡ e.script
+  pub shared_script : (q e : Procedure) (left : ℕ) → IsEntered lib left q → (s : ScriptName) (before : List ScriptName)
+      → e.chain ≡ s ∷ before → lib.find s ≡ Some e.script → is_shared lib q e ≡ true → q.script ≡ e.script
   shared_script q e left h s before chain at shared =
       let t = shared_tests lib q e shared in
-      some_is q.script e.script (sym h.there ∙ ap (λ (u : ScriptName). lib.find u) (first_is q.chain e.chain h.name s h.before before h.chain chain t.0) ∙ at)
+      some_is q.script e.script (sym h.there
+      ∙ ap (λ (u : ScriptName). lib.find u) (first_is q.chain e.chain h.name s h.before before h.chain chain t.0)
+      ∙ at)
 
   -- what an include of the procedure enters is among these
   abbrev pub FindsCalls : Procedure → List Procedure → Type 0
-  FindsCalls p later = (left : ℕ) → p.left ≡ suc left → (s : ScriptName) (e : Procedure) → IsElement s (included_names p.script) → entry lib left p.chain s ≡ Some e → list_any (λ q. is_shared lib q e) later ≡ true
+  FindsCalls p later = (left : ℕ) → p.left ≡ suc left → (s : ScriptName) (e : Procedure)
+      → IsElement s (included_names p.script) → entry lib left p.chain s ≡ Some e
+      → list_any (λ q. is_shared lib q e) later ≡ true
 
   -- what includes enter comes after them
   abbrev pub AllFind : List Procedure → Type 0
@@ -249,13 +285,17 @@ module _ (lib : Library) where
 
   level_finds : (ps rest : List Procedure) → AllOf (λ p. FindsCalls p rest) ps → AllFind rest → AllFind (ps ++ rest)
   level_finds [] rest h k = k
-  level_finds (p ∷ ps) rest h k = (λ left is s e named at. any_second (λ q. is_shared lib q e) ps rest (h.0 left is s e named at), level_finds ps rest h.1 k)
+  level_finds (p ∷ ps) rest h k = (
+    λ left is s e named at. any_second (λ q. is_shared lib q e) ps rest (h.0 left is s e named at),
+    level_finds ps rest h.1 k,
+  )
 
   pub led_any : (t : Procedure → Bool) (left : ℕ) (ps : List Procedure) → list_any t ps ≡ true → list_any t (led_to lib left ps) ≡ true
   led_any t zero ps h = h
   led_any t (suc left) ps h = any_first t ps (led_to lib left (called_by lib left ps)) h
 
-  each_finds : (left : ℕ) (all ps : List Procedure) → ((p : Procedure) → IsElement p ps → IsElement p all) → AllOf (λ p. p.left ≡ suc left) ps → AllOf (λ p. FindsCalls p (led_to lib left (called_by lib left all))) ps
+  each_finds : (left : ℕ) (all ps : List Procedure) → ((p : Procedure) → IsElement p ps → IsElement p all)
+      → AllOf (λ p. p.left ≡ suc left) ps → AllOf (λ p. FindsCalls p (led_to lib left (called_by lib left all))) ps
   each_finds left all [] inside h = tt
   each_finds left all (p ∷ ps) inside h = (
     λ n is s e named at.
@@ -268,7 +308,8 @@ module _ (lib : Library) where
   pub led_finds : (left : ℕ) (ps : List Procedure) → AllOf (λ p. p.left ≡ left) ps → AllFind (led_to lib left ps)
   led_finds zero ps h = none_find ps h
   led_finds (suc left) ps h =
-      level_finds ps (led_to lib left (called_by lib left ps)) (each_finds left ps ps (λ p there. there) h) (led_finds left (called_by lib left ps) (called_left left ps))
+      level_finds ps (led_to lib left (called_by lib left ps)) (each_finds left ps ps (λ p there. there) h)
+      (led_finds left (called_by lib left ps) (called_left left ps))
 
   -- an include entered it
   abbrev pub IsSomeEntered : Procedure → Type 0
@@ -277,8 +318,10 @@ module _ (lib : Library) where
   pub led_entered : (left : ℕ) (ps : List Procedure) → left ≤ 7 → AllOf (IsEntered lib left) ps → AllOf IsSomeEntered (led_to lib left ps)
   led_entered zero ps few h = all_mapped (IsEntered lib zero) IsSomeEntered ps (λ q k. (zero, few, k)) h
   led_entered (suc left) ps few h =
-      all_append IsSomeEntered ps (led_to lib left (called_by lib left ps)) (all_mapped (IsEntered lib (suc left)) IsSomeEntered ps (λ q k. (suc left, few, k)) h)
-      (led_entered left (called_by lib left ps) (omega (arith, few)) (all_once (is_shared lib) (IsEntered lib left) (all_entered left ps) (are_entered left ps)))
+      all_append IsSomeEntered ps (led_to lib left (called_by lib left ps))
+      (all_mapped (IsEntered lib (suc left)) IsSomeEntered ps (λ q k. (suc left, few, k)) h)
+      (led_entered left (called_by lib left ps) (omega (arith, few))
+      (all_once (is_shared lib) (IsEntered lib left) (all_entered left ps) (are_entered left ps)))
 
   pub all_find : (known_as : Option (List ℕ)) (main : Commands) → AllFind (procedures lib known_as main)
   unfolding procedures
@@ -288,7 +331,8 @@ module _ (lib : Library) where
   pub after_main : (known_as : Option (List ℕ)) (main : Commands) → List Procedure
   after_main known_as main = led_to lib 6 (called_by lib 6 (main_procedure known_as main ∷ []))
 
-  pub procedures_are : (known_as : Option (List ℕ)) (main : Commands) → procedures lib known_as main ≡ main_procedure known_as main ∷ after_main known_as main
+  pub procedures_are : (known_as : Option (List ℕ)) (main : Commands)
+      → procedures lib known_as main ≡ main_procedure known_as main ∷ after_main known_as main
   unfolding procedures after_main
   procedures_are known_as main = refl
 

@@ -32,9 +32,13 @@ shown p = (p.left, map (λ s. s.name) p.chain)
 
 -- each of a, b, c and d includes the next ten times, and e is empty
 abbrev tens : Library
-tens = library ((codes "a", includes 10 (codes "b")) ∷ (codes "b", includes 10 (codes "c")) ∷ (codes "c", includes 10 (codes "d")) ∷ (codes "d", includes 10 (codes "e")) ∷ (codes "e", no_command) ∷ [])
+tens = library ((codes "a", includes 10 (codes "b")) ∷ (codes "b", includes 10 (codes "c"))
+    ∷ (codes "c", includes 10 (codes "d")) ∷ (codes "d", includes 10 (codes "e")) ∷ (codes "e", no_command) ∷ [])
 
-tens_procedures : map shown (procedures tens None (includes 10 (codes "a"))) ≡ (7, []) ∷ (6, codes "a" ∷ []) ∷ (5, codes "b" ∷ codes "a" ∷ []) ∷ (4, codes "c" ∷ codes "b" ∷ codes "a" ∷ []) ∷ (3, codes "d" ∷ codes "c" ∷ codes "b" ∷ codes "a" ∷ []) ∷ (2, codes "e" ∷ codes "d" ∷ codes "c" ∷ codes "b" ∷ codes "a" ∷ []) ∷ []
+tens_procedures : map shown (procedures tens None (includes 10 (codes "a"))) ≡ (7, []) ∷ (6, codes "a" ∷ [])
+    ∷ (5, codes "b" ∷ codes "a" ∷ []) ∷ (4, codes "c" ∷ codes "b" ∷ codes "a" ∷ [])
+    ∷ (3, codes "d" ∷ codes "c" ∷ codes "b" ∷ codes "a" ∷ [])
+    ∷ (2, codes "e" ∷ codes "d" ∷ codes "c" ∷ codes "b" ∷ codes "a" ∷ []) ∷ []
 unfolding procedures reaches
 tens_procedures = refl
 
@@ -65,6 +69,8 @@ shared_once = refl
 abbrev apart : Library
 apart = library ((codes "a", includes 1 (codes "x")) ∷ (codes "b", includes 1 (codes "x")) ∷ (codes "x", includes 1 (codes "a")) ∷ [])
 
-not_shared : map shown (procedures apart None both) ≡ (7, []) ∷ (6, codes "a" ∷ []) ∷ (6, codes "b" ∷ []) ∷ (5, codes "x" ∷ codes "a" ∷ []) ∷ (5, codes "x" ∷ codes "b" ∷ []) ∷ (4, codes "a" ∷ codes "x" ∷ codes "b" ∷ []) ∷ []
+not_shared : map shown (procedures apart None both) ≡ (7, []) ∷ (6, codes "a" ∷ []) ∷ (6, codes "b" ∷ [])
+    ∷ (5, codes "x" ∷ codes "a" ∷ []) ∷ (5, codes "x" ∷ codes "b" ∷ []) ∷ (4, codes "a" ∷ codes "x" ∷ codes "b" ∷ [])
+    ∷ []
 unfolding procedures reaches
 not_shared = refl

@@ -1,7 +1,8 @@
 -- The definitions on small scripts and patterns with known answers: each line computes.
 use Rattle.std.proofs.Common.{◌≡◌, ℕ, List, [], ◌∷◌, true, false, Some, None, codes, refl}
 use Rattle.std.specs.Str.{bytes_eq}
-use Rattle.sieve_syntax.specs.Tree.{test, no_tests, one_test, CommandTree, command, semicolon, block, CommandTrees, no_commands, command_then as tree_then}
+use Rattle.sieve_syntax.specs.Tree.{test, no_tests, one_test, CommandTree, command, semicolon, block, CommandTrees}
+use Rattle.sieve_syntax.specs.Tree.{no_commands, command_then as tree_then}
 use Rattle.sieve_syntax.specs.declared.tree.StringList.TheVariants as string_lists
 use Rattle.sieve_syntax.specs.declared.tree.Argument.TheVariants as arguments
 use Rattle.class_paths.specs.Path.{unfiled}
@@ -43,7 +44,9 @@ invoice = refl
 abbrev contains_script : List ℕ → List ℕ → CommandTree → CommandTrees
 contains_script name key c =
     tree_then (command (codes "require") (arguments.Strings (string_lists.One (codes "fileinto")) ∷ []) no_tests semicolon)
-    (tree_then (command (codes "if") [] (one_test (test (codes "header") (arguments.Tag (codes "contains") ∷ arguments.Strings (string_lists.One name) ∷ arguments.Strings (string_lists.One key) ∷ []) no_tests)) (block (tree_then c no_commands)))
+    (tree_then (command (codes "if") []
+    (one_test (test (codes "header") (arguments.Tag (codes "contains") ∷ arguments.Strings (string_lists.One name)
+    ∷ arguments.Strings (string_lists.One key) ∷ []) no_tests)) (block (tree_then c no_commands)))
     no_commands)
 
 abbrev discard_tree : CommandTree
@@ -59,7 +62,9 @@ abbrev result : Facts → CommandTrees → Outcome
 result facts tree = outcome facts no_library None (program_of tree)
 
 -- a message whose subject contains the key is filed in the class
-files : result (message (codes "Subject") (codes "Your INVOICE")) (contains_script (codes "subject") (codes "invoice") (file_tree (codes "finance"))) ≡ record { classes = (codes "finance") ∷ []; fault = None }
+files : result (message (codes "Subject") (codes "Your INVOICE"))
+    (contains_script (codes "subject") (codes "invoice") (file_tree (codes "finance")))
+    ≡ record { classes = (codes "finance") ∷ []; fault = None }
 unfolding command_word test_word string_lists comparator_from suffixes contains outcome is_too_heavy
 files = refl
 
@@ -69,7 +74,8 @@ unfolding command_word test_word string_lists comparator_from
 weighs = refl
 
 -- an absent header field contains no key, not even the empty one; a present one does
-absent : result (message (codes "Subject") (codes "a")) (contains_script (codes "x-none") [] discard_tree) ≡ record { classes = unfiled ∷ []; fault = None }
+absent : result (message (codes "Subject") (codes "a")) (contains_script (codes "x-none") [] discard_tree)
+    ≡ record { classes = unfiled ∷ []; fault = None }
 unfolding command_word test_word string_lists comparator_from suffixes contains outcome is_too_heavy
 absent = refl
 
@@ -78,6 +84,8 @@ unfolding command_word test_word string_lists comparator_from suffixes contains 
 present = refl
 
 -- a path that is not open is a fault, and what was filed before is dropped
-closed : result (message [] []) (tree_then (file_tree (codes "finance")) (tree_then (file_tree (codes "nowhere")) no_commands)) ≡ record { classes = unfiled ∷ []; fault = Some ClassNotOpen }
+closed : result (message [] [])
+    (tree_then (file_tree (codes "finance")) (tree_then (file_tree (codes "nowhere")) no_commands))
+    ≡ record { classes = unfiled ∷ []; fault = Some ClassNotOpen }
 unfolding command_word string_lists outcome is_too_heavy
 closed = refl

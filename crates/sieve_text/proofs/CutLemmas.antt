@@ -1,5 +1,6 @@
 -- The tokens that are read, and the gaps before them, make the script.
-use Rattle.std.proofs.Common.{◌≡◌, ℕ, ◌+◌, ◌≤◌, List, [], ◌∷◌, ◌++◌, length, drop, Option, Some, None, Result, Ok, refl, sym, ap, subst, ◌∙◌, arith, inl, inr, length-append}
+use Rattle.std.proofs.Common.{◌≡◌, ℕ, ◌+◌, ◌≤◌, List, [], ◌∷◌, ◌++◌, length, drop, Option, Some, None, Result, Ok, refl}
+use Rattle.std.proofs.Common.{sym, ap, subst, ◌∙◌, arith, inl, inr, length-append}
 use Rattle.std.proofs.lemmas.Bool.{lt-ltb, cases_lt}
 use Rattle.std.proofs.lemmas.List.{length-drop}
 use Rattle.sieve_syntax.specs.declared.token.Token.{Token}
@@ -19,7 +20,8 @@ use Rattle.sieve_text.proofs.WithinLemmas.{token_parts}
 at_end : (script : List ℕ) (at : ℕ) → token_at script at ≡ Ok None → length script ≤ at + gap_len 0 (drop at script)
 unfolding token_at
 at_end script at e = elim (cases_lt start (length script)) [
-  | inl h ↦ (let p = bound_parts (kind_at (drop start script)) made None (rw (lt-ltb start (length script) h) at e) in absurd (some (record { kind = p.0.0; start = start; end = start + p.0.1 }) p.2))
+  | inl h ↦ (let p = bound_parts (kind_at (drop start script)) made None (rw (lt-ltb start (length script) h) at e) in
+      absurd (some (record { kind = p.0.0; start = start; end = start + p.0.1 }) p.2))
   | inr h ↦ h
 ]
   where
@@ -55,8 +57,11 @@ token_cut script at t e =
     let p = token_parts script at t e in
     let g = gap_sound (drop at script) in
     let k = kind_sound (drop t.start script) p.kind p.read in
-    let rest : drop t.start script ≡ g.rest = ap (λ n. drop n script) p.begins ∙ drop_more at (gap_len 0 (drop at script)) script ∙ dropped (drop at script) g.gap g.rest g.cut (gap_len 0 (drop at script)) g.long in
-    let following : drop t.end script ≡ k.following = ap (λ n. drop n script) p.ends ∙ drop_more t.start p.kind.1 script ∙ dropped (drop t.start script) k.octets k.following k.cut p.kind.1 k.long in
+    let rest : drop t.start script ≡ g.rest = ap (λ n. drop n script) p.begins
+    ∙ drop_more at (gap_len 0 (drop at script)) script
+    ∙ dropped (drop at script) g.gap g.rest g.cut (gap_len 0 (drop at script)) g.long in
+    let following : drop t.end script ≡ k.following = ap (λ n. drop n script) p.ends ∙ drop_more t.start p.kind.1 script
+    ∙ dropped (drop t.start script) k.octets k.following k.cut p.kind.1 k.long in
     subst (λ cs. IsFirst at (drop at script) t cs) (sym following) (record {
       gap = g.gap;
       octets = k.octets;
@@ -66,13 +71,16 @@ token_cut script at t e =
       end = p.ends ∙ ap (λ n. t.start + n) (sym k.long);
       token = subst (λ (kind : TokenKind). IsToken kind k.octets k.following) (sym p.says) (record {
         spelled = k.spelled;
-        longest = λ kind more others same lexeme. (let s = lexeme_short kind more others p.kind lexeme (sym (ap kind_at (k.cut ∙ same)) ∙ p.read) in let l = k.long in omega arith);
+        longest = λ kind more others same lexeme.
+            (let s = lexeme_short kind more others p.kind lexeme (sym (ap kind_at (k.cut ∙ same)) ∙ p.read) in let l =
+            k.long in omega arith);
         apart = kind_apart p.kind.0 k.octets k.following k.spelled p.kind.1 (sym (ap kind_at k.cut) ∙ p.read);
         limited = k.limited;
       });
     })
 
-pub cut_from : (script : List ℕ) (at : ℕ) (ts : List Token) (end : ℕ) → Reads script at ts end → token_at script end ≡ Ok None → IsCut at (drop at script) ts
+pub cut_from : (script : List ℕ) (at : ℕ) (ts : List Token) (end : ℕ) → Reads script at ts end
+    → token_at script end ≡ Ok None → IsCut at (drop at script) ts
 cut_from script at [] end h e =
     let l = at_end script at (rw h e) in
     let d = length-drop at script in

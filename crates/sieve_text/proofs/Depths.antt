@@ -1,7 +1,11 @@
 -- Whether a tree is within a number of nested tests and a number of nested blocks, as a function that computes it.
 use Rattle.std.proofs.Common.{◌≡◌, ℕ, zero, suc, ◌≤◌, ◌<◌, Bool, true, false, refl, ◌⊎◌, inl, inr, arith}
 use Rattle.std.specs.Prelude.{◌&&◌}
-use Rattle.sieve_syntax.specs.Tree.{TestTree, test, InnerTests, no_tests, one_test, listed_tests, TestRow, last_test, next_test, CommandTree, command, EndingTree, semicolon, block, CommandTrees, no_commands, command_then, test_depth, inner_depth, row_depth, command_test_depth, ending_test_depth, commands_test_depth, command_block_depth, ending_block_depth, commands_block_depth}
+use Rattle.sieve_syntax.specs.Tree.{TestTree, test, InnerTests, no_tests, one_test, listed_tests, TestRow, last_test}
+use Rattle.sieve_syntax.specs.Tree.{next_test, CommandTree, command, EndingTree, semicolon, block, CommandTrees}
+use Rattle.sieve_syntax.specs.Tree.{no_commands, command_then, test_depth, inner_depth, row_depth, command_test_depth}
+use Rattle.sieve_syntax.specs.Tree.{ending_test_depth, commands_test_depth, command_block_depth, ending_block_depth}
+use Rattle.sieve_syntax.specs.Tree.{commands_block_depth}
 
 abbrev mutual
   pub test_fits : TestTree → ℕ → Bool
@@ -76,7 +80,9 @@ mutual
 
 mutual
   command_within : (c : CommandTree) (d b : ℕ) → command_test_depth c ≤ d → command_block_depth c ≤ b → command_fits c d b ≡ true
-  command_within (command n args inner finish) d b h k = both (inner_fits inner d) (ending_fits finish d b) (inner_within inner d (omega arith)) (ending_within finish d b (omega arith) k)
+  command_within (command n args inner finish) d b h k =
+      both (inner_fits inner d) (ending_fits finish d b) (inner_within inner d (omega arith))
+      (ending_within finish d b (omega arith) k)
 
   ending_within : (f : EndingTree) (d b : ℕ) → ending_test_depth f ≤ d → ending_block_depth f ≤ b → ending_fits f d b ≡ true
   ending_within semicolon d b h k = refl
@@ -85,7 +91,9 @@ mutual
 
   pub commands_within : (cs : CommandTrees) (d b : ℕ) → commands_test_depth cs ≤ d → commands_block_depth cs ≤ b → commands_fit cs d b ≡ true
   commands_within no_commands d b h k = refl
-  commands_within (command_then c cs) d b h k = both (command_fits c d b) (commands_fit cs d b) (command_within c d b (omega arith) (omega arith)) (commands_within cs d b (omega arith) (omega arith))
+  commands_within (command_then c cs) d b h k =
+      both (command_fits c d b) (commands_fit cs d b) (command_within c d b (omega arith) (omega arith))
+      (commands_within cs d b (omega arith) (omega arith))
 
 mutual
   command_depth-fits : (c : CommandTree) (d b : ℕ) → command_fits c d b ≡ true → (command_test_depth c ≤ d) × (command_block_depth c ≤ b)

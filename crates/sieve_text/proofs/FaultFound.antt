@@ -1,29 +1,38 @@
 -- A faulty place by the grammar is refused there.
-use Rattle.std.proofs.Common.{◌≡◌, ℕ, suc, ◌+◌, ◌<◌, ◌⊎◌, Bool, true, false, List, [], ◌∷◌, ◌++◌, length, take, drop, nat_lt, Option, Some, None, Ok, Err, refl, sym, ap, ◌∙◌, arith, inl, inr, length-append, append_assoc}
+use Rattle.std.proofs.Common.{◌≡◌, ℕ, suc, ◌+◌, ◌<◌, ◌⊎◌, Bool, true, false, List, [], ◌∷◌, ◌++◌, length, take, drop}
+use Rattle.std.proofs.Common.{nat_lt, Option, Some, None, Ok, Err, refl, sym, ap, ◌∙◌, arith, inl, inr, length-append}
+use Rattle.std.proofs.Common.{append_assoc}
 use Rattle.std.specs.Prelude.{if◌then◌else◌, ◌==◌, ◌&&◌, ◌||◌, codes}
 use Rattle.std.specs.List.{prefix_len, list_all}
 use Rattle.std.specs.Char.{is_ascii_digit, to_ascii_lowercase}
 use Rattle.std.proofs.lemmas.Bool.{false≢true, true≢false, both_ways, cases_Bool, cases_lt, eqb-true, not-true, ne_eqb, lt-ltb, le-ltb, and_parts}
 use Rattle.std.proofs.lemmas.List.{append-nil, length-map, take-append-drop}
 use Rattle.sieve_syntax.specs.declared.token.Mark.{Mark}
-use Rattle.sieve_syntax.specs.declared.token.Mark.TheVariants.{Semicolon, OpenBrace, CloseBrace, OpenParen, CloseParen, OpenBracket, CloseBracket, Comma}
+use Rattle.sieve_syntax.specs.declared.token.Mark.TheVariants.{Semicolon, OpenBrace, CloseBrace, OpenParen, CloseParen}
+use Rattle.sieve_syntax.specs.declared.token.Mark.TheVariants.{OpenBracket, CloseBracket, Comma}
 use Rattle.sieve_syntax.specs.declared.token.TokenKind.{TokenKind}
 use Rattle.sieve_syntax.specs.declared.token.TokenKind.TheVariants as kinds
 use Rattle.sieve_text.specs.declared.fault.ScanRefusal.{ScanRefusal}
-use Rattle.sieve_text.specs.declared.fault.ScanRefusal.TheVariants.{NotUtf8, NoToken, StringNotClosed, CommentNotClosed, NumberTooLarge, ScriptTooLong, StringTooLong}
+use Rattle.sieve_text.specs.declared.fault.ScanRefusal.TheVariants.{NotUtf8, NoToken, StringNotClosed, CommentNotClosed}
+use Rattle.sieve_text.specs.declared.fault.ScanRefusal.TheVariants.{NumberTooLarge, ScriptTooLong, StringTooLong}
 use Rattle.sieve_text.specs.Octets.{is_blank, is_white, is_start, not_lf, begins, begins_with, line_end_len}
 use Rattle.sieve_text.specs.Gaps.{bracketed_len, opens_bracketed, comment_len, gap_len}
 use Rattle.sieve_text.specs.Strings.{quoted_len, begins_as, begins_text, opening_end_at, is_last_line, lines_len}
 use Rattle.sieve_text.specs.Tokens.{mark_of, string_kind, quoted_at, lines_at, multi_line_at, tag_at, kind_at, either_place, text_len}
-use Rattle.sieve_text.specs.TokenGrammar.{IsNumber, QuotedText, quoted_end, quoted_plain, quoted_pair, IsLineEnd, Lines, no_lines, line, IsTextColon, IsHashComment, IsQuoted, IsMultiLine, octet_of, Lexeme, closes}
-use Rattle.sieve_text.specs.FaultGrammar.{IsNoBeginning, IsNoOpening, NoTokenAt, no_beginning, no_tag, no_opening, OpenString, open_quoted, open_escape, open_opening, open_lines, IsLargeNumber, IsLongString, IsFaultHere}
+use Rattle.sieve_text.specs.TokenGrammar.{IsNumber, QuotedText, quoted_end, quoted_plain, quoted_pair, IsLineEnd, Lines}
+use Rattle.sieve_text.specs.TokenGrammar.{no_lines, line, IsTextColon, IsHashComment, IsQuoted, IsMultiLine, octet_of}
+use Rattle.sieve_text.specs.TokenGrammar.{Lexeme, closes}
+use Rattle.sieve_text.specs.FaultGrammar.{IsNoBeginning, IsNoOpening, NoTokenAt, no_beginning, no_tag, no_opening}
+use Rattle.sieve_text.specs.FaultGrammar.{OpenString, open_quoted, open_escape, open_opening, open_lines, IsLargeNumber}
+use Rattle.sieve_text.specs.FaultGrammar.{IsLongString, IsFaultHere}
 use Rattle.sieve_text.proofs.GapFound.{exactly, closes_after, closes_rest}
 use Rattle.sieve_text.proofs.GapGrammar.{before}
 use Rattle.sieve_text.proofs.GapLemmas.{gap_none}
 use Rattle.sieve_text.proofs.GrammarParts.{mark_octet}
 use Rattle.sieve_text.proofs.KindGrammar.{line_rest, line_alone, no_last, dot_line, suc_eqb, line_end_taken}
 use Rattle.sieve_text.proofs.Longest.{t_starts, opening_whole, after_opening, after_line}
-use Rattle.sieve_text.proofs.KindFound.{number_found, quoted_found, multi_line_found, text_kind, unbound, blanks_read, opening_read, quote_kind, tag_kind}
+use Rattle.sieve_text.proofs.KindFound.{number_found, quoted_found, multi_line_found, text_kind, unbound, blanks_read}
+use Rattle.sieve_text.proofs.KindFound.{opening_read, quote_kind, tag_kind}
 
 -- the refusal, and its place
 abbrev pub IsRefused : List ℕ → ScanRefusal → ℕ → Type 0
@@ -90,14 +99,18 @@ name_gap (b ∷ bs) following h = plain_gap is_start start_first b (bs ++ follow
 
 pub digits_gap : (ds following : List ℕ) → 0 < length ds → list_all is_ascii_digit ds ≡ true → gap_len 0 (ds ++ following) ≡ 0
 digits_gap [] following some all = absurd (omega arith)
-digits_gap (d ∷ ds) following some all = plain_gap is_ascii_digit digit_first d (ds ++ following) (and_parts (is_ascii_digit d) (list_all is_ascii_digit ds) all).0
+digits_gap (d ∷ ds) following some all = plain_gap is_ascii_digit digit_first d (ds
+    ++ following) (and_parts (is_ascii_digit d) (list_all is_ascii_digit ds) all).0
 
 pub text_gap : (word following : List ℕ) → begins_text (word ++ following) ≡ true → gap_len 0 (word ++ following) ≡ 0
 text_gap word following t = first (word ++ following) t
   where
     first : (bs : List ℕ) → begins_text bs ≡ true → gap_len 0 bs ≡ 0
     first [] t = absurd (false≢true t)
-    first (b ∷ bs) t = plain_gap is_start start_first b bs (t_starts b (eqb-true (to_ascii_lowercase b) 116 (and_parts (to_ascii_lowercase b == 116) (begins_as (codes "ext:") bs) t).0))
+    first (b ∷ bs) t =
+        plain_gap is_start start_first b bs
+        (t_starts b (eqb-true (to_ascii_lowercase b) 116
+        (and_parts (to_ascii_lowercase b == 116) (begins_as (codes "ext:") bs) t).0))
 
 -- NO TOKEN
 
@@ -110,7 +123,10 @@ none_of b none = go (mark_of b) refl
 
 text_false : (b : ℕ) (bs : List ℕ) → is_start b ≡ false → begins_text (b ∷ bs) ≡ false
 text_false b bs s = elim (cases_Bool (begins_text (b ∷ bs))) [
-  | inl e ↦ absurd (both_ways (is_start b) s (t_starts b (eqb-true (to_ascii_lowercase b) 116 (and_parts (to_ascii_lowercase b == 116) (begins_as (codes "ext:") bs) e).0)))
+  | inl e ↦ absurd
+      (both_ways (is_start b) s
+      (t_starts b (eqb-true (to_ascii_lowercase b) 116
+      (and_parts (to_ascii_lowercase b == 116) (begins_as (codes "ext:") bs) e).0)))
   | inr e ↦ e
 ]
 
@@ -120,7 +136,9 @@ slash_false b bs h = elim (cases_Bool (b == 47)) [
   | inr e ↦ rw e refl
 ]
 
-nothing_kind : (b : ℕ) (bs : List ℕ) → begins_text (b ∷ bs) ≡ false → is_start b ≡ false → is_ascii_digit b ≡ false → (b == 58) ≡ false → (b == 34) ≡ false → opens_bracketed (b ∷ bs) ≡ false → mark_of b ≡ None → kind_at (b ∷ bs) ≡ Err NoToken
+nothing_kind : (b : ℕ) (bs : List ℕ) → begins_text (b ∷ bs) ≡ false → is_start b ≡ false → is_ascii_digit b ≡ false
+    → (b == 58) ≡ false → (b == 34) ≡ false → opens_bracketed (b ∷ bs) ≡ false → mark_of b ≡ None
+    → kind_at (b ∷ bs) ≡ Err NoToken
 unfolding kind_at
 nothing_kind b bs t s d c q o m = rw (t, s, d, c, q, o, m) refl
 
@@ -146,14 +164,18 @@ opening_refused bs h =
     let n = no_line_end bs h.line_end in
     rw (ne_eqb (length bs) 0 (λ e. omega arith), h.hash, n) refl
 
-multi_line_refused : (blanks from : List ℕ) (refusal : ScanRefusal) → list_all is_blank blanks ≡ true → begins is_blank from ≡ false → opening_end_at from ≡ Err refusal → multi_line_at (blanks ++ from) ≡ Err refusal
+multi_line_refused : (blanks from : List ℕ) (refusal : ScanRefusal) → list_all is_blank blanks ≡ true
+    → begins is_blank from ≡ false → opening_end_at from ≡ Err refusal → multi_line_at (blanks ++ from) ≡ Err refusal
 unfolding multi_line_at
 multi_line_refused blanks from refusal all stops e =
     let p = blanks_read blanks from all stops in
     let whole : List ℕ = blanks ++ from in
-    unbound (opening_end_at (drop (prefix_len is_blank whole) whole)) (λ n. lines_at (5 + (prefix_len is_blank whole + n)) (drop (prefix_len is_blank whole + n) whole)) refusal (ap opening_end_at p.1 ∙ e)
+    unbound (opening_end_at (drop (prefix_len is_blank whole) whole)) (λ n.
+    lines_at (5 + (prefix_len is_blank whole + n)) (drop (prefix_len is_blank whole + n) whole)) refusal
+    (ap opening_end_at p.1 ∙ e)
 
-text_place : (word blanks from : List ℕ) → IsTextColon word → list_all is_blank blanks ≡ true → begins is_blank from ≡ false → text_len (word ++ (blanks ++ from)) ≡ length word + length blanks
+text_place : (word blanks from : List ℕ) → IsTextColon word → list_all is_blank blanks ≡ true
+    → begins is_blank from ≡ false → text_len (word ++ (blanks ++ from)) ≡ length word + length blanks
 text_place word blanks from w all stops =
     let k = text_kind word (blanks ++ from) w in
     let p = blanks_read blanks from all stops in
@@ -164,12 +186,16 @@ text_place word blanks from w all stops =
 no_token_found : (before : ℕ) (bs : List ℕ) → NoTokenAt before bs → IsRefused bs NoToken before
 no_token_found _ _ (no_beginning b following h) = nothing_found b following h
 no_token_found _ _ (no_tag following h) = (tag_kind following ∙ tag_refused following h, refl)
-no_token_found _ _ (no_opening word blanks following w all h) =
-    ((text_kind word (blanks ++ following) w).0 ∙ multi_line_refused blanks following NoToken all h.blank (opening_refused following h), text_place word blanks following w all h.blank)
+no_token_found _ _ (no_opening word blanks following w all h) = (
+  (text_kind word (blanks ++ following) w).0
+      ∙ multi_line_refused blanks following NoToken all h.blank (opening_refused following h),
+  text_place word blanks following w all h.blank,
+)
 
 -- OPEN STRINGS
 
-quoted_on : (body text : List ℕ) → QuotedText body text → (quoted_len false body ≡ length body) × (quoted_len false (body ++ 92 ∷ []) ≡ suc (length body))
+quoted_on : (body text : List ℕ) → QuotedText body text → (quoted_len false body ≡ length body)
+    × (quoted_len false (body ++ 92 ∷ []) ≡ suc (length body))
 unfolding quoted_len
 quoted_on _ _ quoted_end = (refl, refl)
 quoted_on _ _ (quoted_plain b bs says n34 n92 q) =
@@ -209,13 +235,15 @@ last_false (b ∷ c ∷ bs) all no_dot =
     let q = and_parts (not_lf c) (list_all not_lf bs) p.1 in
     rw (suc_eqb (length bs), not-true (c == 10) q.0) (no_end (b == 46) (c == 13) bs q.1)
   where
-    no_end : (dot return : Bool) (bs : List ℕ) → list_all not_lf bs ≡ true → (dot && (false || nat_lt 0 (if return && begins_with 10 bs then 2 else 0))) ≡ false
+    no_end : (dot return : Bool) (bs : List ℕ) → list_all not_lf bs ≡ true
+        → (dot && (false || nat_lt 0 (if return && begins_with 10 bs then 2 else 0))) ≡ false
     no_end false return bs all = refl
     no_end true false bs all = refl
     no_end true true [] all = refl
     no_end true true (d ∷ bs) all = rw (not-true (d == 10) (and_parts (not_lf d) (list_all not_lf bs) all).0) refl
 
-lines_on : (body text : List ℕ) → Lines body text → (last : List ℕ) → list_all not_lf last ≡ true → (last ≡ 46 ∷ [] → ⊥) → lines_len true (body ++ last) ≡ length body + length last
+lines_on : (body text : List ℕ) → Lines body text → (last : List ℕ) → list_all not_lf last ≡ true → (last ≡ 46 ∷ [] → ⊥)
+    → lines_len true (body ++ last) ≡ length body + length last
 lines_on _ _ no_lines last all no_dot =
     let m = exactly not_lf last [] all refl in
     let n = ap (λ (cs : List ℕ). prefix_len not_lf cs) (append-nil last) in
@@ -229,7 +257,8 @@ lines_on _ _ (line content bs says whole dot r) last all no_dot =
     let l = length-append content (10 ∷ rest) in
     let s = no_last (content ++ 10 ∷ rest) (dot_line content rest whole ∙ dot) in
     let t = line_rest (content ++ 10 ∷ rest) (omega arith) in
-    let d : drop (suc (prefix_len not_lf (content ++ 10 ∷ rest))) (content ++ 10 ∷ rest) ≡ rest = ap (λ m. drop (suc m) (content ++ 10 ∷ rest)) n ∙ after_line content rest in
+    let d : drop (suc (prefix_len not_lf (content ++ 10 ∷ rest))) (content ++ 10 ∷ rest) ≡ rest =
+    ap (λ m. drop (suc m) (content ++ 10 ∷ rest)) n ∙ after_line content rest in
     let u = ap (λ cs. lines_len true cs) d in
     let r1 = lines_on bs says r last all no_dot in
     let l1 = length-append content (10 ∷ bs) in
@@ -288,12 +317,14 @@ long_found bs h = go h.string
     go : IsQuoted h.value h.octets ⊎ IsMultiLine h.value h.octets h.following → kind_at bs ≡ Err StringTooLong
     go (inl q) =
         ap kind_at (h.cut ∙ ap (λ (cs : List ℕ). cs ++ h.following) q.cut) ∙ quoted_found q.body q.text h.following q.spells
-        ∙ ap (λ (v : List ℕ). string_kind v (length (34 ∷ (q.body ++ 34 ∷ [])))) (sym q.says) ∙ too_long h.value (length (34 ∷ (q.body ++ 34 ∷ []))) h.long
+        ∙ ap (λ (v : List ℕ). string_kind v (length (34 ∷ (q.body ++ 34 ∷ [])))) (sym q.says)
+        ∙ too_long h.value (length (34 ∷ (q.body ++ 34 ∷ []))) h.long
     go (inr m) = ap kind_at h.cut ∙ multi_line_found h.octets h.value h.following m ∙ too_long h.value (length h.octets) h.long
 
 large_found : (bs : List ℕ) → IsLargeNumber bs → kind_at bs ≡ Err NumberTooLarge
 large_found bs h =
-    ap kind_at h.cut ∙ number_found h.octets h.following h.value h.number (λ other more rest same number. h.longest other more rest (h.cut ∙ same) number)
+    ap kind_at h.cut ∙ number_found h.octets h.following h.value h.number (λ other more rest same number.
+    h.longest other more rest (h.cut ∙ same) number)
     ∙ ap (λ (t : Bool). if t then Err NumberTooLarge else Ok (kinds.Number h.value, length h.octets)) (lt-ltb 9223372036854775807 h.value h.large)
 
 pub fault_found : (refusal : ScanRefusal) (before : ℕ) (bs : List ℕ) → IsFaultHere refusal before bs → IsRefused bs refusal before
@@ -328,7 +359,8 @@ open_gap : (bs : List ℕ) → OpenString bs → gap_len 0 bs ≡ 0
 open_gap _ (open_quoted body text q) = quote_gap body
 open_gap _ (open_escape body text q) = quote_gap (body ++ 92 ∷ [])
 open_gap _ (open_opening word blanks comment w all c) = text_gap word (blanks ++ comment) (text_kind word (blanks ++ comment) w).1
-open_gap _ (open_lines word blanks comment end body text last w all c en ls clean no_dot) = let from : List ℕ = blanks ++ (comment ++ (end ++ (body ++ last))) in text_gap word from (text_kind word from w).1
+open_gap _ (open_lines word blanks comment end body text last w all c en ls clean no_dot) = let from : List ℕ = blanks
+    ++ (comment ++ (end ++ (body ++ last))) in text_gap word from (text_kind word from w).1
 
 no_token_gap : (before : ℕ) (bs : List ℕ) → NoTokenAt before bs → gap_len 0 bs ≡ 0
 no_token_gap _ _ (no_beginning b following h) = no_gap b following h.white h.hash (slash_false b following h.comment)
@@ -361,7 +393,8 @@ open_some : (bs : List ℕ) → OpenString bs → 0 < length bs
 open_some _ (open_quoted body text q) = omega arith
 open_some _ (open_escape body text q) = omega arith
 open_some _ (open_opening word blanks comment w all c) = text_some (word ++ (blanks ++ comment)) (text_kind word (blanks ++ comment) w).1
-open_some _ (open_lines word blanks comment end body text last w all c en ls clean no_dot) = let from : List ℕ = blanks ++ (comment ++ (end ++ (body ++ last))) in text_some (word ++ from) (text_kind word from w).1
+open_some _ (open_lines word blanks comment end body text last w all c en ls clean no_dot) = let from : List ℕ = blanks
+    ++ (comment ++ (end ++ (body ++ last))) in text_some (word ++ from) (text_kind word from w).1
 
 no_token_some : (before : ℕ) (bs : List ℕ) → NoTokenAt before bs → 0 < length bs
 no_token_some _ _ (no_beginning b following h) = omega arith

@@ -1,5 +1,7 @@
 -- What is refused is a faulty place by the grammar.
-use Rattle.std.proofs.Common.{◌≡◌, ℕ, zero, suc, ◌+◌, ◌*◌, ◌<◌, ◌≤◌, ◌⊎◌, Bool, true, false, List, [], ◌∷◌, ◌++◌, length, take, drop, nat_lt, Option, Some, None, Result, Ok, Err, refl, sym, ap, subst, ◌∙◌, arith, inl, inr, length-append, append_assoc}
+use Rattle.std.proofs.Common.{◌≡◌, ℕ, zero, suc, ◌+◌, ◌*◌, ◌<◌, ◌≤◌, ◌⊎◌, Bool, true, false, List, [], ◌∷◌, ◌++◌}
+use Rattle.std.proofs.Common.{length, take, drop, nat_lt, Option, Some, None, Result, Ok, Err, refl, sym, ap, subst}
+use Rattle.std.proofs.Common.{◌∙◌, arith, inl, inr, length-append, append_assoc}
 use Rattle.std.specs.Prelude.{if◌then◌else◌, ◌==◌, codes}
 use Rattle.std.specs.List.{prefix_len, list_all}
 use Rattle.std.specs.Char.{is_ascii_digit}
@@ -15,13 +17,18 @@ use Rattle.sieve_text.specs.declared.fault.ScanRefusal.TheVariants.{NoToken, Str
 use Rattle.sieve_text.specs.Octets.{is_blank, is_white, is_start, is_word, not_lf, begins, begins_with, line_end_len}
 use Rattle.sieve_text.specs.Gaps.{bracketed_len, opens_bracketed, comment_len, gap_len}
 use Rattle.sieve_text.specs.Strings.{quoted_len, quoted_value, begins_text, opening_end_at, is_last_line, lines_len, lines_value}
-use Rattle.sieve_text.specs.Tokens.{mark_of, mark_kind, string_kind, quoted_at, lines_at, multi_line_at, tag_at, factor_at, number_at, identifier_at, kind_at, either_place, text_len, ◌>>=◌}
-use Rattle.sieve_text.specs.TokenGrammar.{IsNumber, QuotedText, quoted_end, quoted_plain, quoted_pair, IsLineEnd, is_dot, without_dot, Lines, no_lines, line, IsTextColon, IsHashComment, octet_of, closes}
-use Rattle.sieve_text.specs.FaultGrammar.{no_beginning, no_tag, no_opening, OpenString, open_quoted, open_escape, open_opening, open_lines, IsLargeNumber, IsFaultHere}
+use Rattle.sieve_text.specs.Tokens.{mark_of, mark_kind, string_kind, quoted_at, lines_at, multi_line_at, tag_at}
+use Rattle.sieve_text.specs.Tokens.{factor_at, number_at, identifier_at, kind_at, either_place, text_len, ◌>>=◌}
+use Rattle.sieve_text.specs.TokenGrammar.{IsNumber, QuotedText, quoted_end, quoted_plain, quoted_pair, IsLineEnd}
+use Rattle.sieve_text.specs.TokenGrammar.{is_dot, without_dot, Lines, no_lines, line, IsTextColon, IsHashComment}
+use Rattle.sieve_text.specs.TokenGrammar.{octet_of, closes}
+use Rattle.sieve_text.specs.FaultGrammar.{no_beginning, no_tag, no_opening, OpenString, open_quoted, open_escape}
+use Rattle.sieve_text.specs.FaultGrammar.{open_opening, open_lines, IsLargeNumber, IsFaultHere}
 use Rattle.sieve_text.proofs.GapLemmas.{drop_more}
 use Rattle.sieve_text.proofs.GapGrammar.{before, closes_from_after, prefix_passes, prefix_ends}
 use Rattle.sieve_text.proofs.GrammarParts.{octet_mark, quantifier_taken, quantifier_counts}
-use Rattle.sieve_text.proofs.KindGrammar.{IsString, IsOpening, quoted_cut, lines_cut, opening_sound, word_taken, last_here, no_last, line_rest, dot_line, at_line_feed}
+use Rattle.sieve_text.proofs.KindGrammar.{IsString, IsOpening, quoted_cut, lines_cut, opening_sound, word_taken}
+use Rattle.sieve_text.proofs.KindGrammar.{last_here, no_last, line_rest, dot_line, at_line_feed}
 use Rattle.sieve_text.proofs.Longest.{digits_short}
 use Rattle.sieve_text.proofs.WithinLemmas.{one_more, factor_within, text_within}
 
@@ -38,7 +45,8 @@ no_answer x r e = cc
 same_refusal : {A : Type 0} (r s : ScanRefusal) → ◌≡◌ {A = Result A ScanRefusal} (Err r) (Err s) → r ≡ s
 same_refusal r s e = cc
 
-bound_refused : {A B : Type 0} (x : Result A ScanRefusal) (f : A → Result B ScanRefusal) (r : ScanRefusal) → (x >>= f) ≡ Err r → (x ≡ Err r) ⊎ ((a : A) × (x ≡ Ok a) × (f a ≡ Err r))
+bound_refused : {A B : Type 0} (x : Result A ScanRefusal) (f : A → Result B ScanRefusal) (r : ScanRefusal)
+    → (x >>= f) ≡ Err r → (x ≡ Err r) ⊎ ((a : A) × (x ≡ Ok a) × (f a ≡ Err r))
 bound_refused (Ok a) f r e = inr (a, refl, e)
 bound_refused {A} {B} (Err s) f r e = inl (ap (λ (q : ScanRefusal). Err q) (same_refusal {A = B} s r e))
 
@@ -48,7 +56,8 @@ Goal bs r = IsFaultHere r (either_place 0 (text_len bs) r) bs
 
 -- NUMBERS
 
-number_longest : (bs : List ℕ) (other : ℕ) (more rest : List ℕ) → bs ≡ more ++ rest → IsNumber other more → length more ≤ prefix_len is_ascii_digit bs + (factor_at (drop (prefix_len is_ascii_digit bs) bs)).1
+number_longest : (bs : List ℕ) (other : ℕ) (more rest : List ℕ) → bs ≡ more ++ rest → IsNumber other more
+    → length more ≤ prefix_len is_ascii_digit bs + (factor_at (drop (prefix_len is_ascii_digit bs) bs)).1
 number_longest bs other more rest same h =
     let whole : bs ≡ h.digits ++ (h.quantifier ++ rest) = same ∙ ap (λ (cs : List ℕ). cs ++ rest) h.cut ∙ append_assoc h.digits h.quantifier rest in
     let s = digits_short h.digits h.quantifier rest h.factor h.all (quantifier_counts h.quantifier h.factor h.counts) in
@@ -56,7 +65,9 @@ number_longest bs other more rest same h =
     let P : List ℕ → Type 0 = λ cs. length more ≤ prefix_len is_ascii_digit cs + (factor_at (drop (prefix_len is_ascii_digit cs) cs)).1 in
     subst P (sym whole) (omega arith)
 
-large_number : (bs : List ℕ) → 0 < prefix_len is_ascii_digit bs → 9223372036854775807 < digits_value 10 (take (prefix_len is_ascii_digit bs) bs) * (factor_at (drop (prefix_len is_ascii_digit bs) bs)).0 → IsLargeNumber bs
+large_number : (bs : List ℕ) → 0 < prefix_len is_ascii_digit bs
+    → 9223372036854775807 < digits_value 10 (take (prefix_len is_ascii_digit bs) bs) *
+    (factor_at (drop (prefix_len is_ascii_digit bs) bs)).0 → IsLargeNumber bs
 large_number bs some large =
     let n : ℕ = prefix_len is_ascii_digit bs in
     let rest : List ℕ = drop n bs in
@@ -78,14 +89,18 @@ large_number bs some large =
         counts = quantifier_taken rest;
         says = refl;
       };
-      longest = λ other more following same h. (let a = length-append (take n bs) (take f rest) in let k = number_longest bs other more following same h in omega arith);
+      longest = λ other more following same h. (let a = length-append (take n bs) (take f rest) in let k =
+          number_longest bs other more following same h in omega arith);
       large = large;
     }
 
 number_refused : (bs : List ℕ) (r : ScanRefusal) → 0 < prefix_len is_ascii_digit bs → number_at bs ≡ Err r → Goal bs r
 unfolding number_at
 number_refused bs r some e = elim (went (nat_lt 9223372036854775807 value) (refused_as NumberTooLarge) (Ok (kinds.Number value, m)) (Err r) e) [
-  | inl h ↦ subst (Goal bs) (same_refusal {A = TokenKind × ℕ} NumberTooLarge r h.1) (refl, large_number bs some (ltb-true 9223372036854775807 value h.0))
+  | inl h ↦ subst (Goal bs) (same_refusal {A = TokenKind × ℕ} NumberTooLarge r h.1) (
+    refl,
+    large_number bs some (ltb-true 9223372036854775807 value h.0),
+  )
   | inr h ↦ absurd (no_answer (kinds.Number value, m) r h.1)
 ]
   where
@@ -102,18 +117,31 @@ number_refused bs r some e = elim (went (nat_lt 9223372036854775807 value) (refu
 
 tag_refusal : (b : ℕ) (bs : List ℕ) (r : ScanRefusal) → b ≡ 58 → tag_at bs ≡ Err r → Goal (b ∷ bs) r
 unfolding tag_at
-tag_refusal b bs r e t = elim (went (begins is_start bs) (Ok (kinds.Tag (take (prefix_len is_word bs) bs), suc (prefix_len is_word bs))) (refused_as NoToken) (Err r) t) [
-  | inl h ↦ absurd (no_answer (kinds.Tag (take (prefix_len is_word bs) bs), suc (prefix_len is_word bs)) r h.1)
-  | inr h ↦ subst (Goal (b ∷ bs)) (same_refusal {A = TokenKind × ℕ} NoToken r h.1) (
-      let P : ℕ → Type 0 = λ c. Goal (c ∷ bs) NoToken in
-      subst P (sym e) (no_tag bs h.0))
-]
+tag_refusal b bs r e t =
+    elim (went (begins is_start bs) (Ok (kinds.Tag (take (prefix_len is_word bs) bs), suc (prefix_len is_word bs)))
+    (refused_as NoToken) (Err r) t) [
+      | inl h ↦ absurd (no_answer (kinds.Tag (take (prefix_len is_word bs) bs), suc (prefix_len is_word bs)) r h.1)
+      | inr h ↦ subst (Goal (b ∷ bs)) (same_refusal {A = TokenKind × ℕ} NoToken r h.1) (
+          let P : ℕ → Type 0 = λ c. Goal (c ∷ bs) NoToken in
+          subst P (sym e) (no_tag bs h.0))
+    ]
 
 -- STRINGS
 
 long_refusal : (bs value : List ℕ) (n : ℕ) (r : ScanRefusal) → IsString bs value n → string_kind value n ≡ Err r → Goal bs r
 long_refusal bs value n r s e = elim (went (nat_lt 65535 (length value)) (refused_as StringTooLong) (Ok (kinds.StringValue value, n)) (Err r) e) [
-  | inl h ↦ subst (Goal bs) (same_refusal {A = TokenKind × ℕ} StringTooLong r h.1) (refl, record { value = value; octets = s.octets; following = s.following; cut = s.cut; string = s.spelled; long = ltb-true 65535 (length value) h.0 })
+  | inl h ↦ subst (Goal bs) (same_refusal {A = TokenKind × ℕ} StringTooLong r h.1) (
+    refl,
+    record {
+      value = value;
+      octets = s.octets;
+      following = s.following;
+      cut = s.cut;
+      string = s.spelled;
+      long =
+          ltb-true 65535 (length value) h.0;
+    },
+  )
   | inr h ↦ absurd (no_answer (kinds.StringValue value, n) r h.1)
 ]
 
@@ -156,10 +184,16 @@ open_quote bs (inr h) = rw h.3 (open_escape h.0 h.1 h.2)
 
 quote_refusal : (b : ℕ) (bs : List ℕ) (r : ScanRefusal) → b ≡ 34 → quoted_at bs ≡ Err r → Goal (b ∷ bs) r
 unfolding quoted_at
-quote_refusal b bs r e q = elim (went (nat_lt n (length bs)) (string_kind (quoted_value (take n bs)) (n + 2)) (refused_as StringNotClosed) (Err r) q) [
-  | inl h ↦ long_refusal (b ∷ bs) (quoted_value (take n bs)) (n + 2) r (quoted_cut b bs e (ltb-true n (length bs) h.0)) h.1
-  | inr h ↦ subst (Goal (b ∷ bs)) (same_refusal {A = TokenKind × ℕ} StringNotClosed r h.1) (refl, (let P : ℕ → Type 0 = λ c. OpenString (c ∷ bs) in subst P (sym e) (open_quote bs (open_text bs (ltb-false n (length bs) h.0)))))
-]
+quote_refusal b bs r e q =
+    elim (went (nat_lt n (length bs)) (string_kind (quoted_value (take n bs)) (n + 2)) (refused_as StringNotClosed)
+    (Err r) q) [
+      | inl h ↦ long_refusal (b ∷ bs) (quoted_value (take n bs)) (n + 2) r (quoted_cut b bs e (ltb-true n (length bs) h.0)) h.1
+      | inr h ↦ subst (Goal (b ∷ bs)) (same_refusal {A = TokenKind × ℕ} StringNotClosed r h.1) (
+        refl,
+        (let P : ℕ → Type 0 = λ c. OpenString (c ∷ bs) in
+            subst P (sym e) (open_quote bs (open_text bs (ltb-false n (length bs) h.0)))),
+      )
+    ]
   where
     n : ℕ
     n = quoted_len false bs
@@ -189,7 +223,16 @@ open_lines_from zero bs enough h = absurd (omega arith)
 open_lines_from (suc turns) bs enough h = elim (cases_Bool (is_last_line bs)) [
   | inl e ↦ absurd (some_line bs e (omega (arith, last_here bs e)))
   | inr e ↦ elim (cases_lt (prefix_len not_lf bs) (length bs)) [
-    | inr none ↦ record { body = []; text = []; last = bs; cut = refl; lines = no_lines; clean = alone bs none; no_dot = λ d. both_ways (is_last_line (46 ∷ [])) (sym (ap is_last_line d) ∙ e) dot_ends }
+    | inr none ↦ record {
+      body = [];
+      text = [];
+      last = bs;
+      cut = refl;
+      lines = no_lines;
+      clean = alone bs none;
+      no_dot =
+          λ d. both_ways (is_last_line (46 ∷ [])) (sym (ap is_last_line d) ∙ e) dot_ends;
+    }
     | inl some ↦ (
         let m : ℕ = prefix_len not_lf bs in
         let content : List ℕ = take m bs in
@@ -217,26 +260,40 @@ open_lines_from (suc turns) bs enough h = elim (cases_Bool (is_last_line bs)) [
     some_line (b ∷ bs) e h = omega arith
 
 -- the line of "text:" that the script's end leaves open, or that has no line end
-first_line : (bs word blanks from : List ℕ) (r : ScanRefusal) → bs ≡ word ++ (blanks ++ from) → IsTextColon word → list_all is_blank blanks ≡ true → begins is_blank from ≡ false → text_len bs ≡ length word + length blanks → opening_end_at from ≡ Err r → Goal bs r
+first_line : (bs word blanks from : List ℕ) (r : ScanRefusal) → bs ≡ word ++ (blanks ++ from) → IsTextColon word
+    → list_all is_blank blanks ≡ true → begins is_blank from ≡ false → text_len bs ≡ length word + length blanks
+    → opening_end_at from ≡ Err r → Goal bs r
 first_line bs word blanks from r whole w all stops place e = elim (went (length from == 0) (refused_as StringNotClosed) _ (Err r) e) [
-  | inl h ↦ subst (Goal bs) (same_refusal {A = ℕ} StringNotClosed r h.1) (refl, rw (whole, nil_from_length from (eqb-true (length from) 0 h.0)) (open_opening word blanks [] w all (inl refl)))
-  | inr h ↦ elim (went (begins_with 35 from) (if nat_lt (prefix_len not_lf from) (length from) then Ok (suc (prefix_len not_lf from)) else Err StringNotClosed) _ (Err r) h.1) [
-    | inl h1 ↦ elim (went (nat_lt (prefix_len not_lf from) (length from)) (Ok (suc (prefix_len not_lf from))) (refused_as StringNotClosed) (Err r) h1.1) [
-      | inl h2 ↦ absurd (no_answer (suc (prefix_len not_lf from)) r h2.1)
-      | inr h2 ↦ subst (Goal bs) (same_refusal {A = ℕ} StringNotClosed r h2.1) (refl, rw whole (open_opening word blanks from w all (inr (h1.0, alone from (ltb-false (prefix_len not_lf from) (length from) h2.0)))))
-    ]
-    | inr h1 ↦ elim (went (nat_lt 0 (line_end_len from)) (Ok (line_end_len from)) (refused_as NoToken) (Err r) h1.1) [
-      | inl h2 ↦ absurd (no_answer (line_end_len from) r h2.1)
-      | inr h2 ↦ subst (Goal bs) (same_refusal {A = ℕ} NoToken r h2.1) (
-          let none : line_end_len from ≤ 0 = ltb-false 0 (line_end_len from) h2.0 in
-          rw (place, whole) (no_opening word blanks from w all (record {
-            some = some_from from (eqb-false (length from) 0 h.0);
-            blank = stops;
-            hash = h1.0;
-            line_end = λ end following same is. no_end from end following same is none;
-          })))
-    ]
-  ]
+  | inl h ↦ subst (Goal bs) (same_refusal {A = ℕ} StringNotClosed r h.1) (
+    refl,
+    rw (whole, nil_from_length from (eqb-true (length from) 0 h.0)) (open_opening word blanks [] w all (inl refl)),
+  )
+  | inr h ↦ elim
+      (went (begins_with 35 from) (if nat_lt (prefix_len not_lf from) (length from) then Ok
+      (suc (prefix_len not_lf from)) else Err StringNotClosed) _ (Err r) h.1) [
+        | inl h1 ↦ elim (went (nat_lt (prefix_len not_lf from) (length from)) (Ok (suc (prefix_len not_lf from)))
+            (refused_as StringNotClosed) (Err r) h1.1) [
+              | inl h2 ↦ absurd (no_answer (suc (prefix_len not_lf from)) r h2.1)
+              | inr h2 ↦ subst (Goal bs) (same_refusal {A = ℕ} StringNotClosed r h2.1) (
+                refl,
+                rw whole (open_opening word blanks from w all (inr (
+                  h1.0,
+                  alone from (ltb-false (prefix_len not_lf from) (length from) h2.0),
+                ))),
+              )
+            ]
+        | inr h1 ↦ elim (went (nat_lt 0 (line_end_len from)) (Ok (line_end_len from)) (refused_as NoToken) (Err r) h1.1) [
+          | inl h2 ↦ absurd (no_answer (line_end_len from) r h2.1)
+          | inr h2 ↦ subst (Goal bs) (same_refusal {A = ℕ} NoToken r h2.1) (
+              let none : line_end_len from ≤ 0 = ltb-false 0 (line_end_len from) h2.0 in
+              rw (place, whole) (no_opening word blanks from w all (record {
+                some = some_from from (eqb-false (length from) 0 h.0);
+                blank = stops;
+                hash = h1.0;
+                line_end = λ end following same is. no_end from end following same is none;
+              })))
+        ]
+      ]
 ]
   where
     some_from : (bs : List ℕ) → (length bs ≡ 0 → ⊥) → 0 < length bs
@@ -247,12 +304,21 @@ first_line bs word blanks from r whole w all stops place e = elim (went (length 
     no_end from end following same (inl e) none = let k : 1 ≤ 0 = rw (same, e) at none in omega arith
     no_end from end following same (inr e) none = let k : 2 ≤ 0 = rw (same, e) at none in omega arith
 
-lines_refusal : (bs word blanks comment end rest : List ℕ) → bs ≡ word ++ (blanks ++ (comment ++ (end ++ rest))) → IsTextColon word → list_all is_blank blanks ≡ true → IsHashComment comment → IsLineEnd end → (before : ℕ) → before ≡ length word + (length blanks + (length comment + length end)) → (r : ScanRefusal) → lines_at before rest ≡ Err r → Goal bs r
+lines_refusal : (bs word blanks comment end rest : List ℕ) → bs ≡ word ++ (blanks ++ (comment ++ (end ++ rest)))
+    → IsTextColon word → list_all is_blank blanks ≡ true → IsHashComment comment → IsLineEnd end → (before : ℕ)
+    → before ≡ length word + (length blanks + (length comment + length end)) → (r : ScanRefusal)
+    → lines_at before rest ≡ Err r → Goal bs r
 unfolding lines_at
-lines_refusal bs word blanks comment end rest whole w b c en before count r e = elim (went (nat_lt n (length rest)) (string_kind (lines_value (take n rest)) m) (refused_as StringNotClosed) (Err r) e) [
-  | inl h ↦ long_refusal bs (lines_value (take n rest)) m r (lines_cut bs word blanks comment end rest whole w b c en before count (ltb-true n (length rest) h.0)) h.1
-  | inr h ↦ subst (Goal bs) (same_refusal {A = TokenKind × ℕ} StringNotClosed r h.1) (refl, opened (open_lines_from (suc (length rest)) rest (omega arith) (ltb-false n (length rest) h.0)))
-]
+lines_refusal bs word blanks comment end rest whole w b c en before count r e =
+    elim (went (nat_lt n (length rest)) (string_kind (lines_value (take n rest)) m) (refused_as StringNotClosed) (Err r)
+    e) [
+      | inl h ↦ long_refusal bs (lines_value (take n rest)) m r (lines_cut bs word blanks comment end rest whole w b c en
+          before count (ltb-true n (length rest) h.0)) h.1
+      | inr h ↦ subst (Goal bs) (same_refusal {A = TokenKind × ℕ} StringNotClosed r h.1) (
+        refl,
+        opened (open_lines_from (suc (length rest)) rest (omega arith) (ltb-false n (length rest) h.0)),
+      )
+    ]
   where
     n : ℕ
     n = lines_len true rest
@@ -261,7 +327,8 @@ lines_refusal bs word blanks comment end rest whole w b c en before count r e = 
     m = before + (n + (1 + line_end_len (drop (n + 1) rest)))
 
     opened : IsOpenLines rest → OpenString bs
-    opened o = subst OpenString (sym (whole ∙ ap (λ (cs : List ℕ). word ++ (blanks ++ (comment ++ (end ++ cs)))) o.cut)) (open_lines word blanks comment end o.body o.text o.last w b c en o.lines o.clean o.no_dot)
+    opened o = subst OpenString (sym (whole ∙ ap (λ (cs : List ℕ). word ++ (blanks ++ (comment ++ (end ++ cs)))) o.cut))
+        (open_lines word blanks comment end o.body o.text o.last w b c en o.lines o.clean o.no_dot)
 
 text_refusal : (bs : List ℕ) (r : ScanRefusal) → begins_text bs ≡ true → multi_line_at (drop 5 bs) ≡ Err r → Goal bs r
 unfolding multi_line_at
@@ -300,7 +367,9 @@ text_refusal bs r t e = elim (bound_refused (opening_end_at (drop n first)) (λ 
         let lb = blanks_long in
         let lo = opening.long in
         let rest : List ℕ = drop m (drop n first) in
-        lines_refusal bs (take 5 bs) (take n first) opening.comment opening.end rest (whole ∙ ap (λ (cs : List ℕ). take 5 bs ++ (take n first ++ cs)) opening.cut) word_is blanks_are opening.comment_is opening.end_is (5 + (n + m)) (omega arith) r (rw (drop_more n m first) at l)
+        lines_refusal bs (take 5 bs) (take n first) opening.comment opening.end rest (whole
+        ∙ ap (λ (cs : List ℕ). take 5 bs ++ (take n first ++ cs)) opening.cut) word_is blanks_are opening.comment_is
+        opening.end_is (5 + (n + m)) (omega arith) r (rw (drop_more n m first) at l)
 
 -- COMMENTS, AND NOTHING
 
@@ -324,7 +393,8 @@ closes_none true (b ∷ bs) h = elim (cases_Bool (b == 47)) [
 ]
 closes_none false (b ∷ bs) h = closes_from_after b bs (closes_none (b == 42) bs (omega arith))
 
-not_closed : (b c : ℕ) (body : List ℕ) → (b == 35) ≡ false → opens_bracketed (b ∷ c ∷ body) ≡ true → comment_len (b ∷ c ∷ body) ≡ 0 → closes body ≡ false
+not_closed : (b c : ℕ) (body : List ℕ) → (b == 35) ≡ false → opens_bracketed (b ∷ c ∷ body) ≡ true
+    → comment_len (b ∷ c ∷ body) ≡ 0 → closes body ≡ false
 unfolding comment_len
 not_closed b c body h o e = elim (cases_Bool (nat_lt (bracketed_len false body) (length body))) [
   | inl t ↦ (let k = rw (h, o, t) at e in absurd (omega arith))
@@ -334,7 +404,8 @@ not_closed b c body h o e = elim (cases_Bool (nat_lt (bracketed_len false body) 
 hash_no_slash : (b : ℕ) → (b == 47) ≡ true → (b == 35) ≡ false
 hash_no_slash b e = let is : b ≡ 47 = eqb-true b 47 e in rw is refl
 
-comment_refusal : (b : ℕ) (bs : List ℕ) → opens_bracketed (b ∷ bs) ≡ true → comment_len (b ∷ bs) ≡ 0 → (body : List ℕ) × (b ∷ bs ≡ 47 ∷ 42 ∷ body) × (closes body ≡ false)
+comment_refusal : (b : ℕ) (bs : List ℕ) → opens_bracketed (b ∷ bs) ≡ true → comment_len (b ∷ bs) ≡ 0 → (body : List ℕ)
+    × (b ∷ bs ≡ 47 ∷ 42 ∷ body) × (closes body ≡ false)
 comment_refusal b [] o c = absurd (false≢true (and_parts (b == 47) false o).1)
 comment_refusal b (d ∷ body) o c =
     let p = and_parts (b == 47) (d == 42) o in
@@ -365,7 +436,8 @@ slash_alone b bs o is = rw is at o
 
 -- ANY REFUSAL
 
-pub kind_refused : (b : ℕ) (bs : List ℕ) (r : ScanRefusal) → kind_at (b ∷ bs) ≡ Err r → gap_len 0 (b ∷ bs) ≡ 0 → IsFaultHere r (either_place 0 (text_len (b ∷ bs)) r) (b ∷ bs)
+pub kind_refused : (b : ℕ) (bs : List ℕ) (r : ScanRefusal) → kind_at (b ∷ bs) ≡ Err r → gap_len 0 (b ∷ bs) ≡ 0
+    → IsFaultHere r (either_place 0 (text_len (b ∷ bs)) r) (b ∷ bs)
 unfolding kind_at
 kind_refused b bs r e g = elim (went (begins_text (b ∷ bs)) (multi_line_at (drop 5 (b ∷ bs))) _ (Err r) e) [
   | inl h ↦ text_refusal (b ∷ bs) r h.0 h.1
@@ -378,7 +450,10 @@ kind_refused b bs r e g = elim (went (begins_text (b ∷ bs)) (multi_line_at (dr
         | inr h3 ↦ elim (went (b == 34) (quoted_at bs) _ (Err r) h3.1) [
           | inl h4 ↦ quote_refusal b bs r (eqb-true b 34 h4.0) h4.1
           | inr h4 ↦ elim (went (opens_bracketed (b ∷ bs)) (refused_as CommentNotClosed) (mark_kind (mark_of b)) (Err r) h4.1) [
-            | inl h5 ↦ subst (Goal (b ∷ bs)) (same_refusal {A = TokenKind × ℕ} CommentNotClosed r h5.1) (refl, comment_refusal b bs h5.0 (gap_parts b bs g).1)
+            | inl h5 ↦ subst (Goal (b ∷ bs)) (same_refusal {A = TokenKind × ℕ} CommentNotClosed r h5.1) (
+              refl,
+              comment_refusal b bs h5.0 (gap_parts b bs g).1,
+            )
             | inr h5 ↦ (let p = mark_refusal (mark_of b) r h5.1 in subst (Goal (b ∷ bs)) p.1 (rw h.0 (no_beginning b bs (record {
               white = (gap_parts b bs g).0;
               hash = no_hash b bs (gap_parts b bs g).1;

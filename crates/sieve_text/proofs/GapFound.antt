@@ -1,5 +1,6 @@
 -- A gap by the grammar is as long as the gap that is read, if no more of it follows.
-use Rattle.std.proofs.Common.{◌≡◌, ℕ, suc, ◌+◌, ◌-◌, ◌<◌, Bool, true, false, List, [], ◌∷◌, ◌++◌, length, drop, refl, sym, ap, ◌∙◌, arith, inl, inr, length-append, append_assoc}
+use Rattle.std.proofs.Common.{◌≡◌, ℕ, suc, ◌+◌, ◌-◌, ◌<◌, Bool, true, false, List, [], ◌∷◌, ◌++◌, length, drop, refl}
+use Rattle.std.proofs.Common.{sym, ap, ◌∙◌, arith, inl, inr, length-append, append_assoc}
 use Rattle.std.specs.Prelude.{◌==◌, ◌&&◌, ◌||◌}
 use Rattle.std.specs.List.{prefix_len, list_all}
 use Rattle.std.proofs.lemmas.Bool.{true≢false, cases_Bool, eqb-true, lt-ltb, and_parts}
@@ -19,15 +20,19 @@ exactly p (x ∷ xs) ys h n =
     rw t.0 (omega arith)
 
 -- the octets of a comment, and the rest after it
-after_comment : (comment following : List ℕ) → begins is_white (comment ++ following) ≡ false → comment_len (comment ++ following) ≡ length comment → 0 < length comment → gap_len 0 (comment ++ following) ≡ length comment + gap_len 0 following
+after_comment : (comment following : List ℕ) → begins is_white (comment ++ following) ≡ false
+    → comment_len (comment ++ following) ≡ length comment → 0 < length comment
+    → gap_len 0 (comment ++ following) ≡ length comment + gap_len 0 following
 after_comment comment following white long some =
     let l = length-append comment following in
     let g = gap_comment (comment ++ following) white (omega arith) (omega arith) in
-    let d : drop (comment_len (comment ++ following)) (comment ++ following) ≡ following = ap (λ n. drop n (comment ++ following)) long ∙ drop-append_seam comment following in
+    let d : drop (comment_len (comment ++ following)) (comment ++ following) ≡ following =
+    ap (λ n. drop n (comment ++ following)) long ∙ drop-append_seam comment following in
     let e = ap (λ cs. gap_len 0 cs) d in
     omega arith
 
-hash_long : (text following : List ℕ) → list_all not_lf text ≡ true → begins not_lf following ≡ false → comment_len (35 ∷ (text ++ following)) ≡ suc (length text)
+hash_long : (text following : List ℕ) → list_all not_lf text ≡ true → begins not_lf following ≡ false
+    → comment_len (35 ∷ (text ++ following)) ≡ suc (length text)
 unfolding comment_len
 hash_long text following all stops = let e = exactly not_lf text following all stops in omega arith
 
@@ -48,7 +53,8 @@ closes_after b bs h = elim (cases_Bool (b == 42)) [
   | inr e ↦ rw e (closes_rest b bs h)
 ]
 
-bracketed_found : (after_star : Bool) (text following : List ℕ) → closes (before after_star (text ++ 42 ∷ [])) ≡ false → bracketed_len after_star (text ++ 42 ∷ 47 ∷ following) ≡ suc (length text)
+bracketed_found : (after_star : Bool) (text following : List ℕ) → closes (before after_star (text ++ 42 ∷ [])) ≡ false
+    → bracketed_len after_star (text ++ 42 ∷ 47 ∷ following) ≡ suc (length text)
 unfolding bracketed_len
 bracketed_found true [] following h = refl
 bracketed_found false [] following h = refl
@@ -58,7 +64,8 @@ bracketed_found true (b ∷ text) following h = elim (cases_Bool (b == 47)) [
 ]
 bracketed_found false (b ∷ text) following h = ap suc (bracketed_found (b == 42) text following (closes_after b (text ++ 42 ∷ []) h))
 
-bracketed_long : (text following : List ℕ) → closes (text ++ 42 ∷ []) ≡ false → comment_len (47 ∷ 42 ∷ (text ++ 42 ∷ 47 ∷ following)) ≡ length text + 4
+bracketed_long : (text following : List ℕ) → closes (text ++ 42 ∷ []) ≡ false
+    → comment_len (47 ∷ 42 ∷ (text ++ 42 ∷ 47 ∷ following)) ≡ length text + 4
 unfolding comment_len
 bracketed_long text following h =
     let n = bracketed_found false text following h in
@@ -78,10 +85,13 @@ gap_found _ _ (gap_hash text bs following all stops g) h =
 gap_found _ _ (gap_bracketed text bs following c g) h =
     let comment : List ℕ = 47 ∷ 42 ∷ (text ++ 42 ∷ 47 ∷ []) in
     let r = gap_found bs following g h in
-    let joined : text ++ (42 ∷ 47 ∷ (bs ++ following)) ≡ (text ++ 42 ∷ 47 ∷ []) ++ (bs ++ following) = sym (append_assoc text (42 ∷ 47 ∷ []) (bs ++ following)) in
-    let long : comment_len (comment ++ (bs ++ following)) ≡ length comment = ap (λ cs. comment_len (47 ∷ 42 ∷ cs)) (sym joined) ∙ bracketed_long text (bs ++ following) c ∙ four text in
+    let joined : text ++ (42 ∷ 47 ∷ (bs ++ following)) ≡ (text ++ 42 ∷ 47 ∷ [])
+    ++ (bs ++ following) = sym (append_assoc text (42 ∷ 47 ∷ []) (bs ++ following)) in
+    let long : comment_len (comment ++ (bs ++ following)) ≡ length comment =
+    ap (λ cs. comment_len (47 ∷ 42 ∷ cs)) (sym joined) ∙ bracketed_long text (bs ++ following) c ∙ four text in
     let a = after_comment comment (bs ++ following) refl long (omega arith) in
-    let w : gap_len 0 ((47 ∷ 42 ∷ (text ++ 42 ∷ 47 ∷ bs)) ++ following) ≡ gap_len 0 (comment ++ (bs ++ following)) = ap (λ cs. gap_len 0 (47 ∷ 42 ∷ cs)) (append_assoc text (42 ∷ 47 ∷ bs) following ∙ joined) in
+    let w : gap_len 0 ((47 ∷ 42 ∷ (text ++ 42 ∷ 47 ∷ bs)) ++ following) ≡ gap_len 0 (comment ++ (bs ++ following)) =
+    ap (λ cs. gap_len 0 (47 ∷ 42 ∷ cs)) (append_assoc text (42 ∷ 47 ∷ bs) following ∙ joined) in
     let l = length-append text (42 ∷ 47 ∷ bs) in
     let m = length-append text (42 ∷ 47 ∷ []) in
     omega arith

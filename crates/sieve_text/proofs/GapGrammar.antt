@@ -1,5 +1,6 @@
 -- What comes between tokens is a gap.
-use Rattle.std.proofs.Common.{◌≡◌, ℕ, zero, suc, ◌+◌, ◌<◌, Bool, true, false, List, [], ◌∷◌, ◌++◌, length, take, drop, nat_lt, refl, sym, ap, subst, ◌∙◌, arith, inl, inr, length-append, append_assoc}
+use Rattle.std.proofs.Common.{◌≡◌, ℕ, zero, suc, ◌+◌, ◌<◌, Bool, true, false, List, [], ◌∷◌, ◌++◌, length, take, drop}
+use Rattle.std.proofs.Common.{nat_lt, refl, sym, ap, subst, ◌∙◌, arith, inl, inr, length-append, append_assoc}
 use Rattle.std.specs.Prelude.{◌==◌}
 use Rattle.std.specs.List.{prefix_len, list_all}
 use Rattle.std.proofs.lemmas.Bool.{false≢true, cases_Bool, cases_lt, eqb-true, ltb-true, and_parts}
@@ -39,12 +40,15 @@ closes_from_after b bs h = elim (cases_Bool (b == 42)) [
 ]
 
 -- no "*/" comes before the one that closes a comment
-bracketed_closes : (after_star : Bool) (bs : List ℕ) → bracketed_len after_star bs < length bs → closes (before after_star (take (bracketed_len after_star bs) bs)) ≡ false
+bracketed_closes : (after_star : Bool) (bs : List ℕ) → bracketed_len after_star bs < length bs
+    → closes (before after_star (take (bracketed_len after_star bs) bs)) ≡ false
 unfolding bracketed_len
 bracketed_closes after_star [] h = absurd (omega arith)
 bracketed_closes true (b ∷ bs) h = elim (cases_Bool (b == 47)) [
   | inl e ↦ rw e refl
-  | inr e ↦ (let r = rw e at h in let c = closes_from_after b (take (bracketed_len (b == 42) bs) bs) (bracketed_closes (b == 42) bs (omega arith)) in rw (e, e) c)
+  | inr e ↦ (let r = rw e at h in let c =
+      closes_from_after b (take (bracketed_len (b == 42) bs) bs) (bracketed_closes (b == 42) bs (omega arith)) in
+      rw (e, e) c)
 ]
 bracketed_closes false (b ∷ bs) h = closes_from_after b (take (bracketed_len (b == 42) bs) bs) (bracketed_closes (b == 42) bs (omega arith))
 
@@ -63,7 +67,8 @@ starred_after after_star b bs h = go after_star (elim (cases_Bool (b == 42)) [
     go true t = (42 ∷ t.0, ap (λ cs. 42 ∷ cs) t.1)
     go false t = t
 
-bracketed_starred : (after_star : Bool) (bs : List ℕ) → bracketed_len after_star bs < length bs → Starred after_star (take (bracketed_len after_star bs) bs)
+bracketed_starred : (after_star : Bool) (bs : List ℕ) → bracketed_len after_star bs < length bs
+    → Starred after_star (take (bracketed_len after_star bs) bs)
 unfolding Starred bracketed_len
 bracketed_starred after_star [] h = absurd (omega arith)
 bracketed_starred true (b ∷ bs) h = elim (cases_Bool (b == 47)) [
@@ -72,7 +77,8 @@ bracketed_starred true (b ∷ bs) h = elim (cases_Bool (b == 47)) [
 ]
 bracketed_starred false (b ∷ bs) h = starred_after false b (take (bracketed_len (b == 42) bs) bs) (bracketed_starred (b == 42) bs (omega arith))
 
-bracketed_slash : (after_star : Bool) (bs : List ℕ) → bracketed_len after_star bs < length bs → drop (bracketed_len after_star bs) bs ≡ 47 ∷ drop (suc (bracketed_len after_star bs)) bs
+bracketed_slash : (after_star : Bool) (bs : List ℕ) → bracketed_len after_star bs < length bs
+    → drop (bracketed_len after_star bs) bs ≡ 47 ∷ drop (suc (bracketed_len after_star bs)) bs
 unfolding bracketed_len
 bracketed_slash after_star [] h = absurd (omega arith)
 bracketed_slash true (b ∷ bs) h = elim (cases_Bool (b == 47)) [
@@ -110,7 +116,8 @@ bracketed_at body h c =
     let starred = bracketed_starred false body h in
     let text : List ℕ = starred.0 in
     let slash = bracketed_slash false body h in
-    let whole : body ≡ text ++ (42 ∷ 47 ∷ drop (suc n) body) = sym (take-append-drop n body) ∙ joined (take n body) (drop n body) text (drop (suc n) body) starred.1 slash in
+    let whole : body ≡ text ++ (42 ∷ 47 ∷ drop (suc n) body) = sym (take-append-drop n body)
+    ∙ joined (take n body) (drop n body) text (drop (suc n) body) starred.1 slash in
     let closes_not : closes (text ++ 42 ∷ []) ≡ false = rw starred.1 at (bracketed_closes false body h) in
     let t = length-take-le n body (omega arith) in
     let l = ap length starred.1 in
@@ -167,7 +174,15 @@ dropped bs front back e n l = rw (e, ← l) (drop-append_seam front back)
 
 gap_from : (turns : ℕ) (bs : List ℕ) → length bs < turns → IsGap bs
 gap_from zero bs enough = absurd (omega arith)
-gap_from (suc turns) [] enough = record { gap = []; rest = []; cut = refl; long = sym (gap_nothing [] refl); gap_is = gap_end []; stops = gap_nothing [] refl }
+gap_from (suc turns) [] enough = record {
+  gap = [];
+  rest = [];
+  cut = refl;
+  long = sym (gap_nothing [] refl);
+  gap_is =
+      gap_end [];
+  stops = gap_nothing [] refl;
+}
 gap_from (suc turns) (b ∷ bs) enough = elim (cases_Bool (is_white b)) [
   | inl w ↦ (let r = gap_from turns bs (omega arith) in record {
     gap = b ∷ r.gap;
@@ -194,7 +209,15 @@ gap_from (suc turns) (b ∷ bs) enough = elim (cases_Bool (is_white b)) [
           gap_is = k.joins r.gap r.rest r.cut r.gap_is;
           stops = r.stops;
         })
-    | inr none ↦ record { gap = []; rest = b ∷ bs; cut = refl; long = sym (gap_none (b ∷ bs) w (omega arith)); gap_is = gap_end (b ∷ bs); stops = gap_none (b ∷ bs) w (omega arith) }
+    | inr none ↦ record {
+      gap = [];
+      rest = b ∷ bs;
+      cut = refl;
+      long = sym (gap_none (b ∷ bs) w (omega arith));
+      gap_is =
+          gap_end (b ∷ bs);
+      stops = gap_none (b ∷ bs) w (omega arith);
+    }
   ]
 ]
 

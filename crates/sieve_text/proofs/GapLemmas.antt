@@ -40,7 +40,8 @@ unfolding gap_len
 gap_none [] h e = refl
 gap_none (b ∷ bs) h e = rw (h, e) refl
 
-opened : (b : ℕ) (bs : List ℕ) → is_white b ≡ false → nat_lt 0 (comment_len (b ∷ bs)) ≡ true → gap_len 0 (b ∷ bs) ≡ suc (gap_len (comment_len (b ∷ bs) - 1) bs)
+opened : (b : ℕ) (bs : List ℕ) → is_white b ≡ false → nat_lt 0 (comment_len (b ∷ bs)) ≡ true
+    → gap_len 0 (b ∷ bs) ≡ suc (gap_len (comment_len (b ∷ bs) - 1) bs)
 unfolding gap_len
 opened b bs h t = rw (h, t) refl
 
@@ -57,7 +58,8 @@ unfolding comment_len
 no_comment h = omega arith
 
 -- a comment
-pub gap_comment : (bs : List ℕ) → begins is_white bs ≡ false → 0 < comment_len bs → comment_len bs ≤ length bs → gap_len 0 bs ≡ comment_len bs + gap_len 0 (drop (comment_len bs) bs)
+pub gap_comment : (bs : List ℕ) → begins is_white bs ≡ false → 0 < comment_len bs → comment_len bs ≤ length bs
+    → gap_len 0 bs ≡ comment_len bs + gap_len 0 (drop (comment_len bs) bs)
 gap_comment [] h some within = absurd (no_comment some)
 gap_comment (b ∷ bs) h some within =
     let t = lt-ltb 0 (comment_len (b ∷ bs)) some in
@@ -74,7 +76,9 @@ gap_last bs white w c =
     omega arith
 
 -- white space and a comment at the front of a gap
-pub gap_piece : (bs : List ℕ) (white comment : ℕ) → white ≡ prefix_len is_white bs → comment ≡ comment_len (drop white bs) → 0 < comment → comment ≤ length (drop white bs) → gap_len 0 bs ≡ (white + comment) + gap_len 0 (drop (white + comment) bs)
+pub gap_piece : (bs : List ℕ) (white comment : ℕ) → white ≡ prefix_len is_white bs
+    → comment ≡ comment_len (drop white bs) → 0 < comment → comment ≤ length (drop white bs)
+    → gap_len 0 bs ≡ (white + comment) + gap_len 0 (drop (white + comment) bs)
 gap_piece bs white comment w c some within =
     let g = rw (← w) at (gap_white bs) in
     let h = rw (← w) at (white_ends bs) in

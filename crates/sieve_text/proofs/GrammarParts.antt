@@ -3,7 +3,8 @@ use Rattle.std.proofs.Common.{◌≡◌, ℕ, ◌⊎◌, Bool, true, false, List
 use Rattle.std.specs.Prelude.{if◌then◌else◌, ◌==◌, ◌||◌}
 use Rattle.std.proofs.lemmas.Bool.{cases_Bool, eqb-true, or_cases}
 use Rattle.sieve_syntax.specs.declared.token.Mark.{Mark}
-use Rattle.sieve_syntax.specs.declared.token.Mark.TheVariants.{Semicolon, OpenBrace, CloseBrace, OpenParen, CloseParen, OpenBracket, CloseBracket, Comma}
+use Rattle.sieve_syntax.specs.declared.token.Mark.TheVariants.{Semicolon, OpenBrace, CloseBrace, OpenParen, CloseParen}
+use Rattle.sieve_syntax.specs.declared.token.Mark.TheVariants.{OpenBracket, CloseBracket, Comma}
 use Rattle.sieve_text.specs.Tokens.{mark_of, factor_at}
 use Rattle.sieve_text.specs.TokenGrammar.{Quantifier, no_quantifier, kilo, mega, giga, octet_of}
 
@@ -17,7 +18,8 @@ chosen : (t : Bool) (x y : Option Mark) (m : Mark) → (if t then x else y) ≡ 
 chosen true x y m e = inl (refl, e)
 chosen false x y m e = inr (refl, e)
 
-or_octet : (n : Mark) (b : ℕ) (m : Mark) (more : Option Mark) → (more ≡ Some m → b ≡ octet_of m) → (if b == octet_of n then Some n else more) ≡ Some m → b ≡ octet_of m
+or_octet : (n : Mark) (b : ℕ) (m : Mark) (more : Option Mark) → (more ≡ Some m → b ≡ octet_of m)
+    → (if b == octet_of n then Some n else more) ≡ Some m → b ≡ octet_of m
 or_octet n b m more other e = elim (chosen (b == octet_of n) (Some n) more m e) [
   | inl h ↦ eqb-true b (octet_of n) h.0 ∙ ap octet_of (same_mark n m h.1)
   | inr h ↦ other h.1

@@ -5,7 +5,8 @@ use Rattle.std.proofs.lemmas.Bool.{true≢false}
 use Rattle.sieve_syntax.specs.declared.token.TokenKind.TheVariants as kinds
 use Rattle.sieve_text.specs.declared.fault.ScanRefusal.TheVariants.{NoToken, StringNotClosed, CommentNotClosed}
 use Rattle.sieve_text.specs.Strings.{with_crlf}
-use Rattle.sieve_text.specs.TokenGrammar.{kilo, quoted_end, quoted_plain, quoted_pair, IsLineEnd, no_lines, line, Lexeme, IsApart, Gap, gap_end, gap_white, gap_hash, gap_bracketed}
+use Rattle.sieve_text.specs.TokenGrammar.{kilo, quoted_end, quoted_plain, quoted_pair, IsLineEnd, no_lines, line}
+use Rattle.sieve_text.specs.TokenGrammar.{Lexeme, IsApart, Gap, gap_end, gap_white, gap_hash, gap_bracketed}
 use Rattle.sieve_text.specs.FaultGrammar.{no_opening, open_escape, open_opening, IsFaultHere}
 
 first_is : (a b : ℕ) (xs ys : List ℕ) → a ∷ xs ≡ b ∷ ys → a ≡ b
@@ -38,12 +39,30 @@ slash = (refl, (codes "/", refl, refl))
 
 -- a quantifier multiplies
 ten_kilo : Lexeme (kinds.Number 10240) (codes "10K") (codes "x")
-ten_kilo = record { digits = codes "10"; quantifier = codes "K"; factor = 1024; cut = refl; some = omega arith; all = refl; counts = kilo 75 (inl refl); says = refl }
+ten_kilo = record {
+  digits = codes "10";
+  quantifier = codes "K";
+  factor = 1024;
+  cut = refl;
+  some = omega arith;
+  all =
+      refl;
+  counts = kilo 75 (inl refl);
+  says = refl;
+}
 
 -- a quoted string with a quotation mark, and with a line end that is read as CR LF
 quoted : Lexeme (kinds.StringValue (codes "\"" ++ 13 ∷ 10 ∷ [])) (codes "\"\\\"" ++ 10 ∷ codes "\"") []
 unfolding with_crlf
-quoted = inl (record { body = codes "\\\"" ++ 10 ∷ []; text = codes "\"" ++ 10 ∷ []; cut = refl; spells = quoted_pair 34 (10 ∷ []) (10 ∷ []) (quoted_plain 10 [] [] (λ e. omega arith) (λ e. omega arith) quoted_end); says = refl })
+quoted = inl (record {
+  body = codes "\\\"" ++ 10 ∷ [];
+  text = codes "\"" ++ 10 ∷ [];
+  cut = refl;
+  spells =
+      quoted_pair 34 (10 ∷ []) (10 ∷ []) (quoted_plain 10 [] [] (λ e. omega arith) (λ e. omega arith) quoted_end);
+  says =
+      refl;
+})
 
 -- a leading dot is dropped if another one follows, and a single dot ends the lines
 dotted : Lexeme (kinds.StringValue (codes ".a" ++ 13 ∷ 10 ∷ [])) (codes "text:" ++ 10 ∷ (codes "..a" ++ 10 ∷ codes ".")) []
@@ -68,4 +87,6 @@ dotted = inr (record {
 
 -- comments do not nest
 comments : Gap (codes "/* /* */ # x" ++ 10 ∷ []) (codes "keep")
-comments = gap_bracketed (codes " /* ") (codes " # x" ++ 10 ∷ []) (codes "keep") refl (gap_white 32 (codes "# x" ++ 10 ∷ []) (codes "keep") refl (gap_hash (codes " x") (10 ∷ []) (codes "keep") refl refl (gap_white 10 [] (codes "keep") refl (gap_end (codes "keep")))))
+comments = gap_bracketed (codes " /* ") (codes " # x" ++ 10 ∷ []) (codes "keep") refl (gap_white 32 (codes "# x"
+    ++ 10 ∷ []) (codes "keep") refl (gap_hash (codes " x") (10 ∷ []) (codes "keep") refl refl
+    (gap_white 10 [] (codes "keep") refl (gap_end (codes "keep")))))

@@ -1,5 +1,7 @@
 -- What is read is a token by the grammar.
-use Rattle.std.proofs.Common.{◌≡◌, ℕ, zero, suc, ◌+◌, ◌*◌, ◌<◌, ◌≤◌, ◌⊎◌, Bool, true, false, List, [], ◌∷◌, ◌++◌, length, map, take, drop, nat_lt, Ok, Err, refl, sym, ap, subst, ◌∙◌, arith, inl, inr, length-append, append_assoc}
+use Rattle.std.proofs.Common.{◌≡◌, ℕ, zero, suc, ◌+◌, ◌*◌, ◌<◌, ◌≤◌, ◌⊎◌, Bool, true, false, List, [], ◌∷◌, ◌++◌}
+use Rattle.std.proofs.Common.{length, map, take, drop, nat_lt, Ok, Err, refl, sym, ap, subst, ◌∙◌, arith, inl, inr}
+use Rattle.std.proofs.Common.{length-append, append_assoc}
 use Rattle.std.specs.Prelude.{if◌then◌else◌, ◌==◌, ◌&&◌, ◌||◌, codes}
 use Rattle.std.specs.List.{prefix_len, list_all}
 use Rattle.std.specs.Char.{is_ascii_digit, to_ascii_lowercase}
@@ -12,13 +14,18 @@ use Rattle.sieve_syntax.specs.declared.token.TokenKind.{TokenKind}
 use Rattle.sieve_syntax.specs.declared.token.TokenKind.TheVariants as kinds
 use Rattle.sieve_text.specs.declared.fault.ScanRefusal.TheVariants.{NoToken, StringNotClosed}
 use Rattle.sieve_text.specs.Octets.{is_blank, is_start, is_word, not_lf, begins, begins_with, line_end_len}
-use Rattle.sieve_text.specs.Strings.{quoted_len, without_escapes, quoted_value, begins_as, begins_text, opening_end_at, is_last_line, lines_len, without_stuffing, lines_value}
+use Rattle.sieve_text.specs.Strings.{quoted_len, without_escapes, quoted_value, begins_as, begins_text, opening_end_at}
+use Rattle.sieve_text.specs.Strings.{is_last_line, lines_len, without_stuffing, lines_value}
 use Rattle.sieve_text.specs.Tokens.{mark_of, lines_at, multi_line_at, factor_at, kind_at}
-use Rattle.sieve_text.specs.TokenGrammar.{IsName, QuotedText, quoted_end, quoted_plain, quoted_pair, IsLineEnd, is_dot, without_dot, Lines, no_lines, line, IsTextColon, IsHashComment, IsQuoted, IsMultiLine, Lexeme, IsWithinLimits}
+use Rattle.sieve_text.specs.TokenGrammar.{IsName, QuotedText, quoted_end, quoted_plain, quoted_pair, IsLineEnd, is_dot}
+use Rattle.sieve_text.specs.TokenGrammar.{without_dot, Lines, no_lines, line, IsTextColon, IsHashComment, IsQuoted}
+use Rattle.sieve_text.specs.TokenGrammar.{IsMultiLine, Lexeme, IsWithinLimits}
 use Rattle.sieve_text.proofs.GapLemmas.{drop_more}
 use Rattle.sieve_text.proofs.GrammarParts.{mark_octet, quantifier_taken}
 use Rattle.sieve_text.proofs.GapGrammar.{prefix_passes}
-use Rattle.sieve_text.proofs.KindLemmas.{tested, same_kind, no_kind, quoted_parts, lines_parts, multi_line_parts, tag_parts, number_parts, mark_parts, branch, lines, name, digits, colon, quote, one}
+use Rattle.sieve_text.proofs.KindLemmas.{tested, same_kind, no_kind, quoted_parts, lines_parts, multi_line_parts}
+use Rattle.sieve_text.proofs.KindLemmas.{tag_parts, number_parts, mark_parts, branch, lines, name, digits, colon, quote}
+use Rattle.sieve_text.proofs.KindLemmas.{one}
 use Rattle.sieve_text.proofs.WithinLemmas.{line_end_within, factor_within, one_more, nothing_here, text_within}
 
 -- a token that begins here, and the rest after it
@@ -54,7 +61,8 @@ name_sound bs h = record {
   limited = tt;
 }
 
-tag_sound : (b : ℕ) (bs : List ℕ) → b ≡ 58 → begins is_start bs ≡ true → IsSpelled (b ∷ bs) (kinds.Tag (take (prefix_len is_word bs) bs), suc (prefix_len is_word bs))
+tag_sound : (b : ℕ) (bs : List ℕ) → b ≡ 58 → begins is_start bs ≡ true
+    → IsSpelled (b ∷ bs) (kinds.Tag (take (prefix_len is_word bs) bs), suc (prefix_len is_word bs))
 tag_sound b bs e h = record {
   octets = b ∷ take (prefix_len is_word bs) bs;
   following = drop (prefix_len is_word bs) bs;
@@ -65,7 +73,14 @@ tag_sound b bs e h = record {
 }
 
 -- numbers
-number_sound : (bs : List ℕ) → 0 < prefix_len is_ascii_digit bs → digits_value 10 (take (prefix_len is_ascii_digit bs) bs) * (factor_at (drop (prefix_len is_ascii_digit bs) bs)).0 ≤ 9223372036854775807 → IsSpelled bs (kinds.Number (digits_value 10 (take (prefix_len is_ascii_digit bs) bs) * (factor_at (drop (prefix_len is_ascii_digit bs) bs)).0), prefix_len is_ascii_digit bs + (factor_at (drop (prefix_len is_ascii_digit bs) bs)).1)
+number_sound : (bs : List ℕ) → 0 < prefix_len is_ascii_digit bs
+    → digits_value 10 (take (prefix_len is_ascii_digit bs) bs) * (factor_at (drop (prefix_len is_ascii_digit bs) bs)).0
+    ≤ 9223372036854775807
+    → IsSpelled bs (
+      kinds.Number (digits_value 10 (take (prefix_len is_ascii_digit bs) bs) *
+          (factor_at (drop (prefix_len is_ascii_digit bs) bs)).0),
+      prefix_len is_ascii_digit bs + (factor_at (drop (prefix_len is_ascii_digit bs) bs)).1,
+    )
 number_sound bs some small =
     let n : ℕ = prefix_len is_ascii_digit bs in
     let rest : List ℕ = drop n bs in
@@ -91,7 +106,9 @@ number_sound bs some small =
     }
 
 -- quoted strings
-quoted_text : (bs : List ℕ) → quoted_len false bs < length bs → QuotedText (take (quoted_len false bs) bs) (without_escapes false (take (quoted_len false bs) bs)) × (drop (quoted_len false bs) bs ≡ 34 ∷ drop (suc (quoted_len false bs)) bs)
+quoted_text : (bs : List ℕ) → quoted_len false bs < length bs
+    → QuotedText (take (quoted_len false bs) bs) (without_escapes false (take (quoted_len false bs) bs))
+    × (drop (quoted_len false bs) bs ≡ 34 ∷ drop (suc (quoted_len false bs)) bs)
 unfolding quoted_len without_escapes
 quoted_text [] h = absurd (omega arith)
 quoted_text (b ∷ []) h = elim (cases_Bool (b == 34)) [
@@ -107,11 +124,20 @@ quoted_text (b ∷ c ∷ bs) h = elim (cases_Bool (b == 34)) [
     | inl f ↦ (
         let s = rw f at r in
         let t = quoted_text bs (omega arith) in
-        rw (e, f) (rw (eqb-true b 92 f) (quoted_pair c (take (quoted_len false bs) bs) (without_escapes false (take (quoted_len false bs) bs)) t.0), t.1))
+        rw (e, f) (
+          rw (eqb-true b 92 f)
+              (quoted_pair c (take (quoted_len false bs) bs) (without_escapes false (take (quoted_len false bs) bs)) t.0),
+          t.1,
+        ))
     | inr f ↦ (
         let s = rw f at r in
         let t = quoted_text (c ∷ bs) (omega arith) in
-        rw (e, f) (quoted_plain b (take (quoted_len false (c ∷ bs)) (c ∷ bs)) (without_escapes false (take (quoted_len false (c ∷ bs)) (c ∷ bs))) (eqb-false b 34 e) (eqb-false b 92 f) t.0, t.1))
+        rw (e, f) (
+          quoted_plain b (take (quoted_len false (c ∷ bs)) (c ∷ bs))
+              (without_escapes false (take (quoted_len false (c ∷ bs)) (c ∷ bs))) (eqb-false b 34 e) (eqb-false b 92 f)
+              t.0,
+          t.1,
+        ))
   ])
 ]
 
@@ -124,13 +150,22 @@ pub record IsString (bs value : List ℕ) (n : ℕ) : Type 0 where
   pub spelled : IsQuoted value octets ⊎ IsMultiLine value octets following
 
 string_spelled : (bs value : List ℕ) (n : ℕ) → IsString bs value n → length value ≤ 65535 → IsSpelled bs (kinds.StringValue value, n)
-string_spelled bs value n s small = record { octets = s.octets; following = s.following; cut = s.cut; long = s.long; spelled = s.spelled; limited = small }
+string_spelled bs value n s small = record {
+  octets = s.octets;
+  following = s.following;
+  cut = s.cut;
+  long = s.long;
+  spelled = s.spelled;
+  limited = small;
+}
 
-pub quoted_cut : (b : ℕ) (bs : List ℕ) → b ≡ 34 → quoted_len false bs < length bs → IsString (b ∷ bs) (quoted_value (take (quoted_len false bs) bs)) (quoted_len false bs + 2)
+pub quoted_cut : (b : ℕ) (bs : List ℕ) → b ≡ 34 → quoted_len false bs < length bs
+    → IsString (b ∷ bs) (quoted_value (take (quoted_len false bs) bs)) (quoted_len false bs + 2)
 quoted_cut b bs e h =
     let n : ℕ = quoted_len false bs in
     let t = quoted_text bs h in
-    let whole : bs ≡ (take n bs ++ 34 ∷ []) ++ drop (suc n) bs = sym (take-append-drop n bs) ∙ ap (λ cs. take n bs ++ cs) t.1 ∙ sym (append_assoc (take n bs) (34 ∷ []) (drop (suc n) bs)) in
+    let whole : bs ≡ (take n bs ++ 34 ∷ []) ++ drop (suc n) bs = sym (take-append-drop n bs)
+    ∙ ap (λ cs. take n bs ++ cs) t.1 ∙ sym (append_assoc (take n bs) (34 ∷ []) (drop (suc n) bs)) in
     let l = length-take-le n bs (omega arith) in
     record {
       octets = b ∷ (take n bs ++ 34 ∷ []);
@@ -147,7 +182,8 @@ quoted_cut b bs e h =
     }
 
 -- multi-line strings: the lines, each with its LF
-pub line_rest : (bs : List ℕ) → prefix_len not_lf bs < length bs → lines_len false bs ≡ suc (prefix_len not_lf bs) + lines_len true (drop (suc (prefix_len not_lf bs)) bs)
+pub line_rest : (bs : List ℕ) → prefix_len not_lf bs < length bs
+    → lines_len false bs ≡ suc (prefix_len not_lf bs) + lines_len true (drop (suc (prefix_len not_lf bs)) bs)
 unfolding lines_len
 line_rest [] h = absurd (omega arith)
 line_rest (b ∷ bs) h = elim (cases_Bool (b == 10)) [
@@ -187,7 +223,8 @@ last_line true (b ∷ bs) h = elim (cases_Bool (is_last_line (b ∷ bs))) [
 last_line false (b ∷ bs) h = last_line (b == 10) bs (omega arith)
 
 -- the content of a line
-inside : (content rest : List ℕ) → list_all not_lf content ≡ true → without_stuffing false (content ++ 10 ∷ rest) ≡ content ++ 10 ∷ without_stuffing true rest
+inside : (content rest : List ℕ) → list_all not_lf content ≡ true
+    → without_stuffing false (content ++ 10 ∷ rest) ≡ content ++ 10 ∷ without_stuffing true rest
 unfolding without_stuffing
 inside [] rest h = refl
 inside (b ∷ content) rest h =
@@ -198,7 +235,8 @@ begins_line : (content rest : List ℕ) → begins_with 46 (content ++ 10 ∷ re
 begins_line [] rest = refl
 begins_line (b ∷ content) rest = refl
 
-pub line_says : (content rest : List ℕ) → list_all not_lf content ≡ true → without_stuffing true (content ++ 10 ∷ rest) ≡ without_dot content ++ 10 ∷ without_stuffing true rest
+pub line_says : (content rest : List ℕ) → list_all not_lf content ≡ true
+    → without_stuffing true (content ++ 10 ∷ rest) ≡ without_dot content ++ 10 ∷ without_stuffing true rest
 unfolding without_stuffing
 line_says [] rest h = refl
 line_says (b ∷ content) rest h =
@@ -261,7 +299,8 @@ no_lines_say : (bs : List ℕ) (n : ℕ) → n ≡ 0 → Lines (take n bs) (with
 unfolding without_stuffing
 no_lines_say bs n e = rw e no_lines
 
-lines_from : (turns : ℕ) (bs : List ℕ) → length bs < turns → lines_len true bs < length bs → Lines (take (lines_len true bs) bs) (without_stuffing true (take (lines_len true bs) bs))
+lines_from : (turns : ℕ) (bs : List ℕ) → length bs < turns → lines_len true bs < length bs
+    → Lines (take (lines_len true bs) bs) (without_stuffing true (take (lines_len true bs) bs))
 lines_from zero bs enough h = absurd (omega arith)
 lines_from (suc turns) bs enough h = elim (cases_Bool (is_last_line bs)) [
   | inl e ↦ no_lines_say bs (lines_len true bs) (last_here bs e)
@@ -276,10 +315,13 @@ lines_from (suc turns) bs enough h = elim (cases_Bool (is_last_line bs)) [
         let all = prefix_passes not_lf bs in
         let n : lines_len true bs ≡ suc m + lines_len true rest = no_last bs e ∙ line_rest bs some in
         let d = length-drop (suc m) bs in
-        let t : take (lines_len true bs) bs ≡ content ++ 10 ∷ take (lines_len true rest) rest = ap (λ k. take k bs) n ∙ taken_line bs content rest m (lines_len true rest) whole l in
+        let t : take (lines_len true bs) bs ≡ content ++ 10 ∷ take (lines_len true rest) rest = ap (λ k. take k bs) n
+        ∙ taken_line bs content rest m (lines_len true rest) whole l in
         let dot : is_dot content ≡ false = sym (dot_line content rest all) ∙ sym (ap is_last_line whole) ∙ e in
         let r = lines_from turns rest (omega arith) (omega arith) in
-        rw (t, line_says content (take (lines_len true rest) rest) all) (line content (take (lines_len true rest) rest) (without_stuffing true (take (lines_len true rest) rest)) all dot r))
+        rw (t, line_says content (take (lines_len true rest) rest) all)
+        (line content (take (lines_len true rest) rest) (without_stuffing true (take (lines_len true rest) rest))
+        all dot r))
   ]
 ]
 
@@ -367,16 +409,19 @@ bare_opening bs some = record {
 pub opening_sound : (bs : List ℕ) (n : ℕ) → opening_end_at bs ≡ Ok n → IsOpening bs n
 opening_sound bs n e = elim (tested (length bs == 0) (Err StringNotClosed) _ n e) [
   | inl h ↦ absurd (no_kind StringNotClosed n h.1)
-  | inr h ↦ elim (tested (begins_with 35 bs) (if nat_lt (prefix_len not_lf bs) (length bs) then Ok (suc (prefix_len not_lf bs)) else Err StringNotClosed) _ n h.1) [
-    | inl h1 ↦ elim (tested (nat_lt (prefix_len not_lf bs) (length bs)) (Ok (suc (prefix_len not_lf bs))) (Err StringNotClosed) n h1.1) [
-      | inl h2 ↦ subst (IsOpening bs) (same_kind (suc (prefix_len not_lf bs)) n h2.1) (hash_opening bs h1.0 (ltb-true (prefix_len not_lf bs) (length bs) h2.0))
-      | inr h2 ↦ absurd (no_kind StringNotClosed n h2.1)
-    ]
-    | inr h1 ↦ elim (tested (nat_lt 0 (line_end_len bs)) (Ok (line_end_len bs)) (Err NoToken) n h1.1) [
-      | inl h2 ↦ subst (IsOpening bs) (same_kind (line_end_len bs) n h2.1) (bare_opening bs (ltb-true 0 (line_end_len bs) h2.0))
-      | inr h2 ↦ absurd (no_kind NoToken n h2.1)
-    ]
-  ]
+  | inr h ↦ elim
+      (tested (begins_with 35 bs) (if nat_lt (prefix_len not_lf bs) (length bs) then Ok (suc (prefix_len not_lf bs))
+      else Err StringNotClosed) _ n h.1) [
+        | inl h1 ↦ elim (tested (nat_lt (prefix_len not_lf bs) (length bs)) (Ok (suc (prefix_len not_lf bs))) (Err StringNotClosed) n h1.1) [
+          | inl h2 ↦ subst (IsOpening bs) (same_kind (suc (prefix_len not_lf bs)) n h2.1)
+              (hash_opening bs h1.0 (ltb-true (prefix_len not_lf bs) (length bs) h2.0))
+          | inr h2 ↦ absurd (no_kind StringNotClosed n h2.1)
+        ]
+        | inr h1 ↦ elim (tested (nat_lt 0 (line_end_len bs)) (Ok (line_end_len bs)) (Err NoToken) n h1.1) [
+          | inl h2 ↦ subst (IsOpening bs) (same_kind (line_end_len bs) n h2.1) (bare_opening bs (ltb-true 0 (line_end_len bs) h2.0))
+          | inr h2 ↦ absurd (no_kind NoToken n h2.1)
+        ]
+      ]
 ]
 
 -- "text:"
@@ -390,10 +435,16 @@ word_taken (x ∷ xs) (b ∷ bs) h =
     both : (b x : ℕ) (bs xs : List ℕ) → b ≡ x → bs ≡ xs → b ∷ bs ≡ x ∷ xs
     both b x bs xs e f = rw (e, f) refl
 
-joined : (bs word blanks comment end body last following rest more : List ℕ) → bs ≡ word ++ (blanks ++ (comment ++ (end ++ rest))) → rest ≡ body ++ 46 ∷ more → more ≡ last ++ following → bs ≡ (word ++ (blanks ++ (comment ++ (end ++ (body ++ 46 ∷ last))))) ++ following
+joined : (bs word blanks comment end body last following rest more : List ℕ) → bs ≡ word
+    ++ (blanks ++ (comment ++ (end ++ rest))) → rest ≡ body ++ 46 ∷ more → more ≡ last ++ following
+    → bs ≡ (word ++ (blanks ++ (comment ++ (end ++ (body ++ 46 ∷ last))))) ++ following
 joined bs word blanks comment end body last following rest more e f g = rw (e, f, g) (sym (simp append_assoc))
 
-pub lines_cut : (bs word blanks comment end rest : List ℕ) → bs ≡ word ++ (blanks ++ (comment ++ (end ++ rest))) → IsTextColon word → list_all is_blank blanks ≡ true → IsHashComment comment → IsLineEnd end → (before : ℕ) → before ≡ length word + (length blanks + (length comment + length end)) → lines_len true rest < length rest → IsString bs (lines_value (take (lines_len true rest) rest)) (before + (lines_len true rest + (1 + line_end_len (drop (lines_len true rest + 1) rest))))
+pub lines_cut : (bs word blanks comment end rest : List ℕ) → bs ≡ word ++ (blanks ++ (comment ++ (end ++ rest)))
+    → IsTextColon word → list_all is_blank blanks ≡ true → IsHashComment comment → IsLineEnd end → (before : ℕ)
+    → before ≡ length word + (length blanks + (length comment + length end)) → lines_len true rest < length rest
+    → IsString bs (lines_value (take (lines_len true rest) rest))
+    (before + (lines_len true rest + (1 + line_end_len (drop (lines_len true rest + 1) rest))))
 lines_cut bs word blanks comment end rest whole w b c en before count some =
     let n : ℕ = lines_len true rest in
     let last = last_sound (drop n rest) (last_line true rest some) in
@@ -403,7 +454,8 @@ lines_cut bs word blanks comment end rest whole w b c en before count some =
     let lm = length-take-le m more (line_end_within more) in
     let following : drop (n + 1) rest ≡ more = drop_more n 1 rest ∙ ap (λ cs. drop 1 cs) last.cut in
     let pieces : rest ≡ take n rest ++ 46 ∷ more = sym (take-append-drop n rest) ∙ ap (λ cs. take n rest ++ cs) last.cut in
-    let count_is : before + (n + (1 + line_end_len (drop (n + 1) rest))) ≡ before + (n + (1 + m)) = ap (λ cs. before + (n + (1 + line_end_len cs))) following in
+    let count_is : before + (n + (1 + line_end_len (drop (n + 1) rest))) ≡ before + (n + (1 + m)) =
+    ap (λ cs. before + (n + (1 + line_end_len cs))) following in
     record {
       octets = word ++ (blanks ++ (comment ++ (end ++ (take n rest ++ 46 ∷ take m more))));
       following = drop m more;
@@ -428,12 +480,19 @@ lines_cut bs word blanks comment end rest whole w b c en before count some =
       });
     }
 
-lines_spelled : (bs word blanks comment end rest : List ℕ) → bs ≡ word ++ (blanks ++ (comment ++ (end ++ rest))) → IsTextColon word → list_all is_blank blanks ≡ true → IsHashComment comment → IsLineEnd end → (before : ℕ) → before ≡ length word + (length blanks + (length comment + length end)) → (k : TokenKind × ℕ) → lines_at before rest ≡ Ok k → IsSpelled bs k
+lines_spelled : (bs word blanks comment end rest : List ℕ) → bs ≡ word ++ (blanks ++ (comment ++ (end ++ rest)))
+    → IsTextColon word → list_all is_blank blanks ≡ true → IsHashComment comment → IsLineEnd end → (before : ℕ)
+    → before ≡ length word + (length blanks + (length comment + length end)) → (k : TokenKind × ℕ)
+    → lines_at before rest ≡ Ok k → IsSpelled bs k
 lines_spelled bs word blanks comment end rest whole w b c en before count k e =
     let p = lines_parts before rest k e in
     let n : ℕ = lines_len true rest in
     let m : ℕ = before + (n + (1 + line_end_len (drop (n + 1) rest))) in
-    spelled_as bs (kinds.StringValue (lines_value (take n rest)), m) k p.2 (string_spelled bs (lines_value (take n rest)) m (lines_cut bs word blanks comment end rest whole w b c en before count p.0) p.1)
+    spelled_as bs (
+      kinds.StringValue (lines_value (take n rest)),
+      m,
+    ) k p.2 (string_spelled bs (lines_value (take n rest)) m (lines_cut bs word blanks comment end rest whole w b c
+    en before count p.0) p.1)
 
 text_sound : (bs : List ℕ) (k : TokenKind × ℕ) → begins_text bs ≡ true → multi_line_at (drop 5 bs) ≡ Ok k → IsSpelled bs k
 text_sound bs k t e =
@@ -446,19 +505,43 @@ text_sound bs k t e =
     let lw = length-take-le 5 bs word_long in
     let lb = length-take-le n first (prefix_len-le-length is_blank first) in
     let lo = opening.long in
-    let whole : bs ≡ take 5 bs ++ (take n first ++ (opening.comment ++ (opening.end ++ drop p.0 (drop n first)))) = sym (take-append-drop 5 bs) ∙ ap (λ cs. take 5 bs ++ cs) (sym (take-append-drop n first) ∙ ap (λ cs. take n first ++ cs) opening.cut) in
-    lines_spelled bs (take 5 bs) (take n first) opening.comment opening.end (drop p.0 (drop n first)) whole (word_taken (codes "text:") bs t) (prefix_passes is_blank first) opening.comment_is opening.end_is (5 + (n + p.0)) (omega arith) k (rw far at p.2)
+    let whole : bs ≡ take 5 bs ++ (take n first ++ (opening.comment ++ (opening.end ++ drop p.0 (drop n first)))) =
+    sym (take-append-drop 5 bs) ∙ ap (λ cs. take 5 bs ++ cs) (sym (take-append-drop n first)
+    ∙ ap (λ cs. take n first ++ cs) opening.cut) in
+    lines_spelled bs (take 5 bs) (take n first) opening.comment opening.end (drop p.0 (drop n first)) whole
+    (word_taken (codes "text:") bs t) (prefix_passes is_blank first) opening.comment_is opening.end_is
+    (5 + (n + p.0)) (omega arith) k (rw far at p.2)
 
 -- the token that begins here
 pub kind_sound : (bs : List ℕ) (k : TokenKind × ℕ) → kind_at bs ≡ Ok k → IsSpelled bs k
 kind_sound [] k e = absurd (nothing_here k e)
 kind_sound (b ∷ bs) k e = elim (branch b bs k e) [
   | lines t h ↦ text_sound (b ∷ bs) k t h
-  | name t s h ↦ spelled_as (b ∷ bs) (kinds.Identifier (take (prefix_len is_word (b ∷ bs)) (b ∷ bs)), prefix_len is_word (b ∷ bs)) k h (name_sound (b ∷ bs) s)
+  | name t s h ↦ spelled_as (b ∷ bs) (
+    kinds.Identifier (take (prefix_len is_word (b ∷ bs)) (b ∷ bs)),
+    prefix_len is_word (b ∷ bs),
+  ) k h (name_sound (b ∷ bs) s)
   | digits t s h ↦ (let p = number_parts (b ∷ bs) k h in spelled_as (b ∷ bs) _ k p.1 (number_sound (b ∷ bs) (one_more is_ascii_digit b bs s) p.0))
-  | colon t h ↦ (let p = tag_parts bs k h in spelled_as (b ∷ bs) (kinds.Tag (take (prefix_len is_word bs) bs), suc (prefix_len is_word bs)) k p.1 (tag_sound b bs t p.0))
-  | quote t h ↦ (let p = quoted_parts bs k h in spelled_as (b ∷ bs) (kinds.StringValue (quoted_value (take (quoted_len false bs) bs)), quoted_len false bs + 2) k p.2 (string_spelled (b ∷ bs) (quoted_value (take (quoted_len false bs) bs)) (quoted_len false bs + 2) (quoted_cut b bs t p.0) p.1))
+  | colon t h ↦
+      (let p = tag_parts bs k h in spelled_as (b ∷ bs) (
+        kinds.Tag (take (prefix_len is_word bs) bs),
+        suc (prefix_len is_word bs),
+      ) k p.1 (tag_sound b bs t p.0))
+  | quote t h ↦
+      (let p = quoted_parts bs k h in
+      spelled_as (b ∷ bs) (
+        kinds.StringValue (quoted_value (take (quoted_len false bs) bs)),
+        quoted_len false bs + 2,
+      ) k p.2 (string_spelled (b ∷ bs) (quoted_value (take (quoted_len false bs) bs))
+      (quoted_len false bs + 2) (quoted_cut b bs t p.0) p.1))
   | one s d c q h ↦ (
       let p = mark_parts (mark_of b) k h in
-      spelled_as (b ∷ bs) (kinds.Mark p.0, 1) k p.2 (record { octets = b ∷ []; following = bs; cut = refl; long = refl; spelled = ap (λ c. c ∷ []) (mark_octet b p.0 p.1); limited = tt }))
+      spelled_as (b ∷ bs) (kinds.Mark p.0, 1) k p.2 (record {
+        octets = b ∷ [];
+        following = bs;
+        cut = refl;
+        long = refl;
+        spelled = ap (λ c. c ∷ []) (mark_octet b p.0 p.1);
+        limited = tt;
+      }))
 ]

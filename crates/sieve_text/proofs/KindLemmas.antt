@@ -1,5 +1,6 @@
 -- The content and the length of the token that begins here, by its kind.
-use Rattle.std.proofs.Common.{◌≡◌, ℕ, suc, ◌+◌, ◌*◌, ◌<◌, ◌≤◌, ◌⊎◌, Bool, true, false, List, ◌∷◌, length, take, drop, nat_lt, Option, Some, None, Result, Ok, Err, refl, inl, inr}
+use Rattle.std.proofs.Common.{◌≡◌, ℕ, suc, ◌+◌, ◌*◌, ◌<◌, ◌≤◌, ◌⊎◌, Bool, true, false, List, ◌∷◌, length, take, drop}
+use Rattle.std.proofs.Common.{nat_lt, Option, Some, None, Result, Ok, Err, refl, inl, inr}
 use Rattle.std.specs.Prelude.{if◌then◌else◌, ◌==◌}
 use Rattle.std.specs.List.{prefix_len}
 use Rattle.std.specs.Char.{is_ascii_digit}
@@ -13,7 +14,8 @@ use Rattle.sieve_text.specs.declared.fault.ScanRefusal.TheVariants.{NoToken, Str
 use Rattle.sieve_text.specs.Octets.{is_blank, is_start, is_word, begins, line_end_len}
 use Rattle.sieve_text.specs.Gaps.{opens_bracketed}
 use Rattle.sieve_text.specs.Strings.{quoted_len, quoted_value, begins_text, opening_end_at, lines_len, lines_value}
-use Rattle.sieve_text.specs.Tokens.{mark_of, mark_kind, string_kind, quoted_at, lines_at, multi_line_at, tag_at, factor_at, number_at, identifier_at, kind_at, ◌>>=◌}
+use Rattle.sieve_text.specs.Tokens.{mark_of, mark_kind, string_kind, quoted_at, lines_at, multi_line_at, tag_at}
+use Rattle.sieve_text.specs.Tokens.{factor_at, number_at, identifier_at, kind_at, ◌>>=◌}
 
 -- what was read
 abbrev pub read_as : {A : Type 0} → A → Result A ScanRefusal
@@ -26,22 +28,28 @@ pub no_kind : {A : Type 0} (refusal : ScanRefusal) (x : A) → Err refusal ≡ O
 no_kind refusal x e = cc
 
 -- which way a test went, where something was read
-pub tested : {A : Type 0} (t : Bool) (x y : Result A ScanRefusal) (k : A) → (if t then x else y) ≡ Ok k → ((t ≡ true) × (x ≡ Ok k)) ⊎ ((t ≡ false) × (y ≡ Ok k))
+pub tested : {A : Type 0} (t : Bool) (x y : Result A ScanRefusal) (k : A) → (if t then x else y) ≡ Ok k
+    → ((t ≡ true) × (x ≡ Ok k)) ⊎ ((t ≡ false) × (y ≡ Ok k))
 tested true x y k e = inl (refl, e)
 tested false x y k e = inr (refl, e)
 
-pub bound_parts : {A B : Type 0} (x : Result A ScanRefusal) (f : A → Result B ScanRefusal) (k : B) → (x >>= f) ≡ Ok k → (a : A) × (x ≡ Ok a) × (f a ≡ Ok k)
+pub bound_parts : {A B : Type 0} (x : Result A ScanRefusal) (f : A → Result B ScanRefusal) (k : B) → (x >>= f) ≡ Ok k
+    → (a : A) × (x ≡ Ok a) × (f a ≡ Ok k)
 bound_parts (Ok a) f k e = (a, refl, e)
 bound_parts (Err refusal) f k e = absurd (no_kind refusal k e)
 
-pub string_parts : (value : List ℕ) (n : ℕ) (k : TokenKind × ℕ) → string_kind value n ≡ Ok k → (length value ≤ 65535) × ((kinds.StringValue value, n) ≡ k)
+pub string_parts : (value : List ℕ) (n : ℕ) (k : TokenKind × ℕ) → string_kind value n ≡ Ok k → (length value ≤ 65535)
+    × ((kinds.StringValue value, n) ≡ k)
 string_parts value n k e = go (tested (nat_lt 65535 (length value)) (Err StringTooLong) (Ok (kinds.StringValue value, n)) k e)
   where
-    go : ((nat_lt 65535 (length value) ≡ true) × (Err StringTooLong ≡ Ok k)) ⊎ ((nat_lt 65535 (length value) ≡ false) × (read_as (kinds.StringValue value, n) ≡ Ok k)) → (length value ≤ 65535) × ((kinds.StringValue value, n) ≡ k)
+    go : ((nat_lt 65535 (length value) ≡ true) × (Err StringTooLong ≡ Ok k)) ⊎ ((nat_lt 65535 (length value) ≡ false)
+        × (read_as (kinds.StringValue value, n) ≡ Ok k)) → (length value ≤ 65535) × ((kinds.StringValue value, n) ≡ k)
     go (inl h) = absurd (no_kind StringTooLong k h.1)
     go (inr h) = (ltb-false 65535 (length value) h.0, same_kind (kinds.StringValue value, n) k h.1)
 
-pub quoted_parts : (bs : List ℕ) (k : TokenKind × ℕ) → quoted_at bs ≡ Ok k → (quoted_len false bs < length bs) × (length (quoted_value (take (quoted_len false bs) bs)) ≤ 65535) × ((kinds.StringValue (quoted_value (take (quoted_len false bs) bs)), quoted_len false bs + 2) ≡ k)
+pub quoted_parts : (bs : List ℕ) (k : TokenKind × ℕ) → quoted_at bs ≡ Ok k → (quoted_len false bs < length bs)
+    × (length (quoted_value (take (quoted_len false bs) bs)) ≤ 65535)
+    × ((kinds.StringValue (quoted_value (take (quoted_len false bs) bs)), quoted_len false bs + 2) ≡ k)
 unfolding quoted_at
 quoted_parts bs k e = go (tested (nat_lt n (length bs)) (string_kind value (n + 2)) (Err StringNotClosed) k e)
   where
@@ -51,11 +59,18 @@ quoted_parts bs k e = go (tested (nat_lt n (length bs)) (string_kind value (n + 
     value : List ℕ
     value = quoted_value (take n bs)
 
-    go : ((nat_lt n (length bs) ≡ true) × (string_kind value (n + 2) ≡ Ok k)) ⊎ ((nat_lt n (length bs) ≡ false) × (Err StringNotClosed ≡ Ok k)) → (n < length bs) × (length value ≤ 65535) × ((kinds.StringValue value, n + 2) ≡ k)
+    go : ((nat_lt n (length bs) ≡ true) × (string_kind value (n + 2) ≡ Ok k)) ⊎ ((nat_lt n (length bs) ≡ false)
+        × (Err StringNotClosed ≡ Ok k)) → (n < length bs) × (length value ≤ 65535)
+        × ((kinds.StringValue value, n + 2) ≡ k)
     go (inl h) = let s = string_parts value (n + 2) k h.1 in (ltb-true n (length bs) h.0, s.0, s.1)
     go (inr h) = absurd (no_kind StringNotClosed k h.1)
 
-pub lines_parts : (before : ℕ) (bs : List ℕ) (k : TokenKind × ℕ) → lines_at before bs ≡ Ok k → (lines_len true bs < length bs) × (length (lines_value (take (lines_len true bs) bs)) ≤ 65535) × ((kinds.StringValue (lines_value (take (lines_len true bs) bs)), before + (lines_len true bs + (1 + line_end_len (drop (lines_len true bs + 1) bs)))) ≡ k)
+pub lines_parts : (before : ℕ) (bs : List ℕ) (k : TokenKind × ℕ) → lines_at before bs ≡ Ok k
+    → (lines_len true bs < length bs) × (length (lines_value (take (lines_len true bs) bs)) ≤ 65535)
+    × ((
+      kinds.StringValue (lines_value (take (lines_len true bs) bs)),
+      before + (lines_len true bs + (1 + line_end_len (drop (lines_len true bs + 1) bs))),
+    ) ≡ k)
 unfolding lines_at
 lines_parts before bs k e = go (tested (nat_lt n (length bs)) (string_kind value m) (Err StringNotClosed) k e)
   where
@@ -68,16 +83,21 @@ lines_parts before bs k e = go (tested (nat_lt n (length bs)) (string_kind value
     m : ℕ
     m = before + (n + (1 + line_end_len (drop (n + 1) bs)))
 
-    go : ((nat_lt n (length bs) ≡ true) × (string_kind value m ≡ Ok k)) ⊎ ((nat_lt n (length bs) ≡ false) × (Err StringNotClosed ≡ Ok k)) → (n < length bs) × (length value ≤ 65535) × ((kinds.StringValue value, m) ≡ k)
+    go : ((nat_lt n (length bs) ≡ true) × (string_kind value m ≡ Ok k)) ⊎ ((nat_lt n (length bs) ≡ false)
+        × (Err StringNotClosed ≡ Ok k)) → (n < length bs) × (length value ≤ 65535) × ((kinds.StringValue value, m) ≡ k)
     go (inl h) = let s = string_parts value m k h.1 in (ltb-true n (length bs) h.0, s.0, s.1)
     go (inr h) = absurd (no_kind StringNotClosed k h.1)
 
 -- a multi-line string: where its lines begin
-pub multi_line_parts : (bs : List ℕ) (k : TokenKind × ℕ) → multi_line_at bs ≡ Ok k → (n : ℕ) × (opening_end_at (drop (prefix_len is_blank bs) bs) ≡ Ok n) × (lines_at (5 + (prefix_len is_blank bs + n)) (drop (prefix_len is_blank bs + n) bs) ≡ Ok k)
+pub multi_line_parts : (bs : List ℕ) (k : TokenKind × ℕ) → multi_line_at bs ≡ Ok k → (n : ℕ)
+    × (opening_end_at (drop (prefix_len is_blank bs) bs) ≡ Ok n)
+    × (lines_at (5 + (prefix_len is_blank bs + n)) (drop (prefix_len is_blank bs + n) bs) ≡ Ok k)
 unfolding multi_line_at
-multi_line_parts bs k e = bound_parts (opening_end_at (drop (prefix_len is_blank bs) bs)) (λ n. lines_at (5 + (prefix_len is_blank bs + n)) (drop (prefix_len is_blank bs + n) bs)) k e
+multi_line_parts bs k e = bound_parts (opening_end_at (drop (prefix_len is_blank bs) bs)) (λ n.
+    lines_at (5 + (prefix_len is_blank bs + n)) (drop (prefix_len is_blank bs + n) bs)) k e
 
-pub tag_parts : (bs : List ℕ) (k : TokenKind × ℕ) → tag_at bs ≡ Ok k → (begins is_start bs ≡ true) × ((kinds.Tag (take (prefix_len is_word bs) bs), suc (prefix_len is_word bs)) ≡ k)
+pub tag_parts : (bs : List ℕ) (k : TokenKind × ℕ) → tag_at bs ≡ Ok k → (begins is_start bs ≡ true)
+    × ((kinds.Tag (take (prefix_len is_word bs) bs), suc (prefix_len is_word bs)) ≡ k)
 unfolding tag_at
 tag_parts bs k e = go (tested (begins is_start bs) (Ok (kinds.Tag name, suc n)) (Err NoToken) k e)
   where
@@ -87,11 +107,19 @@ tag_parts bs k e = go (tested (begins is_start bs) (Ok (kinds.Tag name, suc n)) 
     name : List ℕ
     name = take n bs
 
-    go : ((begins is_start bs ≡ true) × (read_as (kinds.Tag name, suc n) ≡ Ok k)) ⊎ ((begins is_start bs ≡ false) × (Err NoToken ≡ Ok k)) → (begins is_start bs ≡ true) × ((kinds.Tag name, suc n) ≡ k)
+    go : ((begins is_start bs ≡ true) × (read_as (kinds.Tag name, suc n) ≡ Ok k)) ⊎ ((begins is_start bs ≡ false)
+        × (Err NoToken ≡ Ok k)) → (begins is_start bs ≡ true) × ((kinds.Tag name, suc n) ≡ k)
     go (inl h) = (h.0, same_kind (kinds.Tag name, suc n) k h.1)
     go (inr h) = absurd (no_kind NoToken k h.1)
 
-pub number_parts : (bs : List ℕ) (k : TokenKind × ℕ) → number_at bs ≡ Ok k → (digits_value 10 (take (prefix_len is_ascii_digit bs) bs) * (factor_at (drop (prefix_len is_ascii_digit bs) bs)).0 ≤ 9223372036854775807) × ((kinds.Number (digits_value 10 (take (prefix_len is_ascii_digit bs) bs) * (factor_at (drop (prefix_len is_ascii_digit bs) bs)).0), prefix_len is_ascii_digit bs + (factor_at (drop (prefix_len is_ascii_digit bs) bs)).1) ≡ k)
+pub number_parts : (bs : List ℕ) (k : TokenKind × ℕ) → number_at bs ≡ Ok k
+    → (digits_value 10 (take (prefix_len is_ascii_digit bs) bs) * (factor_at (drop (prefix_len is_ascii_digit bs) bs)).0
+    ≤ 9223372036854775807)
+    × ((
+      kinds.Number (digits_value 10 (take (prefix_len is_ascii_digit bs) bs) *
+          (factor_at (drop (prefix_len is_ascii_digit bs) bs)).0),
+      prefix_len is_ascii_digit bs + (factor_at (drop (prefix_len is_ascii_digit bs) bs)).1,
+    ) ≡ k)
 unfolding number_at
 number_parts bs k e = go (tested (nat_lt 9223372036854775807 value) (Err NumberTooLarge) (Ok (kinds.Number value, m)) k e)
   where
@@ -104,7 +132,9 @@ number_parts bs k e = go (tested (nat_lt 9223372036854775807 value) (Err NumberT
     m : ℕ
     m = n + (factor_at (drop n bs)).1
 
-    go : ((nat_lt 9223372036854775807 value ≡ true) × (Err NumberTooLarge ≡ Ok k)) ⊎ ((nat_lt 9223372036854775807 value ≡ false) × (read_as (kinds.Number value, m) ≡ Ok k)) → (value ≤ 9223372036854775807) × ((kinds.Number value, m) ≡ k)
+    go : ((nat_lt 9223372036854775807 value ≡ true)
+        × (Err NumberTooLarge ≡ Ok k)) ⊎ ((nat_lt 9223372036854775807 value ≡ false)
+        × (read_as (kinds.Number value, m) ≡ Ok k)) → (value ≤ 9223372036854775807) × ((kinds.Number value, m) ≡ k)
     go (inl h) = absurd (no_kind NumberTooLarge k h.1)
     go (inr h) = (ltb-false 9223372036854775807 value h.0, same_kind (kinds.Number value, m) k h.1)
 
@@ -115,7 +145,9 @@ mark_parts (Some mark) k e = (mark, refl, same_kind (kinds.Mark mark, 1) k e)
 -- the cases of a token
 pub data Branch (b : ℕ) (bs : List ℕ) (k : TokenKind × ℕ) : Type 0 where
   lines : begins_text (b ∷ bs) ≡ true → multi_line_at (drop 5 (b ∷ bs)) ≡ Ok k → Branch b bs k
-  name : begins_text (b ∷ bs) ≡ false → is_start b ≡ true → (kinds.Identifier (take (prefix_len is_word (b ∷ bs)) (b ∷ bs)), prefix_len is_word (b ∷ bs)) ≡ k → Branch b bs k
+  name : begins_text (b ∷ bs) ≡ false → is_start b ≡ true
+      → (kinds.Identifier (take (prefix_len is_word (b ∷ bs)) (b ∷ bs)), prefix_len is_word (b ∷ bs)) ≡ k
+      → Branch b bs k
   digits : is_start b ≡ false → is_ascii_digit b ≡ true → number_at (b ∷ bs) ≡ Ok k → Branch b bs k
   colon : b ≡ 58 → tag_at bs ≡ Ok k → Branch b bs k
   quote : b ≡ 34 → quoted_at bs ≡ Ok k → Branch b bs k

@@ -1,9 +1,11 @@
 -- A token by the grammar is no longer than what is read in its place.
-use Rattle.std.proofs.Common.{◌≡◌, ℕ, suc, ◌+◌, ◌<◌, ◌≤◌, ◌⊎◌, Bool, true, false, List, [], ◌∷◌, ◌++◌, length, map, take, drop, nat_le, Ok, refl, sym, ap, ◌∙◌, arith, inl, inr, length-append, append_assoc}
+use Rattle.std.proofs.Common.{◌≡◌, ℕ, suc, ◌+◌, ◌<◌, ◌≤◌, ◌⊎◌, Bool, true, false, List, [], ◌∷◌, ◌++◌, length, map}
+use Rattle.std.proofs.Common.{take, drop, nat_le, Ok, refl, sym, ap, ◌∙◌, arith, inl, inr, length-append, append_assoc}
 use Rattle.std.specs.Prelude.{◌==◌, ◌||◌, codes}
 use Rattle.std.specs.List.{prefix_len, list_all}
 use Rattle.std.specs.Char.{is_ascii_digit, to_ascii_lowercase}
-use Rattle.std.proofs.lemmas.Bool.{false≢true, true≢false, both_ways, cases_Bool, cases_lt, eqb-true, eq-eqb, ne_eqb, lt-ltb, le-ltb, leb-true, lt-leb, and_parts, and_from}
+use Rattle.std.proofs.lemmas.Bool.{false≢true, true≢false, both_ways, cases_Bool, cases_lt, eqb-true, eq-eqb, ne_eqb}
+use Rattle.std.proofs.lemmas.Bool.{lt-ltb, le-ltb, leb-true, lt-leb, and_parts, and_from}
 use Rattle.std.proofs.lemmas.List.{length-map}
 use Rattle.std.proofs.lemmas.List.Folds.{list_all-append}
 use Rattle.std.proofs.Math.Seq.{drop-append_seam, drop-append-add}
@@ -12,11 +14,13 @@ use Rattle.sieve_syntax.specs.declared.token.TokenKind.TheVariants as kinds
 use Rattle.sieve_text.specs.Octets.{is_blank, is_start, is_word, not_lf, begins, begins_with, line_end_len}
 use Rattle.sieve_text.specs.Strings.{quoted_len, begins_as, begins_text, opening_end_at, is_last_line, lines_len, lines_value}
 use Rattle.sieve_text.specs.Tokens.{lines_at, multi_line_at, factor_at, kind_at}
-use Rattle.sieve_text.specs.TokenGrammar.{IsName, QuotedText, quoted_end, quoted_plain, quoted_pair, IsLineEnd, Lines, no_lines, line, IsMultiLine, Lexeme, IsApart}
+use Rattle.sieve_text.specs.TokenGrammar.{IsName, QuotedText, quoted_end, quoted_plain, quoted_pair, IsLineEnd, Lines}
+use Rattle.sieve_text.specs.TokenGrammar.{no_lines, line, IsMultiLine, Lexeme, IsApart}
 use Rattle.sieve_text.proofs.GapFound.{exactly}
 use Rattle.sieve_text.proofs.GapLemmas.{drop_more}
 use Rattle.sieve_text.proofs.GrammarParts.{quantifier_counts}
-use Rattle.sieve_text.proofs.KindLemmas.{same_kind, quoted_parts, lines_parts, multi_line_parts, tag_parts, number_parts, branch, lines, name, digits, colon, quote, one}
+use Rattle.sieve_text.proofs.KindLemmas.{same_kind, quoted_parts, lines_parts, multi_line_parts, tag_parts}
+use Rattle.sieve_text.proofs.KindLemmas.{number_parts, branch, lines, name, digits, colon, quote, one}
 use Rattle.sieve_text.proofs.WithinLemmas.{if_le_1, kind_within, multi_line_within}
 use Rattle.sieve_text.proofs.KindGrammar.{line_rest, no_last, last_here, dot_line, suc_eqb}
 
@@ -72,7 +76,14 @@ digit_no_start b h =
 pub digit_no_factor : (b : ℕ) (bs : List ℕ) → is_ascii_digit b ≡ true → (factor_at (b ∷ bs)).1 ≡ 0
 digit_no_factor b bs h =
     let d = digit_bounds b h in
-    rw (ne_eqb b 75 (λ e. omega arith), ne_eqb b 107 (λ e. omega arith), ne_eqb b 77 (λ e. omega arith), ne_eqb b 109 (λ e. omega arith), ne_eqb b 71 (λ e. omega arith), ne_eqb b 103 (λ e. omega arith)) refl
+    rw (
+      ne_eqb b 75 (λ e. omega arith),
+      ne_eqb b 107 (λ e. omega arith),
+      ne_eqb b 77 (λ e. omega arith),
+      ne_eqb b 109 (λ e. omega arith),
+      ne_eqb b 71 (λ e. omega arith),
+      ne_eqb b 103 (λ e. omega arith),
+    ) refl
 
 -- an identifier
 pub no_word : (b : ℕ) → to_ascii_lowercase b ≡ 58 → is_word b ≡ true → ⊥
@@ -101,7 +112,11 @@ name_short : (xs following : List ℕ) (k : TokenKind × ℕ) → IsName xs → 
 name_short [] following k h e = omega arith
 name_short (b ∷ bs) following k h e = elim (branch b (bs ++ following) k e) [
   | lines t m ↦ (let w = multi_line_within (drop 5 (b ∷ (bs ++ following))) k m in let l = before_colon (b ∷ bs) following h.1 t in omega arith)
-  | name t s m ↦ (let n = ends_at (kinds.Identifier (take (prefix_len is_word (b ∷ (bs ++ following))) (b ∷ (bs ++ following))), prefix_len is_word (b ∷ (bs ++ following))) k m in let l = at_least is_word (b ∷ bs) following h.1 in omega arith)
+  | name t s m ↦
+      (let n = ends_at (
+        kinds.Identifier (take (prefix_len is_word (b ∷ (bs ++ following))) (b ∷ (bs ++ following))),
+        prefix_len is_word (b ∷ (bs ++ following)),
+      ) k m in let l = at_least is_word (b ∷ bs) following h.1 in omega arith)
   | digits t s m ↦ absurd (both_ways (is_start b) t h.0)
   | colon t m ↦ absurd (false≢true (rw t at h.0))
   | quote t m ↦ absurd (false≢true (rw t at h.0))
@@ -125,9 +140,16 @@ tag_short xs following k h e = elim (branch 58 (xs ++ following) k e) [
 
 -- a number
 factor_short : (b : ℕ) (bs : List ℕ) → (factor_at (b ∷ bs)).1 ≤ 1
-factor_short b bs = if_le_1 ((b == 75) || (b == 107)) (1024, 1) _ 1 (omega arith) (if_le_1 ((b == 77) || (b == 109)) (1048576, 1) _ 1 (omega arith) (if_le_1 ((b == 71) || (b == 103)) (1073741824, 1) (1, 0) 1 (omega arith) (omega arith)))
+factor_short b bs =
+    if_le_1 ((b == 75) || (b == 107)) (1024, 1) _ 1 (omega arith) (if_le_1 ((b == 77) || (b == 109)) (
+      1048576,
+      1,
+    ) _ 1 (omega arith) (if_le_1 ((b == 71) || (b == 103)) (1073741824, 1) (1, 0) 1 (omega arith) (omega arith)))
 
-pub digits_short : (ds quantifier following : List ℕ) (factor : ℕ) → list_all is_ascii_digit ds ≡ true → factor_at quantifier ≡ (factor, length quantifier) → length ds + length quantifier ≤ prefix_len is_ascii_digit (ds ++ (quantifier ++ following)) + (factor_at (drop (prefix_len is_ascii_digit (ds ++ (quantifier ++ following))) (ds ++ (quantifier ++ following)))).1
+pub digits_short : (ds quantifier following : List ℕ) (factor : ℕ) → list_all is_ascii_digit ds ≡ true
+    → factor_at quantifier ≡ (factor, length quantifier) → length ds + length quantifier ≤ prefix_len is_ascii_digit (ds
+    ++ (quantifier ++ following)) + (factor_at (drop (prefix_len is_ascii_digit (ds ++ (quantifier ++ following))) (ds
+    ++ (quantifier ++ following)))).1
 digits_short ds [] following factor h f = let l = at_least is_ascii_digit ds following h in omega arith
 digits_short ds (q ∷ more) following factor h f =
     let one_octet : (factor_at (q ∷ more)).1 ≡ suc (length more) = ap (λ (x : ℕ × ℕ). x.1) f in
@@ -141,12 +163,17 @@ digits_short ds (q ∷ more) following factor h f =
     no_digit true e = let z = digit_no_factor q more e in let o = ap (λ (x : ℕ × ℕ). x.1) f in absurd (omega arith)
     no_digit false e = refl
 
-number_short : (ds quantifier following : List ℕ) (factor : ℕ) (k : TokenKind × ℕ) → 0 < length ds → list_all is_ascii_digit ds ≡ true → factor_at quantifier ≡ (factor, length quantifier) → kind_at (ds ++ (quantifier ++ following)) ≡ Ok k → length ds + length quantifier ≤ k.1
+number_short : (ds quantifier following : List ℕ) (factor : ℕ) (k : TokenKind × ℕ) → 0 < length ds
+    → list_all is_ascii_digit ds ≡ true → factor_at quantifier ≡ (factor, length quantifier)
+    → kind_at (ds ++ (quantifier ++ following)) ≡ Ok k → length ds + length quantifier ≤ k.1
 number_short [] quantifier following factor k some h f e = absurd (omega arith)
 number_short (d ∷ ds) quantifier following factor k some h f e =
     let t = and_parts (is_ascii_digit d) (list_all is_ascii_digit ds) h in
     elim (branch d (ds ++ (quantifier ++ following)) k e) [
-      | lines x m ↦ absurd (digit_no_t d t.0 (eqb-true (to_ascii_lowercase d) 116 (and_parts (to_ascii_lowercase d == 116) (begins_as (codes "ext:") (ds ++ (quantifier ++ following))) x).0))
+      | lines x m ↦
+          absurd (digit_no_t d t.0
+          (eqb-true (to_ascii_lowercase d) 116 (and_parts (to_ascii_lowercase d == 116) (begins_as (codes "ext:") (ds
+          ++ (quantifier ++ following))) x).0))
       | name x s m ↦ absurd (both_ways (is_start d) (digit_no_start d t.0) s)
       | digits x s m ↦ (
           let p = number_parts (d ∷ (ds ++ (quantifier ++ following))) k m in
@@ -165,7 +192,8 @@ quoted_whole _ _ quoted_end following = refl
 quoted_whole _ _ (quoted_plain b bs says n34 n92 q) following = rw (ne_eqb b 34 n34, ne_eqb b 92 n92) (ap suc (quoted_whole bs says q following))
 quoted_whole _ _ (quoted_pair b bs says q) following = ap (λ n. suc (suc n)) (quoted_whole bs says q following)
 
-quoted_short : (body text following : List ℕ) (k : TokenKind × ℕ) → QuotedText body text → kind_at (34 ∷ (body ++ 34 ∷ following)) ≡ Ok k → length body + 2 ≤ k.1
+quoted_short : (body text following : List ℕ) (k : TokenKind × ℕ) → QuotedText body text
+    → kind_at (34 ∷ (body ++ 34 ∷ following)) ≡ Ok k → length body + 2 ≤ k.1
 quoted_short body text following k h e = elim (branch 34 (body ++ 34 ∷ following) k e) [
   | lines t m ↦ absurd (false≢true t)
   | name t s m ↦ absurd (false≢true s)
@@ -184,7 +212,8 @@ pub after_line : (content rest : List ℕ) → drop (suc (length content)) (cont
 after_line [] rest = refl
 after_line (c ∷ content) rest = after_line content rest
 
-pub lines_whole : (body text : List ℕ) → Lines body text → (more : List ℕ) → is_last_line (46 ∷ more) ≡ true → lines_len true (body ++ 46 ∷ more) ≡ length body
+pub lines_whole : (body text : List ℕ) → Lines body text → (more : List ℕ) → is_last_line (46 ∷ more) ≡ true
+    → lines_len true (body ++ 46 ∷ more) ≡ length body
 lines_whole _ _ no_lines more h = last_here (46 ∷ more) h
 lines_whole _ _ (line content bs says all dot r) more h =
     let rest : List ℕ = bs ++ 46 ∷ more in
@@ -193,7 +222,8 @@ lines_whole _ _ (line content bs says all dot r) more h =
     let l = length-append content (10 ∷ rest) in
     let s = no_last (content ++ 10 ∷ rest) (dot_line content rest all ∙ dot) in
     let t = line_rest (content ++ 10 ∷ rest) (omega arith) in
-    let d : drop (suc (prefix_len not_lf (content ++ 10 ∷ rest))) (content ++ 10 ∷ rest) ≡ rest = ap (λ m. drop (suc m) (content ++ 10 ∷ rest)) n ∙ after_line content rest in
+    let d : drop (suc (prefix_len not_lf (content ++ 10 ∷ rest))) (content ++ 10 ∷ rest) ≡ rest =
+    ap (λ m. drop (suc m) (content ++ 10 ∷ rest)) n ∙ after_line content rest in
     let u = ap (λ cs. lines_len true cs) d in
     let r1 = lines_whole bs says r more h in
     let l1 = length-append content (10 ∷ bs) in
@@ -208,11 +238,15 @@ return_opens rest = rw (suc_eqb (suc (length rest))) refl
 hash_opens : (bs : List ℕ) (n : ℕ) → begins_with 35 bs ≡ true → prefix_len not_lf bs ≡ n → n < length bs → opening_end_at bs ≡ Ok (suc n)
 hash_opens bs n h e l = rw (ne_eqb (length bs) 0 (λ z. omega arith), h, e, lt-ltb n (length bs) l) refl
 
-pub hash_first : (comment rest : List ℕ) → begins_with 35 comment ≡ true → (begins_with 35 (comment ++ rest) ≡ true) × (begins is_blank (comment ++ rest) ≡ false)
+pub hash_first : (comment rest : List ℕ) → begins_with 35 comment ≡ true → (begins_with 35 (comment ++ rest) ≡ true)
+    × (begins is_blank (comment ++ rest) ≡ false)
 hash_first [] rest h = absurd (false≢true h)
 hash_first (b ∷ comment) rest h = (h, rw (eqb-true b 35 h) refl)
 
-pub opening_whole : (comment end rest : List ℕ) → (comment ≡ []) ⊎ ((begins_with 35 comment ≡ true) × (list_all not_lf comment ≡ true)) → IsLineEnd end → (opening_end_at (comment ++ (end ++ rest)) ≡ Ok (length comment + length end)) × (begins is_blank (comment ++ (end ++ rest)) ≡ false)
+pub opening_whole : (comment end rest : List ℕ)
+    → (comment ≡ []) ⊎ ((begins_with 35 comment ≡ true) × (list_all not_lf comment ≡ true)) → IsLineEnd end
+    → (opening_end_at (comment ++ (end ++ rest)) ≡ Ok (length comment + length end))
+    × (begins is_blank (comment ++ (end ++ rest)) ≡ false)
 opening_whole comment end rest (inl c) (inl e) = rw (c, e) (line_feed_opens rest, refl)
 opening_whole comment end rest (inl c) (inr e) = rw (c, e) (return_opens rest, refl)
 opening_whole comment end rest (inr c) (inl e) =
@@ -223,14 +257,18 @@ opening_whole comment end rest (inr c) (inl e) =
     rw (e, one) (hash_opens (comment ++ 10 ∷ rest) (length comment) f.0 n (omega arith), f.1)
 opening_whole comment end rest (inr c) (inr e) =
     let f = hash_first comment (13 ∷ 10 ∷ rest) c.0 in
-    let all : list_all not_lf (comment ++ 13 ∷ []) ≡ true = list_all-append not_lf comment (13 ∷ []) ∙ and_from (list_all not_lf comment) true c.1 refl in
-    let n : prefix_len not_lf (comment ++ 13 ∷ 10 ∷ rest) ≡ length (comment ++ 13 ∷ []) = ap (λ cs. prefix_len not_lf cs) (sym (append_assoc comment (13 ∷ []) (10 ∷ rest))) ∙ exactly not_lf (comment ++ 13 ∷ []) (10 ∷ rest) all refl in
+    let all : list_all not_lf (comment ++ 13 ∷ []) ≡ true = list_all-append not_lf comment (13 ∷ [])
+    ∙ and_from (list_all not_lf comment) true c.1 refl in
+    let n : prefix_len not_lf (comment ++ 13 ∷ 10 ∷ rest) ≡ length (comment ++ 13 ∷ []) =
+    ap (λ cs. prefix_len not_lf cs) (sym (append_assoc comment (13 ∷ []) (10 ∷ rest)))
+    ∙ exactly not_lf (comment ++ 13 ∷ []) (10 ∷ rest) all refl in
     let l = length-append comment (13 ∷ 10 ∷ rest) in
     let m = length-append comment (13 ∷ []) in
     let two : length comment + 2 ≡ suc (length (comment ++ 13 ∷ [])) = omega arith in
     rw (e, two) (hash_opens (comment ++ 13 ∷ 10 ∷ rest) (length (comment ++ 13 ∷ [])) f.0 n (omega arith), f.1)
 
-pub last_whole : (last following : List ℕ) → IsLineEnd last ⊎ ((last ≡ []) × (following ≡ [])) → (is_last_line (46 ∷ (last ++ following)) ≡ true) × (length last ≤ line_end_len (last ++ following))
+pub last_whole : (last following : List ℕ) → IsLineEnd last ⊎ ((last ≡ []) × (following ≡ []))
+    → (is_last_line (46 ∷ (last ++ following)) ≡ true) × (length last ≤ line_end_len (last ++ following))
 last_whole last following (inl (inl e)) = rw (e, suc_eqb (length following)) (refl, omega arith)
 last_whole last following (inl (inr e)) = rw (e, suc_eqb (suc (length following))) (refl, omega arith)
 last_whole last following (inr e) = rw (e.0, e.1) (refl, omega arith)
@@ -239,7 +277,12 @@ pub after_opening : (comment end rest : List ℕ) → drop (length comment + len
 after_opening comment end rest = drop-append-add comment (end ++ rest) (length end) ∙ drop-append_seam end rest
 
 -- after "text:"
-multi_line_whole : (blanks comment end body text last following : List ℕ) (k : TokenKind × ℕ) → list_all is_blank blanks ≡ true → (comment ≡ []) ⊎ ((begins_with 35 comment ≡ true) × (list_all not_lf comment ≡ true)) → IsLineEnd end → Lines body text → IsLineEnd last ⊎ ((last ≡ []) × (following ≡ [])) → multi_line_at (blanks ++ (comment ++ (end ++ (body ++ 46 ∷ (last ++ following))))) ≡ Ok k → 5 + (length blanks + (length comment + (length end + (length body + suc (length last))))) ≤ k.1
+multi_line_whole : (blanks comment end body text last following : List ℕ) (k : TokenKind × ℕ)
+    → list_all is_blank blanks ≡ true
+    → (comment ≡ []) ⊎ ((begins_with 35 comment ≡ true) × (list_all not_lf comment ≡ true)) → IsLineEnd end
+    → Lines body text → IsLineEnd last ⊎ ((last ≡ []) × (following ≡ []))
+    → multi_line_at (blanks ++ (comment ++ (end ++ (body ++ 46 ∷ (last ++ following))))) ≡ Ok k
+    → 5 + (length blanks + (length comment + (length end + (length body + suc (length last))))) ≤ k.1
 multi_line_whole blanks comment end body text last following k b c en ls la e =
     let more : List ℕ = last ++ following in
     let rest : List ℕ = body ++ 46 ∷ more in
@@ -251,8 +294,10 @@ multi_line_whole blanks comment end body text last following k b c en ls la e =
     let from_is : drop (prefix_len is_blank all) all ≡ from = ap (λ m. drop m all) nb ∙ drop-append_seam blanks from in
     let opened : opening_end_at from ≡ Ok p.0 = sym (ap opening_end_at from_is) ∙ p.1 in
     let n : length comment + length end ≡ p.0 = same_kind (length comment + length end) p.0 (sym o.0 ∙ opened) in
-    let rest_is : drop (prefix_len is_blank all + p.0) all ≡ rest = drop_more (prefix_len is_blank all) p.0 all ∙ ap (λ cs. drop p.0 cs) from_is ∙ ap (λ m. drop m from) (sym n) ∙ after_opening comment end rest in
-    let read : lines_at (5 + (prefix_len is_blank all + p.0)) rest ≡ Ok k = sym (ap (λ cs. lines_at (5 + (prefix_len is_blank all + p.0)) cs) rest_is) ∙ p.2 in
+    let rest_is : drop (prefix_len is_blank all + p.0) all ≡ rest = drop_more (prefix_len is_blank all) p.0 all
+    ∙ ap (λ cs. drop p.0 cs) from_is ∙ ap (λ m. drop m from) (sym n) ∙ after_opening comment end rest in
+    let read : lines_at (5 + (prefix_len is_blank all + p.0)) rest ≡ Ok k =
+    sym (ap (λ cs. lines_at (5 + (prefix_len is_blank all + p.0)) cs) rest_is) ∙ p.2 in
     let q = lines_parts (5 + (prefix_len is_blank all + p.0)) rest k read in
     let l = last_whole last following la in
     let w = lines_whole body text ls more l.0 in
@@ -267,7 +312,8 @@ begins_word [] word rest e = refl
 begins_word (x ∷ xs) [] rest e = cc
 begins_word (x ∷ xs) (b ∷ word) rest e =
     let h : to_ascii_lowercase b ≡ x = first (to_ascii_lowercase b) x (map to_ascii_lowercase word) xs e in
-    and_from (to_ascii_lowercase b == x) (begins_as xs (word ++ rest)) (eq-eqb (to_ascii_lowercase b) x h) (begins_word xs word rest (others (to_ascii_lowercase b) x (map to_ascii_lowercase word) xs e))
+    and_from (to_ascii_lowercase b == x) (begins_as xs (word ++ rest)) (eq-eqb (to_ascii_lowercase b) x h)
+    (begins_word xs word rest (others (to_ascii_lowercase b) x (map to_ascii_lowercase word) xs e))
   where
     first : (a b : ℕ) (bs cs : List ℕ) → a ∷ bs ≡ b ∷ cs → a ≡ b
     first a b bs cs e = cc
@@ -275,7 +321,9 @@ begins_word (x ∷ xs) (b ∷ word) rest e =
     others : (a b : ℕ) (bs cs : List ℕ) → a ∷ bs ≡ b ∷ cs → bs ≡ cs
     others a b bs cs e = cc
 
-word_short : (word from : List ℕ) (k : TokenKind × ℕ) (n : ℕ) → map to_ascii_lowercase word ≡ codes "text:" → ((k : TokenKind × ℕ) → multi_line_at from ≡ Ok k → 5 + n ≤ k.1) → kind_at (word ++ from) ≡ Ok k → length word + n ≤ k.1
+word_short : (word from : List ℕ) (k : TokenKind × ℕ) (n : ℕ) → map to_ascii_lowercase word ≡ codes "text:"
+    → ((k : TokenKind × ℕ) → multi_line_at from ≡ Ok k → 5 + n ≤ k.1) → kind_at (word ++ from) ≡ Ok k
+    → length word + n ≤ k.1
 word_short [] from k n w more e = absurd (nothing w)
   where
     nothing : [] ≡ codes "text:" → ⊥
@@ -297,27 +345,41 @@ word_short (a ∷ word) from k n w more e =
       | one x y c q m ↦ absurd (both_ways (is_start a) x s)
     ]
 
-multi_line_short : (octets value following : List ℕ) (k : TokenKind × ℕ) → IsMultiLine value octets following → kind_at (octets ++ following) ≡ Ok k → length octets ≤ k.1
+multi_line_short : (octets value following : List ℕ) (k : TokenKind × ℕ) → IsMultiLine value octets following
+    → kind_at (octets ++ following) ≡ Ok k → length octets ≤ k.1
 multi_line_short octets value following k h e =
     let n : ℕ = length h.blanks + (length h.comment + (length h.end + (length h.body + suc (length h.last)))) in
-    let whole : octets ++ following ≡ h.word ++ (h.blanks ++ (h.comment ++ (h.end ++ (h.body ++ 46 ∷ (h.last ++ following))))) = ap (λ cs. cs ++ following) h.cut ∙ apart h.word h.blanks h.comment h.end h.body h.last following in
-    let s = word_short h.word (h.blanks ++ (h.comment ++ (h.end ++ (h.body ++ 46 ∷ (h.last ++ following))))) k n h.word_is (λ (k : TokenKind × ℕ) (m : multi_line_at (h.blanks ++ (h.comment ++ (h.end ++ (h.body ++ 46 ∷ (h.last ++ following))))) ≡ Ok k). multi_line_whole h.blanks h.comment h.end h.body h.text h.last following k h.blanks_are h.comment_is h.end_is h.body_is h.last_is m) (sym (ap kind_at whole) ∙ e) in
+    let whole : octets ++ following ≡ h.word
+    ++ (h.blanks ++ (h.comment ++ (h.end ++ (h.body ++ 46 ∷ (h.last ++ following))))) =
+    ap (λ cs. cs ++ following) h.cut ∙ apart h.word h.blanks h.comment h.end h.body h.last following in
+    let s = word_short h.word (h.blanks
+    ++ (h.comment ++ (h.end ++ (h.body ++ 46 ∷ (h.last ++ following))))) k n h.word_is
+    (λ (k : TokenKind × ℕ) (m : multi_line_at (h.blanks
+    ++ (h.comment ++ (h.end ++ (h.body ++ 46 ∷ (h.last ++ following))))) ≡ Ok k).
+    multi_line_whole h.blanks h.comment h.end h.body h.text h.last following k h.blanks_are h.comment_is h.end_is
+    h.body_is h.last_is m) (sym (ap kind_at whole) ∙ e) in
     let l : length octets ≡ length h.word + n = ap length h.cut ∙ summed h.word h.blanks h.comment h.end h.body h.last in
     omega arith
   where
-    apart : (word blanks comment end body last following : List ℕ) → (word ++ (blanks ++ (comment ++ (end ++ (body ++ 46 ∷ last))))) ++ following ≡ word ++ (blanks ++ (comment ++ (end ++ (body ++ 46 ∷ (last ++ following)))))
+    apart : (word blanks comment end body last following : List ℕ)
+        → (word ++ (blanks ++ (comment ++ (end ++ (body ++ 46 ∷ last))))) ++ following ≡ word
+        ++ (blanks ++ (comment ++ (end ++ (body ++ 46 ∷ (last ++ following)))))
     apart word blanks comment end body last following = simp append_assoc
 
-    summed : (word blanks comment end body last : List ℕ) → length (word ++ (blanks ++ (comment ++ (end ++ (body ++ 46 ∷ last))))) ≡ length word + (length blanks + (length comment + (length end + (length body + suc (length last)))))
+    summed : (word blanks comment end body last : List ℕ)
+        → length (word ++ (blanks ++ (comment ++ (end ++ (body ++ 46 ∷ last)))))
+        ≡ length word + (length blanks + (length comment + (length end + (length body + suc (length last)))))
     summed word blanks comment end body last = simp length-append
 
 -- any token
-pub lexeme_short : (kind : TokenKind) (octets following : List ℕ) (k : TokenKind × ℕ) → Lexeme kind octets following → kind_at (octets ++ following) ≡ Ok k → length octets ≤ k.1
+pub lexeme_short : (kind : TokenKind) (octets following : List ℕ) (k : TokenKind × ℕ) → Lexeme kind octets following
+    → kind_at (octets ++ following) ≡ Ok k → length octets ≤ k.1
 lexeme_short (kinds.Identifier xs) octets following k h e = rw h.0 (name_short xs following k h.1 (rw h.0 at e))
 lexeme_short (kinds.Tag xs) octets following k h e = rw h.0 (tag_short xs following k h.1 (rw h.0 at e))
 lexeme_short (kinds.Number n) octets following k h e =
     let l = length-append h.digits h.quantifier in
-    let s = number_short h.digits h.quantifier following h.factor k h.some h.all (quantifier_counts h.quantifier h.factor h.counts) (rw (h.cut, append_assoc) at e) in
+    let s = number_short h.digits h.quantifier following h.factor k h.some h.all
+    (quantifier_counts h.quantifier h.factor h.counts) (rw (h.cut, append_assoc) at e) in
     rw h.cut (omega arith)
 lexeme_short (kinds.StringValue value) octets following k (inl h) e =
     let l = length-append h.body (34 ∷ []) in
@@ -327,13 +389,16 @@ lexeme_short (kinds.StringValue value) octets following k (inr h) e = multi_line
 lexeme_short (kinds.Mark mark) octets following k h e = let w = kind_within (octets ++ following) k e in rw h (omega arith)
 
 -- what is read as an identifier is no "text" before ":"
-word_begins : (ws xs following : List ℕ) → map to_ascii_lowercase xs ≡ ws → begins_with 58 following ≡ true → begins_as (ws ++ 58 ∷ []) (xs ++ following) ≡ true
+word_begins : (ws xs following : List ℕ) → map to_ascii_lowercase xs ≡ ws → begins_with 58 following ≡ true
+    → begins_as (ws ++ 58 ∷ []) (xs ++ following) ≡ true
 word_begins [] [] [] e h = absurd (false≢true h)
 word_begins [] [] (b ∷ bs) e h = let is : b ≡ 58 = eqb-true b 58 h in rw is refl
 word_begins [] (x ∷ xs) following e h = cc
 word_begins (w ∷ ws) [] following e h = cc
 word_begins (w ∷ ws) (x ∷ xs) following e h =
-    and_from (to_ascii_lowercase x == w) (begins_as (ws ++ 58 ∷ []) (xs ++ following)) (eq-eqb (to_ascii_lowercase x) w (first (to_ascii_lowercase x) w (map to_ascii_lowercase xs) ws e)) (word_begins ws xs following (others (to_ascii_lowercase x) w (map to_ascii_lowercase xs) ws e) h)
+    and_from (to_ascii_lowercase x == w) (begins_as (ws ++ 58 ∷ []) (xs
+    ++ following)) (eq-eqb (to_ascii_lowercase x) w (first (to_ascii_lowercase x) w (map to_ascii_lowercase xs) ws
+    e)) (word_begins ws xs following (others (to_ascii_lowercase x) w (map to_ascii_lowercase xs) ws e) h)
   where
     first : (a b : ℕ) (bs cs : List ℕ) → a ∷ bs ≡ b ∷ cs → a ≡ b
     first a b bs cs e = cc
@@ -341,14 +406,17 @@ word_begins (w ∷ ws) (x ∷ xs) following e h =
     others : (a b : ℕ) (bs cs : List ℕ) → a ∷ bs ≡ b ∷ cs → bs ≡ cs
     others a b bs cs e = cc
 
-name_apart : (xs following : List ℕ) (n : ℕ) → IsName xs → kind_at (xs ++ following) ≡ Ok (kinds.Identifier xs, n) → map to_ascii_lowercase xs ≡ codes "text" → begins_with 58 following ≡ false
+name_apart : (xs following : List ℕ) (n : ℕ) → IsName xs → kind_at (xs ++ following) ≡ Ok (kinds.Identifier xs, n)
+    → map to_ascii_lowercase xs ≡ codes "text" → begins_with 58 following ≡ false
 name_apart [] following n h e t = absurd (false≢true h.0)
 name_apart (b ∷ bs) following n h e t = elim (cases_Bool (begins_with 58 following)) [
   | inr none ↦ none
   | inl is ↦ (
       let word = word_begins (codes "text") (b ∷ bs) following t is in
       elim (branch b (bs ++ following) (kinds.Identifier (b ∷ bs), n) e) [
-        | lines x m ↦ (let p = multi_line_parts (drop 5 (b ∷ (bs ++ following))) (kinds.Identifier (b ∷ bs), n) m in let q = lines_parts _ _ _ p.2 in absurd (no_string (lines_value (take (lines_len true _) _)) (b ∷ bs) (ap (λ (k : TokenKind × ℕ). k.0) q.2)))
+        | lines x m ↦ (let p = multi_line_parts (drop 5 (b ∷ (bs ++ following))) (kinds.Identifier (b ∷ bs), n) m in
+            let q = lines_parts _ _ _ p.2 in
+            absurd (no_string (lines_value (take (lines_len true _) _)) (b ∷ bs) (ap (λ (k : TokenKind × ℕ). k.0) q.2)))
         | name x s m ↦ absurd (both_ways (begins_text (b ∷ (bs ++ following))) x word)
         | digits x s m ↦ absurd (both_ways (is_start b) x h.0)
         | colon x m ↦ absurd (false≢true (rw x at h.0))
@@ -360,7 +428,8 @@ name_apart (b ∷ bs) following n h e t = elim (cases_Bool (begins_with 58 follo
     no_string : (value xs : List ℕ) → kinds.StringValue value ≡ kinds.Identifier xs → ⊥
     no_string value xs e = cc
 
-pub kind_apart : (kind : TokenKind) (octets following : List ℕ) → Lexeme kind octets following → (n : ℕ) → kind_at (octets ++ following) ≡ Ok (kind, n) → IsApart kind following
+pub kind_apart : (kind : TokenKind) (octets following : List ℕ) → Lexeme kind octets following → (n : ℕ)
+    → kind_at (octets ++ following) ≡ Ok (kind, n) → IsApart kind following
 kind_apart (kinds.Identifier xs) octets following h n e = name_apart xs following n h.1 (rw h.0 at e)
 kind_apart (kinds.Tag xs) octets following h n e = tt
 kind_apart (kinds.Number m) octets following h n e = tt

@@ -3,7 +3,8 @@ use Rattle.std.proofs.Common.{◌≡◌, ℕ, ◌⊎◌, Bool, true, false, List
 use Rattle.std.specs.Prelude.{if◌then◌else◌, ◌==◌}
 use Rattle.std.proofs.lemmas.Bool.{eqb-true}
 use Rattle.sieve_syntax.specs.declared.token.Mark.{Mark}
-use Rattle.sieve_syntax.specs.declared.token.Mark.TheVariants.{Semicolon, OpenBrace, CloseBrace, OpenParen, CloseParen, OpenBracket, CloseBracket, Comma}
+use Rattle.sieve_syntax.specs.declared.token.Mark.TheVariants.{Semicolon, OpenBrace, CloseBrace, OpenParen, CloseParen}
+use Rattle.sieve_syntax.specs.declared.token.Mark.TheVariants.{OpenBracket, CloseBracket, Comma}
 use Rattle.sieve_syntax.specs.declared.token.TokenKind.{TokenKind}
 use Rattle.sieve_syntax.specs.declared.token.TokenKind.TheVariants as kinds
 use Rattle.sieve_text.specs.Gaps.{gap_len, comment_len}
@@ -26,7 +27,8 @@ which true x y m e = inl (refl, e)
 which false x y m e = inr (refl, e)
 
 -- the octet is this one, or one of the others
-or_other : (o : ℕ) (n : Mark) → StandsFirst o n → (b : ℕ) (m : Mark) (more : Option Mark) → (more ≡ Some m → StandsFirst b m) → (if b == o then Some n else more) ≡ Some m → StandsFirst b m
+or_other : (o : ℕ) (n : Mark) → StandsFirst o n → (b : ℕ) (m : Mark) (more : Option Mark)
+    → (more ≡ Some m → StandsFirst b m) → (if b == o then Some n else more) ≡ Some m → StandsFirst b m
 or_other o n first b m more other e = elim (which (b == o) (Some n) more m e) [
   | inl h ↦ subst (λ (c : ℕ). StandsFirst c m) (sym (eqb-true b o h.0)) (subst (λ (k : Mark). StandsFirst o k) (some_is n m h.1) first)
   | inr h ↦ other h.1

@@ -46,7 +46,8 @@ unfolding kind_at number_at
 hexadecimal = refl
 
 -- dots: a leading one is dropped only if another follows
-dots : kind_at (codes "text:" ++ lf ++ codes "..a" ++ lf ++ codes ".b" ++ lf ++ codes ".") ≡ Ok (kinds.StringValue (codes ".a" ++ crlf ++ codes ".b" ++ crlf), 14)
+dots : kind_at (codes "text:" ++ lf ++ codes "..a" ++ lf ++ codes ".b" ++ lf ++ codes ".")
+    ≡ Ok (kinds.StringValue (codes ".a" ++ crlf ++ codes ".b" ++ crlf), 14)
 unfolding kind_at multi_line_at lines_at lines_len without_stuffing with_crlf
 dots = refl
 

@@ -1,8 +1,10 @@
 -- Tokens one after another, and the one verdict on a script.
-use Rattle.std.proofs.Common.{◌≡◌, ℕ, zero, suc, ◌+◌, ◌≤◌, List, [], ◌∷◌, ◌++◌, length, Option, Some, None, Result, Ok, Err, refl, sym, ◌∙◌, ◌<◌, arith, inl, inr, ◌⊎◌}
+use Rattle.std.proofs.Common.{◌≡◌, ℕ, zero, suc, ◌+◌, ◌≤◌, List, [], ◌∷◌, ◌++◌, length, Option, Some, None, Result, Ok}
+use Rattle.std.proofs.Common.{Err, refl, sym, ◌∙◌, ◌<◌, arith, inl, inr, ◌⊎◌}
 use Rattle.sieve_syntax.specs.declared.token.Token.{Token}
 use Rattle.sieve_text.specs.declared.fault.ScanRefusal.{ScanRefusal}
-use Rattle.sieve_text.specs.declared.fault.ScanRefusal.TheVariants.{NotUtf8, NoToken, StringNotClosed, CommentNotClosed, NumberTooLarge, ScriptTooLong, StringTooLong}
+use Rattle.sieve_text.specs.declared.fault.ScanRefusal.TheVariants.{NotUtf8, NoToken, StringNotClosed, CommentNotClosed}
+use Rattle.sieve_text.specs.declared.fault.ScanRefusal.TheVariants.{NumberTooLarge, ScriptTooLong, StringTooLong}
 use Rattle.std.specs.Str.{is_utf8}
 use Rattle.std.proofs.lemmas.Str.{is_utf8-from_IsUtf8, IsUtf8-from_is_utf8}
 use Rattle.std.proofs.lemmas.Bool.{cases_Bool, cases_lt, both_ways}
@@ -10,7 +12,8 @@ use Rattle.sieve_text.specs.Octets.{stray_len, is_stray}
 use Rattle.sieve_text.proofs.WithinLemmas.{token_within}
 use Rattle.sieve_text.specs.Tokens.{token_at, Reads, IsSound, IsUnsound, IsScan, IsFirstFault, IsFaulty}
 
-pub Reads_push : (script : List ℕ) (at : ℕ) (ts : List Token) (t : Token) (end : ℕ) → Reads script at ts end → token_at script end ≡ Ok (Some t) → Reads script at (ts ++ t ∷ []) t.end
+pub Reads_push : (script : List ℕ) (at : ℕ) (ts : List Token) (t : Token) (end : ℕ) → Reads script at ts end
+    → token_at script end ≡ Ok (Some t) → Reads script at (ts ++ t ∷ []) t.end
 Reads_push script at [] t end h e = (rw h e, refl)
 Reads_push script at (u ∷ ts) t end h e = (h.0, Reads_push script u.end ts t end h.1 e)
 
@@ -30,7 +33,9 @@ unfolding Stops
 fault_stops refusal t e = cc
 
 -- tokens up to a place where none begins are the only ones
-one_end : (script : List ℕ) (at : ℕ) (ts us : List Token) (m n : ℕ) (x y : Result (Option Token) ScanRefusal) → Reads script at ts m → token_at script m ≡ x → Stops x → Reads script at us n → token_at script n ≡ y → Stops y → (ts ≡ us) × (m ≡ n)
+one_end : (script : List ℕ) (at : ℕ) (ts us : List Token) (m n : ℕ) (x y : Result (Option Token) ScanRefusal)
+    → Reads script at ts m → token_at script m ≡ x → Stops x → Reads script at us n → token_at script n ≡ y → Stops y
+    → (ts ≡ us) × (m ≡ n)
 unfolding Stops
 one_end script at [] [] m n x y h e s k f t = (refl, sym h ∙ k)
 one_end script at [] (u ∷ us) m n x y h e s k f t = absurd (s u (sym e ∙ rw h at k.0))
@@ -86,7 +91,8 @@ differ refusal x e f = cc
 same_refusal : (a b : ScanRefusal) (x : Result (Option Token) ScanRefusal) → x ≡ Err a → x ≡ Err b → a ≡ b
 same_refusal a b x e f = cc
 
-scan_or_fault : (script : List ℕ) (ts : List Token) (refusal : ScanRefusal) → (end : ℕ) × Reads script 0 ts end × (token_at script end ≡ Ok None) → IsFirstFault script refusal → ⊥
+scan_or_fault : (script : List ℕ) (ts : List Token) (refusal : ScanRefusal) → (end : ℕ) × Reads script 0 ts end
+    × (token_at script end ≡ Ok None) → IsFirstFault script refusal → ⊥
 scan_or_fault script ts refusal h k =
     let both = one_end script 0 ts k.0 h.0 k.1 (Ok None) (Err refusal) h.1 h.2 none_stops k.2 k.3 (fault_stops refusal) in
     differ refusal (token_at script k.1) (rw both.1 at h.2) k.3
@@ -108,20 +114,24 @@ one_fault script a b (inr h) (inr k) = first_once script a b h.1 k.1
 
 -- from an offset on there are tokens to the end or to a fault
 abbrev Verdict : List ℕ → ℕ → Type 0
-Verdict script at = ((ts : List Token) × (end : ℕ) × Reads script at ts end × (token_at script end ≡ Ok None)) ⊎ ((refusal : ScanRefusal) × (ts : List Token) × (end : ℕ) × Reads script at ts end × (token_at script end ≡ Err refusal))
+Verdict script at = ((ts : List Token) × (end : ℕ) × Reads script at ts end
+    × (token_at script end ≡ Ok None)) ⊎ ((refusal : ScanRefusal) × (ts : List Token) × (end : ℕ)
+    × Reads script at ts end × (token_at script end ≡ Err refusal))
 
 after_one : (script : List ℕ) (at : ℕ) (t : Token) → token_at script at ≡ Ok (Some t) → Verdict script t.end → Verdict script at
 after_one script at t e (inl h) = inl (t ∷ h.0, h.1, (e, h.2), h.3)
 after_one script at t e (inr h) = inr (h.0, t ∷ h.1, h.2, (e, h.3), h.4)
 
-verdict_at : (script : List ℕ) (at : ℕ) (answer : Result (Option Token) ScanRefusal) → token_at script at ≡ answer → ((t : Token) → token_at script at ≡ Ok (Some t) → Verdict script t.end) → Verdict script at
+verdict_at : (script : List ℕ) (at : ℕ) (answer : Result (Option Token) ScanRefusal) → token_at script at ≡ answer
+    → ((t : Token) → token_at script at ≡ Ok (Some t) → Verdict script t.end) → Verdict script at
 verdict_at script at (Ok None) e following = inl ([], at, refl, e)
 verdict_at script at (Ok (Some t)) e following = after_one script at t e (following t e)
 verdict_at script at (Err refusal) e following = inr (refusal, [], at, refl, e)
 
 verdict_from : (turns : ℕ) (script : List ℕ) (at : ℕ) → at ≤ length script → length script < at + turns → Verdict script at
 verdict_from zero script at within enough = absurd (omega arith)
-verdict_from (suc turns) script at within enough = verdict_at script at (token_at script at) refl (λ (t : Token) (e : token_at script at ≡ Ok (Some t)).
+verdict_from (suc turns) script at within enough =
+    verdict_at script at (token_at script at) refl (λ (t : Token) (e : token_at script at ≡ Ok (Some t)).
     let w = token_within script at t within e in
     verdict_from turns script t.end (omega arith) (omega arith))
 
@@ -133,7 +143,8 @@ stray_within (b ∷ bs) = elim (cases_Bool (is_stray b bs)) [
   | inr h ↦ (let r = stray_within bs in rw h (omega arith))
 ]
 
-sound_verdict : (script : List ℕ) → IsSound script → Verdict script 0 → ((ts : List Token) × IsScan script ts) ⊎ ((refusal : ScanRefusal) × IsFaulty script refusal)
+sound_verdict : (script : List ℕ) → IsSound script → Verdict script 0
+    → ((ts : List Token) × IsScan script ts) ⊎ ((refusal : ScanRefusal) × IsFaulty script refusal)
 sound_verdict script sound (inl h) = inl (h.0, (sound, (h.1, h.2, h.3)))
 sound_verdict script sound (inr h) = inr (h.0, inr (sound, (h.1, h.2, h.3, h.4)))
 
@@ -145,7 +156,12 @@ some_verdict script = elim (cases_lt 262144 (length script)) [
     | inr bad ↦ inr (NotUtf8, inl (short, λ utf8. both_ways (is_utf8 script) bad (is_utf8-from_IsUtf8 script utf8)))
     | inl good ↦ elim (cases_lt (stray_len script) (length script)) [
       | inl stray ↦ inr (NoToken, inl (short, IsUtf8-from_is_utf8 script good, stray))
-      | inr none ↦ (let w = stray_within script in sound_verdict script (short, IsUtf8-from_is_utf8 script good, omega arith) (verdict_from (suc (length script)) script 0 (omega arith) (omega arith)))
+      | inr none ↦
+          (let w = stray_within script in sound_verdict script (
+            short,
+            IsUtf8-from_is_utf8 script good,
+            omega arith,
+          ) (verdict_from (suc (length script)) script 0 (omega arith) (omega arith)))
     ]
   ]
 ]

@@ -24,7 +24,8 @@ gap_again zero (b ∷ bs) = elim (cases_Bool (is_white b)) [
   ]
 ]
 
-again : (bs : List ℕ) (read : Result (TokenKind × ℕ) ScanRefusal) → kind_at (drop (gap_len 0 bs) bs) ≡ read → kind_at (drop (gap_len 0 (drop (gap_len 0 bs) bs)) (drop (gap_len 0 bs) bs)) ≡ read
+again : (bs : List ℕ) (read : Result (TokenKind × ℕ) ScanRefusal) → kind_at (drop (gap_len 0 bs) bs) ≡ read
+    → kind_at (drop (gap_len 0 (drop (gap_len 0 bs) bs)) (drop (gap_len 0 bs) bs)) ≡ read
 again bs read e = subst (λ (n : ℕ). kind_at (drop n (drop (gap_len 0 bs) bs)) ≡ read) (sym (gap_again 0 bs)) e
 
 pub kinds_after : (bs : List ℕ) → kinds_in (drop (gap_len 0 bs) bs) ≡ kinds_in bs
@@ -34,7 +35,9 @@ kinds_after bs = go (kind_at rest) refl
     rest = drop (gap_len 0 bs) bs
 
     go : (read : Result (TokenKind × ℕ) ScanRefusal) → kind_at rest ≡ read → kinds_in rest ≡ kinds_in bs
-    go (Ok k) e = subst (λ (n : ℕ). kinds_in rest ≡ k.0 ∷ kinds_in (drop k.1 (drop n rest))) (gap_again 0 bs) (first_in rest k (again bs (Ok k) e)) ∙ sym (first_in bs k e)
+    go (Ok k) e =
+        subst (λ (n : ℕ). kinds_in rest ≡ k.0 ∷ kinds_in (drop k.1 (drop n rest))) (gap_again 0 bs)
+        (first_in rest k (again bs (Ok k) e)) ∙ sym (first_in bs k e)
     go (Err refusal) e = none_in rest refusal (again bs (Err refusal) e) ∙ sym (none_in bs refusal e)
 
 pub left_after_gap : (bs : List ℕ) → left_in (drop (gap_len 0 bs) bs) ≡ left_in bs
@@ -44,8 +47,12 @@ left_after_gap bs = go (kind_at rest) refl
     rest = drop (gap_len 0 bs) bs
 
     go : (read : Result (TokenKind × ℕ) ScanRefusal) → kind_at rest ≡ read → left_in rest ≡ left_in bs
-    go (Ok k) e = subst (λ (n : ℕ). left_in rest ≡ left_in (drop k.1 (drop n rest))) (gap_again 0 bs) (left_first rest k (again bs (Ok k) e)) ∙ sym (left_first bs k e)
-    go (Err refusal) e = subst (λ (n : ℕ). left_in rest ≡ drop n rest) (gap_again 0 bs) (left_none rest refusal (again bs (Err refusal) e)) ∙ sym (left_none bs refusal e)
+    go (Ok k) e =
+        subst (λ (n : ℕ). left_in rest ≡ left_in (drop k.1 (drop n rest))) (gap_again 0 bs)
+        (left_first rest k (again bs (Ok k) e)) ∙ sym (left_first bs k e)
+    go (Err refusal) e =
+        subst (λ (n : ℕ). left_in rest ≡ drop n rest) (gap_again 0 bs)
+        (left_none rest refusal (again bs (Err refusal) e)) ∙ sym (left_none bs refusal e)
 
 no_comment : (bs : List ℕ) → begins_with 35 bs ≡ false → begins_with 47 bs ≡ false → comment_len bs ≡ 0
 unfolding comment_len
@@ -53,5 +60,6 @@ no_comment [] h s = refl
 no_comment (b ∷ bs) h s = rw (h, s) refl
 
 -- a gap of white space alone
-pub white_gap : (bs : List ℕ) → begins_with 35 (drop (prefix_len is_white bs) bs) ≡ false → begins_with 47 (drop (prefix_len is_white bs) bs) ≡ false → gap_len 0 bs ≡ prefix_len is_white bs
+pub white_gap : (bs : List ℕ) → begins_with 35 (drop (prefix_len is_white bs) bs) ≡ false
+    → begins_with 47 (drop (prefix_len is_white bs) bs) ≡ false → gap_len 0 bs ≡ prefix_len is_white bs
 white_gap bs h s = gap_last bs (prefix_len is_white bs) refl (no_comment (drop (prefix_len is_white bs) bs) h s)

@@ -1,5 +1,6 @@
 -- The first stray octet of a script.
-use Rattle.std.proofs.Common.{◌≡◌, ℕ, suc, ◌+◌, ◌<◌, Bool, true, false, List, [], ◌∷◌, ◌++◌, length, refl, sym, ap, ◌∙◌, arith, inl, inr, length-append}
+use Rattle.std.proofs.Common.{◌≡◌, ℕ, suc, ◌+◌, ◌<◌, Bool, true, false, List, [], ◌∷◌, ◌++◌, length, refl, sym, ap, ◌∙◌}
+use Rattle.std.proofs.Common.{arith, inl, inr, length-append}
 use Rattle.std.specs.Prelude.{◌==◌, ◌&&◌, not}
 use Rattle.std.proofs.lemmas.Bool.{both_ways, cases_Bool, eqb-true, and_parts, or_cases}
 use Rattle.std.proofs.lemmas.List.{append-nil}
@@ -65,7 +66,16 @@ whole_clean bs c =
 pub stray_at : (bs : List ℕ) → stray_len bs < length bs → IsStrayAt bs (stray_len bs)
 stray_at [] h = absurd (omega arith)
 stray_at (b ∷ bs) h = elim (cases_Bool (is_stray b bs)) [
-  | inl e ↦ record { front = []; octet = b; following = bs; cut = refl; clean = clean_end (b ∷ bs); stray = stray_is b bs e; place_is = stray_here b bs e }
+  | inl e ↦ record {
+    front = [];
+    octet = b;
+    following = bs;
+    cut = refl;
+    clean = clean_end (b ∷ bs);
+    stray =
+        stray_is b bs e;
+    place_is = stray_here b bs e;
+  }
   | inr e ↦ (
       let s = stray_later b bs e in
       let r = stray_at bs (omega arith) in

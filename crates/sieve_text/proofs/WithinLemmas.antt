@@ -1,5 +1,6 @@
 -- A token takes an octet at least, and ends within the script.
-use Rattle.std.proofs.Common.{◌≡◌, ℕ, suc, ◌+◌, ◌<◌, ◌≤◌, ◌⊎◌, Bool, true, false, List, [], ◌∷◌, length, drop, nat_lt, Option, Some, None, Result, Ok, Err, sym, ap, ◌∙◌, arith, inl, inr}
+use Rattle.std.proofs.Common.{◌≡◌, ℕ, suc, ◌+◌, ◌<◌, ◌≤◌, ◌⊎◌, Bool, true, false, List, [], ◌∷◌, length, drop, nat_lt}
+use Rattle.std.proofs.Common.{Option, Some, None, Result, Ok, Err, sym, ap, ◌∙◌, arith, inl, inr}
 use Rattle.std.specs.Prelude.{if◌then◌else◌, ◌==◌, ◌&&◌, ◌||◌, codes}
 use Rattle.std.specs.List.{prefix_len}
 use Rattle.std.specs.Char.{is_ascii_digit, to_ascii_lowercase}
@@ -14,7 +15,9 @@ use Rattle.sieve_text.specs.Octets.{is_blank, is_start, is_word, begins_with, no
 use Rattle.sieve_text.specs.Gaps.{gap_len}
 use Rattle.sieve_text.specs.Strings.{begins_as, begins_text, opening_end_at, lines_len}
 use Rattle.sieve_text.specs.Tokens.{text_len, mark_of, lines_at, multi_line_at, factor_at, kind_at, token_at, ◌>>=◌}
-use Rattle.sieve_text.proofs.KindLemmas.{read_as, tested, bound_parts, same_kind, no_kind, quoted_parts, lines_parts, multi_line_parts, tag_parts, number_parts, mark_parts, branch, lines, name, digits, colon, quote, one}
+use Rattle.sieve_text.proofs.KindLemmas.{read_as, tested, bound_parts, same_kind, no_kind, quoted_parts, lines_parts}
+use Rattle.sieve_text.proofs.KindLemmas.{multi_line_parts, tag_parts, number_parts, mark_parts, branch, lines, name}
+use Rattle.sieve_text.proofs.KindLemmas.{digits, colon, quote, one}
 
 -- a front that begins with a passing octet is not empty
 pub one_more : (p : ℕ → Bool) (b : ℕ) (bs : List ℕ) → p b ≡ true → 0 < prefix_len p (b ∷ bs)
@@ -35,7 +38,9 @@ line_end_within (b ∷ []) = if_le (b == 10) 1 (if (b == 13) && false then 2 els
     not_both : (t : Bool) → (if t && false then 2 else 0) ≤ 1
     not_both true = omega arith
     not_both false = omega arith
-line_end_within (b ∷ c ∷ bs) = if_le (b == 10) 1 (if (b == 13) && (c == 10) then 2 else 0) (length (b ∷ c ∷ bs)) (omega arith) (if_le ((b == 13) && (c == 10)) 2 0 (length (b ∷ c ∷ bs)) (omega arith) (omega arith))
+line_end_within (b ∷ c ∷ bs) =
+    if_le (b == 10) 1 (if (b == 13) && (c == 10) then 2 else 0) (length (b ∷ c ∷ bs)) (omega arith)
+    (if_le ((b == 13) && (c == 10)) 2 0 (length (b ∷ c ∷ bs)) (omega arith) (omega arith))
 
 pub text_within : (bs : List ℕ) → begins_text bs ≡ true → 5 ≤ length bs
 text_within bs h = as_within (codes "text:") bs h
@@ -48,16 +53,18 @@ text_within bs h = as_within (codes "text:") bs h
 opening_end_within : (bs : List ℕ) (n : ℕ) → opening_end_at bs ≡ Ok n → n ≤ length bs
 opening_end_within bs n e = elim (tested (length bs == 0) (Err StringNotClosed) _ n e) [
   | inl h ↦ absurd (no_kind StringNotClosed n h.1)
-  | inr h ↦ elim (tested (begins_with 35 bs) (if nat_lt (prefix_len not_lf bs) (length bs) then Ok (suc (prefix_len not_lf bs)) else Err StringNotClosed) _ n h.1) [
-    | inl h1 ↦ elim (tested (nat_lt (prefix_len not_lf bs) (length bs)) (Ok (suc (prefix_len not_lf bs))) (Err StringNotClosed) n h1.1) [
-      | inl h2 ↦ (let s = same_kind (suc (prefix_len not_lf bs)) n h2.1 in let l = ltb-true (prefix_len not_lf bs) (length bs) h2.0 in omega arith)
-      | inr h2 ↦ absurd (no_kind StringNotClosed n h2.1)
-    ]
-    | inr h1 ↦ elim (tested (nat_lt 0 (line_end_len bs)) (Ok (line_end_len bs)) (Err NoToken) n h1.1) [
-      | inl h2 ↦ (let s = same_kind (line_end_len bs) n h2.1 in let l = line_end_within bs in omega arith)
-      | inr h2 ↦ absurd (no_kind NoToken n h2.1)
-    ]
-  ]
+  | inr h ↦ elim
+      (tested (begins_with 35 bs) (if nat_lt (prefix_len not_lf bs) (length bs) then Ok (suc (prefix_len not_lf bs))
+      else Err StringNotClosed) _ n h.1) [
+        | inl h1 ↦ elim (tested (nat_lt (prefix_len not_lf bs) (length bs)) (Ok (suc (prefix_len not_lf bs))) (Err StringNotClosed) n h1.1) [
+          | inl h2 ↦ (let s = same_kind (suc (prefix_len not_lf bs)) n h2.1 in let l = ltb-true (prefix_len not_lf bs) (length bs) h2.0 in omega arith)
+          | inr h2 ↦ absurd (no_kind StringNotClosed n h2.1)
+        ]
+        | inr h1 ↦ elim (tested (nat_lt 0 (line_end_len bs)) (Ok (line_end_len bs)) (Err NoToken) n h1.1) [
+          | inl h2 ↦ (let s = same_kind (line_end_len bs) n h2.1 in let l = line_end_within bs in omega arith)
+          | inr h2 ↦ absurd (no_kind NoToken n h2.1)
+        ]
+      ]
 ]
 
 lines_within : (before : ℕ) (bs : List ℕ) (k : TokenKind × ℕ) → lines_at before bs ≡ Ok k → (before < k.1) × (k.1 ≤ before + length bs)
@@ -82,7 +89,10 @@ pub factor_within : (bs : List ℕ) → (factor_at bs).1 ≤ length bs
 factor_within [] = omega arith
 factor_within (b ∷ bs) =
     let n : ℕ = length (b ∷ bs) in
-    if_le_1 ((b == 75) || (b == 107)) (1024, 1) _ n (omega arith) (if_le_1 ((b == 77) || (b == 109)) (1048576, 1) _ n (omega arith) (if_le_1 ((b == 71) || (b == 103)) (1073741824, 1) (1, 0) n (omega arith) (omega arith)))
+    if_le_1 ((b == 75) || (b == 107)) (1024, 1) _ n (omega arith) (if_le_1 ((b == 77) || (b == 109)) (
+      1048576,
+      1,
+    ) _ n (omega arith) (if_le_1 ((b == 71) || (b == 103)) (1073741824, 1) (1, 0) n (omega arith) (omega arith)))
 
 pub nothing_here : (k : TokenKind × ℕ) → kind_at [] ≡ Ok k → ⊥
 unfolding kind_at
@@ -92,8 +102,10 @@ nothing_here k e = no_kind NoToken k e
 pub kind_within : (bs : List ℕ) (k : TokenKind × ℕ) → kind_at bs ≡ Ok k → (0 < k.1) × (k.1 ≤ length bs)
 kind_within [] k e = absurd (nothing_here k e)
 kind_within (b ∷ bs) k e = elim (branch b bs k e) [
-  | lines t h ↦ (let w = text_within (b ∷ bs) t in let m = multi_line_within (drop 5 (b ∷ bs)) k h in let d = length-drop 5 (b ∷ bs) in (omega arith, omega arith))
-  | name t s h ↦ (let l = prefix_len-le-length is_word (b ∷ bs) in let n = ap (λ (k : TokenKind × ℕ). k.1) h in let o = one_more is_word b bs (or_left (is_start b) (is_ascii_digit b) s) in (omega arith, omega arith))
+  | lines t h ↦ (let w = text_within (b ∷ bs) t in let m = multi_line_within (drop 5 (b ∷ bs)) k h in let d =
+      length-drop 5 (b ∷ bs) in (omega arith, omega arith))
+  | name t s h ↦ (let l = prefix_len-le-length is_word (b ∷ bs) in let n = ap (λ (k : TokenKind × ℕ). k.1) h in let o =
+      one_more is_word b bs (or_left (is_start b) (is_ascii_digit b) s) in (omega arith, omega arith))
   | digits t s h ↦ (
       let p = number_parts (b ∷ bs) k h in
       let n = ap (λ (k : TokenKind × ℕ). k.1) p.1 in
@@ -102,7 +114,8 @@ kind_within (b ∷ bs) k e = elim (branch b bs k e) [
       let f = factor_within (drop (prefix_len is_ascii_digit (b ∷ bs)) (b ∷ bs)) in
       let d = length-drop (prefix_len is_ascii_digit (b ∷ bs)) (b ∷ bs) in
       (omega arith, omega arith))
-  | colon t h ↦ (let p = tag_parts bs k h in let n = ap (λ (k : TokenKind × ℕ). k.1) p.1 in let l = prefix_len-le-length is_word bs in (omega arith, omega arith))
+  | colon t h ↦ (let p = tag_parts bs k h in let n = ap (λ (k : TokenKind × ℕ). k.1) p.1 in let l =
+      prefix_len-le-length is_word bs in (omega arith, omega arith))
   | quote t h ↦ (let p = quoted_parts bs k h in let n = ap (λ (k : TokenKind × ℕ). k.1) p.2 in (omega arith, omega arith))
   | one s d c q h ↦ (let p = mark_parts (mark_of b) k h in let n = ap (λ (k : TokenKind × ℕ). k.1) p.2 in (omega arith, omega arith))
 ]
@@ -135,13 +148,23 @@ token_parts script at t e = go (tested (nat_lt start (length script)) (kind_at (
     found k r m =
         let same = some_token (record { kind = k.0; start = start; end = start + k.1 }) t m in
         let s : start ≡ t.start = ap (λ (t : Token). t.start) same in
-        record { begins = sym s; kind = k; read = rw s at r; says = sym (ap (λ (t : Token). t.kind) same); ends = sym (ap (λ (t : Token). t.end) same) ∙ ap (λ n. n + k.1) s }
+        record {
+          begins = sym s;
+          kind = k;
+          read = rw s at r;
+          says = sym (ap (λ (t : Token). t.kind) same);
+          ends =
+              sym (ap (λ (t : Token). t.end) same) ∙ ap (λ n. n + k.1) s;
+        }
 
-    go : ((nat_lt start (length script) ≡ true) × ((kind_at (drop start script) >>= made) ≡ Ok (Some t))) ⊎ ((nat_lt start (length script) ≡ false) × (read_as None ≡ Ok (Some t))) → IsTokenAt script at t
+    go : ((nat_lt start (length script) ≡ true)
+        × ((kind_at (drop start script) >>= made) ≡ Ok (Some t))) ⊎ ((nat_lt start (length script) ≡ false)
+        × (read_as None ≡ Ok (Some t))) → IsTokenAt script at t
     go (inl h) = let p = bound_parts (kind_at (drop start script)) made (Some t) h.1 in found p.0 p.1 p.2
     go (inr h) = absurd (no_token t h.1)
 
-pub token_within : (script : List ℕ) (at : ℕ) (t : Token) → at ≤ length script → token_at script at ≡ Ok (Some t) → (at ≤ t.start) × (t.start < t.end) × (t.end ≤ length script)
+pub token_within : (script : List ℕ) (at : ℕ) (t : Token) → at ≤ length script → token_at script at ≡ Ok (Some t)
+    → (at ≤ t.start) × (t.start < t.end) × (t.end ≤ length script)
 token_within script at t within e =
     let p = token_parts script at t e in
     let k = kind_within (drop t.start script) p.kind p.read in

@@ -1,5 +1,6 @@
 -- Files that hold a database are not files in which none has been made yet, whatever the page size.
-use Rattle.std.proofs.Common.{◌≡◌, ◌≢◌, ◌<◌, ◌≤◌, ◌+◌, ◌-◌, ◌*◌, ℕ, List, [], length, take, min, unwrap_or, Option, Some, slice_index, get_or-take, sym, ap, ◌∙◌, inl, inr, arith, refl, length-take}
+use Rattle.std.proofs.Common.{◌≡◌, ◌≢◌, ◌<◌, ◌≤◌, ◌+◌, ◌-◌, ◌*◌, ℕ, List, [], length, take, min, unwrap_or, Option}
+use Rattle.std.proofs.Common.{Some, slice_index, get_or-take, sym, ap, ◌∙◌, inl, inr, arith, refl, length-take}
 use Rattle.sqlite_wal.specs.Format.{part}
 use Rattle.sqlite_wal.specs.Recovery.{Image, pages_after}
 use Rattle.sqlite_wal.proofs.PartLemmas.{slice_index-part, part_within}

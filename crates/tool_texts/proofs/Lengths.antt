@@ -45,7 +45,8 @@ read word (Err e) d h =
     elim (cases_lt (digits_value 10 word) (2 ^ 64)) [ inl l ↦ absurd (h (nonempty word d, l)) | inr l ↦ sym (long word l) ]
 
 -- what 64 bits read is the number of the digits
-pub digits_read : {E : Type 0} (word : List ℕ) (r : Result ℕ E) → are_digits word ≡ true → ParsesUnsigned 64 10 word r → result_ok r ≡ number_in greatest_number word
+pub digits_read : {E : Type 0} (word : List ℕ) (r : Result ℕ E) → are_digits word ≡ true → ParsesUnsigned 64 10 word r
+    → result_ok r ≡ number_in greatest_number word
 digits_read word r d p = read word r d (parse_digits own 64 word r p (all_digits word d))
 
 pub number_in-none : (greatest : ℕ) (word : List ℕ) → are_digits word ≡ false → None ≡ number_in greatest word
@@ -57,6 +58,7 @@ pub none_lower : (greatest : ℕ) (word : List ℕ) → greatest ≤ greatest_nu
 unfolding number_in
 none_lower greatest word h e = grind (arith, nat_tests)
 
-pub some_lower : (greatest : ℕ) (word : List ℕ) (n : ℕ) → greatest ≤ greatest_number → Some n ≡ number_in greatest_number word → (if nat_le n greatest then Some n else None) ≡ number_in greatest word
+pub some_lower : (greatest : ℕ) (word : List ℕ) (n : ℕ) → greatest ≤ greatest_number
+    → Some n ≡ number_in greatest_number word → (if nat_le n greatest then Some n else None) ≡ number_in greatest word
 unfolding number_in
 some_lower greatest word n h e = grind (arith, nat_tests)

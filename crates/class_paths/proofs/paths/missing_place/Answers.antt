@@ -12,5 +12,8 @@ returns-in-Ok-clause-there c =
 
 pub returns-in-Err-clause-missing : goal.returns-in-Err-clause-missing
 returns-in-Err-clause-missing c =
-    let place = c.in-Err.ensures.position (λ q. slice_cmp nat_cmp q c.args.path.now) (always_returns_same _ _ _ (λ a r f called. search rules)) in
-    (c.in-Err.ensures.bound, insert_path_missing c.args.items.now c.args.path.now c.in-Err.at c.in-Err.ensures.bound (place (comparisons_rise c.args.items.now c.args.path.now c.requires)))
+    let place = c.in-Err.ensures.position (λ q. slice_cmp nat_cmp q c.args.path.now) (always_returns_same _ _ _ (λ a r f called. search rules)) in (
+      c.in-Err.ensures.bound,
+      insert_path_missing c.args.items.now c.args.path.now c.in-Err.at c.in-Err.ensures.bound
+          (place (comparisons_rise c.args.items.now c.args.path.now c.requires)),
+    )

@@ -10,16 +10,27 @@ use Rattle.class_plan.proofs.changes.keeps_classes.Goals as goal
 pub loop-path-preserved : goal.loop-path-preserved
 loop-path-preserved c =
     let rest = rest_more deref c.loop-path.path-iterator c.next.new.self c.next.result c.in-Some.path c.in-Some.is c.next.ensures.steps in
-    let has : has (rows_in c.args.new.now) c.in-Some.path.now.items ≡ true = sym (ap (has (rows_in c.args.new.now)) c.as_slice.ensures.value) ∙ sym c.class_at.ensures.some ∙ c.is_none.ensures ∙ ap not c.if-is_none.false in
-    record { can = search rules; finite = search rules; kept = kept-more (rows_in c.args.new.now) _ (keys c.args.old.now) _ _ rest c.loop-path.invariant.kept has }
+    let has : has (rows_in c.args.new.now) c.in-Some.path.now.items ≡ true =
+    sym (ap (has (rows_in c.args.new.now)) c.as_slice.ensures.value) ∙ sym c.class_at.ensures.some
+    ∙ c.is_none.ensures ∙ ap not c.if-is_none.false in
+    record {
+      can = search rules;
+      finite = search rules;
+      kept =
+          kept-more (rows_in c.args.new.now) _ (keys c.args.old.now) _ _ rest c.loop-path.invariant.kept has;
+    }
 
 pub returns-then-is_none : goal.returns-then-is_none
 returns-then-is_none c =
     let rest = rest_more deref c.loop-path.path-iterator c.next.new.self c.next.result c.in-Some.path c.in-Some.is c.next.ensures.steps in
-    let has : has (rows_in c.args.new.now) c.in-Some.path.now.items ≡ false = sym (ap (has (rows_in c.args.new.now)) c.as_slice.ensures.value) ∙ sym c.class_at.ensures.some ∙ c.is_none.ensures ∙ ap not c.if-is_none.true in
-    sym (kept-less (rows_in c.args.new.now) _ (keys c.args.old.now) _ _ rest c.loop-path.invariant.kept has) ∙ kept-rows (rows_in c.args.new.now) c.args.old.now.entries
+    let has : has (rows_in c.args.new.now) c.in-Some.path.now.items ≡ false =
+    sym (ap (has (rows_in c.args.new.now)) c.as_slice.ensures.value) ∙ sym c.class_at.ensures.some
+    ∙ c.is_none.ensures ∙ ap not c.if-is_none.true in
+    sym (kept-less (rows_in c.args.new.now) _ (keys c.args.old.now) _ _ rest c.loop-path.invariant.kept has)
+    ∙ kept-rows (rows_in c.args.new.now) c.args.old.now.entries
 
 pub returns : goal.returns
 returns c =
     let rest = rest_all deref c.loop-path.path-iterator c.next.new.self c.next.result c.in-None.is c.next.ensures.steps in
-    sym (kept-all (rows_in c.args.new.now) (keys c.args.old.now) _ rest c.loop-path.invariant.kept) ∙ kept-rows (rows_in c.args.new.now) c.args.old.now.entries
+    sym (kept-all (rows_in c.args.new.now) (keys c.args.old.now) _ rest c.loop-path.invariant.kept)
+    ∙ kept-rows (rows_in c.args.new.now) c.args.old.now.entries

@@ -14,8 +14,11 @@ returns-clause-date c =
     let low : pos 0 ≤ℤ c.args.number = grind (arith, ints) in
     let high : c.args.number ≤ℤ pos 2932896 = grind (arith, ints) in
     let start = epoch_day-zero c.date.result c.date.ensures.0 c.date.ensures.1 c.date.ensures.2 in
-    let in_range : IsEpochDay (epoch_day c.date.result +ℤ c.args.number) = rw start (omega (arith, signed_arith), omega (arith, signed_arith)) in
-    ((low, high), days-added c.date.result c.saturating_add.result _ _ only c.saturating_add.ensures.fits in_range ∙ rw start (omega (arith, signed_arith)))
+    let in_range : IsEpochDay (epoch_day c.date.result +ℤ c.args.number) = rw start (omega (arith, signed_arith), omega (arith, signed_arith)) in (
+      (low, high),
+      days-added c.date.result c.saturating_add.result _ _ only c.saturating_add.ensures.fits in_range
+          ∙ rw start (omega (arith, signed_arith)),
+    )
 
 pub returns-clause-only : goal.returns-clause-only
 returns-clause-only c = λ e same range. epoch_day_injective e c.saturating_add.result (same ∙ sym (returns-clause-date c).1)

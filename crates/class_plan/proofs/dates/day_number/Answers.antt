@@ -12,7 +12,8 @@ pub returns-clause-number : goal.returns-clause-number
 returns-clause-number c =
     let start = epoch_day-zero c.date.result c.date.ensures.0 c.date.ensures.1 c.date.ensures.2 in
     let range = epoch_day_range c.args.day in
-    let nanos : signed_nanos c.duration_until.result ≡ epoch_day c.args.day *ℤ pos 86400000000000 = c.duration_until.ensures ∙ rw start (omega (arith, signed_arith)) in
+    let nanos : signed_nanos c.duration_until.result ≡ epoch_day c.args.day *ℤ pos 86400000000000 =
+    c.duration_until.ensures ∙ rw start (omega (arith, signed_arith)) in
     omega (arith, signed_arith, rw nanos at c.as_hours.ensures)
 
 pub returns-clause-ordered : goal.returns-clause-ordered

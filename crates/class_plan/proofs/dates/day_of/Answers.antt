@@ -10,8 +10,12 @@ pub returns-clause-date : goal.returns-clause-date
 returns-clause-date c =
     let only = rw (to_z_pos w64 (c.args.moment / 86400) (omega arith)) at c.days.ensures in
     let start = epoch_day-zero c.date.result c.date.ensures.0 c.date.ensures.1 c.date.ensures.2 in
-    let in_range : IsEpochDay (epoch_day c.date.result +ℤ pos (c.args.moment / 86400)) = rw start (omega (arith, signed_arith), omega (arith, signed_arith)) in
-    (omega arith, days-added c.date.result c.saturating_add.result _ _ only c.saturating_add.ensures.fits in_range ∙ rw start (omega (arith, signed_arith)))
+    let in_range : IsEpochDay (epoch_day c.date.result +ℤ pos (c.args.moment / 86400)) =
+    rw start (omega (arith, signed_arith), omega (arith, signed_arith)) in (
+      omega arith,
+      days-added c.date.result c.saturating_add.result _ _ only c.saturating_add.ensures.fits in_range
+          ∙ rw start (omega (arith, signed_arith)),
+    )
 
 pub returns-clause-capture : goal.returns-clause-capture
 returns-clause-capture c =

@@ -15,7 +15,9 @@ returns-in-None c =
 pub loop-value-preserved : goal.loop-value-preserved
 loop-value-preserved c =
     let h : c.loop-value.value-index < length c.args.values.now.items = search rules in
-    let is : Some (entry_view c.in-Some.class) ≡ entry_of (view (get_or c.args.values.now.items c.loop-value.value-index c.value-item.result)) = search rules in
+    let is : Some (entry_view c.in-Some.class)
+    ≡ entry_of (view (get_or c.args.values.now.items c.loop-value.value-index c.value-item.result)) =
+    search rules in
     let more = entries-more _ _ _ _ _ h is c.loop-value.invariant in
     rw c.in_ok-push-in-Some.ensures.items (rw (map-append entry_view c.loop-value.out.items (c.in-Some.class ∷ [])) more)
 

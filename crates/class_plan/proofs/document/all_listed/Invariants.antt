@@ -5,4 +5,5 @@ use Rattle.class_plan.specs.Entries.{entry_view}
 use Rattle.class_plan.proofs.document.all_listed.Given as goal
 
 abbrev pub invariant-loop-value : goal.invariant-loop-value
-invariant-loop-value l = entries_of (items_view l.values.items) ≡ option_map (λ more. map entry_view l.out.items ++ more) (entries_of (items_view (drop l.value-index l.values.items)))
+invariant-loop-value l = entries_of (items_view l.values.items) ≡ option_map (λ more. map entry_view l.out.items
+    ++ more) (entries_of (items_view (drop l.value-index l.values.items)))

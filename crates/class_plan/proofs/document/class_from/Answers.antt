@@ -3,7 +3,8 @@ use Rattle.std.specs.Str.{bytes_eq}
 use Rattle.toml.specs.Data.{get_member, as_str}
 use Rattle.toml.specs.View.{table_view}
 use Rattle.class_plan.specs.Document.{has_only, is_class_key, openness_of, statement_of}
-use Rattle.class_plan.proofs.Classes.{no_class-keys, no_class-path, no_class-open, no_class-schedule, class-made, checked-closed, checked-open, checked-other}
+use Rattle.class_plan.proofs.Classes.{no_class-keys, no_class-path, no_class-open, no_class-schedule, class-made}
+use Rattle.class_plan.proofs.Classes.{checked-closed, checked-open, checked-other}
 use Rattle.class_plan.proofs.document.class_from.Goals as goal
 use Rattle.class_plan.proofs.document.class_from.Goals.{else-eq-via-then-eq+else-not-is_open, else-eq-via-else-eq}
 

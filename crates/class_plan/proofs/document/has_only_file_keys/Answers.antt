@@ -10,13 +10,19 @@ pub loop-key-preserved : goal.loop-key-preserved
 loop-key-preserved c =
     let rest = rest_more deref c.loop-key.key-iterator c.next.new.self c.next.result c.in-Some.key c.in-Some.is c.next.ensures.steps in
     let fits : is_file_key (string_bytes c.in-Some.key.now) ≡ true = search rules in
-    record { can = search rules; finite = search rules; known = known-more is_file_key _ (keys c.args.table.now) _ _ rest c.loop-key.invariant.known fits }
+    record {
+      can = search rules;
+      finite = search rules;
+      known =
+          known-more is_file_key _ (keys c.args.table.now) _ _ rest c.loop-key.invariant.known fits;
+    }
 
 pub returns-then-not-fits_file : goal.returns-then-not-fits_file
 returns-then-not-fits_file c =
     let rest = rest_more deref c.loop-key.key-iterator c.next.new.self c.next.result c.in-Some.key c.in-Some.is c.next.ensures.steps in
     let fits : is_file_key (string_bytes c.in-Some.key.now) ≡ false = search rules in
-    sym (known-less is_file_key _ (keys c.args.table.now) _ _ rest c.loop-key.invariant.known fits) ∙ has_only-keys is_file_key c.args.table.now.entries
+    sym (known-less is_file_key _ (keys c.args.table.now) _ _ rest c.loop-key.invariant.known fits)
+    ∙ has_only-keys is_file_key c.args.table.now.entries
 
 pub returns : goal.returns
 returns c =

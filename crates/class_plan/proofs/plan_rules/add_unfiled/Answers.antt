@@ -16,10 +16,15 @@ not_there rs e = rw e
 pub returns : goal.returns
 returns c = elim c.if-is_none.branch [
   | then-is_none+in_ok-path+in_ok-insert w ↦
-      let no : is_some (row_at unfiled (rows_in c.args.classes)) ≡ false = sym c.class_at.ensures.some ∙ c.is_none.ensures ∙ ap not w.if-is_none.true in
+      let no : is_some (row_at unfiled (rows_in c.args.classes)) ≡ false = sym c.class_at.ensures.some
+      ∙ c.is_none.ensures ∙ ap not w.if-is_none.true in
       let path : w.in_ok-path.path.items ≡ unfiled = w.in_ok-path.ensures.items in
-      ap rows_in w.classes-is ∙ ap rows w.in_ok-insert.ensures.entries ∙ rows-insert c.args.classes.entries w.in_ok-path.path _ ∙ ap (λ r. with_row r (rows_in c.args.classes)) (row-same _ _ true None None path refl) ∙ not_there (rows_in c.args.classes) no
+      ap rows_in w.classes-is ∙ ap rows w.in_ok-insert.ensures.entries
+      ∙ rows-insert c.args.classes.entries w.in_ok-path.path _
+      ∙ ap (λ r. with_row r (rows_in c.args.classes)) (row-same _ _ true None None path refl)
+      ∙ not_there (rows_in c.args.classes) no
   | else-is_none w ↦
-      let yes : is_some (row_at unfiled (rows_in c.args.classes)) ≡ true = sym c.class_at.ensures.some ∙ c.is_none.ensures ∙ ap not w.if-is_none.false in
+      let yes : is_some (row_at unfiled (rows_in c.args.classes)) ≡ true = sym c.class_at.ensures.some
+      ∙ c.is_none.ensures ∙ ap not w.if-is_none.false in
       ap rows_in w.classes-is ∙ there (rows_in c.args.classes) yes
 ]

@@ -6,4 +6,5 @@ use Rattle.class_plan.proofs.readers.inherited_schedule.Given as goal
 
 abbrev pub invariant-loop-end : goal.invariant-loop-end
 invariant-loop-end l =
-    first_own (record { root = l.root; rows = rows_in l.classes }) (ancestors_below l.path (length l.path)) ≡ first_own (record { root = l.root; rows = rows_in l.classes }) (ancestors_below l.path l.end)
+    first_own (record { root = l.root; rows = rows_in l.classes }) (ancestors_below l.path (length l.path))
+    ≡ first_own (record { root = l.root; rows = rows_in l.classes }) (ancestors_below l.path l.end)

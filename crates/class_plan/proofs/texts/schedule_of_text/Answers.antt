@@ -1,6 +1,7 @@
 use Rattle.std.proofs.Common.{◌≤◌, ◌<◌, [], arith, sym, ◌∙◌, refl}
 use Rattle.class_plan.specs.Schedules.{most}
-use Rattle.class_plan.proofs.Periods.{text-permanent, text-parts, after-none, period-no_unit, period-no_ending, period-made, period-below, period-above, period-large}
+use Rattle.class_plan.proofs.Periods.{text-permanent, text-parts, after-none, period-no_unit, period-no_ending}
+use Rattle.class_plan.proofs.Periods.{period-made, period-below, period-above, period-large}
 use Rattle.class_plan.proofs.Spelled.{text-read}
 use Rattle.class_plan.proofs.texts.schedule_of_text.Goals as goal
 use Rattle.class_plan.proofs.texts.schedule_of_text.Goals.{then-count-lt1-via-then-count-lt1, then-count-lt1-via-else-count-lt1+then-count-limit_of}
@@ -32,13 +33,15 @@ pub returns-in_default-read_unit-clause-schedule : goal.returns-in_default-read_
 returns-in_default-read_unit-clause-schedule c =
     let one = rw c.in-Some.is at c.split_at_space.ensures in
     let two = rw c.in-Some-split_at_space.is at c.split_at_space-2.ensures in
-    period-no_unit _ _ _ (sym c.in_default-read_unit.is ∙ c.read_unit.ensures) ∙ text-parts _ _ _ _ _ (sym c.eq.ensures ∙ c.if-eq.false) one.0 one.1 two.0 two.1
+    period-no_unit _ _ _ (sym c.in_default-read_unit.is ∙ c.read_unit.ensures)
+    ∙ text-parts _ _ _ _ _ (sym c.eq.ensures ∙ c.if-eq.false) one.0 one.1 two.0 two.1
 
 pub returns-in_default-read_ending-clause-schedule : goal.returns-in_default-read_ending-clause-schedule
 returns-in_default-read_ending-clause-schedule c =
     let one = rw c.in-Some.is at c.split_at_space.ensures in
     let two = rw c.in-Some-split_at_space.is at c.split_at_space-2.ensures in
-    period-no_ending _ _ _ (sym c.in_default-read_ending.is ∙ c.read_ending.ensures) ∙ text-parts _ _ _ _ _ (sym c.eq.ensures ∙ c.if-eq.false) one.0 one.1 two.0 two.1
+    period-no_ending _ _ _ (sym c.in_default-read_ending.is ∙ c.read_ending.ensures)
+    ∙ text-parts _ _ _ _ _ (sym c.eq.ensures ∙ c.if-eq.false) one.0 one.1 two.0 two.1
 
 pub returns-then-count-lt1-clause-schedule : goal.returns-then-count-lt1-clause-schedule
 returns-then-count-lt1-clause-schedule c =
@@ -48,10 +51,14 @@ returns-then-count-lt1-clause-schedule c =
     elim c.then-count-lt1.branch [
       | then-count-lt1-via-then-count-lt1 w ↦
           let low : c.in-Some-read_count.count < 1 = omega arith in
-          period-below _ _ _ _ _ _ number (sym c.in-Some-read_unit.is ∙ c.read_unit.ensures) (sym c.in-Some-read_ending.is ∙ c.read_ending.ensures) low ∙ text-parts _ _ _ _ _ (sym c.eq.ensures ∙ c.if-eq.false) one.0 one.1 two.0 two.1
+          period-below _ _ _ _ _ _ number (sym c.in-Some-read_unit.is
+          ∙ c.read_unit.ensures) (sym c.in-Some-read_ending.is ∙ c.read_ending.ensures) low
+          ∙ text-parts _ _ _ _ _ (sym c.eq.ensures ∙ c.if-eq.false) one.0 one.1 two.0 two.1
       | then-count-lt1-via-else-count-lt1+then-count-limit_of w ↦
           let high : most c.in-Some-read_unit.unit < c.in-Some-read_count.count = omega arith in
-          period-above _ _ _ _ _ _ number (sym c.in-Some-read_unit.is ∙ c.read_unit.ensures) (sym c.in-Some-read_ending.is ∙ c.read_ending.ensures) high ∙ text-parts _ _ _ _ _ (sym c.eq.ensures ∙ c.if-eq.false) one.0 one.1 two.0 two.1
+          period-above _ _ _ _ _ _ number (sym c.in-Some-read_unit.is
+          ∙ c.read_unit.ensures) (sym c.in-Some-read_ending.is ∙ c.read_ending.ensures) high
+          ∙ text-parts _ _ _ _ _ (sym c.eq.ensures ∙ c.if-eq.false) one.0 one.1 two.0 two.1
     ]
 
 pub returns-clause-schedule : goal.returns-clause-schedule
@@ -61,7 +68,9 @@ returns-clause-schedule c =
     let number = rw c.in-Some-read_count.is at c.read_count.ensures in
     let low : 1 ≤ c.in-Some-read_count.count = omega arith in
     let high : c.in-Some-read_count.count ≤ most c.in-Some-read_unit.unit = omega arith in
-    period-made _ _ _ _ _ _ number (sym c.in-Some-read_unit.is ∙ c.read_unit.ensures) (sym c.in-Some-read_ending.is ∙ c.read_ending.ensures) low high ∙ text-parts _ _ _ _ _ (sym c.eq.ensures ∙ c.if-eq.false) one.0 one.1 two.0 two.1
+    period-made _ _ _ _ _ _ number (sym c.in-Some-read_unit.is ∙ c.read_unit.ensures) (sym c.in-Some-read_ending.is
+    ∙ c.read_ending.ensures) low high
+    ∙ text-parts _ _ _ _ _ (sym c.eq.ensures ∙ c.if-eq.false) one.0 one.1 two.0 two.1
 
 pub returns-clause-text : goal.returns-clause-text
 returns-clause-text c = text-read c.args.text.now _ (sym (returns-clause-schedule c))

@@ -14,4 +14,5 @@ no_place n m false e h k = at_end n m e h
 
 pub returns-in-None : goal.returns-in-None
 returns-in-None c =
-    no_place (position_or_len is_space c.args.text.now) (length c.args.text.now) _ refl (prefix_len-le-length _ c.args.text.now) (sym c.in-None.is ∙ c.first_space.ensures)
+    no_place (position_or_len is_space c.args.text.now) (length c.args.text.now) _ refl
+    (prefix_len-le-length _ c.args.text.now) (sym c.in-None.is ∙ c.first_space.ensures)

@@ -6,8 +6,15 @@ use Rattle.filing_gen.proofs.callees.numbers_by_slot.Goals as goal
 
 pub loop-slot-preserved : goal.loop-slot-preserved
 loop-slot-preserved c = record {
-  long = omega (arith, ap length c.in_ok-push.ensures.items, length-append c.loop-slot.numbers.items (c.number_by_slot.result ∷ []), c.loop-slot.invariant.long);
-  below = number_more (scripts_of c.args.reach.now.shelves) (map procedure_of c.args.later.now) (procedure_of c.args.procedure.now) c.loop-slot.numbers.items c.push.new.self.items c.number_by_slot.result c.loop-slot.slot
+  long = omega (
+    arith,
+    ap length c.in_ok-push.ensures.items,
+    length-append c.loop-slot.numbers.items (c.number_by_slot.result ∷ []),
+    c.loop-slot.invariant.long,
+  );
+  below = number_more (scripts_of c.args.reach.now.shelves) (map procedure_of c.args.later.now)
+      (procedure_of c.args.procedure.now) c.loop-slot.numbers.items c.push.new.self.items c.number_by_slot.result
+      c.loop-slot.slot
       c.loop-slot.invariant.long c.loop-slot.invariant.below c.number_by_slot.ensures c.in_ok-push.ensures.items;
 }
 

@@ -10,4 +10,5 @@ use Rattle.filing_gen.proofs.emit_procedures.emit_procedure.Goals as goal
 pub emit_script-requires-clause-typed : goal.emit_script-requires-clause-typed
 emit_script-requires-clause-typed c =
     let l = scripts_of c.args.reach.now.shelves in
-    procedure_typed (library_of l) (slots_of l) (names_of c.args.main) c.args.own (map procedure_of c.args.later.now) (procedure_of c.args.procedure.now) []
+    procedure_typed (library_of l) (slots_of l) (names_of c.args.main) c.args.own (map procedure_of c.args.later.now)
+    (procedure_of c.args.procedure.now) []

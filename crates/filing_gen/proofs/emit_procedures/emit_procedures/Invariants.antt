@@ -8,4 +8,7 @@ use Rattle.filing_gen.proofs.WrittenProcedures.{HasProcedures}
 use Rattle.filing_gen.proofs.emit_procedures.emit_procedures.Given as goal
 
 abbrev pub invariant-loop-own : goal.invariant-loop-own
-invariant-loop-own l = HasProcedures l.out l.first_places.items (take l.own (flows (library_of (scripts_of l.reach.shelves)) (slots_of (scripts_of l.reach.shelves)) (names_of l.main) l.procedures))
+invariant-loop-own l =
+    HasProcedures l.out l.first_places.items
+    (take l.own (flows (library_of (scripts_of l.reach.shelves)) (slots_of (scripts_of l.reach.shelves))
+    (names_of l.main) l.procedures))

@@ -29,5 +29,10 @@ returns g c =
     let added = c.in_ok-emit_commands.ensures.adds 0 (no_place ∷ []) refl in
     let q = grows x z a (no_place ∷ []) added in
     let begins : c.len-start.result ≡ length x.code.items = c.len-start.ensures ∙ x.code.ok.0 in
-    let body = block_ended x z c.end_block.new.out a [] [] c.requires.typed added (omega (arith, c.requires.room.0, q.code)) (subst (λ (n : ℕ). IsEnded n (length z.code.items) z c.end_block.new.out) begins c.end_block.ensures) in
+    let body = block_ended x z c.end_block.new.out a [] [] c.requires.typed added (omega (
+      arith,
+      c.requires.room.0,
+      q.code,
+    )) (subst (λ (n : ℕ). IsEnded n (length z.code.items) z c.end_block.new.out) begins
+    c.end_block.ensures) in
     on_ok_weaker c.put.result (λ h. procedure_emitted x c.end_block.new.out c.put.new.out a body h) c.put.ensures

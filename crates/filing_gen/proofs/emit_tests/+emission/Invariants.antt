@@ -7,4 +7,6 @@ use Rattle.filing_gen.proofs.EmittedTests.{row_flow, Unknown}
 use Rattle.filing_gen.proofs.emit_tests.+emission.Given as goal
 
 abbrev pub invariant-emit_tests-loop-test : goal.invariant-emit_tests-loop-test
-invariant-emit_tests-loop-test l = Leads l.fn.out l.out (row_flow l.stop (map test_of (drop l.test-index l.test-items))) (tests_flow l.stop (tests_in (inner_of l.tests))) Unknown
+invariant-emit_tests-loop-test l =
+    Leads l.fn.out l.out (row_flow l.stop (map test_of (drop l.test-index l.test-items)))
+    (tests_flow l.stop (tests_in (inner_of l.tests))) Unknown

@@ -8,5 +8,7 @@ pub returns : goal.returns
 returns c =
     on_ok_weaker c.put_jump.result
     (λ h ends there. emits_sequence c.args.out.now c.put.new.out c.put_jump.new.out (action (HasField c.args.name.now)) (leave_if false 0) ends
-    (text_emitted c.args.out.now c.text_operand.new.out c.put.new.out _ (HasField c.args.name.now) _ c.args.name.now c.in_ok-place.ensures.brings c.in_ok-put.ensures c.in_ok-place.ensures.there (λ at. (_, refl, at)) ends) (h ends there))
+    (text_emitted c.args.out.now c.text_operand.new.out c.put.new.out _ (HasField c.args.name.now) _ c.args.name.now
+    c.in_ok-place.ensures.brings c.in_ok-put.ensures c.in_ok-place.ensures.there (λ at. (_, refl, at)) ends)
+    (h ends there))
     c.put_jump.ensures

@@ -5,7 +5,11 @@ use Rattle.filing_gen.proofs.EmittedTests.{Unknown, keys_turn}
 use Rattle.filing_gen.proofs.emit_tests.emit_other_keys.Goals as goal
 
 pub loop-key-preserved : goal.loop-key-preserved
-loop-key-preserved c = keys_turn c.args.out.now c.loop-key.out c.emit_key.new.out c.args.keys.now c.loop-key.key-index c.key-item.result c.loop-key-test.true c.key-item.is _ c.as_slice.result.now c.as_slice.ensures.value c.args.how c.loop-key.invariant c.in_ok-emit_key.ensures
+loop-key-preserved c =
+    keys_turn c.args.out.now c.loop-key.out c.emit_key.new.out c.args.keys.now c.loop-key.key-index c.key-item.result
+    c.loop-key-test.true c.key-item.is _ c.as_slice.result.now c.as_slice.ensures.value c.args.how c.loop-key.invariant
+    c.in_ok-emit_key.ensures
 
 pub returns : goal.returns
-returns c = leads_last c.args.out.now c.loop-key.out _ _ Unknown c.loop-key.invariant (ap (λ (ys : List (List ℕ)). keys_flow c.args.how ys) (no_turn c.args.keys.now c.loop-key.key-index c.loop-key-test.false))
+returns c = leads_last c.args.out.now c.loop-key.out _ _ Unknown c.loop-key.invariant (ap (λ (ys : List (List ℕ)).
+    keys_flow c.args.how ys) (no_turn c.args.keys.now c.loop-key.key-index c.loop-key-test.false))

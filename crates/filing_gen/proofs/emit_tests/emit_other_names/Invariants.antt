@@ -5,4 +5,6 @@ use Rattle.filing_gen.proofs.EmittedTests.{Asked, Unknown}
 use Rattle.filing_gen.proofs.emit_tests.emit_other_names.Given as goal
 
 abbrev pub invariant-loop-name : goal.invariant-loop-name
-invariant-loop-name l = Asked l.initial.out l.out l.asked.lowercase.keys (drop l.name-index l.others) names_flow (names_flow (others_once l.first l.others)) Unknown
+invariant-loop-name l =
+    Asked l.initial.out l.out l.asked.lowercase.keys (drop l.name-index l.others) names_flow
+    (names_flow (others_once l.first l.others)) Unknown

@@ -11,5 +11,6 @@ returns c =
     emits_sequence c.args.out.now c.put.new.out c.put-3.new.out (action PushSize) (sequence (action (PushNumber c.args.number)) (action IsLess)) ends
     (action_emitted c.args.out.now c.put.new.out Size PushSize c.in_ok-put.ensures refl ends)
     (emits_sequence c.put.new.out c.put-2.new.out c.put-3.new.out (action (PushNumber c.args.number)) (action IsLess) ends
-    (number_emitted c.put.new.out c.number_operand.new.out c.put-2.new.out _ (PushNumber c.args.number) _ c.args.number c.in_ok-place.ensures.brings c.in_ok-put-2.ensures c.in_ok-place.ensures.there (λ at. (_, refl, at)) ends)
+    (number_emitted c.put.new.out c.number_operand.new.out c.put-2.new.out _ (PushNumber c.args.number) _ c.args.number
+    c.in_ok-place.ensures.brings c.in_ok-put-2.ensures c.in_ok-place.ensures.there (λ at. (_, refl, at)) ends)
     (action_emitted c.put-2.new.out c.put-3.new.out Less IsLess h refl ends))) c.put-3.ensures

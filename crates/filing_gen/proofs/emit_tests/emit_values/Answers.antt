@@ -13,12 +13,20 @@ pub emit_other_values-requires : goal.emit_other_values-requires
 emit_other_values-requires c =
     let first = c.as_slice-first.ensures.value ∙ c.first.ensures in
     let p = grows c.args.out.now c.emit_value.new.out (action (ValuesOf c.as_slice-first.result.now)) [] (c.in_ok-emit_value.ensures []) in
-    let same : size (values_flow (others_once c.as_slice-first.result.now c.others.result.now)) ≡ size (values_flow (others_once (first_of c.args.names.now) (others_of c.args.names.now))) = ap (λ n. size (values_flow (others_once n c.others.result.now))) first ∙ ap (λ l. size (values_flow (others_once (first_of c.args.names.now) l))) c.others.ensures in
+    let same : size (values_flow (others_once c.as_slice-first.result.now c.others.result.now))
+    ≡ size (values_flow (others_once (first_of c.args.names.now) (others_of c.args.names.now))) =
+    ap (λ n. size (values_flow (others_once n c.others.result.now))) first
+    ∙ ap (λ l. size (values_flow (others_once (first_of c.args.names.now) l))) c.others.ensures in
     (omega (arith, c.requires, p.code, same), omega (arith, c.requires, p.texts, same), omega (arith, c.requires, p.numbers, same))
 
 pub returns : goal.returns
 returns c =
     on_ok_weaker c.emit_other_values.result (λ h ends.
-    subst (λ (a : Flow). Emits c.args.out.now c.emit_other_values.new.out a ends) (same_values c.as_slice-first.result.now (first_of c.args.names.now) c.others.result.now (others_of c.args.names.now) (c.as_slice-first.ensures.value ∙ c.first.ensures) c.others.ensures)
-    (emits_sequence c.args.out.now c.emit_value.new.out c.emit_other_values.new.out (action (ValuesOf c.as_slice-first.result.now)) (values_flow (others_once c.as_slice-first.result.now c.others.result.now)) ends (c.in_ok-emit_value.ensures ends) (h ends)))
+    subst (λ (a : Flow). Emits c.args.out.now c.emit_other_values.new.out a ends)
+    (same_values c.as_slice-first.result.now (first_of c.args.names.now) c.others.result.now
+    (others_of c.args.names.now) (c.as_slice-first.ensures.value ∙ c.first.ensures) c.others.ensures)
+    (emits_sequence c.args.out.now c.emit_value.new.out c.emit_other_values.new.out
+    (action (ValuesOf c.as_slice-first.result.now))
+    (values_flow (others_once c.as_slice-first.result.now c.others.result.now)) ends
+    (c.in_ok-emit_value.ensures ends) (h ends)))
     c.emit_other_values.ensures

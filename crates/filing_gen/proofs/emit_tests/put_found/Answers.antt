@@ -9,4 +9,5 @@ pub returns : goal.returns
 returns c =
     on_ok_weaker c.put-2.result (λ h ends.
     emits_sequence c.args.out.now c.put.new.out c.put-2.new.out (action Drop) (action (Push true)) ends
-    (action_emitted c.args.out.now c.put.new.out Pop Drop c.in_ok-put.ensures refl ends) (action_emitted c.put.new.out c.put-2.new.out PushTrue (Push true) h refl ends)) c.put-2.ensures
+    (action_emitted c.args.out.now c.put.new.out Pop Drop c.in_ok-put.ensures refl ends)
+    (action_emitted c.put.new.out c.put-2.new.out PushTrue (Push true) h refl ends)) c.put-2.ensures

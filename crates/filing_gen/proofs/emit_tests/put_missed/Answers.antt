@@ -11,4 +11,5 @@ returns c =
     emits_sequence c.args.out.now c.put.new.out c.put-3.new.out (action Drop) (sequence (action (Push false)) (leave 1)) ends
     (action_emitted c.args.out.now c.put.new.out Pop Drop c.in_ok-put.ensures refl ends)
     (emits_sequence c.put.new.out c.put-2.new.out c.put-3.new.out (action (Push false)) (leave 1) ends
-    (action_emitted c.put.new.out c.put-2.new.out PushFalse (Push false) c.in_ok-put-2.ensures refl ends) (leave_emitted c.put-2.new.out c.put-3.new.out c.args.end 1 ends h there))) c.put-3.ensures
+    (action_emitted c.put.new.out c.put-2.new.out PushFalse (Push false) c.in_ok-put-2.ensures refl ends)
+    (leave_emitted c.put-2.new.out c.put-3.new.out c.args.end 1 ends h there))) c.put-3.ensures

@@ -6,4 +6,9 @@ use Rattle.filing_gen.proofs.Emitted.{action_emitted}
 use Rattle.filing_gen.proofs.output.put_fault.Goals as goal
 
 pub returns : goal.returns
-returns c = record { adds = on_ok_weaker c.put.result (λ h ends. action_emitted c.args.out.now c.put.new.out (Fault c.number.result) (Fail c.args.fault) h (ap Fault c.number.ensures) ends) c.put.ensures }
+returns c = record {
+  adds =
+      on_ok_weaker c.put.result (λ h ends.
+      action_emitted c.args.out.now c.put.new.out (Fault c.number.result) (Fail c.args.fault) h
+      (ap Fault c.number.ensures) ends) c.put.ensures;
+}

@@ -9,5 +9,7 @@ use Rattle.filing_gen.proofs.paths.path_weights.Given as goal
 abbrev pub invariant-loop-number : goal.invariant-loop-number
 invariant-loop-number l = record {
   long : length l.paths.items ≡ length l.procedures;
-  known : drop l.number l.paths.items ≡ map known_path (path_weights (library_of (scripts_of l.reach.shelves)) (map procedure_of (drop l.number l.procedures)));
+  known : drop l.number l.paths.items
+      ≡ map known_path (path_weights (library_of (scripts_of l.reach.shelves))
+      (map procedure_of (drop l.number l.procedures)));
 }

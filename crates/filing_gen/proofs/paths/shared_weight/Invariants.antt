@@ -4,4 +4,5 @@ use Rattle.script_procedures.specs.ProcedureCode.{procedure_of}
 use Rattle.filing_gen.proofs.paths.shared_weight.Given as goal
 
 abbrev pub invariant-loop-procedure : goal.invariant-loop-procedure
-invariant-loop-procedure l = l.left + shared_weight (map procedure_of l.procedures) ≡ 60000 + shared_weight (map procedure_of (drop l.procedure-index l.procedures))
+invariant-loop-procedure l = l.left + shared_weight (map procedure_of l.procedures)
+    ≡ 60000 + shared_weight (map procedure_of (drop l.procedure-index l.procedures))

@@ -16,27 +16,38 @@ use Rattle.filing_gen.proofs.program.build.Goals as goal
 pub emit_program-requires-clause-room : goal.emit_program-requires-clause-room
 emit_program-requires-clause-room c =
     let l = scripts_of c.args.scope.shelves in
-    room (library_of l) (slots_of l) c.slot_count-slots.result c.slot_count-slots.ensures.enough (option_map (λ (s : Bor (List ℕ)). s.now) c.args.scope.main.known_as) (program_of (tree_of c.args.script.now)) (omega (arith, c.requires.weight, c.requires.small))
+    room (library_of l) (slots_of l) c.slot_count-slots.result c.slot_count-slots.ensures.enough
+    (option_map (λ (s : Bor (List ℕ)). s.now) c.args.scope.main.known_as) (program_of (tree_of c.args.script.now))
+    (omega (arith, c.requires.weight, c.requires.small))
 
 pub emit_program-requires-clause-typed : goal.emit_program-requires-clause-typed
 emit_program-requires-clause-typed c =
     let l = scripts_of c.args.scope.shelves in
     let known : Option (List ℕ) = option_map (λ (s : Bor (List ℕ)). s.now) c.args.scope.main.known_as in
-    flow_typed (linked_flow (library_of l) (slots_of l) known) (included_typed (library_of l) (slots_of l) (main_names known) 7 (main_names known)) 0 (program_of (tree_of c.args.script.now)) ([] ∷ []) refl
+    flow_typed (linked_flow (library_of l) (slots_of l) known)
+    (included_typed (library_of l) (slots_of l) (main_names known) 7 (main_names known)) 0
+    (program_of (tree_of c.args.script.now)) ([] ∷ []) refl
 
 pub image_of-requires-clause-few : goal.image_of-requires-clause-few
 image_of-requires-clause-few c =
     let l = scripts_of c.args.scope.shelves in
-    few (library_of l) (slots_of l) c.slot_count-slots.result c.slot_count-slots.ensures.enough (option_map (λ (s : Bor (List ℕ)). s.now) c.args.scope.main.known_as) (program_of (tree_of c.args.script.now)) c.in_ok-out.out c.in_ok-out.ensures (omega (arith, c.requires.weight, c.requires.small))
+    few (library_of l) (slots_of l) c.slot_count-slots.result c.slot_count-slots.ensures.enough
+    (option_map (λ (s : Bor (List ℕ)). s.now) c.args.scope.main.known_as) (program_of (tree_of c.args.script.now))
+    c.in_ok-out.out c.in_ok-out.ensures (omega (arith, c.requires.weight, c.requires.small))
 
 pub image_of-requires-clause-well : goal.image_of-requires-clause-well
 image_of-requires-clause-well c =
     let l = scripts_of c.args.scope.shelves in
-    λ p made. built_well (library_of l) (slots_of l) c.slot_count-slots.result c.slot_count-slots.ensures.enough (option_map (λ (s : Bor (List ℕ)). s.now) c.args.scope.main.known_as) (program_of (tree_of c.args.script.now)) c.in_ok-out.out p c.args.weight c.in_ok-out.ensures made c.requires.weight c.requires.small
+    λ p made. built_well (library_of l) (slots_of l) c.slot_count-slots.result c.slot_count-slots.ensures.enough
+    (option_map (λ (s : Bor (List ℕ)). s.now) c.args.scope.main.known_as) (program_of (tree_of c.args.script.now))
+    c.in_ok-out.out p c.args.weight c.in_ok-out.ensures made c.requires.weight c.requires.small
 
 pub returns-clause-compiled : goal.returns-clause-compiled
 returns-clause-compiled c =
     let l = scripts_of c.args.scope.shelves in
     IfOk-weaker c.image_of.result _ _
-    (λ p made. built (library_of l) (slots_of l) c.slot_count-slots.result c.slot_count-slots.ensures.enough (option_map (λ (s : Bor (List ℕ)). s.now) c.args.scope.main.known_as) (program_of (tree_of c.args.script.now)) c.in_ok-out.out p c.args.weight c.in_ok-out.ensures made (image_of-requires-clause-well c.before p made) c.requires.weight c.requires.small)
+    (λ p made. built (library_of l) (slots_of l) c.slot_count-slots.result c.slot_count-slots.ensures.enough
+    (option_map (λ (s : Bor (List ℕ)). s.now) c.args.scope.main.known_as) (program_of (tree_of c.args.script.now))
+    c.in_ok-out.out p c.args.weight c.in_ok-out.ensures made (image_of-requires-clause-well c.before p made)
+    c.requires.weight c.requires.small)
     c.image_of.ensures.made

@@ -9,4 +9,6 @@ use Rattle.filing_gen.proofs.program.compile.Goals as goal
 
 pub returns-clause-too_large : goal.returns-clause-too_large
 returns-clause-too_large c =
-    subst (λ (l : Scripts). c.compile_with.result ≢ Err NoMemory → c.compile_with.result ≡ Err TooLarge ↔ IsTooHeavy (library_of l) (option_map (λ s. s.now) c.args.known_as) (program_of (tree_of c.args.main.now.script))) c.shelves.ensures c.compile_with.ensures.too_large
+    subst (λ (l : Scripts). c.compile_with.result ≢ Err NoMemory
+    → c.compile_with.result ≡ Err TooLarge ↔ IsTooHeavy (library_of l) (option_map (λ s. s.now) c.args.known_as)
+    (program_of (tree_of c.args.main.now.script))) c.shelves.ensures c.compile_with.ensures.too_large

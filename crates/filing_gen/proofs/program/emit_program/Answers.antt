@@ -28,7 +28,14 @@ returns g c =
     let added = c.in_ok-emit_commands.ensures.adds 0 (no_place ∷ []) refl in
     let q = grows o0 z (script_flow f main) (no_place ∷ []) added in
     let begins : 0 ≡ length o0.code.items = sym (ap length c.in_ok-out.ensures.code) in
-    let body = block_ended o0 z c.end_block.new.out (script_flow f main) [] [] c.requires.typed added (omega (arith, c.requires.room, flow_long f 0 main, q.code, ap length c.in_ok-out.ensures.code))
+    let body = block_ended o0 z c.end_block.new.out (script_flow f main) [] [] c.requires.typed added (omega (
+      arith,
+      c.requires.room,
+      flow_long f 0 main,
+      q.code,
+      ap length c.in_ok-out.ensures.code,
+    ))
     (subst (λ (n : ℕ). IsEnded n (length z.code.items) z c.end_block.new.out) begins c.end_block.ensures) in
     code_of_empty o0 c.put.new.out (script_flow f main) c.in_ok-out.ensures.texts c.in_ok-out.ensures.numbers c.in_ok-out.ensures.code
-    (emits_sequence o0 c.end_block.new.out c.put.new.out (block (script_flow f main)) (action End) [] body (action_emitted c.end_block.new.out c.put.new.out Stop End c.in_ok-put.ensures refl []))
+    (emits_sequence o0 c.end_block.new.out c.put.new.out (block (script_flow f main)) (action End) [] body
+    (action_emitted c.end_block.new.out c.put.new.out Stop End c.in_ok-put.ensures refl []))

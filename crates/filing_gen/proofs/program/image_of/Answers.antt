@@ -9,7 +9,8 @@ pub image_of_parts-requires : goal.image_of_parts-requires
 image_of_parts-requires c =
     let texts = c.in_ok-texts in
     let numbers = c.in_ok-numbers in
-    fits_image c.args.out c.args.budget c.args.slots (list_in c.args.first_places) texts.texts.items numbers.numbers.items _ c.shrink_to_fit.ensures.items
+    fits_image c.args.out c.args.budget c.args.slots (list_in c.args.first_places) texts.texts.items
+    numbers.numbers.items _ c.shrink_to_fit.ensures.items
     texts.ensures.places numbers.ensures.places c.requires.few texts.ensures.count numbers.ensures.count texts.ensures.short c.requires.well
 
 pub returns-clause-made : goal.returns-clause-made
@@ -18,7 +19,8 @@ returns-clause-made c =
     let numbers = c.in_ok-numbers in
     let firsts = list_in c.args.first_places in
     subst (λ (p : Program). IsImageOf c.args.budget c.args.slots firsts c.args.out p) (sym c.image_of_parts.ensures)
-    (is_image c.args.out c.args.budget c.args.slots firsts texts.texts.items numbers.numbers.items _ c.shrink_to_fit.ensures.items texts.ensures.places numbers.ensures.places)
+    (is_image c.args.out c.args.budget c.args.slots firsts texts.texts.items numbers.numbers.items _
+    c.shrink_to_fit.ensures.items texts.ensures.places numbers.ensures.places)
 
 pub returns-clause-once : goal.returns-clause-once
 returns-clause-once c =

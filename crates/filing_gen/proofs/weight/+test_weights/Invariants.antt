@@ -6,4 +6,5 @@ use Rattle.filing_gen.proofs.WeightLemmas.{sum_of}
 use Rattle.filing_gen.proofs.weight.+test_weights.Given as goal
 
 abbrev pub invariant-weigh_tests-loop-test : goal.invariant-weigh_tests-loop-test
-invariant-weigh_tests-loop-test l = l.left + sum_of (map test_of (drop l.test-index l.test-items)) ≡ l.rest + tests_weight (tests_in (inner_of l.tests))
+invariant-weigh_tests-loop-test l = l.left + sum_of (map test_of (drop l.test-index l.test-items))
+    ≡ l.rest + tests_weight (tests_in (inner_of l.tests))

@@ -18,18 +18,47 @@ returns-in_err-written-clause-refused c = λ h p fits e.
 pub returns-clause-found : goal.returns-clause-found
 returns-clause-found c =
     let w = c.in_ok-written.written in
-    let x : Parts = record { budget = w.budget; texts = map (λ t. t.items) w.texts.items; numbers = w.numbers.items; slots = w.slots; procedures = list_in w.first_places; instructions = w.instructions.items } in
-    IfOk-weaker c.of_instructions.result _ _ (λ i h. is_found c.args.octets.now x i (λ k. omega (arith, c.type_inv.octets k)) c.in_ok-written.ensures h) c.of_instructions.ensures.made
+    let x : Parts = record {
+      budget = w.budget;
+      texts = map (λ t. t.items) w.texts.items;
+      numbers = w.numbers.items;
+      slots = w.slots;
+      procedures = list_in w.first_places;
+      instructions = w.instructions.items;
+    } in
+    IfOk-weaker c.of_instructions.result _ _ (λ i h.
+    is_found c.args.octets.now x i (λ k. omega (arith, c.type_inv.octets k)) c.in_ok-written.ensures h)
+    c.of_instructions.ensures.made
 
 pub returns-clause-only : goal.returns-clause-only
 returns-clause-only c =
     let w = c.in_ok-written.written in
-    let x : Parts = record { budget = w.budget; texts = map (λ t. t.items) w.texts.items; numbers = w.numbers.items; slots = w.slots; procedures = list_in w.first_places; instructions = w.instructions.items } in
-    IfOk-weaker c.of_instructions.result _ _ (λ i h p fits e. is_only c.args.octets.now x i p c.in_ok-written.ensures h fits e) c.of_instructions.ensures.made
+    let x : Parts = record {
+      budget = w.budget;
+      texts = map (λ t. t.items) w.texts.items;
+      numbers = w.numbers.items;
+      slots = w.slots;
+      procedures = list_in w.first_places;
+      instructions = w.instructions.items;
+    } in
+    IfOk-weaker c.of_instructions.result _ _ (λ i h p fits e.
+    is_only c.args.octets.now x i p c.in_ok-written.ensures h fits e) c.of_instructions.ensures.made
 
 pub returns-clause-refused : goal.returns-clause-refused
 returns-clause-refused c = λ h p fits e.
     let w = c.in_ok-written.written in
-    let x : Parts = record { budget = w.budget; texts = map (λ t. t.items) w.texts.items; numbers = w.numbers.items; slots = w.slots; procedures = list_in w.first_places; instructions = w.instructions.items } in
+    let x : Parts = record {
+      budget = w.budget;
+      texts = map (λ t. t.items) w.texts.items;
+      numbers = w.numbers.items;
+      slots = w.slots;
+      procedures = list_in w.first_places;
+      instructions = w.instructions.items;
+    } in
     let same = is_that c.args.octets.now x p c.in_ok-written.ensures fits e in
-    c.of_instructions.ensures.refused h (subst IsShort (sym same) fits.octets.short) (record { program = p; is = sym same; operations = subst IsOfVersion (sym same) fits.operations })
+    c.of_instructions.ensures.refused h (subst IsShort (sym same) fits.octets.short) (record {
+      program = p;
+      is =
+          sym same;
+      operations = subst IsOfVersion (sym same) fits.operations;
+    })

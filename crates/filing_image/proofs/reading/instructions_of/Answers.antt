@@ -6,11 +6,17 @@ use Rattle.filing_image.proofs.reading.instructions_of.Goals as goal
 pub returns-in_err-instruction : goal.returns-in_err-instruction
 returns-in_err-instruction c =
     let p = err_from_is_err_and c.from_residual.result c.from_residual.ensures.1 in
-    rw (p.1, p.2) (ends instruction_at c.in_err-instruction.field-0.0 c.loop.instructions.items c.args.count c.loop.counter c.loop.rest.now (many_at instruction_at c.args.count c.args.octets.now) c.loop-test.true c.in_err-instruction.ensures c.loop.invariant)
+    rw (p.1, p.2) (ends instruction_at c.in_err-instruction.field-0.0 c.loop.instructions.items c.args.count
+    c.loop.counter c.loop.rest.now (many_at instruction_at c.args.count c.args.octets.now) c.loop-test.true
+    c.in_err-instruction.ensures c.loop.invariant)
 
 pub loop-preserved : goal.loop-preserved
 loop-preserved c =
-    rw c.in_ok-push.ensures.items (goes_on instruction_at c.loop.instructions.items c.args.count c.loop.counter c.loop.rest.now c.in_ok-instruction.instruction c.in_ok-instruction.after.now (many_at instruction_at c.args.count c.args.octets.now) c.loop-test.true c.in_ok-instruction.ensures c.loop.invariant)
+    rw c.in_ok-push.ensures.items (goes_on instruction_at c.loop.instructions.items c.args.count c.loop.counter
+    c.loop.rest.now c.in_ok-instruction.instruction c.in_ok-instruction.after.now
+    (many_at instruction_at c.args.count c.args.octets.now) c.loop-test.true c.in_ok-instruction.ensures
+    c.loop.invariant)
 
 pub returns : goal.returns
-returns c = is_done instruction_at c.loop.instructions.items c.args.count c.loop.counter c.loop.rest.now (many_at instruction_at c.args.count c.args.octets.now) c.loop-test.false c.loop.invariant
+returns c = is_done instruction_at c.loop.instructions.items c.args.count c.loop.counter c.loop.rest.now
+    (many_at instruction_at c.args.count c.args.octets.now) c.loop-test.false c.loop.invariant

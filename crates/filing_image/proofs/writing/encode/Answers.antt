@@ -16,7 +16,8 @@ returns-clause-spelled c =
     let o5 = c.put_numbers.new.out.items in
     let o6 = c.put_first_places.new.out.items in
     let o7 = c.put_code.new.out.items in
-    let h1 : o1 ≡ mark (version_of p.procedures) = c.in_ok-put_mark.ensures ∙ ap (λ (o : List ℕ). o ++ mark c.version.result) c.new-out.ensures.items ∙ ap mark c.version.ensures in
+    let h1 : o1 ≡ mark (version_of p.procedures) = c.in_ok-put_mark.ensures
+    ∙ ap (λ (o : List ℕ). o ++ mark c.version.result) c.new-out.ensures.items ∙ ap mark c.version.ensures in
     let h2 : o2 ≡ o1 ++ to_be_bytes w32 p.budget = rw (c.in_ok-extend_from_slice.ensures.items, c.to_be_bytes.ensures, c.budget.ensures) in
     let h4 : o4 ≡ o3 ++ flat_map text p.texts = rw (← c.texts.ensures.value) c.in_ok-put_texts.ensures in
     let h5 : o5 ≡ o4 ++ flat_map (to_be_bytes w64) p.numbers = rw (← c.numbers.ensures.value) c.in_ok-put_numbers.ensures in

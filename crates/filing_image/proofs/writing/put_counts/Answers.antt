@@ -18,4 +18,5 @@ returns c =
     let h3 : o3 ≡ o2 ++ to_be_bytes w16 p.slots = rw (← c.slots.ensures) c.in_ok-put_u16-3.ensures in
     let h4 : o4 ≡ o3 ++ procedure_count p.procedures = c.in_ok-put_procedure_count.ensures in
     let h5 : o5 ≡ o4 ++ to_be_bytes w16 (length p.code) = rw (← c.code.ensures.value) c.in_ok-put_u16-4.ensures in
-    five o (to_be_bytes w16 (length p.texts)) (to_be_bytes w16 (length p.numbers)) (to_be_bytes w16 p.slots) (procedure_count p.procedures) (to_be_bytes w16 (length p.code)) o1 o2 o3 o4 o5 h1 h2 h3 h4 h5
+    five o (to_be_bytes w16 (length p.texts)) (to_be_bytes w16 (length p.numbers)) (to_be_bytes w16 p.slots)
+    (procedure_count p.procedures) (to_be_bytes w16 (length p.code)) o1 o2 o3 o4 o5 h1 h2 h3 h4 h5

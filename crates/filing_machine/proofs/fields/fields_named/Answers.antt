@@ -8,6 +8,10 @@ loop-field-preserved g c =
     let facts = g.C.Case.facts c.args.case.now in
     let lt : c.loop-field.field < length facts.fields = omega (arith, c.loop-field-test.true, c.field_count-field-end.ensures) in
     elim c.if-is_named.branch [
-      | then-is_named+in_ok-push w ↦ rw w.fields-is (AreNamed-more facts c.args.name.now c.loop-field.fields w.push.new.self c.loop-field.field c.loop-field.invariant lt (sym c.is_named.ensures ∙ w.if-is_named.true) w.in_ok-push.ensures.ok)
-      | else-is_named w ↦ rw w.fields-is (AreNamed-same facts c.args.name.now c.loop-field.fields c.loop-field.field c.loop-field.invariant lt (sym c.is_named.ensures ∙ w.if-is_named.false))
+      | then-is_named+in_ok-push w ↦
+          rw w.fields-is (AreNamed-more facts c.args.name.now c.loop-field.fields w.push.new.self c.loop-field.field
+          c.loop-field.invariant lt (sym c.is_named.ensures ∙ w.if-is_named.true) w.in_ok-push.ensures.ok)
+      | else-is_named w ↦
+          rw w.fields-is (AreNamed-same facts c.args.name.now c.loop-field.fields c.loop-field.field
+          c.loop-field.invariant lt (sym c.is_named.ensures ∙ w.if-is_named.false))
     ]

@@ -6,4 +6,6 @@ use Rattle.filing_machine.proofs.fields.first_value_match.Given as goal
 
 -- none of the fields so far matches
 abbrev pub invariant-loop-index : goal.invariant-loop-index
-invariant-loop-index g l = find (λ n. key_matches l.match_type l.comparator l.key (field_at (g.C.Case.facts l.case) n).value) (take l.index l.fields) ≡ None
+invariant-loop-index g l =
+    find (λ n. key_matches l.match_type l.comparator l.key (field_at (g.C.Case.facts l.case) n).value)
+    (take l.index l.fields) ≡ None

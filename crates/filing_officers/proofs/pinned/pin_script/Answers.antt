@@ -24,7 +24,9 @@ returns-in-Ok c =
     let main = program_of (tree_of c.args.script.now.script) in
     let lib = scripts_of c.args.shelves in
     let P : Library → Type 0 = λ l. PinsChoice (script c.args.name.now main) l c.in-Ok.program in
-    subst P (library_meant lib) (compiled_pins (library_of lib) c.args.name.now main c.in-Ok.program c.in-Ok.ensures.compiled (λ heavy. ok_not_err c.in-Ok.is ((c.compile_with.ensures.too_large (ok_not_err c.in-Ok.is)).1 heavy)))
+    subst P (library_meant lib) (compiled_pins (library_of lib) c.args.name.now main c.in-Ok.program
+    c.in-Ok.ensures.compiled (λ heavy.
+    ok_not_err c.in-Ok.is ((c.compile_with.ensures.too_large (ok_not_err c.in-Ok.is)).1 heavy)))
 
 pub single-requires : goal.single-requires
 single-requires c = inr (ap Fault c.number.ensures)

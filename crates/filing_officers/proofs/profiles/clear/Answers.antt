@@ -9,8 +9,10 @@ pub returns-in-Some : goal.returns-in-Some
 returns-in-Some c =
     let es = c.args.profiles.now.entries in
     let found = sym c.get_mut.ensures.value ∙ ap option_copied_mut c.in-Some.is in
-    let has = program_set c.in-Some.profile.now c.set.new.self _ NoProgram (found_is c.args.officer.now es c.in-Some.profile.now found) c.set.ensures in
-    changed_there c.args.officer.now es _ c.in-Some.profile.now c.set.new.self _ found (c.get_mut.follows.holds c.set.new.self).0 (ap (λ (p : Profile). p.kept) c.set.ensures) has
+    let has = program_set c.in-Some.profile.now c.set.new.self _ NoProgram
+    (found_is c.args.officer.now es c.in-Some.profile.now found) c.set.ensures in
+    changed_there c.args.officer.now es _ c.in-Some.profile.now c.set.new.self _ found
+    (c.get_mut.follows.holds c.set.new.self).0 (ap (λ (p : Profile). p.kept) c.set.ensures) has
 
 pub returns-in_default : goal.returns-in_default
 returns-in_default c =

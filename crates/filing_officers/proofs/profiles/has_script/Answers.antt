@@ -7,8 +7,11 @@ use Rattle.filing_officers.proofs.profiles.has_script.Goals as goal
 
 pub returns-in-Some : goal.returns-in-Some
 returns-in-Some c =
-    let found = found_is c.args.officer.now c.args.profiles.now.entries c.in-Some.profile.now (sym c.get.ensures.value ∙ ap option_copied c.in-Some.is) in
-    c.is_some.ensures ∙ sym (some_map (λ x. x.now.script) c.get-in-Some.result) ∙ ap is_some c.get-in-Some.ensures ∙ has_named c.args.name.now c.in-Some.profile.now.scripts ∙ ap (λ (o : Officer). is_some (script_at c.args.name.now o.scripts)) (sym found)
+    let found = found_is c.args.officer.now c.args.profiles.now.entries c.in-Some.profile.now (sym c.get.ensures.value
+    ∙ ap option_copied c.in-Some.is) in
+    c.is_some.ensures ∙ sym (some_map (λ x. x.now.script) c.get-in-Some.result) ∙ ap is_some c.get-in-Some.ensures
+    ∙ has_named c.args.name.now c.in-Some.profile.now.scripts
+    ∙ ap (λ (o : Officer). is_some (script_at c.args.name.now o.scripts)) (sym found)
 
 pub returns-in-None : goal.returns-in-None
 returns-in-None c =

@@ -9,4 +9,6 @@ returns-then-not-has_dashes c = no_dashes c.args.word.now (cc)
 pub returns : goal.returns
 returns c =
     let dashes : has_dashes c.args.word.now ≡ true = cc in
-    c.day_from.ensures ∙ day_read c.args.word.now c.read_digits-year.result c.read_digits-month.result c.read_digits-day.result dashes c.read_digits-year.ensures.number c.read_digits-month.ensures.number c.read_digits-day.ensures.number
+    c.day_from.ensures
+    ∙ day_read c.args.word.now c.read_digits-year.result c.read_digits-month.result c.read_digits-day.result dashes
+    c.read_digits-year.ensures.number c.read_digits-month.ensures.number c.read_digits-day.ensures.number

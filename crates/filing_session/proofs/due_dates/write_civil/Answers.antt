@@ -12,7 +12,12 @@ returns-clause-written g c = λ k.
     let day : c.as_bytes-day_text.result.now ≡ decimal c.args.day = c.as_bytes-day_text.ensures.value ∙ c.format-3.ensures.text in
     let a = c.dash_before.result.now in
     let b = c.dash_before-2.result.now in
-    let texts : c.as_bytes-year_text.result.now ++ (a ++ (c.as_bytes-month_text.result.now ++ (b ++ (c.as_bytes-day_text.result.now ++ (c.as_slice.result.now ++ []))))) ≡ decimal c.args.year ++ (a ++ (decimal c.args.month ++ (b ++ (decimal c.args.day ++ (codes "\n" ++ []))))) =
+    let texts : c.as_bytes-year_text.result.now
+    ++ (a ++ (c.as_bytes-month_text.result.now
+    ++ (b ++ (c.as_bytes-day_text.result.now ++ (c.as_slice.result.now ++ []))))) ≡ decimal c.args.year
+    ++ (a ++ (decimal c.args.month ++ (b ++ (decimal c.args.day ++ (codes "\n" ++ []))))) =
     λ i. year i ++ (a ++ (month i ++ (b ++ (day i ++ (c.as_slice.ensures i ++ []))))) in
-    let pieces = date_pieces (decimal c.args.year) (decimal c.args.month) (decimal c.args.day) a b (two_digits c.args.month) (two_digits c.args.day) (codes "\n") (codes "-") c.dash_before.ensures c.dash_before-2.ensures in
+    let pieces =
+    date_pieces (decimal c.args.year) (decimal c.args.month) (decimal c.args.day) a b (two_digits c.args.month)
+    (two_digits c.args.day) (codes "\n") (codes "-") c.dash_before.ensures c.dash_before-2.ensures in
     subst P pieces (subst P texts (c.write_pieces.ensures.written k))

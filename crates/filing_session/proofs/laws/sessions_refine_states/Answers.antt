@@ -1,4 +1,5 @@
-use Rattle.filing_session.proofs.Refinement.{run_leads, run_refines, run_sure, served_refines, answered_refines, cut_in_answer_refines, cut_in_ending_refines}
+use Rattle.filing_session.proofs.Refinement.{run_leads, run_refines, run_sure, served_refines, answered_refines}
+use Rattle.filing_session.proofs.Refinement.{cut_in_answer_refines, cut_in_ending_refines}
 use Rattle.filing_session.proofs.laws.sessions_refine_states.Goals as goal
 
 pub returns : goal.returns

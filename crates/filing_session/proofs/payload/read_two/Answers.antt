@@ -13,4 +13,5 @@ returns-clause-octets g c =
     let limits = c.args.limits in
     let P : Option Payload → Type 0 = λ p. IsRead g.S.Source.tells sizes.0 limits.0 p old mid in
     let Q : Option Payload → Type 0 = λ p. IsRead g.S.Source.tells sizes.1 limits.1 p mid new in
-    read_both sizes limits c.in-Some.first c.in-Some-2.second old mid new (subst P c.in-Some.is c.in_ok-first.ensures.octets) (subst Q c.in-Some-2.is c.in_ok-second.ensures.octets)
+    read_both sizes limits c.in-Some.first c.in-Some-2.second old mid new
+    (subst P c.in-Some.is c.in_ok-first.ensures.octets) (subst Q c.in-Some-2.is c.in_ok-second.ensures.octets)

@@ -20,4 +20,5 @@ returns-in_err-write_class-clause-written g c = λ k.
     let Q : List ℕ → Type 0 = λ s. IsAfter old s new in
     let some : flat_map class_octets paths ≡ classes_octets paths = some_class paths c.loop-path.path-index (omega arith) in
     as_fault c.from_residual.result _ _ _ c.from_residual.ensures.0
-    (subst Q some (after_next class_octets paths c.loop-path.path-index c.path-item.result old mid new (omega arith) (c.loop-path.invariant.written k) next))
+    (subst Q some (after_next class_octets paths c.loop-path.path-index c.path-item.result old mid new (omega arith)
+    (c.loop-path.invariant.written k) next))

@@ -14,7 +14,8 @@ returns-in_err-write_list-clause-written g c = λ k.
     let new = g.K.Sink.written c.write_list.new.sink in
     let P : List ℕ → Type 0 = λ s. IsAfter old s new in
     as_fault c.from_residual.result old (list_octets (map line_view c.args.lines.now) ++ codes "ok\n") new c.from_residual.ensures.0
-    (extends old (list_octets (map line_view c.args.lines.now)) (codes "ok\n") new (subst P (list_is c.args.lines.now) (c.in_err-write_list.ensures.written k)))
+    (extends old (list_octets (map line_view c.args.lines.now)) (codes "ok\n") new
+    (subst P (list_is c.args.lines.now) (c.in_err-write_list.ensures.written k)))
 
 pub returns-clause-written : goal.returns-clause-written
 returns-clause-written g c = λ k.
@@ -22,4 +23,5 @@ returns-clause-written g c = λ k.
     let mid = g.K.Sink.written c.write_list.new.sink in
     let new = g.K.Sink.written c.write_all.new.sink in
     let P : List ℕ → Type 0 = λ s. Writes c.write_all.result old (s ++ codes "ok\n") new in
-    subst P (list_is c.args.lines.now) (writes_after c.write_all.result old (flat_map line_octets c.args.lines.now) mid (codes "ok\n") new (c.in_ok-write_list.ensures.written k) (c.write_all.ensures.written k))
+    subst P (list_is c.args.lines.now) (writes_after c.write_all.result old (flat_map line_octets c.args.lines.now) mid
+    (codes "ok\n") new (c.in_ok-write_list.ensures.written k) (c.write_all.ensures.written k))

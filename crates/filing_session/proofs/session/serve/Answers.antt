@@ -11,7 +11,8 @@ use Rattle.filing_session.specs.declared.items.SessionEnd.TheVariants.{Limit}
 use Rattle.filing_session.specs.declared.items.Reaction.{Reaction}
 use Rattle.filing_session.specs.declared.session.ServeFault.TheVariants.{Read}
 use Rattle.filing_session.proofs.Pieces.{written_ok, written_fault, outlasted}
-use Rattle.filing_session.proofs.Served.{Doing, told, do_more, done_unheard, done_unsaid, done_all, answered_now, cut_in_answer, all_ends, one_less, ended_ok, ended_cut, limit_ends, stop_ends}
+use Rattle.filing_session.proofs.Served.{Doing, told, do_more, done_unheard, done_unsaid, done_all, answered_now}
+use Rattle.filing_session.proofs.Served.{cut_in_answer, all_ends, one_less, ended_ok, ended_cut, limit_ends, stop_ends}
 use Rattle.filing_session.proofs.Unread.{left_more, left_stop, left_limit}
 use Rattle.filing_session.proofs.session.serve.Goals as goal
 
@@ -39,25 +40,41 @@ loop-init g c = record {
 
 pub returns-in_default-clause-done : goal.returns-in_default-clause-done
 returns-in_default-clause-done g c =
-    let P : _ → Type 0 = λ x. HasDone (Calls g.R.Registry.clean g.R.Registry.stands) (λ items. g.S.Source.tells → Hears (Err Read) (session_of 1000000 (g.S.Source.left c.args.source.now)) items) (λ answers. g.K.Sink.tells → Says (Err Read) (g.K.Sink.written c.args.sink.now) answers (g.K.Sink.written c.loop.sink)) c.args.registry.now x in
-    subst P (sym c.in_default.ensures.same) (done_unheard (Calls g.R.Registry.clean g.R.Registry.stands) c.loop.counter (1000000 - c.loop.counter) _ _ _ _ _ _ c.loop.invariant.doing (omega (arith, c.loop-test.true)))
+    let P : _ → Type 0 = λ x. HasDone (Calls g.R.Registry.clean g.R.Registry.stands) (λ items. g.S.Source.tells
+    → Hears (Err Read) (session_of 1000000 (g.S.Source.left c.args.source.now)) items) (λ answers. g.K.Sink.tells
+    → Says (Err Read) (g.K.Sink.written c.args.sink.now) answers (g.K.Sink.written c.loop.sink)) c.args.registry.now
+    x in
+    subst P (sym c.in_default.ensures.same) (done_unheard (Calls g.R.Registry.clean g.R.Registry.stands) c.loop.counter
+    (1000000 - c.loop.counter) _ _ _ _ _ _ c.loop.invariant.doing (omega (arith, c.loop-test.true)))
 
 pub returns-in_default-clause-unheard : goal.returns-in_default-clause-unheard
 returns-in_default-clause-unheard g c = λ s k is.
     let all = session_of 1000000 (g.S.Source.left c.args.source.now) in
-    let P : _ → Type 0 = λ x. IsAnswered (Calls g.R.Registry.clean g.R.Registry.stands) all c.args.registry.now (g.K.Sink.written c.args.sink.now) (g.K.Sink.written c.loop.sink) x in
+    let P : _ → Type 0 = λ x.
+    IsAnswered (Calls g.R.Registry.clean g.R.Registry.stands) all c.args.registry.now
+    (g.K.Sink.written c.args.sink.now) (g.K.Sink.written c.loop.sink) x in
     let so_far = told (Calls g.R.Registry.clean g.R.Registry.stands) _ _ _ _ _ _ _ _ c.loop.invariant.doing s k in
     subst P (sym c.in_default.ensures.same) (answered_now (Calls g.R.Registry.clean g.R.Registry.stands) _ _ _ _ _ _ _ _ so_far refl)
 
 pub loop-preserved : goal.loop-preserved
 loop-preserved g c =
-    let Q : Reaction → Type 0 = λ x. Answers g.S.Source.tells (Calls g.R.Registry.clean g.R.Registry.stands) c.loop.registry (start_of (g.S.Source.left c.loop.source)) x c.next.new.registry (g.S.Source.left c.next.new.source) in
+    let Q : Reaction
+    → Type 0 = λ x. Answers g.S.Source.tells (Calls g.R.Registry.clean g.R.Registry.stands) c.loop.registry
+    (start_of (g.S.Source.left c.loop.source)) x c.next.new.registry (g.S.Source.left c.next.new.source) in
     let a = subst Q c.in-Reply.is c.in-Ok.ensures.reaction in
     record {
       doing =
-          let P : ℕ → Type 0 = λ n. Doing (Calls g.R.Registry.clean g.R.Registry.stands) g.S.Source.tells g.K.Sink.tells c.loop.counter n (session_of 1000000 (g.S.Source.left c.args.source.now)) c.args.registry.now (g.K.Sink.written c.args.sink.now) (g.S.Source.left c.loop.source) c.loop.registry (g.K.Sink.written c.loop.sink) in
-          do_more (Calls g.R.Registry.clean g.R.Registry.stands) c.loop.counter _ _ _ _ _ _ _ a.0 (answer_of c.in-Reply.reply) _ _ _ (subst P (one_less c.loop.counter c.loop-test.true) c.loop.invariant.doing) a.1 a.2
-          (λ k. written_ok c.write_reply.result (g.K.Sink.written c.loop.sink) (reply_octets (answer_of c.in-Reply.reply)) (g.K.Sink.written c.write_reply.new.sink) (c.write_reply.ensures.written k) (sym c.is_err.ensures.value ∙ c.if-is_err.false));
+          let P : ℕ → Type 0 = λ n.
+          Doing (Calls g.R.Registry.clean g.R.Registry.stands) g.S.Source.tells g.K.Sink.tells c.loop.counter n
+          (session_of 1000000 (g.S.Source.left c.args.source.now)) c.args.registry.now
+          (g.K.Sink.written c.args.sink.now) (g.S.Source.left c.loop.source) c.loop.registry
+          (g.K.Sink.written c.loop.sink) in
+          do_more (Calls g.R.Registry.clean g.R.Registry.stands) c.loop.counter _ _ _ _ _ _ _ a.0
+          (answer_of c.in-Reply.reply) _ _ _
+          (subst P (one_less c.loop.counter c.loop-test.true) c.loop.invariant.doing) a.1 a.2
+          (λ k. written_ok c.write_reply.result (g.K.Sink.written c.loop.sink)
+          (reply_octets (answer_of c.in-Reply.reply)) (g.K.Sink.written c.write_reply.new.sink)
+          (c.write_reply.ensures.written k) (sym c.is_err.ensures.value ∙ c.if-is_err.false));
       unread = λ s. c.loop.invariant.unread s ∙ left_more c.loop.counter _ a.0 _ c.loop-test.true (a.2 s);
       ends = omega (arith, c.next.ensures.ends.rises);
       reads_over = omega (arith, c.in-Ok.ensures.troubles.over, c.loop.invariant.reads_over);
@@ -71,55 +88,103 @@ loop-preserved g c =
       reads_all = omega (arith, c.next.ensures.troubles.all, c.loop.invariant.reads_all);
       writes_all = omega (arith, c.write_reply.ensures.troubles.all, c.loop.invariant.writes_all);
       read_failures = c.in-Ok.ensures.troubles.outlasts ∙ c.loop.invariant.read_failures;
-      write_failures = outlasted c.write_reply.result c.write_reply.ensures.troubles.outlasts (sym c.is_err.ensures.value ∙ c.if-is_err.false) ∙ c.loop.invariant.write_failures;
+      write_failures =
+          outlasted c.write_reply.result c.write_reply.ensures.troubles.outlasts (sym c.is_err.ensures.value
+          ∙ c.if-is_err.false) ∙ c.loop.invariant.write_failures;
     }
 
 pub returns-then-is_err-clause-done : goal.returns-then-is_err-clause-done
 returns-then-is_err-clause-done g c =
-    let P : ℕ → Type 0 = λ n. Doing (Calls g.R.Registry.clean g.R.Registry.stands) g.S.Source.tells g.K.Sink.tells c.loop.counter n (session_of 1000000 (g.S.Source.left c.args.source.now)) c.args.registry.now (g.K.Sink.written c.args.sink.now) (g.S.Source.left c.loop.source) c.loop.registry (g.K.Sink.written c.loop.sink) in
-    let Q : Reaction → Type 0 = λ x. Answers g.S.Source.tells (Calls g.R.Registry.clean g.R.Registry.stands) c.loop.registry (start_of (g.S.Source.left c.loop.source)) x c.next.new.registry (g.S.Source.left c.next.new.source) in
+    let P : ℕ → Type 0 = λ n.
+    Doing (Calls g.R.Registry.clean g.R.Registry.stands) g.S.Source.tells g.K.Sink.tells c.loop.counter n
+    (session_of 1000000 (g.S.Source.left c.args.source.now)) c.args.registry.now (g.K.Sink.written c.args.sink.now)
+    (g.S.Source.left c.loop.source) c.loop.registry (g.K.Sink.written c.loop.sink) in
+    let Q : Reaction
+    → Type 0 = λ x. Answers g.S.Source.tells (Calls g.R.Registry.clean g.R.Registry.stands) c.loop.registry
+    (start_of (g.S.Source.left c.loop.source)) x c.next.new.registry (g.S.Source.left c.next.new.source) in
     let a = subst Q c.in-Reply.is c.in-Ok.ensures.reaction in
-    done_unsaid (Calls g.R.Registry.clean g.R.Registry.stands) c.loop.counter _ _ _ _ _ _ _ a.0 (answer_of c.in-Reply.reply) _ _ _ (subst P (one_less c.loop.counter c.loop-test.true) c.loop.invariant.doing) c.loop-test.true a.1 a.2
-    (λ k. written_fault c.write_reply.result (g.K.Sink.written c.loop.sink) (reply_octets (answer_of c.in-Reply.reply)) (g.K.Sink.written c.write_reply.new.sink) (c.write_reply.ensures.written k) (sym c.is_err.ensures.value ∙ c.if-is_err.true))
+    done_unsaid (Calls g.R.Registry.clean g.R.Registry.stands) c.loop.counter _ _ _ _ _ _ _ a.0
+    (answer_of c.in-Reply.reply) _ _ _ (subst P (one_less c.loop.counter c.loop-test.true) c.loop.invariant.doing)
+    c.loop-test.true a.1 a.2
+    (λ k. written_fault c.write_reply.result (g.K.Sink.written c.loop.sink) (reply_octets (answer_of c.in-Reply.reply))
+    (g.K.Sink.written c.write_reply.new.sink) (c.write_reply.ensures.written k) (sym c.is_err.ensures.value
+    ∙ c.if-is_err.true))
 
 pub returns-then-is_err-clause-unsaid : goal.returns-then-is_err-clause-unsaid
 returns-then-is_err-clause-unsaid g c = λ s k is.
-    let P : ℕ → Type 0 = λ n. Doing (Calls g.R.Registry.clean g.R.Registry.stands) g.S.Source.tells g.K.Sink.tells c.loop.counter n (session_of 1000000 (g.S.Source.left c.args.source.now)) c.args.registry.now (g.K.Sink.written c.args.sink.now) (g.S.Source.left c.loop.source) c.loop.registry (g.K.Sink.written c.loop.sink) in
-    let Q : Reaction → Type 0 = λ x. Answers g.S.Source.tells (Calls g.R.Registry.clean g.R.Registry.stands) c.loop.registry (start_of (g.S.Source.left c.loop.source)) x c.next.new.registry (g.S.Source.left c.next.new.source) in
+    let P : ℕ → Type 0 = λ n.
+    Doing (Calls g.R.Registry.clean g.R.Registry.stands) g.S.Source.tells g.K.Sink.tells c.loop.counter n
+    (session_of 1000000 (g.S.Source.left c.args.source.now)) c.args.registry.now (g.K.Sink.written c.args.sink.now)
+    (g.S.Source.left c.loop.source) c.loop.registry (g.K.Sink.written c.loop.sink) in
+    let Q : Reaction
+    → Type 0 = λ x. Answers g.S.Source.tells (Calls g.R.Registry.clean g.R.Registry.stands) c.loop.registry
+    (start_of (g.S.Source.left c.loop.source)) x c.next.new.registry (g.S.Source.left c.next.new.source) in
     let a = subst Q c.in-Reply.is c.in-Ok.ensures.reaction in
-    let so_far = told (Calls g.R.Registry.clean g.R.Registry.stands) _ _ _ _ _ _ _ _ (subst P (one_less c.loop.counter c.loop-test.true) c.loop.invariant.doing) s k in
-    let following = written_fault c.write_reply.result (g.K.Sink.written c.loop.sink) (reply_octets (answer_of c.in-Reply.reply)) (g.K.Sink.written c.write_reply.new.sink) (c.write_reply.ensures.written k) (sym c.is_err.ensures.value ∙ c.if-is_err.true) in
-    inl (cut_in_answer (Calls g.R.Registry.clean g.R.Registry.stands) _ _ _ _ _ _ _ a.0 (answer_of c.in-Reply.reply) _ _ _ so_far (a.2 s) a.1 following)
+    let so_far =
+    told (Calls g.R.Registry.clean g.R.Registry.stands) _ _ _ _ _ _ _ _
+    (subst P (one_less c.loop.counter c.loop-test.true) c.loop.invariant.doing) s k in
+    let following =
+    written_fault c.write_reply.result (g.K.Sink.written c.loop.sink) (reply_octets (answer_of c.in-Reply.reply))
+    (g.K.Sink.written c.write_reply.new.sink) (c.write_reply.ensures.written k) (sym c.is_err.ensures.value
+    ∙ c.if-is_err.true) in
+    inl (cut_in_answer (Calls g.R.Registry.clean g.R.Registry.stands) _ _ _ _ _ _ _ a.0 (answer_of c.in-Reply.reply) _ _
+    _ so_far (a.2 s) a.1 following)
 
 pub returns-in-End-clause-done : goal.returns-in-End-clause-done
 returns-in-End-clause-done g c =
-    let Q : Reaction → Type 0 = λ x. Answers g.S.Source.tells (Calls g.R.Registry.clean g.R.Registry.stands) c.loop.registry (start_of (g.S.Source.left c.loop.source)) x c.next.new.registry (g.S.Source.left c.next.new.source) in
+    let Q : Reaction
+    → Type 0 = λ x. Answers g.S.Source.tells (Calls g.R.Registry.clean g.R.Registry.stands) c.loop.registry
+    (start_of (g.S.Source.left c.loop.source)) x c.next.new.registry (g.S.Source.left c.next.new.source) in
     let a = subst Q c.in-End.is c.in-Ok.ensures.reaction in
-    let P : _ → Type 0 = λ x. Doing (Calls g.R.Registry.clean g.R.Registry.stands) g.S.Source.tells g.K.Sink.tells c.loop.counter (1000000 - c.loop.counter) (session_of 1000000 (g.S.Source.left c.args.source.now)) c.args.registry.now (g.K.Sink.written c.args.sink.now) (g.S.Source.left c.loop.source) x (g.K.Sink.written c.loop.sink) in
-    done_all (Calls g.R.Registry.clean g.R.Registry.stands) c.write_ending.result c.loop.counter _ _ _ _ _ c.next.new.registry (g.K.Sink.written c.loop.sink) c.in-End.ending (g.K.Sink.written c.write_ending.new.sink) (subst P (sym a.0) c.loop.invariant.doing) (omega (arith, c.loop-test.true)) (λ s. stop_ends c.loop.counter _ _ _ c.loop-test.true (a.1 s)) c.write_ending.ensures.read c.write_ending.ensures.written
+    let P : _ → Type 0 = λ x.
+    Doing (Calls g.R.Registry.clean g.R.Registry.stands) g.S.Source.tells g.K.Sink.tells c.loop.counter
+    (1000000 - c.loop.counter) (session_of 1000000 (g.S.Source.left c.args.source.now)) c.args.registry.now
+    (g.K.Sink.written c.args.sink.now) (g.S.Source.left c.loop.source) x (g.K.Sink.written c.loop.sink) in
+    done_all (Calls g.R.Registry.clean g.R.Registry.stands) c.write_ending.result c.loop.counter _ _ _ _ _
+    c.next.new.registry (g.K.Sink.written c.loop.sink) c.in-End.ending (g.K.Sink.written c.write_ending.new.sink)
+    (subst P (sym a.0) c.loop.invariant.doing) (omega (arith, c.loop-test.true)) (λ s.
+    stop_ends c.loop.counter _ _ _ c.loop-test.true (a.1 s)) c.write_ending.ensures.read
+    c.write_ending.ensures.written
 
 pub returns-in-End-clause-ok : goal.returns-in-End-clause-ok
 returns-in-End-clause-ok g c = λ s k.
-    let Q : Reaction → Type 0 = λ x. Answers g.S.Source.tells (Calls g.R.Registry.clean g.R.Registry.stands) c.loop.registry (start_of (g.S.Source.left c.loop.source)) x c.next.new.registry (g.S.Source.left c.next.new.source) in
+    let Q : Reaction
+    → Type 0 = λ x. Answers g.S.Source.tells (Calls g.R.Registry.clean g.R.Registry.stands) c.loop.registry
+    (start_of (g.S.Source.left c.loop.source)) x c.next.new.registry (g.S.Source.left c.next.new.source) in
     let a = subst Q c.in-End.is c.in-Ok.ensures.reaction in
-    let P : _ → Type 0 = λ x. Doing (Calls g.R.Registry.clean g.R.Registry.stands) g.S.Source.tells g.K.Sink.tells c.loop.counter (1000000 - c.loop.counter) (session_of 1000000 (g.S.Source.left c.args.source.now)) c.args.registry.now (g.K.Sink.written c.args.sink.now) (g.S.Source.left c.loop.source) x (g.K.Sink.written c.loop.sink) in
+    let P : _ → Type 0 = λ x.
+    Doing (Calls g.R.Registry.clean g.R.Registry.stands) g.S.Source.tells g.K.Sink.tells c.loop.counter
+    (1000000 - c.loop.counter) (session_of 1000000 (g.S.Source.left c.args.source.now)) c.args.registry.now
+    (g.K.Sink.written c.args.sink.now) (g.S.Source.left c.loop.source) x (g.K.Sink.written c.loop.sink) in
     let so_far = told (Calls g.R.Registry.clean g.R.Registry.stands) _ _ _ _ _ _ _ _ (subst P (sym a.0) c.loop.invariant.doing) s k in
-    ended_ok (Calls g.R.Registry.clean g.R.Registry.stands) c.write_ending.result _ _ _ _ _ c.next.new.registry (g.K.Sink.written c.loop.sink) c.in-End.ending (g.K.Sink.written c.write_ending.new.sink) so_far (stop_ends c.loop.counter _ _ _ c.loop-test.true (a.1 s)) (c.write_ending.ensures.written k)
+    ended_ok (Calls g.R.Registry.clean g.R.Registry.stands) c.write_ending.result _ _ _ _ _ c.next.new.registry
+    (g.K.Sink.written c.loop.sink) c.in-End.ending (g.K.Sink.written c.write_ending.new.sink) so_far
+    (stop_ends c.loop.counter _ _ _ c.loop-test.true (a.1 s)) (c.write_ending.ensures.written k)
 
 pub returns-in-End-clause-unsaid : goal.returns-in-End-clause-unsaid
 returns-in-End-clause-unsaid g c = λ s k is.
-    let Q : Reaction → Type 0 = λ x. Answers g.S.Source.tells (Calls g.R.Registry.clean g.R.Registry.stands) c.loop.registry (start_of (g.S.Source.left c.loop.source)) x c.next.new.registry (g.S.Source.left c.next.new.source) in
+    let Q : Reaction
+    → Type 0 = λ x. Answers g.S.Source.tells (Calls g.R.Registry.clean g.R.Registry.stands) c.loop.registry
+    (start_of (g.S.Source.left c.loop.source)) x c.next.new.registry (g.S.Source.left c.next.new.source) in
     let a = subst Q c.in-End.is c.in-Ok.ensures.reaction in
-    let P : _ → Type 0 = λ x. Doing (Calls g.R.Registry.clean g.R.Registry.stands) g.S.Source.tells g.K.Sink.tells c.loop.counter (1000000 - c.loop.counter) (session_of 1000000 (g.S.Source.left c.args.source.now)) c.args.registry.now (g.K.Sink.written c.args.sink.now) (g.S.Source.left c.loop.source) x (g.K.Sink.written c.loop.sink) in
+    let P : _ → Type 0 = λ x.
+    Doing (Calls g.R.Registry.clean g.R.Registry.stands) g.S.Source.tells g.K.Sink.tells c.loop.counter
+    (1000000 - c.loop.counter) (session_of 1000000 (g.S.Source.left c.args.source.now)) c.args.registry.now
+    (g.K.Sink.written c.args.sink.now) (g.S.Source.left c.loop.source) x (g.K.Sink.written c.loop.sink) in
     let so_far = told (Calls g.R.Registry.clean g.R.Registry.stands) _ _ _ _ _ _ _ _ (subst P (sym a.0) c.loop.invariant.doing) s k in
-    inr (ended_cut (Calls g.R.Registry.clean g.R.Registry.stands) c.write_ending.result _ _ _ _ _ _ c.next.new.registry (g.K.Sink.written c.loop.sink) c.in-End.ending (g.K.Sink.written c.write_ending.new.sink) so_far (stop_ends c.loop.counter _ _ _ c.loop-test.true (a.1 s)) (c.write_ending.ensures.written k) is)
+    inr (ended_cut (Calls g.R.Registry.clean g.R.Registry.stands) c.write_ending.result _ _ _ _ _ _ c.next.new.registry
+    (g.K.Sink.written c.loop.sink) c.in-End.ending (g.K.Sink.written c.write_ending.new.sink) so_far
+    (stop_ends c.loop.counter _ _ _ c.loop-test.true (a.1 s)) (c.write_ending.ensures.written k) is)
 
 pub returns-in-End-clause-ending : goal.returns-in-End-clause-ending
 returns-in-End-clause-ending g c = λ s k ok by.
-    let Q : Reaction → Type 0 = λ x. Answers g.S.Source.tells (Calls g.R.Registry.clean g.R.Registry.stands) c.loop.registry (start_of (g.S.Source.left c.loop.source)) x c.next.new.registry (g.S.Source.left c.next.new.source) in
+    let Q : Reaction
+    → Type 0 = λ x. Answers g.S.Source.tells (Calls g.R.Registry.clean g.R.Registry.stands) c.loop.registry
+    (start_of (g.S.Source.left c.loop.source)) x c.next.new.registry (g.S.Source.left c.next.new.source) in
     let a = subst Q c.in-End.is c.in-Ok.ensures.reaction in
     let so_far = told (Calls g.R.Registry.clean g.R.Registry.stands) _ _ _ _ _ _ _ _ c.loop.invariant.doing s k in
-    let all = all_ends (Calls g.R.Registry.clean g.R.Registry.stands) _ _ _ _ _ _ _ c.in-End.ending so_far (stop_ends c.loop.counter _ _ _ c.loop-test.true (a.1 s)) in
+    let all = all_ends (Calls g.R.Registry.clean g.R.Registry.stands) _ _ _ _ _ _ _ c.in-End.ending so_far
+    (stop_ends c.loop.counter _ _ _ c.loop-test.true (a.1 s)) in
     let P : SessionEnd → Type 0 = EndsByInput in
     let R : Reaction → Type 0 = λ x. TellsEnd (SaysEnd (Ok x)) (g.S.Source.ends c.loop.source) (g.S.Source.ends c.next.new.source) in
     let ends = subst R c.in-End.is c.in-Ok.ensures.ends in
@@ -128,23 +193,32 @@ returns-in-End-clause-ending g c = λ s k ok by.
 
 pub returns-in-End-clause-unread : goal.returns-in-End-clause-unread
 returns-in-End-clause-unread g c = λ s k ok.
-    let Q : Reaction → Type 0 = λ x. Answers g.S.Source.tells (Calls g.R.Registry.clean g.R.Registry.stands) c.loop.registry (start_of (g.S.Source.left c.loop.source)) x c.next.new.registry (g.S.Source.left c.next.new.source) in
+    let Q : Reaction
+    → Type 0 = λ x. Answers g.S.Source.tells (Calls g.R.Registry.clean g.R.Registry.stands) c.loop.registry
+    (start_of (g.S.Source.left c.loop.source)) x c.next.new.registry (g.S.Source.left c.next.new.source) in
     let a = subst Q c.in-End.is c.in-Ok.ensures.reaction in
     sym (c.loop.invariant.unread s ∙ left_stop c.loop.counter _ _ c.in-End.ending c.loop-test.true (a.1 s))
 
 pub returns-clause-done : goal.returns-clause-done
 returns-clause-done g c =
-    done_all (Calls g.R.Registry.clean g.R.Registry.stands) c.write_ending-2.result c.loop.counter _ _ _ _ _ c.loop.registry (g.K.Sink.written c.loop.sink) Limit (g.K.Sink.written c.write_ending-2.new.sink) c.loop.invariant.doing (omega arith) (λ s. limit_ends c.loop.counter _ c.loop-test.false) c.write_ending-2.ensures.read c.write_ending-2.ensures.written
+    done_all (Calls g.R.Registry.clean g.R.Registry.stands) c.write_ending-2.result c.loop.counter _ _ _ _ _
+    c.loop.registry (g.K.Sink.written c.loop.sink) Limit (g.K.Sink.written c.write_ending-2.new.sink)
+    c.loop.invariant.doing (omega arith) (λ s.
+    limit_ends c.loop.counter _ c.loop-test.false) c.write_ending-2.ensures.read c.write_ending-2.ensures.written
 
 pub returns-clause-ok : goal.returns-clause-ok
 returns-clause-ok g c = λ s k.
     let so_far = told (Calls g.R.Registry.clean g.R.Registry.stands) _ _ _ _ _ _ _ _ c.loop.invariant.doing s k in
-    ended_ok (Calls g.R.Registry.clean g.R.Registry.stands) c.write_ending-2.result _ _ _ _ _ c.loop.registry (g.K.Sink.written c.loop.sink) Limit (g.K.Sink.written c.write_ending-2.new.sink) so_far (limit_ends c.loop.counter _ c.loop-test.false) (c.write_ending-2.ensures.written k)
+    ended_ok (Calls g.R.Registry.clean g.R.Registry.stands) c.write_ending-2.result _ _ _ _ _ c.loop.registry
+    (g.K.Sink.written c.loop.sink) Limit (g.K.Sink.written c.write_ending-2.new.sink) so_far
+    (limit_ends c.loop.counter _ c.loop-test.false) (c.write_ending-2.ensures.written k)
 
 pub returns-clause-unsaid : goal.returns-clause-unsaid
 returns-clause-unsaid g c = λ s k is.
     let so_far = told (Calls g.R.Registry.clean g.R.Registry.stands) _ _ _ _ _ _ _ _ c.loop.invariant.doing s k in
-    inr (ended_cut (Calls g.R.Registry.clean g.R.Registry.stands) c.write_ending-2.result _ _ _ _ _ _ c.loop.registry (g.K.Sink.written c.loop.sink) Limit (g.K.Sink.written c.write_ending-2.new.sink) so_far (limit_ends c.loop.counter _ c.loop-test.false) (c.write_ending-2.ensures.written k) is)
+    inr (ended_cut (Calls g.R.Registry.clean g.R.Registry.stands) c.write_ending-2.result _ _ _ _ _ _ c.loop.registry
+    (g.K.Sink.written c.loop.sink) Limit (g.K.Sink.written c.write_ending-2.new.sink) so_far
+    (limit_ends c.loop.counter _ c.loop-test.false) (c.write_ending-2.ensures.written k) is)
 
 pub returns-clause-ending : goal.returns-clause-ending
 returns-clause-ending g c = λ s k ok by.

@@ -6,7 +6,8 @@ use Rattle.filing_session.proofs.stream.write_all.Goals as goal
 pub loop-at-preserved : goal.loop-at-preserved
 loop-at-preserved g c = record {
   within = grind (arith, common_steps);
-  written = λ t. let w = c.in_ok-at.ensures.written t in let v = c.loop-at.invariant.written t in let s = take-add c.loop-at.at c.in_ok-at.field-0 c.args.octets.now in grind (arith, common_steps, w, v, s);
+  written = λ t. let w = c.in_ok-at.ensures.written t in let v = c.loop-at.invariant.written t in let s =
+      take-add c.loop-at.at c.in_ok-at.field-0 c.args.octets.now in grind (arith, common_steps, w, v, s);
   over = grind (arith, common_steps);
   patient = grind (arith, common_steps);
   failures = grind (arith, common_steps);

@@ -26,7 +26,8 @@ loop-machine-preserved g c =
     let Q : Program → Type 0 = λ q. IfSome c.matched_field-matched.result (λ f. is_found_by q facts before.at.place f ≡ true) in
     let matches : Q p = subst Q c.image.ensures.is c.matched_field-matched.ensures.matches in
     let told : IsStepRecord p facts before.steps step =
-    step_is_told p facts before c.step.new.self step c.loop-machine.invariant.stands c.in_ok-step.ensures.stands c.in_ok-step.ensures.count c.place-place.ensures (c.top-top.ensures facts) found matches in
+    step_is_told p facts before c.step.new.self step c.loop-machine.invariant.stands c.in_ok-step.ensures.stands
+    c.in_ok-step.ensures.count c.place-place.ensures (c.top-top.ensures facts) found matches in
     let P : ℕ → Type 0 = λ n. IsStepRecord p facts n step in
     let longer : length (steps ++ step ∷ []) ≡ length steps + 1 = length-append steps (step ∷ []) in
     record {
@@ -34,5 +35,7 @@ loop-machine-preserved g c =
       budget = c.in_ok-step.ensures.budget;
       whole = omega (arith, ap length c.in_ok-push.ensures.items, longer, c.loop-machine.invariant.whole, c.in_ok-step.ensures.count);
       told = λ k s e.
-          one_more (IsStepRecord p facts) steps step c.loop-machine.invariant.told (subst P (sym c.loop-machine.invariant.whole) told) k s (ap (λ xs. slice_get xs k) (sym c.in_ok-push.ensures.items) ∙ e);
+          one_more (IsStepRecord p facts) steps step c.loop-machine.invariant.told
+          (subst P (sym c.loop-machine.invariant.whole) told) k s (ap (λ xs.
+          slice_get xs k) (sym c.in_ok-push.ensures.items) ∙ e);
     }

@@ -14,5 +14,6 @@ loop-place-preserved c = below_more _ _ c.loop-place.invariant (c.runs_on.ensure
 pub returns-clause-inside : goal.returns-clause-inside
 returns-clause-inside c = λ _. record {
   some = omega (arith, c.if-place_count-lt1.false, c.place_count.ensures.value);
-  inside = stays c.args.image.now c.requires.in_range (λ p within. c.loop-place.invariant p (omega (arith, within, c.place_count-place-end.ensures.value, c.loop-place-test.false)));
+  inside = stays c.args.image.now c.requires.in_range (λ p within.
+      c.loop-place.invariant p (omega (arith, within, c.place_count-place-end.ensures.value, c.loop-place-test.false)));
 }

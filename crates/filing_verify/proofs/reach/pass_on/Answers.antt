@@ -8,9 +8,13 @@ use Rattle.filing_verify.proofs.reach.pass_on.Goals.{in-Some+else-to-place, in_d
 pub returns-clause-passed : goal.returns-clause-passed
 returns-clause-passed c = λ _.
     let place = c.args.place in
-    let marked : IsMarked c.args.marks.now place = slice_get-get_or c.args.marks.now place _ (omega (arith, c.requires.so_far.long, c.requires.within)) ∙ ap Some c.if-not-marks-place.false in
+    let marked : IsMarked c.args.marks.now place =
+    slice_get-get_or c.args.marks.now place _ (omega (arith, c.requires.so_far.long, c.requires.within))
+    ∙ ap Some c.if-not-marks-place.false in
     let ahead : (q : ℕ) → c.target.result ≡ Some q → place < q = λ q to. elim c.match-target.branch [
       | in-Some+else-to-place w ↦ let e : w.in-Some.to ≡ q = cc (w.in-Some.is, to) in rw (← e) w.if-to-place.false
       | in_default w ↦ absurd (cc (w.in_default.is, to))
     ] in
-    rw c.mark_successors.ensures (passed_on c.args.image.now place c.args.marks.now c.requires.so_far c.operation_at-operation.result c.operation_at-operation.ensures marked (λ q to. ahead q (c.target.ensures ∙ to)))
+    rw c.mark_successors.ensures (passed_on c.args.image.now place c.args.marks.now c.requires.so_far
+    c.operation_at-operation.result c.operation_at-operation.ensures marked (λ q to.
+    ahead q (c.target.ensures ∙ to)))

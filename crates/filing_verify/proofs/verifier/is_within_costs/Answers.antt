@@ -12,12 +12,15 @@ returns-clause-yes c = λ t.
     let p = c.args.image.now in
     let n = c.in_ok-steps.steps in
     let between : IsBetween n p.budget 1000000 = rw (← c.budget.ensures) (c.is_between.ensures.0 t) in
-    two_within p (firsts_of p.procedures) (some_procedures p.procedures (sym c.requires.version)) n c.in_ok-steps.ensures.there c.in_ok-steps.ensures.is between
+    two_within p (firsts_of p.procedures) (some_procedures p.procedures (sym c.requires.version)) n
+    c.in_ok-steps.ensures.there c.in_ok-steps.ensures.is between
 
 pub returns-clause-no : goal.returns-clause-no
 returns-clause-no c = λ f within.
     let p = c.args.image.now in
     let n = c.in_ok-steps.steps in
-    let between : IsBetween n p.budget 1000000 = two_between p (firsts_of p.procedures) (some_procedures p.procedures (sym c.requires.version)) n c.in_ok-steps.ensures.is within in
+    let between : IsBetween n p.budget 1000000 =
+    two_between p (firsts_of p.procedures) (some_procedures p.procedures (sym c.requires.version)) n
+    c.in_ok-steps.ensures.is within in
     let t = c.is_between.ensures.1 (rw c.budget.ensures between) in
     absurd (cc (t, f))

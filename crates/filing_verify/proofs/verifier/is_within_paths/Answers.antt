@@ -14,6 +14,7 @@ pub returns-clause-no : goal.returns-clause-no
 returns-clause-no c = λ f within.
     let p = c.args.image.now in
     let n = c.in_ok-places.places in
-    let between : IsBetween n p.budget 65535 = one_between p (no_procedures p.procedures (sym c.requires.version)) n c.in_ok-places.ensures.attained within in
+    let between : IsBetween n p.budget 65535 =
+    one_between p (no_procedures p.procedures (sym c.requires.version)) n c.in_ok-places.ensures.attained within in
     let t = c.is_between.ensures.1 (rw c.budget.ensures between) in
     absurd (cc (t, f))

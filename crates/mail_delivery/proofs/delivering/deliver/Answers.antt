@@ -16,7 +16,8 @@ returns-in_err-fault g c = λ m is.
     let fault = c.in_err-fault.field-0.0 in
     let first = c.in_ok-ticket.ensures m is in
     let Told : Result Delivery DeskFault → Type 0 = λ r.
-    Delivers (IsClean g.A.Records.clean) (StandsFor g.A.Records.stands) c.args.desk.now c.args.officer.now c.args.moment m r c.begin_and_run.new.desk in
+    Delivers (IsClean g.A.Records.clean) (StandsFor g.A.Records.stands) c.args.desk.now c.args.officer.now c.args.moment
+    m r c.begin_and_run.new.desk in
     subst Told (sym (passed_on out.result fault out.ensures.0 out.ensures.1)) (
       first.0,
       inr (inr (c.in_ok-ticket.ticket, first.1.0, first.1.1, c.in_err-fault.ensures, first.1.2)),
@@ -50,7 +51,9 @@ returns g c = λ m is.
     let first = c.in_ok-ticket.ensures m is in
     let t = c.in_ok-ticket.ticket in
     let last : List Call = record { command = finish t; answer = answer_of_capture (Ok c.in_ok-capture.capture) } ∷ [] in
-    let Finishes : ℕ → Type 0 = λ n. Calls clean stands c.begin_and_run.new.desk (finish n) (answer_of_capture (Ok c.in_ok-capture.capture)) c.finish.new.self in (
+    let Finishes : ℕ
+    → Type 0 = λ n. Calls clean stands c.begin_and_run.new.desk (finish n)
+    (answer_of_capture (Ok c.in_ok-capture.capture)) c.finish.new.self in (
       first.0 ++ last,
       (t, first.1.0, first.1.1, ap (λ (calls : List Call). calls ++ last) first.1.2),
       calls_on clean stands c.args.desk.now c.begin_and_run.new.desk c.finish.new.self first.0 last first.2

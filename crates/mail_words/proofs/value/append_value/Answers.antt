@@ -8,4 +8,10 @@ use Rattle.mail_words.proofs.value.append_value.Goals as goal
 pub returns-clause-short : goal.returns-clause-short
 unfolding value_of_body
 returns-clause-short c =
-    omega (arith, ap length (c.in_ok-append_shown.ensures), ap (λ x. length (display_of_text x)) c.trim.ensures, length-append c.args.shown.now.items (display_of_text (without_line_ends c.trim.result.now)), length-value c.args.raw.now)
+    omega (
+      arith,
+      ap length (c.in_ok-append_shown.ensures),
+      ap (λ x. length (display_of_text x)) c.trim.ensures,
+      length-append c.args.shown.now.items (display_of_text (without_line_ends c.trim.result.now)),
+      length-value c.args.raw.now,
+    )

@@ -13,5 +13,7 @@ returns-in-Include g c =
     let inc = includes_at g.L.Level.depth s in
     let f = filing_of c.args.filing.now in
     let i = include_view c.include.result in
-    λ _. IfOk-weaker c.run_include.result (λ e. ending_at e c.run_include.new.filing ≡ inc i f) (λ e. PlainlyEnds facts inc c.args.word c.args.arguments.now f (ending_at e c.run_include.new.filing))
-    (λ e told. include_ends facts inc c.args.word c.args.arguments.now i f (ending_at e c.run_include.new.filing) c.in-Include.is c.include.ensures told) c.run_include.ensures
+    λ _. IfOk-weaker c.run_include.result (λ e. ending_at e c.run_include.new.filing ≡ inc i f) (λ e.
+    PlainlyEnds facts inc c.args.word c.args.arguments.now f (ending_at e c.run_include.new.filing))
+    (λ e told. include_ends facts inc c.args.word c.args.arguments.now i f (ending_at e c.run_include.new.filing)
+    c.in-Include.is c.include.ensures told) c.run_include.ensures

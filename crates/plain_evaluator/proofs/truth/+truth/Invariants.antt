@@ -7,7 +7,11 @@ use Rattle.plain_evaluator.specs.Case.{facts_of}
 use Rattle.plain_evaluator.proofs.truth.+truth.Given as goal
 
 abbrev pub invariant-are_all_true-loop-test : goal.invariant-are_all_true-loop-test
-invariant-are_all_true-loop-test g l = list_all (λ t. truth (facts_of l.case) (test_in t)) (map test_of (drop l.test-index l.test-items)) ≡ all_true (facts_of l.case) (tests_in (inner_of l.tests))
+invariant-are_all_true-loop-test g l =
+    list_all (λ t. truth (facts_of l.case) (test_in t)) (map test_of (drop l.test-index l.test-items))
+    ≡ all_true (facts_of l.case) (tests_in (inner_of l.tests))
 
 abbrev pub invariant-is_some_true-loop-test : goal.invariant-is_some_true-loop-test
-invariant-is_some_true-loop-test g l = list_any (λ t. truth (facts_of l.case) (test_in t)) (map test_of (drop l.test-index l.test-items)) ≡ some_true (facts_of l.case) (tests_in (inner_of l.tests))
+invariant-is_some_true-loop-test g l =
+    list_any (λ t. truth (facts_of l.case) (test_in t)) (map test_of (drop l.test-index l.test-items))
+    ≡ some_true (facts_of l.case) (tests_in (inner_of l.tests))

@@ -4,7 +4,12 @@ use Rattle.promises.proofs.lines.equal_lines_after_striking.Goals as goal
 
 pub returns : goal.returns
 returns g c =
-    let texts : TextsAreOne = record { one_scan = c.one_scan.ensures; no_both = c.one_verdict.ensures.tokens; one_fault = c.one_verdict.ensures.refusal; at_most_one = c.one_tree.ensures } in
+    let texts : TextsAreOne = record {
+      one_scan = c.one_scan.ensures;
+      no_both = c.one_verdict.ensures.tokens;
+      one_fault = c.one_verdict.ensures.refusal;
+      at_most_one = c.one_tree.ensures;
+    } in
     let leads = c.sessions_refine_states.ensures.leads in
     let clean = g.R.Registry.clean in
     let stands = g.R.Registry.stands in

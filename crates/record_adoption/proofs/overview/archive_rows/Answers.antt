@@ -20,7 +20,9 @@ returns-in_err-messages-clause-none g c clean is = λ (a : Archive) h archive.
     let mid = state g.S.Store c.records.new.conn in
     let e = handed_on c.from_residual-in_err-messages.result c.in_err-messages.field-0.0 c.from_residual-in_err-messages.ensures.1 is in
     let k = common_after old mid a h (c.in_ok-records.ensures.same (c.message_numbers.ensures.falls clean) h.stored.schema) in
-    c.in_err-messages.ensures.none clean (ap (λ f. Err f) e) k.tables k.stored k.keyed (subst (AllByRecursion FitsNumber) (ap (map (λ (m : Message). m.number)) (sym k.messages)) (numbers_fit a archive))
+    c.in_err-messages.ensures.none clean (ap (λ f. Err f) e) k.tables k.stored k.keyed
+    (subst (AllByRecursion FitsNumber) (ap (map (λ (m : Message). m.number)) (sym k.messages))
+    (numbers_fit a archive))
 
 pub returns-in_err-holds-clause-none : goal.returns-in_err-holds-clause-none
 returns-in_err-holds-clause-none g c clean is = λ (a : Archive) h archive.
@@ -31,7 +33,8 @@ returns-in_err-holds-clause-none g c clean is = λ (a : Archive) h archive.
     let e = handed_on c.from_residual-in_err-holds.result c.in_err-holds.field-0.0 c.from_residual-in_err-holds.ensures.1 is in
     let k = common_after old mid a h (c.in_ok-records.ensures.same (c.message_numbers.ensures.falls clean2) h.stored.schema) in
     let l = common_after mid last a k (c.in_ok-messages.ensures.same clean2 k.stored.schema) in
-    c.in_err-holds.ensures.none clean (ap (λ f. Err f) e) l.tables (sorted_holds a) (are_named l.tables a l.holds archive.once) l.stored l.keyed (holds_fit a archive)
+    c.in_err-holds.ensures.none clean (ap (λ f. Err f) e) l.tables (sorted_holds a)
+    (are_named l.tables a l.holds archive.once) l.stored l.keyed (holds_fit a archive)
 
 pub returns-in_err-holds-clause-sees : goal.returns-in_err-holds-clause-sees
 returns-in_err-holds-clause-sees g c =
@@ -39,11 +42,32 @@ returns-in_err-holds-clause-sees g c =
     let mid = c.records.new.conn in
     let last = c.message_numbers.new.conn in
     let new = c.holds.new.conn in
-    let one : Sees g.S.Store HasCommonTables old mid = record { idle = c.records.ensures.idle; falls = c.records.ensures.falls; quiet = c.records.ensures.quiet; survives = c.records.ensures.survives } in
-    let two : Sees g.S.Store HasCommonTables mid last = record { idle = c.message_numbers.ensures.idle; falls = c.message_numbers.ensures.falls; quiet = c.message_numbers.ensures.quiet; survives = c.message_numbers.ensures.survives } in
-    let three : Sees g.S.Store HasCommonTables last new = record { idle = c.holds.ensures.idle; falls = c.holds.ensures.falls; quiet = c.holds.ensures.quiet; survives = c.holds.ensures.survives } in
+    let one : Sees g.S.Store HasCommonTables old mid =
+    record {
+      idle = c.records.ensures.idle;
+      falls = c.records.ensures.falls;
+      quiet = c.records.ensures.quiet;
+      survives = c.records.ensures.survives;
+    } in
+    let two : Sees g.S.Store HasCommonTables mid last = record {
+      idle = c.message_numbers.ensures.idle;
+      falls =
+          c.message_numbers.ensures.falls;
+      quiet = c.message_numbers.ensures.quiet;
+      survives =
+          c.message_numbers.ensures.survives;
+    } in
+    let three : Sees g.S.Store HasCommonTables last new =
+    record {
+      idle = c.holds.ensures.idle;
+      falls = c.holds.ensures.falls;
+      quiet = c.holds.ensures.quiet;
+      survives =
+          c.holds.ensures.survives;
+    } in
     sees_then g.S.Store HasCommonTables old last new (sees_then g.S.Store HasCommonTables old mid last one c.in_ok-records.ensures.same two)
-    (kept_then g.S.Store HasCommonTables old mid last c.in_ok-records.ensures.same c.message_numbers.ensures.falls c.in_ok-messages.ensures.same) three
+    (kept_then g.S.Store HasCommonTables old mid last c.in_ok-records.ensures.same c.message_numbers.ensures.falls
+    c.in_ok-messages.ensures.same) three
 
 pub returns-clause-sees : goal.returns-clause-sees
 returns-clause-sees g c =
@@ -51,11 +75,32 @@ returns-clause-sees g c =
     let mid = c.records.new.conn in
     let last = c.message_numbers.new.conn in
     let new = c.holds.new.conn in
-    let one : Sees g.S.Store HasCommonTables old mid = record { idle = c.records.ensures.idle; falls = c.records.ensures.falls; quiet = c.records.ensures.quiet; survives = c.records.ensures.survives } in
-    let two : Sees g.S.Store HasCommonTables mid last = record { idle = c.message_numbers.ensures.idle; falls = c.message_numbers.ensures.falls; quiet = c.message_numbers.ensures.quiet; survives = c.message_numbers.ensures.survives } in
-    let three : Sees g.S.Store HasCommonTables last new = record { idle = c.holds.ensures.idle; falls = c.holds.ensures.falls; quiet = c.holds.ensures.quiet; survives = c.holds.ensures.survives } in
+    let one : Sees g.S.Store HasCommonTables old mid =
+    record {
+      idle = c.records.ensures.idle;
+      falls = c.records.ensures.falls;
+      quiet = c.records.ensures.quiet;
+      survives = c.records.ensures.survives;
+    } in
+    let two : Sees g.S.Store HasCommonTables mid last = record {
+      idle = c.message_numbers.ensures.idle;
+      falls =
+          c.message_numbers.ensures.falls;
+      quiet = c.message_numbers.ensures.quiet;
+      survives =
+          c.message_numbers.ensures.survives;
+    } in
+    let three : Sees g.S.Store HasCommonTables last new =
+    record {
+      idle = c.holds.ensures.idle;
+      falls = c.holds.ensures.falls;
+      quiet = c.holds.ensures.quiet;
+      survives =
+          c.holds.ensures.survives;
+    } in
     sees_then g.S.Store HasCommonTables old last new (sees_then g.S.Store HasCommonTables old mid last one c.in_ok-records.ensures.same two)
-    (kept_then g.S.Store HasCommonTables old mid last c.in_ok-records.ensures.same c.message_numbers.ensures.falls c.in_ok-messages.ensures.same) three
+    (kept_then g.S.Store HasCommonTables old mid last c.in_ok-records.ensures.same c.message_numbers.ensures.falls
+    c.in_ok-messages.ensures.same) three
 
 pub returns-clause-tells : goal.returns-clause-tells
 returns-clause-tells g c clean = λ (a : Archive) h once.

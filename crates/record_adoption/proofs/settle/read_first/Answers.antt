@@ -12,22 +12,34 @@ use Rattle.record_adoption.specs.Adoption.{AreTypedRows}
 use Rattle.record_adoption.proofs.settle.read_first.Goals as goal
 
 pub returns-in_err-rows-clause-sees : goal.returns-in_err-rows-clause-sees
-returns-in_err-rows-clause-sees g c = sees_then g.S.Store HasCommonTables c.args.conn.now c.text_rows.new.conn c.archive_rows.new.conn c.text_rows.ensures.sees c.in_ok-texts.ensures.same (c.archive_rows.ensures.sees)
+returns-in_err-rows-clause-sees g c =
+    sees_then g.S.Store HasCommonTables c.args.conn.now c.text_rows.new.conn c.archive_rows.new.conn
+    c.text_rows.ensures.sees c.in_ok-texts.ensures.same (c.archive_rows.ensures.sees)
 
 pub returns-in_err-plan-clause-sees : goal.returns-in_err-plan-clause-sees
-returns-in_err-plan-clause-sees g c = sees_then g.S.Store HasCommonTables c.args.conn.now c.text_rows.new.conn c.archive_rows.new.conn c.text_rows.ensures.sees c.in_ok-texts.ensures.same (c.archive_rows.ensures.sees)
+returns-in_err-plan-clause-sees g c =
+    sees_then g.S.Store HasCommonTables c.args.conn.now c.text_rows.new.conn c.archive_rows.new.conn
+    c.text_rows.ensures.sees c.in_ok-texts.ensures.same (c.archive_rows.ensures.sees)
 
 pub returns-in_err-overview-clause-sees : goal.returns-in_err-overview-clause-sees
-returns-in_err-overview-clause-sees g c = sees_then g.S.Store HasCommonTables c.args.conn.now c.text_rows.new.conn c.archive_rows.new.conn c.text_rows.ensures.sees c.in_ok-texts.ensures.same (c.archive_rows.ensures.sees)
+returns-in_err-overview-clause-sees g c =
+    sees_then g.S.Store HasCommonTables c.args.conn.now c.text_rows.new.conn c.archive_rows.new.conn
+    c.text_rows.ensures.sees c.in_ok-texts.ensures.same (c.archive_rows.ensures.sees)
 
 pub returns-in_err-plan_rows-clause-sees : goal.returns-in_err-plan_rows-clause-sees
-returns-in_err-plan_rows-clause-sees g c = sees_then g.S.Store HasCommonTables c.args.conn.now c.text_rows.new.conn c.archive_rows.new.conn c.text_rows.ensures.sees c.in_ok-texts.ensures.same (c.archive_rows.ensures.sees)
+returns-in_err-plan_rows-clause-sees g c =
+    sees_then g.S.Store HasCommonTables c.args.conn.now c.text_rows.new.conn c.archive_rows.new.conn
+    c.text_rows.ensures.sees c.in_ok-texts.ensures.same (c.archive_rows.ensures.sees)
 
 pub returns-clause-sees : goal.returns-clause-sees
-returns-clause-sees g c = sees_then g.S.Store HasCommonTables c.args.conn.now c.text_rows.new.conn c.archive_rows.new.conn c.text_rows.ensures.sees c.in_ok-texts.ensures.same (c.archive_rows.ensures.sees)
+returns-clause-sees g c =
+    sees_then g.S.Store HasCommonTables c.args.conn.now c.text_rows.new.conn c.archive_rows.new.conn
+    c.text_rows.ensures.sees c.in_ok-texts.ensures.same (c.archive_rows.ensures.sees)
 
 pub returns-clause-same : goal.returns-clause-same
-returns-clause-same g c = kept_then g.S.Store HasCommonTables c.args.conn.now c.text_rows.new.conn c.archive_rows.new.conn c.in_ok-texts.ensures.same c.archive_rows.ensures.sees.falls c.in_ok-rows.ensures.same
+returns-clause-same g c =
+    kept_then g.S.Store HasCommonTables c.args.conn.now c.text_rows.new.conn c.archive_rows.new.conn
+    c.in_ok-texts.ensures.same c.archive_rows.ensures.sees.falls c.in_ok-rows.ensures.same
 
 pub returns-in_err-texts-clause-none : goal.returns-in_err-texts-clause-none
 returns-in_err-texts-clause-none g c clean is = λ (a : Archive) h archive.
@@ -70,8 +82,10 @@ returns-clause-found g c clean = λ (a : Archive) h keyed.
     let clean1 : HasCleanDisk mid = c.archive_rows.ensures.sees.falls clean in
     let k = common_after old mid a (first_found old.now a h) (c.in_ok-texts.ensures.same clean1 (first_common old.now.schema h.stored.schema)) in
     let tells = c.in_ok-texts.ensures.tells clean1 a h keyed in
-    let same = c.in_ok-plan.ensures.plan a.plan keyed.plan tells in
-    (subst (TellsPlan c.in_ok-plan_rows.plan_rows) same c.in_ok-plan_rows.ensures, c.in_ok-overview.ensures.found a same keyed (c.in_ok-rows.ensures.tells clean a k keyed.once))
+    let same = c.in_ok-plan.ensures.plan a.plan keyed.plan tells in (
+      subst (TellsPlan c.in_ok-plan_rows.plan_rows) same c.in_ok-plan_rows.ensures,
+      c.in_ok-overview.ensures.found a same keyed (c.in_ok-rows.ensures.tells clean a k keyed.once),
+    )
 
 pub returns-clause-sound : goal.returns-clause-sound
 returns-clause-sound g c clean = λ t ps cs d.
@@ -84,7 +98,13 @@ returns-clause-sound g c clean = λ t ps cs d.
     let finds : FindsFirst old.now a = first_told old.now t ps cs c.in_ok-texts.texts p d told c.in_ok-plan.ensures.sound.1 in
     let k = common_after old mid a (first_found old.now a finds) (c.in_ok-texts.ensures.same clean1 (first_common old.now.schema d.stored.schema)) in
     let keyed : IsKeyed a = record { plan = c.in_ok-plan.ensures.sound.0; once = d.holds } in
-    record { archive = a; rows = inr finds; is = judged_archive a c.in_ok-rows.rows keyed (c.in_ok-rows.ensures.tells clean a k d.holds) c.in_ok-overview.ensures.sound }
+    record {
+      archive = a;
+      rows = inr finds;
+      is =
+          judged_archive a c.in_ok-rows.rows keyed (c.in_ok-rows.ensures.tells clean a k d.holds)
+          c.in_ok-overview.ensures.sound;
+    }
 
 pub returns-clause-typed : goal.returns-clause-typed
 returns-clause-typed g c clean = λ has.

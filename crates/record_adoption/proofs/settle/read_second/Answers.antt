@@ -12,19 +12,38 @@ use Rattle.record_adoption.specs.Adoption.{AreTypedRows}
 use Rattle.record_adoption.proofs.settle.read_second.Goals as goal
 
 pub returns-in_err-rows-clause-sees : goal.returns-in_err-rows-clause-sees
-returns-in_err-rows-clause-sees g c = sees_then g.S.Store IsArchiveSchema c.args.conn.now c.plan_rows.new.conn c.archive_rows.new.conn c.plan_rows.ensures.sees c.in_ok-plan_rows.ensures.same (sees_as g.S.Store HasCommonTables IsArchiveSchema c.plan_rows.new.conn c.archive_rows.new.conn archive_common c.archive_rows.ensures.sees)
+returns-in_err-rows-clause-sees g c =
+    sees_then g.S.Store IsArchiveSchema c.args.conn.now c.plan_rows.new.conn c.archive_rows.new.conn
+    c.plan_rows.ensures.sees c.in_ok-plan_rows.ensures.same
+    (sees_as g.S.Store HasCommonTables IsArchiveSchema c.plan_rows.new.conn c.archive_rows.new.conn archive_common
+    c.archive_rows.ensures.sees)
 
 pub returns-in_err-plan-clause-sees : goal.returns-in_err-plan-clause-sees
-returns-in_err-plan-clause-sees g c = sees_then g.S.Store IsArchiveSchema c.args.conn.now c.plan_rows.new.conn c.archive_rows.new.conn c.plan_rows.ensures.sees c.in_ok-plan_rows.ensures.same (sees_as g.S.Store HasCommonTables IsArchiveSchema c.plan_rows.new.conn c.archive_rows.new.conn archive_common c.archive_rows.ensures.sees)
+returns-in_err-plan-clause-sees g c =
+    sees_then g.S.Store IsArchiveSchema c.args.conn.now c.plan_rows.new.conn c.archive_rows.new.conn
+    c.plan_rows.ensures.sees c.in_ok-plan_rows.ensures.same
+    (sees_as g.S.Store HasCommonTables IsArchiveSchema c.plan_rows.new.conn c.archive_rows.new.conn archive_common
+    c.archive_rows.ensures.sees)
 
 pub returns-in_err-overview-clause-sees : goal.returns-in_err-overview-clause-sees
-returns-in_err-overview-clause-sees g c = sees_then g.S.Store IsArchiveSchema c.args.conn.now c.plan_rows.new.conn c.archive_rows.new.conn c.plan_rows.ensures.sees c.in_ok-plan_rows.ensures.same (sees_as g.S.Store HasCommonTables IsArchiveSchema c.plan_rows.new.conn c.archive_rows.new.conn archive_common c.archive_rows.ensures.sees)
+returns-in_err-overview-clause-sees g c =
+    sees_then g.S.Store IsArchiveSchema c.args.conn.now c.plan_rows.new.conn c.archive_rows.new.conn
+    c.plan_rows.ensures.sees c.in_ok-plan_rows.ensures.same
+    (sees_as g.S.Store HasCommonTables IsArchiveSchema c.plan_rows.new.conn c.archive_rows.new.conn archive_common
+    c.archive_rows.ensures.sees)
 
 pub returns-clause-sees : goal.returns-clause-sees
-returns-clause-sees g c = sees_then g.S.Store IsArchiveSchema c.args.conn.now c.plan_rows.new.conn c.archive_rows.new.conn c.plan_rows.ensures.sees c.in_ok-plan_rows.ensures.same (sees_as g.S.Store HasCommonTables IsArchiveSchema c.plan_rows.new.conn c.archive_rows.new.conn archive_common c.archive_rows.ensures.sees)
+returns-clause-sees g c =
+    sees_then g.S.Store IsArchiveSchema c.args.conn.now c.plan_rows.new.conn c.archive_rows.new.conn
+    c.plan_rows.ensures.sees c.in_ok-plan_rows.ensures.same
+    (sees_as g.S.Store HasCommonTables IsArchiveSchema c.plan_rows.new.conn c.archive_rows.new.conn archive_common
+    c.archive_rows.ensures.sees)
 
 pub returns-clause-same : goal.returns-clause-same
-returns-clause-same g c = kept_then g.S.Store IsArchiveSchema c.args.conn.now c.plan_rows.new.conn c.archive_rows.new.conn c.in_ok-plan_rows.ensures.same c.archive_rows.ensures.sees.falls (λ clean here. c.in_ok-rows.ensures.same clean (archive_common (state g.S.Store c.plan_rows.new.conn).now.schema here))
+returns-clause-same g c =
+    kept_then g.S.Store IsArchiveSchema c.args.conn.now c.plan_rows.new.conn c.archive_rows.new.conn
+    c.in_ok-plan_rows.ensures.same c.archive_rows.ensures.sees.falls (λ clean here.
+    c.in_ok-rows.ensures.same clean (archive_common (state g.S.Store c.plan_rows.new.conn).now.schema here))
 
 pub returns-in_err-plan_rows-clause-none : goal.returns-in_err-plan_rows-clause-none
 returns-in_err-plan_rows-clause-none g c clean is = λ (a : Archive) h archive.
@@ -81,7 +100,13 @@ returns-clause-sound g c clean = λ t ps rs cs d.
     let finds : FindsSecond old.now a = second_told old.now t ps rs cs c.in_ok-plan_rows.plan_rows p d told c.in_ok-plan.ensures.sound.1 in
     let k = common_after old mid a (second_common old.now a finds) (c.in_ok-plan_rows.ensures.same clean1 d.stored.schema) in
     let keyed : IsKeyed a = record { plan = c.in_ok-plan.ensures.sound.0; once = d.holds } in
-    record { archive = a; rows = inl finds; is = judged_archive a c.in_ok-rows.rows keyed (c.in_ok-rows.ensures.tells clean a k d.holds) c.in_ok-overview.ensures.sound }
+    record {
+      archive = a;
+      rows = inl finds;
+      is =
+          judged_archive a c.in_ok-rows.rows keyed (c.in_ok-rows.ensures.tells clean a k d.holds)
+          c.in_ok-overview.ensures.sound;
+    }
 
 pub returns-clause-typed : goal.returns-clause-typed
 returns-clause-typed g c clean = λ has.

@@ -21,7 +21,9 @@ returns-clause-ok g c clean = λ (a : Archive) h tells same.
     let dues = map due_of c.args.dues.now in
     let clean1 : HasCleanDisk mid = omega (arith, c.replace_plan.ensures.crash.clean, clean) in
     let k = second_after old mid a h (c.in_ok-are_stored.ensures.same clean1 h.stored.schema) in
-    stores_settled mid.now (state g.S.Store c.replace_plan.new.conn).now a rules classes dues k (ap (map rule_of) c.as_slice.ensures.value ∙ tells.rules) (ap (map class_entry_of) c.as_slice-2.ensures.value ∙ tells.classes) same (c.in_ok-replace_plan.ensures.ok clean)
+    stores_settled mid.now (state g.S.Store c.replace_plan.new.conn).now a rules classes dues k
+    (ap (map rule_of) c.as_slice.ensures.value ∙ tells.rules) (ap (map class_entry_of) c.as_slice-2.ensures.value
+    ∙ tells.classes) same (c.in_ok-replace_plan.ensures.ok clean)
 
 pub returns-clause-crash : goal.returns-clause-crash
 returns-clause-crash g c =
@@ -31,9 +33,13 @@ returns-clause-crash g c =
     let classes = map class_entry_of c.as_slice-2.result.now in
     let dues = map due_of c.args.dues.now in
     leaves_after g.S.Store c.args.conn.now c.are_dues.new.conn c.replace_plan.new.conn IsArchiveSchema
-    (λ (a : Archive). FindsSecond (state g.S.Store c.args.conn.now).now a × TellsPlan c.args.plan.now a.plan × (map due_of c.args.dues.now ≡ due_rows a))
+    (λ (a : Archive). FindsSecond (state g.S.Store c.args.conn.now).now a × TellsPlan c.args.plan.now a.plan
+    × (map due_of c.args.dues.now ≡ due_rows a))
     (IsRevised rules classes dues mid.now) (λ a is. is.0.stored.schema) c.in_ok-are_stored.ensures.same c.are_dues.ensures.survives
-    (λ clean db turns a is now. stores_settled mid.now db a rules classes dues (subst (λ (d : Database). FindsSecond d a) (sym now) is.0) (ap (map rule_of) c.as_slice.ensures.value ∙ is.1.rules) (ap (map class_entry_of) c.as_slice-2.ensures.value ∙ is.1.classes) is.2 turns)
+    (λ clean db turns a is now.
+    stores_settled mid.now db a rules classes dues (subst (λ (d : Database). FindsSecond d a) (sym now) is.0)
+    (ap (map rule_of) c.as_slice.ensures.value ∙ is.1.rules) (ap (map class_entry_of) c.as_slice-2.ensures.value
+    ∙ is.1.classes) is.2 turns)
     c.replace_plan.ensures.crash
 
 pub returns-in_err-replace_plan-clause-crash : goal.returns-in_err-replace_plan-clause-crash
@@ -44,17 +50,23 @@ returns-in_err-replace_plan-clause-crash g c =
     let classes = map class_entry_of c.as_slice-2.result.now in
     let dues = map due_of c.args.dues.now in
     leaves_after g.S.Store c.args.conn.now c.are_dues.new.conn c.replace_plan.new.conn IsArchiveSchema
-    (λ (a : Archive). FindsSecond (state g.S.Store c.args.conn.now).now a × TellsPlan c.args.plan.now a.plan × (map due_of c.args.dues.now ≡ due_rows a))
+    (λ (a : Archive). FindsSecond (state g.S.Store c.args.conn.now).now a × TellsPlan c.args.plan.now a.plan
+    × (map due_of c.args.dues.now ≡ due_rows a))
     (IsRevised rules classes dues mid.now) (λ a is. is.0.stored.schema) c.in_ok-are_stored.ensures.same c.are_dues.ensures.survives
-    (λ clean db turns a is now. stores_settled mid.now db a rules classes dues (subst (λ (d : Database). FindsSecond d a) (sym now) is.0) (ap (map rule_of) c.as_slice.ensures.value ∙ is.1.rules) (ap (map class_entry_of) c.as_slice-2.ensures.value ∙ is.1.classes) is.2 turns)
+    (λ clean db turns a is now.
+    stores_settled mid.now db a rules classes dues (subst (λ (d : Database). FindsSecond d a) (sym now) is.0)
+    (ap (map rule_of) c.as_slice.ensures.value ∙ is.1.rules) (ap (map class_entry_of) c.as_slice-2.ensures.value
+    ∙ is.1.classes) is.2 turns)
     c.replace_plan.ensures.crash
 
 pub returns-then-are_stored-clause-crash : goal.returns-then-are_stored-clause-crash
 returns-then-are_stored-clause-crash g c =
     leaves_read g.S.Store c.args.conn.now c.are_dues.new.conn IsArchiveSchema
-    (λ (a : Archive). FindsSecond (state g.S.Store c.args.conn.now).now a × TellsPlan c.args.plan.now a.plan × (map due_of c.args.dues.now ≡ due_rows a)) (λ a is. is.0.stored.schema) c.are_dues.ensures.survives
+    (λ (a : Archive). FindsSecond (state g.S.Store c.args.conn.now).now a × TellsPlan c.args.plan.now a.plan
+    × (map due_of c.args.dues.now ≡ due_rows a)) (λ a is. is.0.stored.schema) c.are_dues.ensures.survives
 
 pub returns-in_err-are_stored-clause-crash : goal.returns-in_err-are_stored-clause-crash
 returns-in_err-are_stored-clause-crash g c =
     leaves_read g.S.Store c.args.conn.now c.are_dues.new.conn IsArchiveSchema
-    (λ (a : Archive). FindsSecond (state g.S.Store c.args.conn.now).now a × TellsPlan c.args.plan.now a.plan × (map due_of c.args.dues.now ≡ due_rows a)) (λ a is. is.0.stored.schema) c.are_dues.ensures.survives
+    (λ (a : Archive). FindsSecond (state g.S.Store c.args.conn.now).now a × TellsPlan c.args.plan.now a.plan
+    × (map due_of c.args.dues.now ≡ due_rows a)) (λ a is. is.0.stored.schema) c.are_dues.ensures.survives

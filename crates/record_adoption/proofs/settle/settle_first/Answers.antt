@@ -18,7 +18,9 @@ returns-clause-found g c clean = λ (a : Archive) h keyed.
     let mid = state g.S.Store c.read_first.new.conn in
     let clean1 : HasCleanDisk mid = c.move_over.ensures.falls clean in
     let it = c.in_ok-contents.ensures.found clean1 a h keyed in
-    let k = first_after old mid a h (c.in_ok-contents.ensures.same clean1 (first_common (state g.S.Store c.args.conn.now).now.schema h.stored.schema)) in
+    let k = first_after old mid a h
+    (c.in_ok-contents.ensures.same clean1 (first_common (state g.S.Store c.args.conn.now).now.schema
+    h.stored.schema)) in
     (it.1, c.in_ok-move_over.ensures.ok clean a k it.0 (ap (map due_of) c.as_slice.ensures.value ∙ it.1.dues))
 
 pub returns-in_err-contents-clause-none : goal.returns-in_err-contents-clause-none
@@ -27,10 +29,14 @@ returns-in_err-contents-clause-none g c clean is = λ (a : Archive) h archive.
     c.in_err-contents.ensures.none clean (ap (λ f. Err f) e) a h archive
 
 pub returns-in_err-move_over-clause-none : goal.returns-in_err-move_over-clause-none
-returns-in_err-move_over-clause-none g c clean is = absurd (never_none c.from_residual-in_err-move_over.result c.in_err-move_over.field-0.0 c.from_residual-in_err-move_over.ensures.1 is)
+returns-in_err-move_over-clause-none g c clean is =
+    absurd (never_none c.from_residual-in_err-move_over.result c.in_err-move_over.field-0.0
+    c.from_residual-in_err-move_over.ensures.1 is)
 
 pub returns-in_err-contents-clause-err : goal.returns-in_err-contents-clause-err
-returns-in_err-contents-clause-err g c clean is_open = Rattle.record_reads.proofs.TypedLemmas.on_err c.from_residual.result _ (c.read_first.ensures.sees.quiet c.requires clean is_open)
+returns-in_err-contents-clause-err g c clean is_open =
+    Rattle.record_reads.proofs.TypedLemmas.on_err c.from_residual.result _
+    (c.read_first.ensures.sees.quiet c.requires clean is_open)
 
 pub returns-in_err-move_over-clause-err : goal.returns-in_err-move_over-clause-err
 returns-in_err-move_over-clause-err g c clean is_open =
@@ -41,14 +47,20 @@ returns-in_err-move_over-clause-err g c clean is_open =
 
 pub returns-in_err-contents-clause-crash : goal.returns-in_err-contents-clause-crash
 returns-in_err-contents-clause-crash g c =
-    leaves_read g.S.Store c.args.conn.now c.read_first.new.conn HasCommonTables (λ (a : Archive). FindsFirst (state g.S.Store c.args.conn.now).now a × IsKeyed a) (λ a is. first_common (state g.S.Store c.args.conn.now).now.schema is.0.stored.schema) c.read_first.ensures.sees.survives
+    leaves_read g.S.Store c.args.conn.now c.read_first.new.conn HasCommonTables (λ (a : Archive).
+    FindsFirst (state g.S.Store c.args.conn.now).now a
+    × IsKeyed a) (λ a is. first_common (state g.S.Store c.args.conn.now).now.schema is.0.stored.schema)
+    c.read_first.ensures.sees.survives
 
 pub returns-clause-crash : goal.returns-clause-crash
 returns-clause-crash g c =
     let mid = state g.S.Store c.read_first.new.conn in
-    leaves_after g.S.Store c.args.conn.now c.read_first.new.conn c.move_over.new.conn HasCommonTables (λ (a : Archive). FindsFirst (state g.S.Store c.args.conn.now).now a × IsKeyed a)
-    (λ (db : Database). (a : Archive) → FindsFirst mid.now a × TellsPlan c.in_ok-contents.contents.plan_rows a.plan × (map due_of c.as_slice.result.now ≡ due_rows a) → StoresArchive db a)
-    (λ a is. first_common (state g.S.Store c.args.conn.now).now.schema is.0.stored.schema) c.in_ok-contents.ensures.same c.read_first.ensures.sees.survives
+    leaves_after g.S.Store c.args.conn.now c.read_first.new.conn c.move_over.new.conn HasCommonTables (λ (a : Archive).
+    FindsFirst (state g.S.Store c.args.conn.now).now a × IsKeyed a)
+    (λ (db : Database). (a : Archive) → FindsFirst mid.now a × TellsPlan c.in_ok-contents.contents.plan_rows a.plan
+    × (map due_of c.as_slice.result.now ≡ due_rows a) → StoresArchive db a)
+    (λ a is. first_common (state g.S.Store c.args.conn.now).now.schema is.0.stored.schema) c.in_ok-contents.ensures.same
+    c.read_first.ensures.sees.survives
     (λ clean db made a is now.
     let it = c.in_ok-contents.ensures.found clean a is.0 is.1 in
     made a (subst (λ (d : Database). FindsFirst d a) (sym now) is.0, it.0, ap (map due_of) c.as_slice.ensures.value ∙ it.1.dues))
@@ -57,9 +69,12 @@ returns-clause-crash g c =
 pub returns-in_err-move_over-clause-crash : goal.returns-in_err-move_over-clause-crash
 returns-in_err-move_over-clause-crash g c =
     let mid = state g.S.Store c.read_first.new.conn in
-    leaves_after g.S.Store c.args.conn.now c.read_first.new.conn c.move_over.new.conn HasCommonTables (λ (a : Archive). FindsFirst (state g.S.Store c.args.conn.now).now a × IsKeyed a)
-    (λ (db : Database). (a : Archive) → FindsFirst mid.now a × TellsPlan c.in_ok-contents.contents.plan_rows a.plan × (map due_of c.as_slice.result.now ≡ due_rows a) → StoresArchive db a)
-    (λ a is. first_common (state g.S.Store c.args.conn.now).now.schema is.0.stored.schema) c.in_ok-contents.ensures.same c.read_first.ensures.sees.survives
+    leaves_after g.S.Store c.args.conn.now c.read_first.new.conn c.move_over.new.conn HasCommonTables (λ (a : Archive).
+    FindsFirst (state g.S.Store c.args.conn.now).now a × IsKeyed a)
+    (λ (db : Database). (a : Archive) → FindsFirst mid.now a × TellsPlan c.in_ok-contents.contents.plan_rows a.plan
+    × (map due_of c.as_slice.result.now ≡ due_rows a) → StoresArchive db a)
+    (λ a is. first_common (state g.S.Store c.args.conn.now).now.schema is.0.stored.schema) c.in_ok-contents.ensures.same
+    c.read_first.ensures.sees.survives
     (λ clean db made a is now.
     let it = c.in_ok-contents.ensures.found clean a is.0 is.1 in
     made a (subst (λ (d : Database). FindsFirst d a) (sym now) is.0, it.0, ap (map due_of) c.as_slice.ensures.value ∙ it.1.dues))

@@ -27,10 +27,14 @@ returns-in_err-contents-clause-none g c clean is = λ (a : Archive) h archive.
     c.in_err-contents.ensures.none clean (ap (λ f. Err f) e) a h archive
 
 pub returns-in_err-settle_dues-clause-none : goal.returns-in_err-settle_dues-clause-none
-returns-in_err-settle_dues-clause-none g c clean is = absurd (never_none c.from_residual-in_err-settle_dues.result c.in_err-settle_dues.field-0.0 c.from_residual-in_err-settle_dues.ensures.1 is)
+returns-in_err-settle_dues-clause-none g c clean is =
+    absurd (never_none c.from_residual-in_err-settle_dues.result c.in_err-settle_dues.field-0.0
+    c.from_residual-in_err-settle_dues.ensures.1 is)
 
 pub returns-in_err-contents-clause-err : goal.returns-in_err-contents-clause-err
-returns-in_err-contents-clause-err g c clean is_open = Rattle.record_reads.proofs.TypedLemmas.on_err c.from_residual.result _ (c.read_second.ensures.sees.quiet c.requires clean is_open)
+returns-in_err-contents-clause-err g c clean is_open =
+    Rattle.record_reads.proofs.TypedLemmas.on_err c.from_residual.result _
+    (c.read_second.ensures.sees.quiet c.requires clean is_open)
 
 pub returns-in_err-settle_dues-clause-err : goal.returns-in_err-settle_dues-clause-err
 returns-in_err-settle_dues-clause-err g c clean is_open =
@@ -41,13 +45,17 @@ returns-in_err-settle_dues-clause-err g c clean is_open =
 
 pub returns-in_err-contents-clause-crash : goal.returns-in_err-contents-clause-crash
 returns-in_err-contents-clause-crash g c =
-    leaves_read g.S.Store c.args.conn.now c.read_second.new.conn IsArchiveSchema (λ (a : Archive). FindsSecond (state g.S.Store c.args.conn.now).now a × IsKeyed a) (λ a is. is.0.stored.schema) c.read_second.ensures.sees.survives
+    leaves_read g.S.Store c.args.conn.now c.read_second.new.conn IsArchiveSchema (λ (a : Archive).
+    FindsSecond (state g.S.Store c.args.conn.now).now a
+    × IsKeyed a) (λ a is. is.0.stored.schema) c.read_second.ensures.sees.survives
 
 pub returns-clause-crash : goal.returns-clause-crash
 returns-clause-crash g c =
     let mid = state g.S.Store c.read_second.new.conn in
-    leaves_after g.S.Store c.args.conn.now c.read_second.new.conn c.settle_dues.new.conn IsArchiveSchema (λ (a : Archive). FindsSecond (state g.S.Store c.args.conn.now).now a × IsKeyed a)
-    (λ (db : Database). (a : Archive) → FindsSecond mid.now a × TellsPlan c.in_ok-contents.contents.plan_rows a.plan × (map due_of c.as_slice.result.now ≡ due_rows a) → StoresArchive db a)
+    leaves_after g.S.Store c.args.conn.now c.read_second.new.conn c.settle_dues.new.conn IsArchiveSchema
+    (λ (a : Archive). FindsSecond (state g.S.Store c.args.conn.now).now a × IsKeyed a)
+    (λ (db : Database). (a : Archive) → FindsSecond mid.now a × TellsPlan c.in_ok-contents.contents.plan_rows a.plan
+    × (map due_of c.as_slice.result.now ≡ due_rows a) → StoresArchive db a)
     (λ a is. is.0.stored.schema) c.in_ok-contents.ensures.same c.read_second.ensures.sees.survives
     (λ clean db made a is now.
     let it = c.in_ok-contents.ensures.found clean a is.0 is.1 in
@@ -57,8 +65,10 @@ returns-clause-crash g c =
 pub returns-in_err-settle_dues-clause-crash : goal.returns-in_err-settle_dues-clause-crash
 returns-in_err-settle_dues-clause-crash g c =
     let mid = state g.S.Store c.read_second.new.conn in
-    leaves_after g.S.Store c.args.conn.now c.read_second.new.conn c.settle_dues.new.conn IsArchiveSchema (λ (a : Archive). FindsSecond (state g.S.Store c.args.conn.now).now a × IsKeyed a)
-    (λ (db : Database). (a : Archive) → FindsSecond mid.now a × TellsPlan c.in_ok-contents.contents.plan_rows a.plan × (map due_of c.as_slice.result.now ≡ due_rows a) → StoresArchive db a)
+    leaves_after g.S.Store c.args.conn.now c.read_second.new.conn c.settle_dues.new.conn IsArchiveSchema
+    (λ (a : Archive). FindsSecond (state g.S.Store c.args.conn.now).now a × IsKeyed a)
+    (λ (db : Database). (a : Archive) → FindsSecond mid.now a × TellsPlan c.in_ok-contents.contents.plan_rows a.plan
+    × (map due_of c.as_slice.result.now ≡ due_rows a) → StoresArchive db a)
     (λ a is. is.0.stored.schema) c.in_ok-contents.ensures.same c.read_second.ensures.sees.survives
     (λ clean db made a is now.
     let it = c.in_ok-contents.ensures.found clean a is.0 is.1 in

@@ -6,8 +6,10 @@ use Rattle.record_reads.proofs.lookup.look.Goals as goal
 
 pub returns-clause-open : goal.returns-clause-open
 returns-clause-open g c clean = (
-  shown_open c.args.sql.now _ (state g.S.Store c.args.conn.now) (state g.S.Store c.query_all.new.self) c.in_ok-rows.rows.items (c.in_ok-rows.ensures.ok clean),
-  shown_open_now c.args.sql.now _ (state g.S.Store c.args.conn.now) (state g.S.Store c.query_all.new.self) c.in_ok-rows.rows.items (c.in_ok-rows.ensures.ok clean),
+  shown_open c.args.sql.now _ (state g.S.Store c.args.conn.now) (state g.S.Store c.query_all.new.self)
+      c.in_ok-rows.rows.items (c.in_ok-rows.ensures.ok clean),
+  shown_open_now c.args.sql.now _ (state g.S.Store c.args.conn.now) (state g.S.Store c.query_all.new.self)
+      c.in_ok-rows.rows.items (c.in_ok-rows.ensures.ok clean),
 )
 
 pub returns-clause-looks : goal.returns-clause-looks
@@ -16,10 +18,14 @@ returns-clause-looks g c = record {
   falls = λ clean. omega (arith, c.query_all.ensures.survives.clean, clean);
   still = λ idle has clean is_open.
       let result : c.is_autocommit-settled.result ≡ true = c.is_autocommit-settled.ensures.value ∙ ap not idle in
-      let was = shown_open c.args.sql.now _ (state g.S.Store c.args.conn.now) (state g.S.Store c.query_all.new.self) c.in_ok-rows.rows.items (c.in_ok-rows.ensures.ok clean) in
-      let same = reads_only c.args.sql.now _ (state g.S.Store c.args.conn.now) (state g.S.Store c.query_all.new.self) c.in_ok-rows.rows.items (plain_under c.args.sql.now (state g.S.Store c.args.conn.now).now.schema c.requires (has was)) (c.in_ok-rows.ensures.ok clean) in
+      let was = shown_open c.args.sql.now _ (state g.S.Store c.args.conn.now) (state g.S.Store c.query_all.new.self)
+      c.in_ok-rows.rows.items (c.in_ok-rows.ensures.ok clean) in
+      let same = reads_only c.args.sql.now _ (state g.S.Store c.args.conn.now) (state g.S.Store c.query_all.new.self)
+      c.in_ok-rows.rows.items (plain_under c.args.sql.now (state g.S.Store c.args.conn.now).now.schema c.requires
+      (has was)) (c.in_ok-rows.ensures.ok clean) in
       (was, same.0.now_is);
-  survives = looks_alone c.args.sql.now _ (state g.S.Store c.args.conn.now) (state g.S.Store c.query_all.new.self) c.requires c.query_all.ensures.survives;
+  survives = looks_alone c.args.sql.now _ (state g.S.Store c.args.conn.now) (state g.S.Store c.query_all.new.self)
+      c.requires c.query_all.ensures.survives;
 }
 
 pub returns-in_err-rows-clause-looks : goal.returns-in_err-rows-clause-looks
@@ -28,6 +34,10 @@ returns-in_err-rows-clause-looks g c = record {
   falls = λ clean. omega (arith, c.query_all.ensures.survives.clean, clean);
   still = λ idle has clean is_open.
       let result : c.is_autocommit-settled.result ≡ true = c.is_autocommit-settled.ensures.value ∙ ap not idle in
-      still_seen (state g.S.Store c.args.conn.now) (state g.S.Store c.query_all.new.self) (c.is_autocommit-settled.ensures.settled result) (failed_still c.args.sql.now _ (state g.S.Store c.args.conn.now) (state g.S.Store c.query_all.new.self) _ (c.in_err-rows.ensures.err clean)) is_open;
-  survives = looks_alone c.args.sql.now _ (state g.S.Store c.args.conn.now) (state g.S.Store c.query_all.new.self) c.requires c.query_all.ensures.survives;
+      still_seen (state g.S.Store c.args.conn.now) (state g.S.Store c.query_all.new.self)
+      (c.is_autocommit-settled.ensures.settled result)
+      (failed_still c.args.sql.now _ (state g.S.Store c.args.conn.now) (state g.S.Store c.query_all.new.self) _
+      (c.in_err-rows.ensures.err clean)) is_open;
+  survives = looks_alone c.args.sql.now _ (state g.S.Store c.args.conn.now) (state g.S.Store c.query_all.new.self)
+      c.requires c.query_all.ensures.survives;
 }

@@ -19,35 +19,48 @@ plain schema has = subst (λ s. IsPlain (understood s select_classes)) (sym has.
 pub returns-clause-all : goal.returns-clause-all
 returns-clause-all g c clean =
     if_ok c.rows_in.result _ _
-    (λ all h t cs are s keyed. back class_values ReadsClass class_entry_of one_class cs all.items (rw (c.as_slice.ensures.value, shows_classes (state g.S.Store c.args.conn.now) (state g.S.Store c.rows_of.new.conn) c.in_ok-rows.rows.items t cs s keyed are (c.in_ok-rows.ensures.shown clean)) at h))
+    (λ all h t cs are s keyed.
+    back class_values ReadsClass class_entry_of one_class cs all.items (rw (
+      c.as_slice.ensures.value,
+      shows_classes (state g.S.Store c.args.conn.now) (state g.S.Store c.rows_of.new.conn) c.in_ok-rows.rows.items t
+          cs s keyed are (c.in_ok-rows.ensures.shown clean),
+    ) at h))
     c.rows_in.ensures.all
 
 pub returns-clause-none : goal.returns-clause-none
 returns-clause-none g c clean is t cs are s keyed =
     let none = if_err_is c.rows_in.result NoArchive _ is c.rows_in.ensures.none in
-    let shown = shows_classes (state g.S.Store c.args.conn.now) (state g.S.Store c.rows_of.new.conn) c.in_ok-rows.rows.items t cs s keyed are (c.in_ok-rows.ensures.shown clean) in
+    let shown = shows_classes (state g.S.Store c.args.conn.now) (state g.S.Store c.rows_of.new.conn)
+    c.in_ok-rows.rows.items t cs s keyed are (c.in_ok-rows.ensures.shown clean) in
     (none (λ e. cc)).1 (rw (c.as_slice.ensures.value, shown) (readable_all class_values _ can_class cs))
 
 pub returns-in_err-rows-clause-none : goal.returns-in_err-rows-clause-none
 returns-in_err-rows-clause-none g c clean is = absurd (never_none c.from_residual.result c.in_err-rows.field-0.0 c.from_residual.ensures.1 is)
 
 pub returns-clause-same : goal.returns-clause-same
-returns-clause-same g c clean has = on_ok c.rows_in.result _ (c.in_ok-rows.ensures.same clean (plain (state g.S.Store c.args.conn.now).now.schema has))
+returns-clause-same g c clean has =
+    on_ok c.rows_in.result _ (c.in_ok-rows.ensures.same clean (plain (state g.S.Store c.args.conn.now).now.schema has))
 
 pub returns-clause-quiet : goal.returns-clause-quiet
 returns-clause-quiet g c idle = c.rows_of.ensures.quiet idle (λ is_open. quiet_classes (state g.S.Store c.args.conn.now).now.schema)
 
 pub returns-clause-survives : goal.returns-clause-survives
-returns-clause-survives g c = reads_nothing (state g.S.Store c.args.conn.now) (state g.S.Store c.rows_of.new.conn) _ _ (plain (state g.S.Store c.args.conn.now).now.schema) c.rows_of.ensures.survives
+returns-clause-survives g c =
+    reads_nothing (state g.S.Store c.args.conn.now) (state g.S.Store c.rows_of.new.conn) _ _
+    (plain (state g.S.Store c.args.conn.now).now.schema) c.rows_of.ensures.survives
 
 pub returns-in_err-rows-clause-quiet : goal.returns-in_err-rows-clause-quiet
 returns-in_err-rows-clause-quiet g c idle = c.rows_of.ensures.quiet idle (λ is_open. quiet_classes (state g.S.Store c.args.conn.now).now.schema)
 
 pub returns-in_err-rows-clause-survives : goal.returns-in_err-rows-clause-survives
-returns-in_err-rows-clause-survives g c = reads_nothing (state g.S.Store c.args.conn.now) (state g.S.Store c.rows_of.new.conn) _ _ (plain (state g.S.Store c.args.conn.now).now.schema) c.rows_of.ensures.survives
+returns-in_err-rows-clause-survives g c =
+    reads_nothing (state g.S.Store c.args.conn.now) (state g.S.Store c.rows_of.new.conn) _ _
+    (plain (state g.S.Store c.args.conn.now).now.schema) c.rows_of.ensures.survives
 
 pub returns-clause-typed : goal.returns-clause-typed
 returns-clause-typed g c clean =
     if_ok c.rows_in.result _ _
-    (λ all h has. typed_classes class_entry_of (state g.S.Store c.args.conn.now) (state g.S.Store c.rows_of.new.conn) c.in_ok-rows.rows.items all.items has (c.in_ok-rows.ensures.shown clean) (rw c.as_slice.ensures.value at h))
+    (λ all h has.
+    typed_classes class_entry_of (state g.S.Store c.args.conn.now) (state g.S.Store c.rows_of.new.conn)
+    c.in_ok-rows.rows.items all.items has (c.in_ok-rows.ensures.shown clean) (rw c.as_slice.ensures.value at h))
     c.rows_in.ensures.all

@@ -19,8 +19,10 @@ plain schema has = subst (λ s. IsPlain (understood s select_stored)) (sym has.i
 pub returns-clause-are : goal.returns-clause-are
 returns-clause-are g c clean t s keyed =
     let dues = map due_of c.args.dues.now in
-    let shown = shows_stored (state g.S.Store c.args.conn.now) (state g.S.Store c.rows_of.new.conn) c.in_ok-rows.rows.items t s keyed (c.in_ok-rows.ensures.shown clean) in
-    let same : c.show_dues.result ≡ pointwise shows_due (map due_values t.dues) dues = c.show_dues.ensures ∙ ap (λ r. pointwise shows_due r dues) (c.as_slice.ensures.value ∙ shown) in
+    let shown = shows_stored (state g.S.Store c.args.conn.now) (state g.S.Store c.rows_of.new.conn)
+    c.in_ok-rows.rows.items t s keyed (c.in_ok-rows.ensures.shown clean) in
+    let same : c.show_dues.result ≡ pointwise shows_due (map due_values t.dues) dues = c.show_dues.ensures
+    ∙ ap (λ r. pointwise shows_due r dues) (c.as_slice.ensures.value ∙ shown) in
     subst (λ b. Decides b (t.dues ≡ dues)) (sym same) (dues-told t.dues dues)
 
 pub returns-clause-same : goal.returns-clause-same
@@ -30,10 +32,14 @@ pub returns-clause-quiet : goal.returns-clause-quiet
 returns-clause-quiet g c idle = c.rows_of.ensures.quiet idle (λ is_open. quiet_stored (state g.S.Store c.args.conn.now).now.schema)
 
 pub returns-clause-survives : goal.returns-clause-survives
-returns-clause-survives g c = reads_nothing (state g.S.Store c.args.conn.now) (state g.S.Store c.rows_of.new.conn) _ _ (plain (state g.S.Store c.args.conn.now).now.schema) c.rows_of.ensures.survives
+returns-clause-survives g c =
+    reads_nothing (state g.S.Store c.args.conn.now) (state g.S.Store c.rows_of.new.conn) _ _
+    (plain (state g.S.Store c.args.conn.now).now.schema) c.rows_of.ensures.survives
 
 pub returns-in_err-rows-clause-quiet : goal.returns-in_err-rows-clause-quiet
 returns-in_err-rows-clause-quiet g c idle = c.rows_of.ensures.quiet idle (λ is_open. quiet_stored (state g.S.Store c.args.conn.now).now.schema)
 
 pub returns-in_err-rows-clause-survives : goal.returns-in_err-rows-clause-survives
-returns-in_err-rows-clause-survives g c = reads_nothing (state g.S.Store c.args.conn.now) (state g.S.Store c.rows_of.new.conn) _ _ (plain (state g.S.Store c.args.conn.now).now.schema) c.rows_of.ensures.survives
+returns-in_err-rows-clause-survives g c =
+    reads_nothing (state g.S.Store c.args.conn.now) (state g.S.Store c.rows_of.new.conn) _ _
+    (plain (state g.S.Store c.args.conn.now).now.schema) c.rows_of.ensures.survives

@@ -4,4 +4,6 @@ use Rattle.record_rows.specs.SoundRows.{is_live, is_one_of}
 use Rattle.record_rows.proofs.archive_rules.live_numbers.Given as goal
 
 abbrev pub invariant-loop-record : goal.invariant-loop-record
-invariant-loop-record l = (n : ℕ) → (is_one_of l.live.keys n || is_live (map record_of (drop l.record-index l.records)) n) ≡ is_live (map record_of l.records) n
+invariant-loop-record l = (n : ℕ)
+    → (is_one_of l.live.keys n || is_live (map record_of (drop l.record-index l.records)) n)
+    ≡ is_live (map record_of l.records) n

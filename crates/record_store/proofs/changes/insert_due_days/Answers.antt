@@ -25,6 +25,8 @@ loop-due-preserved g c =
           let one = was.puts (omega (arith, c.insert_due.ensures.survives.clean)) inside in
           let two = c.in_ok-insert_due.ensures.ok clean (one.mode ∙ inside) in
           let d : DueRow = record { «record» = 0; day = 0 } in
-          more_dues_next due_of old mid new c.args.dues.now (get_or c.args.dues.now c.loop-due.due-index d) c.loop-due.due-index c.loop-due-test.true (get_or_any c.args.dues.now c.loop-due.due-index d _ c.loop-due-test.true) one two;
+          more_dues_next due_of old mid new c.args.dues.now (get_or c.args.dues.now c.loop-due.due-index d)
+          c.loop-due.due-index c.loop-due-test.true
+          (get_or_any c.args.dues.now c.loop-due.due-index d _ c.loop-due-test.true) one two;
       survives = search rules;
     }

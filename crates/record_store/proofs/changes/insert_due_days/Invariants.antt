@@ -12,6 +12,8 @@ invariant-loop-due g l =
     let now = state g.S.Store l.tx.conn.now in
     record {
       same_reference : l.tx.conn.ghost_name ≡ l.fn.tx.conn.ghost_name;
-      puts : HasCleanDisk now → IsTrue old.in_transaction → Puts old now (AreAfter (map due_of (take l.due-index l.dues))) (with_more_dues (map due_of (take l.due-index l.dues)));
+      puts : HasCleanDisk now → IsTrue old.in_transaction
+          → Puts old now (AreAfter (map due_of (take l.due-index l.dues)))
+          (with_more_dues (map due_of (take l.due-index l.dues)));
       survives : Survives old now (λ _. ⊥);
     }

@@ -12,6 +12,8 @@ invariant-loop-i g l =
     let now = state g.S.Store l.tx.conn.now in
     record {
       same_reference : l.tx.conn.ghost_name ≡ l.fn.tx.conn.ghost_name;
-      puts : HasCleanDisk now → IsTrue old.in_transaction → Puts old now (IsPastRecords l.first) (with_records (records_of l.first l.first l.day (map (λ p. p.items) (take l.i l.paths))));
+      puts : HasCleanDisk now → IsTrue old.in_transaction
+          → Puts old now (IsPastRecords l.first)
+          (with_records (records_of l.first l.first l.day (map (λ p. p.items) (take l.i l.paths))));
       survives : Survives old now (λ _. ⊥);
     }

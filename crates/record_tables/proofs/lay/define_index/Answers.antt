@@ -8,7 +8,8 @@ use Rattle.record_tables.proofs.lay.define_index.Goals as goal
 
 pub returns-clause-ok : goal.returns-clause-ok
 returns-clause-ok g c = λ (schema : Schema) (at : ℕ) (table : Table) (index : Index) d clean inside.
-    lays_index (state g.S.Store c.args.tx.now.conn.now) (state g.S.Store c.execute.new.self.conn.now) schema c.args.text.now at table index c.in_ok-execute.field-0 d inside (c.in_ok-execute.ensures.runs clean inside)
+    lays_index (state g.S.Store c.args.tx.now.conn.now) (state g.S.Store c.execute.new.self.conn.now) schema
+    c.args.text.now at table index c.in_ok-execute.field-0 d inside (c.in_ok-execute.ensures.runs clean inside)
 
 pub returns-clause-goes_on : goal.returns-clause-goes_on
 returns-clause-goes_on g c clean inside =

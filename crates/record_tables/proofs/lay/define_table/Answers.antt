@@ -7,7 +7,8 @@ use Rattle.record_tables.proofs.lay.define_table.Goals as goal
 
 pub returns-clause-ok : goal.returns-clause-ok
 returns-clause-ok g c = λ (schema : Schema) (table : Table) d clean inside.
-    lays_table (state g.S.Store c.args.tx.now.conn.now) (state g.S.Store c.execute.new.self.conn.now) schema c.args.text.now table c.in_ok-execute.field-0 d inside (c.in_ok-execute.ensures.runs clean inside)
+    lays_table (state g.S.Store c.args.tx.now.conn.now) (state g.S.Store c.execute.new.self.conn.now) schema
+    c.args.text.now table c.in_ok-execute.field-0 d inside (c.in_ok-execute.ensures.runs clean inside)
 
 pub returns-clause-goes_on : goal.returns-clause-goes_on
 returns-clause-goes_on g c clean inside =

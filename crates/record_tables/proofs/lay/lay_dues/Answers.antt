@@ -13,6 +13,10 @@ returns-clause-ok g c clean inside =
     let a = state g.S.Store c.args.tx.now.conn.now in
     let b = state g.S.Store c.define_table.new.tx.conn.now in
     let e = state g.S.Store c.define_index.new.tx.conn.now in
-    let one = c.in_ok-define_table.ensures.ok schema_6 (record due_table { tree = 0 }) defines_due (omega (arith, c.define_index.ensures.survives.clean)) inside in
+    let one = c.in_ok-define_table.ensures.ok schema_6 (record due_table { tree = 0 }) defines_due (omega (
+      arith,
+      c.define_index.ensures.survives.clean,
+    )) inside in
     let two = c.in_ok-define_index.ensures.ok schema_7 6 due_table (record due_index { tree = 0 }) defines_index clean (one.mode ∙ inside) in
-    subst (Lays a e schema_6 (due_table ∷ [])) archive_is (lays_then a b e schema_6 schema_7 (indexed schema_7 due_table due_index) (due_table ∷ []) [] refl one two)
+    subst (Lays a e schema_6 (due_table ∷ [])) archive_is
+    (lays_then a b e schema_6 schema_7 (indexed schema_7 due_table due_index) (due_table ∷ []) [] refl one two)

@@ -15,6 +15,7 @@ loop-class-preserved g c =
       puts = λ clean inside.
           let one = was.puts (omega (arith, c.insert_class_row.ensures.survives.clean)) inside in
           let two = c.in_ok-insert_class_row.ensures.ok clean (one.mode ∙ inside) in
-          classes_next class_entry_of old mid new c.args.classes.now c.class-item.result c.loop-class.class-index c.loop-class-test.true c.class-item.is one two;
+          classes_next class_entry_of old mid new c.args.classes.now c.class-item.result c.loop-class.class-index
+          c.loop-class-test.true c.class-item.is one two;
       survives = search rules;
     }

@@ -15,6 +15,7 @@ loop-schedule-preserved g c =
       puts = λ clean inside.
           let one = was.puts (omega (arith, c.insert_schedule.ensures.survives.clean)) inside in
           let two = c.in_ok-insert_schedule.ensures.ok clean (one.mode ∙ inside) in
-          schedules_next rule_of old mid new c.args.schedules.now c.schedule-item.result c.loop-schedule.schedule-index c.loop-schedule-test.true c.schedule-item.is one two;
+          schedules_next rule_of old mid new c.args.schedules.now c.schedule-item.result c.loop-schedule.schedule-index
+          c.loop-schedule-test.true c.schedule-item.is one two;
       survives = search rules;
     }

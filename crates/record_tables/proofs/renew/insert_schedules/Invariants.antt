@@ -11,6 +11,7 @@ invariant-loop-schedule g l =
     let now = state g.S.Store l.tx.conn.now in
     record {
       same_reference : l.tx.conn.ghost_name ≡ l.fn.tx.conn.ghost_name;
-      puts : HasCleanDisk now → IsTrue old.in_transaction → Puts old now HasNoSchedules (with_schedules (map rule_of (take l.schedule-index l.schedules)));
+      puts : HasCleanDisk now → IsTrue old.in_transaction
+          → Puts old now HasNoSchedules (with_schedules (map rule_of (take l.schedule-index l.schedules)));
       survives : Survives old now (λ _. ⊥);
     }

@@ -10,7 +10,11 @@ returns-clause-ok g c clean inside =
     let second = state g.S.Store c.renew_classes.new.tx.conn.now in
     let third = state g.S.Store c.renew_schedules.new.tx.conn.now in
     let last = state g.S.Store c.renew_dues.new.tx.conn.now in
-    let one = c.in_ok-renew_classes.ensures.ok (omega (arith, c.renew_schedules.ensures.survives.clean, c.renew_dues.ensures.survives.clean)) inside in
+    let one = c.in_ok-renew_classes.ensures.ok (omega (
+      arith,
+      c.renew_schedules.ensures.survives.clean,
+      c.renew_dues.ensures.survives.clean,
+    )) inside in
     let two = c.in_ok-renew_schedules.ensures.ok (omega (arith, c.renew_dues.ensures.survives.clean)) (one.mode ∙ inside) in
     let three = c.in_ok-renew_dues.ensures.ok clean (two.mode ∙ one.mode ∙ inside) in
     puts_then first third last Always Always _ _ (λ t h. tt) (puts_then first second third Always Always _ _ (λ t h. tt) one two) three

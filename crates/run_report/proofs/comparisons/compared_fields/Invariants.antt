@@ -5,4 +5,6 @@ use Rattle.run_report.specs.Comparisons.{places_where}
 use Rattle.run_report.proofs.comparisons.compared_fields.Given as goal
 
 abbrev pub invariant-loop-place : goal.invariant-loop-place
-invariant-loop-place l = l.places.items ++ places_where (has_some_name (strings_of l.names)) l.place (drop l.place l.fields) ≡ places_where (has_some_name (strings_of l.names)) 0 l.fields
+invariant-loop-place l = l.places.items
+    ++ places_where (has_some_name (strings_of l.names)) l.place (drop l.place l.fields)
+    ≡ places_where (has_some_name (strings_of l.names)) 0 l.fields

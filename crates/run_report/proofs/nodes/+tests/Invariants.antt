@@ -5,4 +5,6 @@ use Rattle.run_report.specs.Nodes.{node_names}
 use Rattle.run_report.proofs.nodes.+tests.Given as goal
 
 abbrev pub invariant-add_tests-loop-test : goal.invariant-add_tests-loop-test
-invariant-add_tests-loop-test l = node_names l.nodes.items ++ row_names (row_of (map test_of (drop l.test-index l.test-items))) ≡ node_names l.fn.nodes.items ++ inner_names (inner_of l.tests)
+invariant-add_tests-loop-test l = node_names l.nodes.items
+    ++ row_names (row_of (map test_of (drop l.test-index l.test-items))) ≡ node_names l.fn.nodes.items
+    ++ inner_names (inner_of l.tests)

@@ -8,5 +8,6 @@ use Rattle.script_procedures.proofs.included.+inclusion.Given as goal
 
 abbrev pub invariant-add_commands-loop-command : goal.invariant-add_commands-loop-command
 invariant-add_commands-loop-command l =
-    with_rest (library_of (scripts_of l.shelves)) l.is_open (commands_of (map command_of (drop l.command-index l.command-items))) (map script_of l.names.items)
+    with_rest (library_of (scripts_of l.shelves)) l.is_open
+    (commands_of (map command_of (drop l.command-index l.command-items))) (map script_of l.names.items)
     ≡ with_rest (library_of (scripts_of l.shelves)) false (commands_of (map command_of l.commands.items)) (map script_of l.fn.names.items)

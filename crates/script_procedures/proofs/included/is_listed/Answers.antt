@@ -9,5 +9,6 @@ use Rattle.script_procedures.proofs.included.is_listed.Goals as goal
 
 pub returns : goal.returns
 returns c =
-    any_from_yields_List (λ (n : ScriptName). same_script (script_of n) (script_of c.args.name.now)) _ _ c.any.result c.any.ensures.ran (YieldsList-from_slice c.args.names.now cc) (λ x b q k. search (rules, tests))
+    any_from_yields_List (λ (n : ScriptName). same_script (script_of n) (script_of c.args.name.now)) _ _ c.any.result
+    c.any.ensures.ran (YieldsList-from_slice c.args.names.now cc) (λ x b q k. search (rules, tests))
     ∙ sym (any_map (λ t. same_script t (script_of c.args.name.now)) script_of c.args.names.now)

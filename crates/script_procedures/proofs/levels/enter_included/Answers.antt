@@ -20,7 +20,8 @@ loop-name-init c =
     let ps = map procedure_of c.args.next.now.items in (
       c.requires.each,
       c.requires.few,
-      ap (λ (ns : List code.ScriptName). with_procedures lib ps (filter_map (entry lib left chain) (map script_of ns))) c.deref-name-items.ensures.value
+      ap (λ (ns : List code.ScriptName). with_procedures lib ps (filter_map (entry lib left chain) (map script_of ns)))
+          c.deref-name-items.ensures.value
           ∙ ap (λ (ns : List ScriptName). with_procedures lib ps (filter_map (entry lib left chain) ns)) c.in_ok-names.ensures
           ∙ ap (with_procedures lib ps) (there_alone lib left chain (included_names (program_of (tree_of c.args.caller.now.script.now)))),
     )
@@ -31,5 +32,6 @@ returns-then-not-branch-clause-made c =
     let left = c.args.caller.now.key.left - 1 in
     let chain = names_of c.args.caller.now in
     let all = with_procedures lib (map procedure_of c.args.next.now.items) (entered_by lib (procedure_of c.args.caller.now)) in
-    name_full lib left chain (map procedure_of c.loop-name.next.items) all c.deref-name-items.result.now c.loop-name.name-index _ c.loop-name-test.true c.loop-name.invariant.2 c.args.room
+    name_full lib left chain (map procedure_of c.loop-name.next.items) all c.deref-name-items.result.now
+    c.loop-name.name-index _ c.loop-name-test.true c.loop-name.invariant.2 c.args.room
     (MatchBool-at_false _ _ c.if-not-branch.true c.in_ok-enter.ensures.made)

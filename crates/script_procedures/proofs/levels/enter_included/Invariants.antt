@@ -12,5 +12,7 @@ invariant-loop-name l =
     let lib = library_of (scripts_of l.reach.shelves) in
     All (IsEntered (scripts_of l.reach.shelves)) l.next.items
     × (length l.next.items ≤ l.room)
-    × (with_procedures lib (map procedure_of l.next.items) (filter_map (entry lib (l.caller.key.left - 1) (names_of l.caller)) (map script_of (drop l.name-index l.name-items)))
+    × (with_procedures lib (map procedure_of l.next.items)
+    (filter_map (entry lib (l.caller.key.left - 1) (names_of l.caller))
+    (map script_of (drop l.name-index l.name-items)))
     ≡ with_procedures lib (map procedure_of l.fn.next.items) (entered_by lib (procedure_of l.caller)))

@@ -6,4 +6,5 @@ use Rattle.script_procedures.proofs.procedure.is_made.Goals as goal
 
 pub returns : goal.returns
 returns c = λ e key.
-    c.is_some.ensures ∙ ap (λ (o : Option ℕ). is_some o) (c.number_of.ensures e key) ∙ number_there (library_of (scripts_of c.args.reach.now.shelves)) e c.args.procedures.now
+    c.is_some.ensures ∙ ap (λ (o : Option ℕ). is_some o) (c.number_of.ensures e key)
+    ∙ number_there (library_of (scripts_of c.args.reach.now.shelves)) e c.args.procedures.now

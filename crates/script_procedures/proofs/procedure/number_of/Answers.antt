@@ -20,10 +20,13 @@ loop-number-preserved c = λ e ke.
     let l = scripts_of c.args.reach.now.shelves in
     let p = c.index-procedures-number.result in
     let kp = subst (IsEntered l) (sym c.index-procedures-number.is) (c.requires c.loop-number.number p c.loop-number-test.true) in
-    none_more (λ (q : code.Procedure). is_shared (library_of l) (procedure_of q) e) c.args.procedures.now c.loop-number.number p c.loop-number-test.true c.index-procedures-number.is
+    none_more (λ (q : code.Procedure). is_shared (library_of l) (procedure_of q) e) c.args.procedures.now
+    c.loop-number.number p c.loop-number-test.true c.index-procedures-number.is
     (sym (c.are_shared.ensures (procedure_of p) e kp ke) ∙ c.if-are_shared.false) (c.loop-number.invariant e ke)
 
 pub returns : goal.returns
 returns c = λ e ke.
     let l = scripts_of c.args.reach.now.shelves in
-    no_number (library_of l) e c.args.procedures.now (sym (none_at_end (λ (q : code.Procedure). is_shared (library_of l) (procedure_of q) e) c.args.procedures.now c.loop-number.number (omega arith) (c.loop-number.invariant e ke)))
+    no_number (library_of l) e c.args.procedures.now
+    (sym (none_at_end (λ (q : code.Procedure). is_shared (library_of l) (procedure_of q) e) c.args.procedures.now
+    c.loop-number.number (omega arith) (c.loop-number.invariant e ke)))

@@ -8,4 +8,6 @@ use Rattle.script_procedures.specs.ProcedureCode.{procedure_of}
 use Rattle.script_procedures.proofs.procedure.number_of.Given as goal
 
 abbrev pub invariant-loop-number : goal.invariant-loop-number
-invariant-loop-number l = (e : Procedure) → IsEnteredKey (scripts_of l.reach.shelves) l.key e → list_any (λ p. is_shared (library_of (scripts_of l.reach.shelves)) (procedure_of p) e) (take l.number l.procedures) ≡ false
+invariant-loop-number l = (e : Procedure) → IsEnteredKey (scripts_of l.reach.shelves) l.key e
+    → list_any (λ p. is_shared (library_of (scripts_of l.reach.shelves)) (procedure_of p) e)
+    (take l.number l.procedures) ≡ false

@@ -7,4 +7,6 @@ use Rattle.script_procedures.specs.IncludedScripts.{is_there}
 use Rattle.script_procedures.proofs.reach.slots_of_names.Given as goal
 
 abbrev pub invariant-loop-name : goal.invariant-loop-name
-invariant-loop-name l = l.slots.items ≡ map (slots_of (scripts_of l.shelves)) (filter (is_there (library_of (scripts_of l.shelves))) (map script_of (take l.name-index l.names)))
+invariant-loop-name l =
+    l.slots.items ≡ map (slots_of (scripts_of l.shelves)) (filter (is_there (library_of (scripts_of l.shelves)))
+    (map script_of (take l.name-index l.names)))

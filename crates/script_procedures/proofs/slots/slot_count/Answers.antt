@@ -21,5 +21,7 @@ returns-else-global-eq0 c =
     let is : IsLibrary l = record { personal = c.len-personal.ensures.location; global = c.len-global.ensures.location } in
     record {
       enough = slots_global l is (32 + c.len-global.result) (omega (arith, c.len-global.ensures.count));
-      fewest = λ n h. let few = least_global l is (omega (arith, c.if-global-eq0.false, c.len-global.ensures.count)) n h in omega (arith, few, c.len-global.ensures.count);
+      fewest = λ n h. let few =
+          least_global l is (omega (arith, c.if-global-eq0.false, c.len-global.ensures.count)) n h in
+          omega (arith, few, c.len-global.ensures.count);
     }

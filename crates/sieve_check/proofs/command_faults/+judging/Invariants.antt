@@ -8,4 +8,7 @@ use Rattle.sieve_check.proofs.Judging.{broken_by_each}
 use Rattle.sieve_check.proofs.command_faults.+judging.Given as goal
 
 abbrev pub invariant-tests_fault-loop-test : goal.invariant-tests_fault-loop-test
-invariant-tests_fault-loop-test l = lesser (option_map number_of l.fault) (least (broken_by_each (has_of l.named) (map test_of (drop l.test-index l.test-items)))) ≡ least (inner_breaches (has_of l.named) (inner_of l.fn.tests))
+invariant-tests_fault-loop-test l =
+    lesser (option_map number_of l.fault)
+    (least (broken_by_each (has_of l.named) (map test_of (drop l.test-index l.test-items))))
+    ≡ least (inner_breaches (has_of l.named) (inner_of l.fn.tests))

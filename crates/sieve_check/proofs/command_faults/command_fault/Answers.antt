@@ -14,4 +14,9 @@ pub returns : goal.returns
 returns c =
     let node = out-Command c.args.command.now in
     let p = head_of c.args.follows_branch (command node.name node.arguments (inner_of node.tests) (ending_of node.ending)) in
-    rw (command_of-fields c.args.command.now) (command_least (has_of c.args.context.named) c.args.context.begun (command_view c.args.row.now) p (option_map number_of c.place_fault-place.result) (option_map number_of c.form_fault-form.result) (option_map number_of c.tests_fault.result) (option_map number_of c.lesser.result) (option_map number_of c.lesser-2.result) (rw (command_of-fields c.args.command.now) at c.place_fault-place.ensures) c.form_fault-form.ensures c.tests_fault.ensures c.lesser.ensures c.lesser-2.ensures)
+    rw (command_of-fields c.args.command.now) (command_least (has_of c.args.context.named) c.args.context.begun
+    (command_view c.args.row.now) p (option_map number_of c.place_fault-place.result)
+    (option_map number_of c.form_fault-form.result) (option_map number_of c.tests_fault.result)
+    (option_map number_of c.lesser.result) (option_map number_of c.lesser-2.result)
+    (rw (command_of-fields c.args.command.now) at c.place_fault-place.ensures) c.form_fault-form.ensures
+    c.tests_fault.ensures c.lesser.ensures c.lesser-2.ensures)

@@ -6,4 +6,6 @@ use Rattle.sieve_check.specs.Rules.{argument_strings, names_unknown}
 use Rattle.sieve_check.proofs.context.names_unknown.Given as goal
 
 abbrev pub invariant-loop-argument : goal.invariant-loop-argument
-invariant-loop-argument l = list_any (λ s. is_none (capability_named s)) (flat_map argument_strings (drop l.argument-index l.argument-items)) ≡ names_unknown l.fn.arguments
+invariant-loop-argument l =
+    list_any (λ s. is_none (capability_named s)) (flat_map argument_strings (drop l.argument-index l.argument-items))
+    ≡ names_unknown l.fn.arguments

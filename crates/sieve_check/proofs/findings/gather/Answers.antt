@@ -9,7 +9,8 @@ use Rattle.sieve_check.proofs.findings.gather.Goals as goal
 
 pub returns-clause-capability : goal.returns-clause-capability
 returns-clause-capability c =
-    rw c.go_over.ensures (any_found (has_of c.args.named) (λ f. f.lacks_capability) (piece_lacks (has_of c.args.named)) (λ f p. refl) no_findings (pieces (form_view c.args.form.now).tags c.args.arguments.now))
+    rw c.go_over.ensures (any_found (has_of c.args.named) (λ f. f.lacks_capability) (piece_lacks (has_of c.args.named))
+    (λ f p. refl) no_findings (pieces (form_view c.args.form.now).tags c.args.arguments.now))
 
 pub returns-clause-tag : goal.returns-clause-tag
 returns-clause-tag c =
@@ -20,12 +21,15 @@ returns-clause-tag c =
 
 pub returns-clause-twice : goal.returns-clause-twice
 returns-clause-twice c =
-    rw c.go_over.ensures (two_tags_found (has_of c.args.named) (form_view c.args.form.now) (pieces (form_view c.args.form.now).tags c.args.arguments.now))
+    rw c.go_over.ensures (two_tags_found (has_of c.args.named) (form_view c.args.form.now)
+    (pieces (form_view c.args.form.now).tags c.args.arguments.now))
 
 pub returns-clause-string : goal.returns-clause-string
 returns-clause-string c =
-    rw c.go_over.ensures (any_found (has_of c.args.named) (λ f. f.lacks_string) lacks_string (λ f p. refl) no_findings (pieces (form_view c.args.form.now).tags c.args.arguments.now))
+    rw c.go_over.ensures (any_found (has_of c.args.named) (λ f. f.lacks_string) lacks_string (λ f p.
+    refl) no_findings (pieces (form_view c.args.form.now).tags c.args.arguments.now))
 
 pub returns-clause-comparator : goal.returns-clause-comparator
 returns-clause-comparator c =
-    rw c.go_over.ensures (any_found (has_of c.args.named) (λ f. f.unknown_comparator) is_unknown_comparator (λ f p. refl) no_findings (pieces (form_view c.args.form.now).tags c.args.arguments.now))
+    rw c.go_over.ensures (any_found (has_of c.args.named) (λ f. f.unknown_comparator) is_unknown_comparator (λ f p.
+    refl) no_findings (pieces (form_view c.args.form.now).tags c.args.arguments.now))

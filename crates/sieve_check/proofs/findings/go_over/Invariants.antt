@@ -7,4 +7,5 @@ use Rattle.sieve_check.specs.Pieces.{pieces}
 use Rattle.sieve_check.proofs.findings.go_over.Given as goal
 
 abbrev pub invariant-loop-piece : goal.invariant-loop-piece
-invariant-loop-piece l = findings_in (has_of l.fn.named) l.found (pieces_left l.piece-iterator) ≡ findings_in (has_of l.fn.named) no_findings (pieces (form_view l.fn.form).tags l.fn.arguments)
+invariant-loop-piece l = findings_in (has_of l.fn.named) l.found (pieces_left l.piece-iterator)
+    ≡ findings_in (has_of l.fn.named) no_findings (pieces (form_view l.fn.form).tags l.fn.arguments)

@@ -5,4 +5,5 @@ use Rattle.sieve_check.specs.Views.{capability_view}
 use Rattle.sieve_check.proofs.lookup.find_capability.Given as goal
 
 abbrev pub invariant-loop-row : goal.invariant-loop-row
-invariant-loop-row l = row_where (λ r. same_text l.text r.text) (map capability_view (drop l.row-index l.row-items)) ≡ row_where (λ r. same_text l.text r.text) capability_table
+invariant-loop-row l = row_where (λ r. same_text l.text r.text) (map capability_view (drop l.row-index l.row-items))
+    ≡ row_where (λ r. same_text l.text r.text) capability_table

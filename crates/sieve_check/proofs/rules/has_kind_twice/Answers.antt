@@ -12,5 +12,9 @@ use Rattle.sieve_check.proofs.rules.has_kind_twice.Goals as goal
 
 pub returns : goal.returns
 returns c =
-    any_from_yields_List (has_kind c.args.kind) c.any.new.self _ c.any.result c.any.ensures.ran (YieldsList-from_skip 1 (YieldsList-from_skip_while _ piece_view _ (λ (p : PieceWord). not (has_kind c.args.kind p)) c.skip_while.result.p (λ x b q k. search rules) (YieldsList-from_first piece_view pieces_left (pieces (form_view c.args.form.now).tags c.args.arguments.now) cc) (cc) (cc)) (cc)) (λ x b q k. search rules)
+    any_from_yields_List (has_kind c.args.kind) c.any.new.self _ c.any.result c.any.ensures.ran
+    (YieldsList-from_skip 1 (YieldsList-from_skip_while _ piece_view _ (λ (p : PieceWord).
+    not (has_kind c.args.kind p)) c.skip_while.result.p (λ x b q k.
+    search rules) (YieldsList-from_first piece_view pieces_left
+    (pieces (form_view c.args.form.now).tags c.args.arguments.now) cc) (cc) (cc)) (cc)) (λ x b q k. search rules)
     ∙ sym (stands_twice_is c.args.kind (pieces (form_view c.args.form.now).tags c.args.arguments.now))

@@ -8,4 +8,6 @@ use Rattle.sieve_check.specs.Views.{form_view}
 use Rattle.sieve_check.proofs.rules.has_tag.Goals as goal
 
 pub returns : goal.returns
-returns c = any_from_yields_List (has_kind c.args.kind) c.any.new.self _ c.any.result c.any.ensures.ran (YieldsList-from_first piece_view pieces_left (pieces (form_view c.args.form.now).tags c.args.arguments.now) cc) (λ x b q k. search rules)
+returns c = any_from_yields_List (has_kind c.args.kind) c.any.new.self _ c.any.result c.any.ensures.ran
+    (YieldsList-from_first piece_view pieces_left (pieces (form_view c.args.form.now).tags c.args.arguments.now) cc)
+    (λ x b q k. search rules)

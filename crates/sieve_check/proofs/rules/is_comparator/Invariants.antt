@@ -5,4 +5,5 @@ use Rattle.sieve_check.specs.Tables.{comparator_table}
 use Rattle.sieve_check.proofs.rules.is_comparator.Given as goal
 
 abbrev pub invariant-loop-name : goal.invariant-loop-name
-invariant-loop-name l = list_any (λ t. same_text l.text t) (map (λ t. t.now) (drop l.name-index l.name-items)) ≡ list_any (λ t. same_text l.text t) comparator_table
+invariant-loop-name l = list_any (λ t. same_text l.text t) (map (λ t. t.now) (drop l.name-index l.name-items))
+    ≡ list_any (λ t. same_text l.text t) comparator_table

@@ -12,7 +12,8 @@ suffixes-preserved-in-Less c =
     let s = c.suffixes in
     let x = folded_octet c.args.key.now in
     IsScan-accept (Precedes c.args.order) (Precedes-trans c.args.order) (Precedes-irrefl c.args.order) x _ s.invariant c.suffixes-test.true
-    (subst (λ v. Precedes c.args.order v (x (s.candidate + s.offset))) c.folded_at-best.ensures (subst (Precedes c.args.order c.folded_at-best.result) c.folded_at-other.ensures c.in-Less.ensures))
+    (subst (λ v. Precedes c.args.order v (x (s.candidate + s.offset))) c.folded_at-best.ensures
+    (subst (Precedes c.args.order c.folded_at-best.result) c.folded_at-other.ensures c.in-Less.ensures))
 
 pub suffixes-preserved-in-Greater : goal.suffixes-preserved-in-Greater
 suffixes-preserved-in-Greater c =
@@ -22,13 +23,15 @@ suffixes-preserved-in-Greater c =
     let moved : s.candidate + s.offset + 1 ≡ s.candidate + (s.offset + 1) = omega arith in
     subst (λ k. IsScan (Precedes c.args.order) x m s.place (k - s.place) k 0) moved
     (IsScan-skip (Precedes c.args.order) (Precedes-trans c.args.order) (Precedes-irrefl c.args.order) x m s.invariant c.suffixes-test.true
-    (subst (λ v. Precedes c.args.order v (x (s.place + s.offset))) c.folded_at-other.ensures (subst (Precedes c.args.order c.folded_at-other.result) c.folded_at-best.ensures c.in-Greater.ensures)))
+    (subst (λ v. Precedes c.args.order v (x (s.place + s.offset))) c.folded_at-other.ensures
+    (subst (Precedes c.args.order c.folded_at-other.result) c.folded_at-best.ensures c.in-Greater.ensures)))
 
 pub suffixes-preserved-then-offset-period : goal.suffixes-preserved-then-offset-period
 suffixes-preserved-then-offset-period c =
     let s = c.suffixes in
     let eq = sym c.folded_at-best.ensures ∙ c.in-Equal.ensures ∙ c.folded_at-other.ensures in
-    IsScan-block (Precedes c.args.order) (Precedes-trans c.args.order) (Precedes-irrefl c.args.order) _ _ s.invariant c.suffixes-test.true eq c.if-offset-period.true
+    IsScan-block (Precedes c.args.order) (Precedes-trans c.args.order) (Precedes-irrefl c.args.order) _ _ s.invariant
+    c.suffixes-test.true eq c.if-offset-period.true
 
 pub suffixes-preserved : goal.suffixes-preserved
 suffixes-preserved c =
@@ -36,7 +39,8 @@ suffixes-preserved c =
     let short = s.invariant.short in
     let differs = c.if-offset-period.false in
     let eq = sym c.folded_at-best.ensures ∙ c.in-Equal.ensures ∙ c.folded_at-other.ensures in
-    IsScan-push (Precedes c.args.order) (Precedes-trans c.args.order) (Precedes-irrefl c.args.order) _ _ s.invariant c.suffixes-test.true eq (omega arith)
+    IsScan-push (Precedes c.args.order) (Precedes-trans c.args.order) (Precedes-irrefl c.args.order) _ _ s.invariant
+    c.suffixes-test.true eq (omega arith)
 
 pub returns : goal.returns
 returns c =

@@ -2,7 +2,8 @@ use Rattle.std.proofs.lemmas.Result.{err_from_is_err_and}
 use Rattle.sieve_text.specs.Lexemes.{kinds_in}
 use Rattle.sieve_text.specs.Reading.{script_at}
 use Rattle.sieve_text.proofs.LexemeLemmas.{read_all}
-use Rattle.sieve_text.proofs.ScriptLaws.{script_found, script_only, script_deep, script_faulty, script_explained, fault_only, fault_deep, fault_faulty}
+use Rattle.sieve_text.proofs.ScriptLaws.{script_found, script_only, script_deep, script_faulty, script_explained}
+use Rattle.sieve_text.proofs.ScriptLaws.{fault_only, fault_deep, fault_faulty}
 use Rattle.sieve_text.proofs.parser.parse.Goals as goal
 
 pub returns-in_err-check_text-clause-only : goal.returns-in_err-check_text-clause-only
@@ -38,17 +39,23 @@ returns-in_err-judge_tokens-clause-faulty c =
 pub returns-clause-found : goal.returns-clause-found
 returns-clause-found c =
     let ts = c.in_ok-judge_tokens.ensures.tokens in
-    script_found c.args.script.now ts.0 c.answer.result ts.1 (rw (read_all c.args.script.now ts.0 ts.1) (c.answer.ensures (script_at 32 32 (kinds_in c.args.script.now)) c.all_commands-read.ensures.value))
+    script_found c.args.script.now ts.0 c.answer.result ts.1
+    (rw (read_all c.args.script.now ts.0 ts.1) (c.answer.ensures (script_at 32 32 (kinds_in c.args.script.now))
+    c.all_commands-read.ensures.value))
 
 pub returns-clause-only : goal.returns-clause-only
 returns-clause-only c =
     let ts = c.in_ok-judge_tokens.ensures.tokens in
-    script_only c.args.script.now ts.0 c.answer.result ts.1 (rw (read_all c.args.script.now ts.0 ts.1) (c.answer.ensures (script_at 32 32 (kinds_in c.args.script.now)) c.all_commands-read.ensures.value))
+    script_only c.args.script.now ts.0 c.answer.result ts.1
+    (rw (read_all c.args.script.now ts.0 ts.1) (c.answer.ensures (script_at 32 32 (kinds_in c.args.script.now))
+    c.all_commands-read.ensures.value))
 
 pub returns-clause-nests : goal.returns-clause-nests
 returns-clause-nests c =
     let ts = c.in_ok-judge_tokens.ensures.tokens in
-    script_deep c.args.script.now ts.0 c.answer.result ts.1 (rw (read_all c.args.script.now ts.0 ts.1) (c.answer.ensures (script_at 32 32 (kinds_in c.args.script.now)) c.all_commands-read.ensures.value))
+    script_deep c.args.script.now ts.0 c.answer.result ts.1
+    (rw (read_all c.args.script.now ts.0 ts.1) (c.answer.ensures (script_at 32 32 (kinds_in c.args.script.now))
+    c.all_commands-read.ensures.value))
 
 pub returns-clause-faulty : goal.returns-clause-faulty
 returns-clause-faulty c =
@@ -58,4 +65,6 @@ returns-clause-faulty c =
 pub returns-clause-refused : goal.returns-clause-refused
 returns-clause-refused c =
     let ts = c.in_ok-judge_tokens.ensures.tokens in
-    script_explained c.args.script.now ts.0 c.answer.result ts.1 (rw (read_all c.args.script.now ts.0 ts.1) (c.answer.ensures (script_at 32 32 (kinds_in c.args.script.now)) c.all_commands-read.ensures.value))
+    script_explained c.args.script.now ts.0 c.answer.result ts.1
+    (rw (read_all c.args.script.now ts.0 ts.1) (c.answer.ensures (script_at 32 32 (kinds_in c.args.script.now))
+    c.all_commands-read.ensures.value))

@@ -9,5 +9,13 @@ loop-next-preserved c =
     let ts = c.loop-next.invariant.0.0 in
     let t = token_of c.in-Some.next in
     let l = length_push ts t in
-    let w = rw c.in-Some.is at c.in_ok-next.ensures.within in
-    ((ts ++ t ∷ [], Reads_push c.args.script.now 0 ts t c.loop-next.at c.loop-next.invariant.0.1 (rw c.in-Some.is at c.in_ok-next.ensures.value), omega (arith, c.loop-next.invariant.0.2)), omega (arith, w), omega (arith, w, c.loop-next.invariant.2))
+    let w = rw c.in-Some.is at c.in_ok-next.ensures.within in (
+      (
+        ts ++ t ∷ [],
+        Reads_push c.args.script.now 0 ts t c.loop-next.at c.loop-next.invariant.0.1
+            (rw c.in-Some.is at c.in_ok-next.ensures.value),
+        omega (arith, c.loop-next.invariant.0.2),
+      ),
+      omega (arith, w),
+      omega (arith, w, c.loop-next.invariant.2),
+    )

@@ -26,40 +26,50 @@ returns-in-Err-clause-smallest c = elim c.if-is_memory.branch [
   | then-is_memory w ↦ λ ne. absurd (ne w.result-is)
   | else-is_memory w ↦ λ _.
       let refused = c.in-Err.ensures.refused (λ m. let t = c.is_memory.ensures.1 m in cc (t, w.if-is_memory.false)) in
-      text-smallest _ _ (text-none _ (document-text _ _ c.in-Ok.ensures.cases.1 c.in-Ok.ensures.cases.0 ∙ refused) ∙ ap (λ f. Err f) (sym w.result-is))
+      text-smallest _ _ (text-none _ (document-text _ _ c.in-Ok.ensures.cases.1 c.in-Ok.ensures.cases.0 ∙ refused)
+      ∙ ap (λ f. Err f) (sym w.result-is))
 ]
 
 pub plan_from-requires : goal.plan_from-requires
 plan_from-requires c =
-    let file : Some (shown_lists c.in-Some.lists) ≡ contents_of (table_view c.in-Ok-table_from_str.table) = sym (ap (option_map shown_lists) c.in-Some.is) ∙ c.in_ok-lists.ensures in
+    let file : Some (shown_lists c.in-Some.lists) ≡ contents_of (table_view c.in-Ok-table_from_str.table) =
+    sym (ap (option_map shown_lists) c.in-Some.is) ∙ c.in_ok-lists.ensures in
     rw c.as_slice.ensures.value (contents-listable _ _ file)
 
 pub returns-in-Some-clause-plan : goal.returns-in-Some-clause-plan
 returns-in-Some-clause-plan c =
-    let file : Some (shown_lists c.in-Some.lists) ≡ contents_of (table_view c.in-Ok-table_from_str.table) = sym (ap (option_map shown_lists) c.in-Some.is) ∙ c.in_ok-lists.ensures in
-    let text = text-contents c.args.text.now _ _ (document-text _ _ c.in-Ok.ensures.cases.1 c.in-Ok.ensures.cases.0 ∙ c.in-Ok-table_from_str.ensures.ok) file in
+    let file : Some (shown_lists c.in-Some.lists) ≡ contents_of (table_view c.in-Ok-table_from_str.table) =
+    sym (ap (option_map shown_lists) c.in-Some.is) ∙ c.in_ok-lists.ensures in
+    let text = text-contents c.args.text.now _ _ (document-text _ _ c.in-Ok.ensures.cases.1 c.in-Ok.ensures.cases.0
+    ∙ c.in-Ok-table_from_str.ensures.ok) file in
     IfOk-weaker c.plan_from.result _ _ (λ p e. text ∙ e) (rw c.as_slice.ensures.value at c.plan_from.ensures.plan)
 
 pub returns-in-Some-clause-refused : goal.returns-in-Some-clause-refused
 returns-in-Some-clause-refused c =
-    let file : Some (shown_lists c.in-Some.lists) ≡ contents_of (table_view c.in-Ok-table_from_str.table) = sym (ap (option_map shown_lists) c.in-Some.is) ∙ c.in_ok-lists.ensures in
-    let text = text-contents c.args.text.now _ _ (document-text _ _ c.in-Ok.ensures.cases.1 c.in-Ok.ensures.cases.0 ∙ c.in-Ok-table_from_str.ensures.ok) file in
+    let file : Some (shown_lists c.in-Some.lists) ≡ contents_of (table_view c.in-Ok-table_from_str.table) =
+    sym (ap (option_map shown_lists) c.in-Some.is) ∙ c.in_ok-lists.ensures in
+    let text = text-contents c.args.text.now _ _ (document-text _ _ c.in-Ok.ensures.cases.1 c.in-Ok.ensures.cases.0
+    ∙ c.in-Ok-table_from_str.ensures.ok) file in
     IfErr-weaker c.plan_from.result _ _ (λ f e ne. text ∙ e ne) (rw c.as_slice.ensures.value at c.plan_from.ensures.refused)
 
 pub returns-in-Some-clause-smallest : goal.returns-in-Some-clause-smallest
 returns-in-Some-clause-smallest c =
-    let file : Some (shown_lists c.in-Some.lists) ≡ contents_of (table_view c.in-Ok-table_from_str.table) = sym (ap (option_map shown_lists) c.in-Some.is) ∙ c.in_ok-lists.ensures in
-    let text = text-contents c.args.text.now _ _ (document-text _ _ c.in-Ok.ensures.cases.1 c.in-Ok.ensures.cases.0 ∙ c.in-Ok-table_from_str.ensures.ok) file in
+    let file : Some (shown_lists c.in-Some.lists) ≡ contents_of (table_view c.in-Ok-table_from_str.table) =
+    sym (ap (option_map shown_lists) c.in-Some.is) ∙ c.in_ok-lists.ensures in
+    let text = text-contents c.args.text.now _ _ (document-text _ _ c.in-Ok.ensures.cases.1 c.in-Ok.ensures.cases.0
+    ∙ c.in-Ok-table_from_str.ensures.ok) file in
     MatchResult-from_both c.plan_from.result _ _
     (IfOk-weaker c.plan_from.result _ _ (λ p e. text-made _ p (text ∙ e)) (rw c.as_slice.ensures.value at c.plan_from.ensures.plan))
     (IfErr-weaker c.plan_from.result _ _ (λ f e ne. text-smallest _ f (text ∙ e ne)) (rw c.as_slice.ensures.value at c.plan_from.ensures.refused))
 
 pub returns-clause-refused : goal.returns-clause-refused
 returns-clause-refused c = λ _.
-    let file : None ≡ contents_of (table_view c.in-Ok-table_from_str.table) = sym (ap (option_map shown_lists) c.in-None.is) ∙ c.in_ok-lists.ensures in
+    let file : None ≡ contents_of (table_view c.in-Ok-table_from_str.table) =
+    sym (ap (option_map shown_lists) c.in-None.is) ∙ c.in_ok-lists.ensures in
     text-shape _ _ (document-text _ _ c.in-Ok.ensures.cases.1 c.in-Ok.ensures.cases.0 ∙ c.in-Ok-table_from_str.ensures.ok) file
 
 pub returns-clause-smallest : goal.returns-clause-smallest
 returns-clause-smallest c = λ _.
-    let file : None ≡ contents_of (table_view c.in-Ok-table_from_str.table) = sym (ap (option_map shown_lists) c.in-None.is) ∙ c.in_ok-lists.ensures in
+    let file : None ≡ contents_of (table_view c.in-Ok-table_from_str.table) =
+    sym (ap (option_map shown_lists) c.in-None.is) ∙ c.in_ok-lists.ensures in
     text-smallest _ _ (text-shape _ _ (document-text _ _ c.in-Ok.ensures.cases.1 c.in-Ok.ensures.cases.0 ∙ c.in-Ok-table_from_str.ensures.ok) file)

@@ -9,5 +9,7 @@ use Rattle.class_plan.proofs.plans.Plan.new.Goals as goal
 pub invariant_of-result : goal.invariant_of-result
 invariant_of-result c =
     let made : rows_in c.insert.new.self ≡ open_row unfiled ∷ [] =
-    ap rows c.in_ok-insert.ensures.entries ∙ rows-insert c.new-classes.result.entries c.in_ok-from_slice.field-0 _ ∙ ap (λ es. with_row (row (c.in_ok-from_slice.field-0, _)) (rows es)) c.new-classes.ensures.empty ∙ ap (λ r. r ∷ []) (row-same _ _ true None None c.in_ok-from_slice.ensures.items refl) in
+    ap rows c.in_ok-insert.ensures.entries ∙ rows-insert c.new-classes.result.entries c.in_ok-from_slice.field-0 _
+    ∙ ap (λ es. with_row (row (c.in_ok-from_slice.field-0, _)) (rows es)) c.new-classes.ensures.empty
+    ∙ ap (λ r. r ∷ []) (row-same _ _ true None None c.in_ok-from_slice.ensures.items refl) in
     rw made first-plan

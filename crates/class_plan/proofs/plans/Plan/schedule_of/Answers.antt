@@ -10,7 +10,8 @@ use Rattle.class_plan.proofs.plans.Plan.schedule_of.Goals as goal
 pub returns-in-Some-clause-range : goal.returns-in-Some-clause-range
 returns-in-Some-clause-range c =
     let p : Listing = record { root = c.self.inside.root; rows = rows_in c.self.inside.classes } in
-    let own : Some c.in-Some.schedule ≡ own_at p.rows c.args.path.now = sym c.in-Some.is ∙ own-found (row_at c.args.path.now p.rows) _ c.in_ok-class.ensures.schedule in
+    let own : Some c.in-Some.schedule ≡ own_at p.rows c.args.path.now = sym c.in-Some.is
+    ∙ own-found (row_at c.args.path.now p.rows) _ c.in_ok-class.ensures.schedule in
     subst IsInRangeIfAny (sym own) (own-range p c.self.invariant c.args.path.now)
 
 pub returns-in-None-clause-range : goal.returns-in-None-clause-range
@@ -21,7 +22,8 @@ returns-in-None-clause-range c =
 pub returns-in-Some-clause-nearest : goal.returns-in-Some-clause-nearest
 returns-in-Some-clause-nearest c =
     let p : Listing = record { root = c.self.inside.root; rows = rows_in c.self.inside.classes } in
-    let own : Some c.in-Some.schedule ≡ own_at p.rows c.args.path.now = sym c.in-Some.is ∙ own-found (row_at c.args.path.now p.rows) _ c.in_ok-class.ensures.schedule in
+    let own : Some c.in-Some.schedule ≡ own_at p.rows c.args.path.now = sym c.in-Some.is
+    ∙ own-found (row_at c.args.path.now p.rows) _ c.in_ok-class.ensures.schedule in
     rw (← c.self.view_is) (inl (sym own))
 
 pub returns-in-None-clause-nearest : goal.returns-in-None-clause-nearest

@@ -5,4 +5,11 @@ use Rattle.filing_desk.proofs.OfficerLemmas.{set_by}
 use Rattle.filing_desk.proofs.desk.Desk.deactivate.Goals as goal
 
 pub returns : goal.returns
-returns g c = set_by g.A.Records.clean g.A.Records.stands c.args.self.now _ (deactivate c.args.officer.now) (λ s. with_active s c.args.officer.now no_program) (record { store = refl; flights = refl; last = refl; open_paths = refl }) (λ s. refl) c.deactivate.ensures (λ x stands. refl)
+returns g c = set_by g.A.Records.clean g.A.Records.stands c.args.self.now _ (deactivate c.args.officer.now) (λ s.
+    with_active s c.args.officer.now no_program) (record {
+      store = refl;
+      flights = refl;
+      last = refl;
+      open_paths =
+          refl;
+    }) (λ s. refl) c.deactivate.ensures (λ x stands. refl)

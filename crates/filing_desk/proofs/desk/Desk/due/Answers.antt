@@ -7,8 +7,14 @@ use Rattle.filing_desk.proofs.desk.Desk.due.Goals as goal
 pub returns-in_err-lines : goal.returns-in_err-lines
 returns-in_err-lines g c = λ n is within.
     let result = c.from_residual.ensures in
-    due_given_up g.A.Records.clean g.A.Records.stands c.args.self.now _ n (epoch_day c.args.day) c.in_err-lines.field-0.0 _ (record { officers = refl; flights = refl; last = refl }) refl c.in_err-lines.ensures (lines_fault _ _ result.0 result.1)
+    due_given_up g.A.Records.clean g.A.Records.stands c.args.self.now _ n (epoch_day c.args.day)
+    c.in_err-lines.field-0.0 _ (record { officers = refl; flights = refl; last = refl }) refl c.in_err-lines.ensures
+    (lines_fault _ _ result.0 result.1)
 
 pub returns : goal.returns
 returns g c = λ n is within.
-    due_told g.A.Records.clean g.A.Records.stands c.args.self.now _ n c.in_ok-lines.lines (record { officers = refl; flights = refl; last = refl }) refl (rw is at c.in_ok-lines.ensures)
+    due_told g.A.Records.clean g.A.Records.stands c.args.self.now _ n c.in_ok-lines.lines (record {
+      officers = refl;
+      flights = refl;
+      last = refl;
+    }) refl (rw is at c.in_ok-lines.ensures)

@@ -14,5 +14,14 @@ invariant_of-result c =
 
 pub returns : goal.returns
 returns c =
-    let x : FlightView = record { ticket = c.args.ticket; program = c.args.program.value; message = c.args.message.items; case = c.in_ok-case.case; day = c.args.day; machine = c.in_ok-machine.machine } in
-    holds_begun x c.args.paths (c.in_ok-case.ensures ∙ ap (λ m. case_of m (is_among c.args.paths)) c.as_slice.ensures.value) c.in_ok-machine.ensures.fresh
+    let x : FlightView = record {
+      ticket = c.args.ticket;
+      program = c.args.program.value;
+      message =
+          c.args.message.items;
+      case = c.in_ok-case.case;
+      day = c.args.day;
+      machine = c.in_ok-machine.machine;
+    } in
+    holds_begun x c.args.paths (c.in_ok-case.ensures
+    ∙ ap (λ m. case_of m (is_among c.args.paths)) c.as_slice.ensures.value) c.in_ok-machine.ensures.fresh

@@ -20,18 +20,38 @@ invariant_of-self c =
 pub returns-clause-ok : goal.returns-clause-ok
 returns-clause-ok c =
     let at = c.self.inside in
-    let x : FlightView = record { ticket = at.ticket; program = at.program.value; message = at.message.items; case = at.case; day = at.day; machine = at.machine } in
+    let x : FlightView = record {
+      ticket = at.ticket;
+      program = at.program.value;
+      message = at.message.items;
+      case =
+          at.case;
+      day = at.day;
+      machine = at.machine;
+    } in
     let m = c.make_steps.new.machine in
     let S : Program → Type 0 = λ p. Stands p (facts_in at.case) m in
     let P : FlightView → Type 0 = λ y. IsGranted y c.args.count (with_machine x m) in
-    on_ok_map c.make_steps.result c.make_steps.ensures.ok (λ made. subst P c.self.view_is (made_grants x m c.args.count (subst S c.deref.ensures c.make_steps.ensures.stands) made))
+    on_ok_map c.make_steps.result c.make_steps.ensures.ok (λ made.
+    subst P c.self.view_is (made_grants x m c.args.count (subst S c.deref.ensures c.make_steps.ensures.stands)
+    made))
 
 pub returns-clause-err : goal.returns-clause-err
 returns-clause-err c =
     let at = c.self.inside in
-    let x : FlightView = record { ticket = at.ticket; program = at.program.value; message = at.message.items; case = at.case; day = at.day; machine = at.machine } in
+    let x : FlightView = record {
+      ticket = at.ticket;
+      program = at.program.value;
+      message = at.message.items;
+      case =
+          at.case;
+      day = at.day;
+      machine = at.machine;
+    } in
     let m = c.make_steps.new.machine in
     let S : Program → Type 0 = λ p. Stands p (facts_in at.case) m in
     let T : Program → Type 0 = λ p. IsStopped p at.machine c.args.count m in
     let P : FlightView → Type 0 = λ y. StopsShort y c.args.count (with_machine x m) in
-    on_err_map c.make_steps.result c.make_steps.ensures.err (λ stop. subst P c.self.view_is (stopped_short x m c.args.count (subst S c.deref.ensures c.make_steps.ensures.stands) (subst T c.deref.ensures stop)))
+    on_err_map c.make_steps.result c.make_steps.ensures.err (λ stop.
+    subst P c.self.view_is (stopped_short x m c.args.count (subst S c.deref.ensures c.make_steps.ensures.stands)
+    (subst T c.deref.ensures stop)))

@@ -16,6 +16,8 @@ returns-in_default c =
 pub returns : goal.returns
 returns c =
     let xs = c.self.inside.flights.items in
-    let at : position (λ x. x.ticket == c.args.ticket) xs ≡ Some c.in-Some.at = ap (position (λ x. x.ticket == c.args.ticket)) (sym c.deref.ensures.value) ∙ sym c.place_of.ensures ∙ c.in-Some.is in
+    let at : position (λ x. x.ticket == c.args.ticket) xs ≡ Some c.in-Some.at =
+    ap (position (λ x. x.ticket == c.args.ticket)) (sym c.deref.ensures.value) ∙ sym c.place_of.ensures
+    ∙ c.in-Some.is in
     let P : List FlightView → Type 0 = λ ys. Finds ys c.args.ticket (Some c.index.result.now) in
     subst P c.self.view_is (finds_some c.args.ticket xs c.in-Some.at c.index.result.now at c.index.ensures)

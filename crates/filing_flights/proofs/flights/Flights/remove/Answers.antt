@@ -16,7 +16,9 @@ returns-in_default c =
 pub returns : goal.returns
 returns c =
     let xs = c.self.inside.flights.items in
-    let at : position (λ x. x.ticket == c.args.ticket) xs ≡ Some c.in-Some.at = ap (position (λ x. x.ticket == c.args.ticket)) (sym c.deref.ensures.value) ∙ sym c.place_of.ensures ∙ c.in-Some.is in
+    let at : position (λ x. x.ticket == c.args.ticket) xs ≡ Some c.in-Some.at =
+    ap (position (λ x. x.ticket == c.args.ticket)) (sym c.deref.ensures.value) ∙ sym c.place_of.ensures
+    ∙ c.in-Some.is in
     let P : List FlightView → Type 0 = λ ys. Removes ys c.args.ticket c.remove-removed.new.self.items in
     let Q : List FlightView → Type 0 = λ ys. Removes xs c.args.ticket ys in
     subst P c.self.view_is (subst Q (sym c.remove-removed.ensures.items) (removes_some c.args.ticket c.in-Some.at xs c.remove-removed.result at))

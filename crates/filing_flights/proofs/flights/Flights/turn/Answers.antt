@@ -20,15 +20,22 @@ returns-in_default-turn c =
     let xs = c.self.inside.flights.items in
     let y = c.turn.new.self in
     let P : List FlightView → Type 0 = λ ys. Turns ys c.args.ticket c.args.count (refused 99 None) (set xs c.in-Some.at y) in
-    let at : position (λ x. x.ticket == c.args.ticket) xs ≡ Some c.in-Some.at = ap (position (λ x. x.ticket == c.args.ticket)) (sym c.deref.ensures.value) ∙ sym c.place_of.ensures ∙ c.in-Some.is in
+    let at : position (λ x. x.ticket == c.args.ticket) xs ≡ Some c.in-Some.at =
+    ap (position (λ x. x.ticket == c.args.ticket)) (sym c.deref.ensures.value) ∙ sym c.place_of.ensures
+    ∙ c.in-Some.is in
     let S : FlightView → Type 0 = λ x. StopsShort x c.args.count y in
-    subst P c.self.view_is (turn_stopped c.args.ticket c.args.count c.in-Some.at xs c.index_mut-flight.result.now y at (subst S c.index_mut-flight.ensures.value c.in_default-turn.ensures.err))
+    subst P c.self.view_is (turn_stopped c.args.ticket c.args.count c.in-Some.at xs c.index_mut-flight.result.now y at
+    (subst S c.index_mut-flight.ensures.value c.in_default-turn.ensures.err))
 
 pub returns : goal.returns
 returns c =
     let xs = c.self.inside.flights.items in
     let y = c.turn.new.self in
     let P : List FlightView → Type 0 = λ ys. Turns ys c.args.ticket c.args.count (answer_of_turn (Ok c.turns_made.result)) (set xs c.in-Some.at y) in
-    let at : position (λ x. x.ticket == c.args.ticket) xs ≡ Some c.in-Some.at = ap (position (λ x. x.ticket == c.args.ticket)) (sym c.deref.ensures.value) ∙ sym c.place_of.ensures ∙ c.in-Some.is in
+    let at : position (λ x. x.ticket == c.args.ticket) xs ≡ Some c.in-Some.at =
+    ap (position (λ x. x.ticket == c.args.ticket)) (sym c.deref.ensures.value) ∙ sym c.place_of.ensures
+    ∙ c.in-Some.is in
     let S : FlightView → Type 0 = λ x. IsGranted x c.args.count y in
-    subst P c.self.view_is (turn_made c.args.ticket c.args.count c.in-Some.at xs c.index_mut-flight.result.now y (answer_of_turn (Ok c.turns_made.result)) at (subst S c.index_mut-flight.ensures.value c.in-Ok.ensures.ok) c.turns_made.ensures)
+    subst P c.self.view_is (turn_made c.args.ticket c.args.count c.in-Some.at xs c.index_mut-flight.result.now y
+    (answer_of_turn (Ok c.turns_made.result)) at (subst S c.index_mut-flight.ensures.value c.in-Ok.ensures.ok)
+    c.turns_made.ensures)

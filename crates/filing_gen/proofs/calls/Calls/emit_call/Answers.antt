@@ -19,7 +19,9 @@ returns-in_ok-put-in-To c =
     let same : own + 1 + n ≡ own + suc n = omega arith in
     rw (c.in-To.is)
     (on_ok_weaker c.put-in-To.result (λ h ends. emits_sequence x y z (action (SetMark c.args.slot)) (action (CallTo (own + suc n))) ends
-    (action_emitted x y (Mark c.args.slot) (SetMark c.args.slot) c.in_ok-put-in-To.ensures refl ends) (action_emitted y z (Call (own + 1 + n)) (CallTo (own + suc n)) h (ap (λ (b : ℕ). Call b) same) ends)) c.put-in-To.ensures)
+    (action_emitted x y (Mark c.args.slot) (SetMark c.args.slot) c.in_ok-put-in-To.ensures refl ends)
+    (action_emitted y z (Call (own + 1 + n)) (CallTo (own + suc n)) h (ap (λ (b : ℕ). Call b) same) ends))
+    c.put-in-To.ensures)
 
 pub returns-in_ok-put-in-Missing : goal.returns-in_ok-put-in-Missing
 returns-in_ok-put-in-Missing c =
@@ -28,4 +30,5 @@ returns-in_ok-put-in-Missing c =
     let z = c.put_fault-in-Missing.new.out in
     rw (c.in-Missing.is)
     (on_ok_weaker c.put_fault-in-Missing.result (λ h ends. emits_sequence x y z (action (SetMark c.args.slot)) (action (Fail NestingTooDeep)) ends
-    (action_emitted x y (Mark c.args.slot) (SetMark c.args.slot) c.in_ok-put-in-Missing.ensures refl ends) (h ends)) c.put_fault-in-Missing.ensures.adds)
+    (action_emitted x y (Mark c.args.slot) (SetMark c.args.slot) c.in_ok-put-in-Missing.ensures refl ends) (h ends))
+    c.put_fault-in-Missing.ensures.adds)

@@ -22,7 +22,9 @@ use Rattle.filing_gen.proofs.calls.CallsLinker.emit.Goals as goal
 
 -- the code of each include
 abbrev flow_of : Calls → Include → Flow
-flow_of s = calling_flow (library_of (scripts_of s.callees.scope.shelves)) (slots_of (scripts_of s.callees.scope.shelves)) (names_of s.callees.scope.main) s.own (map procedure_of s.callees.later.now) (procedure_of s.callees.procedure.now)
+flow_of s = calling_flow (library_of (scripts_of s.callees.scope.shelves))
+    (slots_of (scripts_of s.callees.scope.shelves)) (names_of s.callees.scope.main) s.own
+    (map procedure_of s.callees.later.now) (procedure_of s.callees.procedure.now)
 
 pub returns-in-Pass : goal.returns-in-Pass
 returns-in-Pass c =
@@ -34,25 +36,40 @@ pub returns-in-Fault : goal.returns-in-Fault
 returns-in-Fault c =
     let own = c.args.self.now.own in
     let same = c.inclusion.ensures.code own ∙ ap (λ (j : Inclusion). code_of own c.args.include.now.is_once j) c.in-Fault.is in
-    record { adds = on_ok_weaker c.put_fault.result (λ h ends. subst (λ (a : Flow). Emits c.args.out.now c.put_fault.new.out a ends) (sym same) (h ends)) c.put_fault.ensures.adds }
+    record {
+      adds =
+          on_ok_weaker c.put_fault.result (λ h ends.
+          subst (λ (a : Flow). Emits c.args.out.now c.put_fault.new.out a ends) (sym same) (h ends))
+          c.put_fault.ensures.adds;
+    }
 
 pub returns-then-not-include : goal.returns-then-not-include
 returns-then-not-include c =
     let s = c.args.self.now in
     let i = c.args.include.now in
-    let is = plain_code (flow_of s (include_view i)) s.own c.in-Enter.slot c.in-Enter.call i.is_once c.inclusion.result (c.inclusion.ensures.code s.own) c.in-Enter.is c.if-not-include.true in
-    record { adds = on_ok_weaker c.emit_call.result (λ h ends. subst (λ (a : Flow). Emits c.args.out.now c.emit_call.new.out a ends) (sym is) (h ends)) c.emit_call.ensures }
+    let is = plain_code (flow_of s (include_view i)) s.own c.in-Enter.slot c.in-Enter.call i.is_once c.inclusion.result
+    (c.inclusion.ensures.code s.own) c.in-Enter.is c.if-not-include.true in
+    record {
+      adds =
+          on_ok_weaker c.emit_call.result (λ h ends.
+          subst (λ (a : Flow). Emits c.args.out.now c.emit_call.new.out a ends) (sym is) (h ends)) c.emit_call.ensures;
+    }
 
 pub end_block-requires : goal.end_block-requires
 end_block-requires c =
     let s = c.args.self.now in
     let i = c.args.include.now in
     let a = code_of_call s.own c.in-Enter.slot c.in-Enter.call in
-    let long = once_long (flow_of s (include_view i)) s.own c.in-Enter.slot c.in-Enter.call i.is_once c.inclusion.result (c.inclusion.ensures.code s.own) c.in-Enter.is c.if-not-include.false in
+    let long = once_long (flow_of s (include_view i)) s.own c.in-Enter.slot c.in-Enter.call i.is_once c.inclusion.result
+    (c.inclusion.ensures.code s.own) c.in-Enter.is c.if-not-include.false in
     let p = put_grows c.args.out.now c.put.new.out (Marked c.in-Enter.slot) c.in_ok-put.ensures in
     let q = put_grows c.put.new.out c.put-2.new.out (JumpIf no_place) c.in_ok-put-2.ensures in
     let r = grows c.put-2.new.out c.emit_call-2.new.out a [] (c.in_ok-emit_call.ensures []) in
-    record { start = omega (arith, c.len-start.ensures, c.args.out.now.code.ok.0, p.code, q.code, r.code); room = omega (arith, c.requires.0, long, p.code, q.code, r.code) }
+    record {
+      start = omega (arith, c.len-start.ensures, c.args.out.now.code.ok.0, p.code, q.code, r.code);
+      room =
+          omega (arith, c.requires.0, long, p.code, q.code, r.code);
+    }
 
 pub returns : goal.returns
 returns c =
@@ -60,8 +77,10 @@ returns c =
     let i = c.args.include.now in
     let w = c.emit_call-2.new.out in
     let a = code_of_call s.own c.in-Enter.slot c.in-Enter.call in
-    let is = once_code (flow_of s (include_view i)) s.own c.in-Enter.slot c.in-Enter.call i.is_once c.inclusion.result (c.inclusion.ensures.code s.own) c.in-Enter.is c.if-not-include.false in
-    let long = once_long (flow_of s (include_view i)) s.own c.in-Enter.slot c.in-Enter.call i.is_once c.inclusion.result (c.inclusion.ensures.code s.own) c.in-Enter.is c.if-not-include.false in
+    let is = once_code (flow_of s (include_view i)) s.own c.in-Enter.slot c.in-Enter.call i.is_once c.inclusion.result
+    (c.inclusion.ensures.code s.own) c.in-Enter.is c.if-not-include.false in
+    let long = once_long (flow_of s (include_view i)) s.own c.in-Enter.slot c.in-Enter.call i.is_once c.inclusion.result
+    (c.inclusion.ensures.code s.own) c.in-Enter.is c.if-not-include.false in
     let p = put_grows c.args.out.now c.put.new.out (Marked c.in-Enter.slot) c.in_ok-put.ensures in
     let q = put_grows c.put.new.out c.put-2.new.out (JumpIf no_place) c.in_ok-put-2.ensures in
     let r = grows c.put-2.new.out w a [] (c.in_ok-emit_call.ensures []) in
@@ -69,7 +88,15 @@ returns c =
     record {
       adds = λ ends.
           subst (λ (b : Flow). Emits c.args.out.now c.end_block.new.out b ends) (sym is)
-          (once_emitted c.args.out.now c.put.new.out c.put-2.new.out w c.end_block.new.out c.in-Enter.slot a (code_typed s.own c.in-Enter.slot c.in-Enter.call)
-          c.in_ok-put.ensures c.in_ok-put-2.ensures (c.in_ok-emit_call.ensures (no_place ∷ [])) (omega (arith, c.requires.0, long, p.code, q.code, r.code))
+          (once_emitted c.args.out.now c.put.new.out c.put-2.new.out w c.end_block.new.out c.in-Enter.slot a
+          (code_typed s.own c.in-Enter.slot c.in-Enter.call)
+          c.in_ok-put.ensures c.in_ok-put-2.ensures (c.in_ok-emit_call.ensures (no_place ∷ [])) (omega (
+            arith,
+            c.requires.0,
+            long,
+            p.code,
+            q.code,
+            r.code,
+          ))
           (subst (λ (n : ℕ). IsEnded n (length w.code.items) w c.end_block.new.out) begins c.end_block.ensures) ends);
     }

@@ -5,4 +5,5 @@ use Rattle.filing_gen.proofs.Names.{or_nothing}
 use Rattle.filing_gen.proofs.field_names.FieldNames.of.Goals as goal
 
 pub returns : goal.returns
-returns c m = c.in_ok-insert.ensures.names m ∙ ap (λ l. same_word c.args.name.now m || has_name l m) c.new.ensures.empty ∙ or_nothing (same_word c.args.name.now m)
+returns c m = c.in_ok-insert.ensures.names m ∙ ap (λ l. same_word c.args.name.now m || has_name l m) c.new.ensures.empty
+    ∙ or_nothing (same_word c.args.name.now m)

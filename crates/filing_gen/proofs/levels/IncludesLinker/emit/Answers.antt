@@ -20,51 +20,94 @@ use Rattle.filing_gen.proofs.levels.IncludesLinker.emit.Goals as goal
 pub returns-in-Pass : goal.returns-in-Pass
 returns-in-Pass g c =
     let s = c.args.self.now in
-    let same = flow_told (library_of (scripts_of s.scope.shelves)) (slots_of (scripts_of s.scope.shelves)) (names_of s.scope.main) g.L.Level.depth (g.C.Chain.names s.chain.now) (include_view c.args.include.now) Passes (sym (ap judgement_of c.in-Pass.is) ∙ c.find.ensures.told) in
+    let same = flow_told (library_of (scripts_of s.scope.shelves)) (slots_of (scripts_of s.scope.shelves))
+    (names_of s.scope.main) g.L.Level.depth (g.C.Chain.names s.chain.now) (include_view c.args.include.now) Passes
+    (sym (ap judgement_of c.in-Pass.is) ∙ c.find.ensures.told) in
     record { adds = λ ends. subst (λ (a : Flow). Emits c.args.out.now c.args.out.now a ends) (sym same) (emits_nothing c.args.out.now ends) }
 
 pub returns-in-Fault : goal.returns-in-Fault
 returns-in-Fault g c =
     let s = c.args.self.now in
-    let same = flow_told (library_of (scripts_of s.scope.shelves)) (slots_of (scripts_of s.scope.shelves)) (names_of s.scope.main) g.L.Level.depth (g.C.Chain.names s.chain.now) (include_view c.args.include.now) (Fails c.in-Fault.fault) (sym (ap judgement_of c.in-Fault.is) ∙ c.find.ensures.told) in
-    record { adds = on_ok_weaker c.put_fault.result (λ h ends. subst (λ (a : Flow). Emits c.args.out.now c.put_fault.new.out a ends) (sym same) (h ends)) c.put_fault.ensures.adds }
+    let same = flow_told (library_of (scripts_of s.scope.shelves)) (slots_of (scripts_of s.scope.shelves))
+    (names_of s.scope.main) g.L.Level.depth (g.C.Chain.names s.chain.now) (include_view c.args.include.now)
+    (Fails c.in-Fault.fault) (sym (ap judgement_of c.in-Fault.is) ∙ c.find.ensures.told) in
+    record {
+      adds =
+          on_ok_weaker c.put_fault.result (λ h ends.
+          subst (λ (a : Flow). Emits c.args.out.now c.put_fault.new.out a ends) (sym same) (h ends))
+          c.put_fault.ensures.adds;
+    }
 
 pub emit-requires-clause-room : goal.emit-requires-clause-room
 emit-requires-clause-room g c =
     let s = c.args.self.now in
-    let long = plain_size (library_of (scripts_of s.scope.shelves)) (slots_of (scripts_of s.scope.shelves)) (names_of s.scope.main) g.L.Level.depth (g.C.Chain.names s.chain.now) (include_view c.args.include.now) (program_of (tree_of c.in-Entry.script.now)) c.in-Entry.ensures.told c.in-Entry.slot c.in-Entry.ensures.slot.0 c.if-not-include.true in
+    let long = plain_size (library_of (scripts_of s.scope.shelves)) (slots_of (scripts_of s.scope.shelves))
+    (names_of s.scope.main) g.L.Level.depth (g.C.Chain.names s.chain.now) (include_view c.args.include.now)
+    (program_of (tree_of c.in-Entry.script.now)) c.in-Entry.ensures.told c.in-Entry.slot c.in-Entry.ensures.slot.0
+    c.if-not-include.true in
     (omega (arith, c.requires.0, long), omega (arith, c.requires.1, long), omega (arith, c.requires.2, long))
 
 pub returns-then-not-include : goal.returns-then-not-include
 returns-then-not-include g c =
     let s = c.args.self.now in
-    let is = plain_entry (library_of (scripts_of s.scope.shelves)) (slots_of (scripts_of s.scope.shelves)) (names_of s.scope.main) g.L.Level.depth (g.C.Chain.names s.chain.now) (include_view c.args.include.now) (program_of (tree_of c.in-Entry.script.now)) c.in-Entry.ensures.told c.in-Entry.slot c.in-Entry.ensures.slot.0 c.if-not-include.true in
-    record { adds = on_ok_weaker c.emit.result (λ h ends. subst (λ (a : Flow). Emits c.args.out.now c.emit.new.out a ends) (sym is) (h ends)) c.emit.ensures.adds }
+    let is = plain_entry (library_of (scripts_of s.scope.shelves)) (slots_of (scripts_of s.scope.shelves))
+    (names_of s.scope.main) g.L.Level.depth (g.C.Chain.names s.chain.now) (include_view c.args.include.now)
+    (program_of (tree_of c.in-Entry.script.now)) c.in-Entry.ensures.told c.in-Entry.slot c.in-Entry.ensures.slot.0
+    c.if-not-include.true in
+    record {
+      adds =
+          on_ok_weaker c.emit.result (λ h ends.
+          subst (λ (a : Flow). Emits c.args.out.now c.emit.new.out a ends) (sym is) (h ends)) c.emit.ensures.adds;
+    }
 
 pub emit-requires-2-clause-room : goal.emit-requires-2-clause-room
 emit-requires-2-clause-room g c =
     let s = c.args.self.now in
-    let long = once_size (library_of (scripts_of s.scope.shelves)) (slots_of (scripts_of s.scope.shelves)) (names_of s.scope.main) g.L.Level.depth (g.C.Chain.names s.chain.now) (include_view c.args.include.now) (program_of (tree_of c.in-Entry.script.now)) c.in-Entry.ensures.told c.in-Entry.slot c.in-Entry.ensures.slot.0 c.if-not-include.false in
+    let long = once_size (library_of (scripts_of s.scope.shelves)) (slots_of (scripts_of s.scope.shelves))
+    (names_of s.scope.main) g.L.Level.depth (g.C.Chain.names s.chain.now) (include_view c.args.include.now)
+    (program_of (tree_of c.in-Entry.script.now)) c.in-Entry.ensures.told c.in-Entry.slot c.in-Entry.ensures.slot.0
+    c.if-not-include.false in
     let p = put_grows c.args.out.now c.put.new.out (Marked c.in-Entry.slot) c.in_ok-put.ensures in
-    let q = put_grows c.put.new.out c.put-2.new.out (JumpIf no_place) c.in_ok-put-2.ensures in
-    (omega (arith, c.requires.0, long, p.code, q.code), omega (arith, c.requires.1, long, p.texts, q.texts), omega (arith, c.requires.2, long, p.numbers, q.numbers))
+    let q = put_grows c.put.new.out c.put-2.new.out (JumpIf no_place) c.in_ok-put-2.ensures in (
+      omega (arith, c.requires.0, long, p.code, q.code),
+      omega (arith, c.requires.1, long, p.texts, q.texts),
+      omega (arith, c.requires.2, long, p.numbers, q.numbers),
+    )
 
 pub end_block-requires : goal.end_block-requires
 end_block-requires g c =
     let s = c.args.self.now in
-    let long = once_size (library_of (scripts_of s.scope.shelves)) (slots_of (scripts_of s.scope.shelves)) (names_of s.scope.main) g.L.Level.depth (g.C.Chain.names s.chain.now) (include_view c.args.include.now) (program_of (tree_of c.in-Entry.script.now)) c.in-Entry.ensures.told c.in-Entry.slot c.in-Entry.ensures.slot.0 c.if-not-include.false in
+    let long = once_size (library_of (scripts_of s.scope.shelves)) (slots_of (scripts_of s.scope.shelves))
+    (names_of s.scope.main) g.L.Level.depth (g.C.Chain.names s.chain.now) (include_view c.args.include.now)
+    (program_of (tree_of c.in-Entry.script.now)) c.in-Entry.ensures.told c.in-Entry.slot c.in-Entry.ensures.slot.0
+    c.if-not-include.false in
     let p = put_grows c.args.out.now c.put.new.out (Marked c.in-Entry.slot) c.in_ok-put.ensures in
     let q = put_grows c.put.new.out c.put-2.new.out (JumpIf no_place) c.in_ok-put-2.ensures in
-    let r = grows c.put-2.new.out c.emit-2.new.out (flow_at_level (library_of (scripts_of s.scope.shelves)) (slots_of (scripts_of s.scope.shelves)) (names_of s.scope.main) g.L.Level.depth (script_of c.args.include.now.script ∷ g.C.Chain.names s.chain.now) c.in-Entry.slot (program_of (tree_of c.in-Entry.script.now))) [] (c.in_ok-emit.ensures.adds []) in
-    record { start = omega (arith, c.len-start.ensures, c.args.out.now.code.ok.0, p.code, q.code, r.code); room = omega (arith, c.requires.0, long, p.code, q.code, r.code) }
+    let r = grows c.put-2.new.out c.emit-2.new.out (flow_at_level (library_of (scripts_of s.scope.shelves))
+    (slots_of (scripts_of s.scope.shelves)) (names_of s.scope.main) g.L.Level.depth
+    (script_of c.args.include.now.script ∷ g.C.Chain.names s.chain.now) c.in-Entry.slot
+    (program_of (tree_of c.in-Entry.script.now))) [] (c.in_ok-emit.ensures.adds []) in
+    record {
+      start = omega (arith, c.len-start.ensures, c.args.out.now.code.ok.0, p.code, q.code, r.code);
+      room =
+          omega (arith, c.requires.0, long, p.code, q.code, r.code);
+    }
 
 pub returns : goal.returns
 returns g c =
     let s = c.args.self.now in
     let w = c.emit-2.new.out in
-    let a = flow_at_level (library_of (scripts_of s.scope.shelves)) (slots_of (scripts_of s.scope.shelves)) (names_of s.scope.main) g.L.Level.depth (script_of c.args.include.now.script ∷ g.C.Chain.names s.chain.now) c.in-Entry.slot (program_of (tree_of c.in-Entry.script.now)) in
-    let is = once_entry (library_of (scripts_of s.scope.shelves)) (slots_of (scripts_of s.scope.shelves)) (names_of s.scope.main) g.L.Level.depth (g.C.Chain.names s.chain.now) (include_view c.args.include.now) (program_of (tree_of c.in-Entry.script.now)) c.in-Entry.ensures.told c.in-Entry.slot c.in-Entry.ensures.slot.0 c.if-not-include.false in
-    let long = once_size (library_of (scripts_of s.scope.shelves)) (slots_of (scripts_of s.scope.shelves)) (names_of s.scope.main) g.L.Level.depth (g.C.Chain.names s.chain.now) (include_view c.args.include.now) (program_of (tree_of c.in-Entry.script.now)) c.in-Entry.ensures.told c.in-Entry.slot c.in-Entry.ensures.slot.0 c.if-not-include.false in
+    let a = flow_at_level (library_of (scripts_of s.scope.shelves)) (slots_of (scripts_of s.scope.shelves))
+    (names_of s.scope.main) g.L.Level.depth (script_of c.args.include.now.script ∷ g.C.Chain.names s.chain.now)
+    c.in-Entry.slot (program_of (tree_of c.in-Entry.script.now)) in
+    let is = once_entry (library_of (scripts_of s.scope.shelves)) (slots_of (scripts_of s.scope.shelves))
+    (names_of s.scope.main) g.L.Level.depth (g.C.Chain.names s.chain.now) (include_view c.args.include.now)
+    (program_of (tree_of c.in-Entry.script.now)) c.in-Entry.ensures.told c.in-Entry.slot c.in-Entry.ensures.slot.0
+    c.if-not-include.false in
+    let long = once_size (library_of (scripts_of s.scope.shelves)) (slots_of (scripts_of s.scope.shelves))
+    (names_of s.scope.main) g.L.Level.depth (g.C.Chain.names s.chain.now) (include_view c.args.include.now)
+    (program_of (tree_of c.in-Entry.script.now)) c.in-Entry.ensures.told c.in-Entry.slot c.in-Entry.ensures.slot.0
+    c.if-not-include.false in
     let p = put_grows c.args.out.now c.put.new.out (Marked c.in-Entry.slot) c.in_ok-put.ensures in
     let q = put_grows c.put.new.out c.put-2.new.out (JumpIf no_place) c.in_ok-put-2.ensures in
     let r = grows c.put-2.new.out w a [] (c.in_ok-emit.ensures.adds []) in
@@ -73,7 +116,16 @@ returns g c =
       adds = λ ends.
           subst (λ (b : Flow). Emits c.args.out.now c.end_block.new.out b ends) (sym is)
           (once_emitted c.args.out.now c.put.new.out c.put-2.new.out w c.end_block.new.out c.in-Entry.slot a
-          (entered_typed (library_of (scripts_of s.scope.shelves)) (slots_of (scripts_of s.scope.shelves)) (names_of s.scope.main) g.L.Level.depth (script_of c.args.include.now.script ∷ g.C.Chain.names s.chain.now) c.in-Entry.slot (program_of (tree_of c.in-Entry.script.now)))
-          c.in_ok-put.ensures c.in_ok-put-2.ensures (c.in_ok-emit.ensures.adds (no_place ∷ [])) (omega (arith, c.requires.0, long, p.code, q.code, r.code))
+          (entered_typed (library_of (scripts_of s.scope.shelves)) (slots_of (scripts_of s.scope.shelves))
+          (names_of s.scope.main) g.L.Level.depth (script_of c.args.include.now.script
+          ∷ g.C.Chain.names s.chain.now) c.in-Entry.slot (program_of (tree_of c.in-Entry.script.now)))
+          c.in_ok-put.ensures c.in_ok-put-2.ensures (c.in_ok-emit.ensures.adds (no_place ∷ [])) (omega (
+            arith,
+            c.requires.0,
+            long,
+            p.code,
+            q.code,
+            r.code,
+          ))
           (subst (λ (n : ℕ). IsEnded n (length w.code.items) w c.end_block.new.out) begins c.end_block.ensures) ends);
     }

@@ -13,9 +13,17 @@ use Rattle.filing_gen.proofs.levels.IncludesWeights.weigh.Goals as goal
 pub returns-in-Pass : goal.returns-in-Pass
 returns-in-Pass g c =
     let s = c.args.self.now in
-    omega (arith, nothing_weighed (library_of (scripts_of s.scope.shelves)) (slots_of (scripts_of s.scope.shelves)) (names_of s.scope.main) g.L.Level.depth (g.C.Chain.names s.chain.now) (include_view c.args.include.now) c.find.result c.find.ensures.told c.in-Pass.is)
+    omega (
+      arith,
+      nothing_weighed (library_of (scripts_of s.scope.shelves)) (slots_of (scripts_of s.scope.shelves))
+          (names_of s.scope.main) g.L.Level.depth (g.C.Chain.names s.chain.now) (include_view c.args.include.now)
+          c.find.result c.find.ensures.told c.in-Pass.is,
+    )
 
 pub returns-in-Entry : goal.returns-in-Entry
 returns-in-Entry g c =
     let s = c.args.self.now in
-    subst (λ n. IsLeft c.args.left n c.weigh.result) (sym (entry_weight (library_of (scripts_of s.scope.shelves)) (slots_of (scripts_of s.scope.shelves)) (names_of s.scope.main) g.L.Level.depth (g.C.Chain.names s.chain.now) (include_view c.args.include.now) (program_of (tree_of c.in-Entry.script.now)) c.in-Entry.ensures.told)) c.weigh.ensures
+    subst (λ n. IsLeft c.args.left n c.weigh.result)
+    (sym (entry_weight (library_of (scripts_of s.scope.shelves)) (slots_of (scripts_of s.scope.shelves))
+    (names_of s.scope.main) g.L.Level.depth (g.C.Chain.names s.chain.now) (include_view c.args.include.now)
+    (program_of (tree_of c.in-Entry.script.now)) c.in-Entry.ensures.told)) c.weigh.ensures

@@ -28,9 +28,14 @@ returns-in_err-weight_at-in-Enter-default-To c =
     let lib = library_of (scripts_of s.callees.scope.shelves) in
     let ws = path_weights lib (map procedure_of s.callees.later.now) in
     let n = c.in-Enter-default-To.number in
-    let inside = below (length s.callees.later.now) c.inclusion.result c.in-Enter-default-To.field-0 n c.in-Enter-default-To.field-1 c.inclusion.ensures.within c.in-Enter-default-To.is c.in-Enter-default-To.field-1-is in
-    let path = c.inclusion.ensures.path ws ∙ ap (λ (j : Inclusion). path_of ws j) c.in-Enter-default-To.is ∙ ap (λ (k : Call). path_of_call ws k) c.in-Enter-default-To.field-1-is in
-    let none = none_known (slice_index ws n) (sym c.in_err-weight_at-in-Enter-default-To.was ∙ c.weight_at.ensures ∙ table_at lib s.callees.later.now s.later.now s.weights n inside) in
+    let inside =
+    below (length s.callees.later.now) c.inclusion.result c.in-Enter-default-To.field-0 n
+    c.in-Enter-default-To.field-1 c.inclusion.ensures.within c.in-Enter-default-To.is
+    c.in-Enter-default-To.field-1-is in
+    let path = c.inclusion.ensures.path ws ∙ ap (λ (j : Inclusion). path_of ws j) c.in-Enter-default-To.is
+    ∙ ap (λ (k : Call). path_of_call ws k) c.in-Enter-default-To.field-1-is in
+    let none = none_known (slice_index ws n) (sym c.in_err-weight_at-in-Enter-default-To.was ∙ c.weight_at.ensures
+    ∙ table_at lib s.callees.later.now s.later.now s.weights n inside) in
     rw c.from_residual.ensures (omega (arith, path, none, c.ranges.left.fits))
 
 pub returns-in_ok-weight_at-in-Enter-default-To : goal.returns-in_ok-weight_at-in-Enter-default-To
@@ -39,7 +44,13 @@ returns-in_ok-weight_at-in-Enter-default-To c =
     let lib = library_of (scripts_of s.callees.scope.shelves) in
     let ws = path_weights lib (map procedure_of s.callees.later.now) in
     let n = c.in-Enter-default-To.number in
-    let inside = below (length s.callees.later.now) c.inclusion.result c.in-Enter-default-To.field-0 n c.in-Enter-default-To.field-1 c.inclusion.ensures.within c.in-Enter-default-To.is c.in-Enter-default-To.field-1-is in
-    let path = c.inclusion.ensures.path ws ∙ ap (λ (j : Inclusion). path_of ws j) c.in-Enter-default-To.is ∙ ap (λ (k : Call). path_of_call ws k) c.in-Enter-default-To.field-1-is in
-    let known = some_known (slice_index ws n) c.in_ok-weight_at-in-Enter-default-To.field-0 (sym c.in_ok-weight_at-in-Enter-default-To.was ∙ c.weight_at.ensures ∙ table_at lib s.callees.later.now s.later.now s.weights n inside) in
+    let inside =
+    below (length s.callees.later.now) c.inclusion.result c.in-Enter-default-To.field-0 n
+    c.in-Enter-default-To.field-1 c.inclusion.ensures.within c.in-Enter-default-To.is
+    c.in-Enter-default-To.field-1-is in
+    let path = c.inclusion.ensures.path ws ∙ ap (λ (j : Inclusion). path_of ws j) c.in-Enter-default-To.is
+    ∙ ap (λ (k : Call). path_of_call ws k) c.in-Enter-default-To.field-1-is in
+    let known = some_known (slice_index ws n) c.in_ok-weight_at-in-Enter-default-To.field-0
+    (sym c.in_ok-weight_at-in-Enter-default-To.was ∙ c.weight_at.ensures
+    ∙ table_at lib s.callees.later.now s.later.now s.weights n inside) in
     left_by c.args.left c.in_ok-weight_at-in-Enter-default-To.field-0 _ c.checked_sub.result c.checked_sub.ensures (known ∙ sym path)

@@ -9,7 +9,8 @@ use Rattle.filing_image.proofs.image.Image.of_instructions.Goals as goal
 
 pub returns-then-not-are_short-clause-refused : goal.returns-then-not-are_short-clause-refused
 returns-then-not-are_short-clause-refused c = λ _ h _.
-    let short : All (λ t. length t.items < 2 ^ 16) c.args.texts.items = All-of_map (λ t. length t < 2 ^ 16) (λ t. t.items) c.args.texts.items h.texts in
+    let short : All (λ t. length t.items < 2 ^ 16) c.args.texts.items =
+    All-of_map (λ t. length t < 2 ^ 16) (λ t. t.items) c.args.texts.items h.texts in
     let t : c.are_short.result ≡ true = c.are_short.ensures.1 (rw c.deref.ensures.value short) in
     absurd (cc (t, c.if-not-are_short.true))
 
@@ -24,14 +25,28 @@ returns-in_err-code-clause-short c = λ _. record {
   number_count = grind (arith, common_steps);
   procedure_count = rw (← c.listed-firsts.ensures) (omega arith);
   instruction_count = grind (arith, common_steps);
-  texts = All-map (λ t. length t < 2 ^ 16) (λ t. t.items) c.args.texts.items (rw (← c.deref.ensures.value) (c.are_short.ensures.0 c.if-not-are_short.false));
+  texts = All-map (λ t. length t < 2 ^ 16) (λ t.
+      t.items) c.args.texts.items (rw (← c.deref.ensures.value) (c.are_short.ensures.0 c.if-not-are_short.false));
 }
 
 pub invariant_of-image : goal.invariant_of-image
 invariant_of-image c =
-    let short : All (λ t. length t.items < 2 ^ 16) c.args.texts.items = rw (← c.deref.ensures.value) (c.are_short.ensures.0 c.if-not-are_short.false) in
+    let short : All (λ t. length t.items < 2 ^ 16) c.args.texts.items =
+    rw (← c.deref.ensures.value) (c.are_short.ensures.0 c.if-not-are_short.false) in
     let few : length (firsts_of (list_in c.args.first_places)) < 2 ^ 16 = rw (← c.listed-firsts.ensures) (omega arith) in
     let small : All (λ f. f < 2 ^ 16) (firsts_of (list_in c.args.first_places)) = rw (← c.listed-firsts.ensures) c.places_fit.ensures in
-    let known : All (λ i. i.op ≤ last_operation (version_of (list_in c.args.first_places))) c.args.instructions.items = rw (← c.version_of.ensures, ← c.deref-2.ensures.value) (c.are_of.ensures.0 c.if-not-are_of.false) in
-    let same : map instruction_of c.in_ok-code.code.items ≡ c.args.instructions.items = rw (← c.deref-3.ensures.value) c.in_ok-code.ensures.made in
-    (grind (arith, common_steps), grind (arith, common_steps), grind (arith, common_steps), short, grind (arith, common_steps), c.in_ok-code.ensures.fits, c.ranges.budget.fits, c.ranges.slots.fits, few, small, rw same known)
+    let known : All (λ i. i.op ≤ last_operation (version_of (list_in c.args.first_places))) c.args.instructions.items =
+    rw (← c.version_of.ensures, ← c.deref-2.ensures.value) (c.are_of.ensures.0 c.if-not-are_of.false) in
+    let same : map instruction_of c.in_ok-code.code.items ≡ c.args.instructions.items = rw (← c.deref-3.ensures.value) c.in_ok-code.ensures.made in (
+      grind (arith, common_steps),
+      grind (arith, common_steps),
+      grind (arith, common_steps),
+      short,
+      grind (arith, common_steps),
+      c.in_ok-code.ensures.fits,
+      c.ranges.budget.fits,
+      c.ranges.slots.fits,
+      few,
+      small,
+      rw same known,
+    )

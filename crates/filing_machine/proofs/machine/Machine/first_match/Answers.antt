@@ -31,5 +31,6 @@ returns-in_default g c =
     sym (ap (λ (m : Snapshot). slice_get m.at.stack 0) c.self.view_is) ∙ sym c.in_ok-fields.ensures in
     record {
       matches = tt;
-      found = sym (none_of_another facts c.args.comparison c.args.key.now c.args.self.now.at.stack c.in_ok-fields.field-0.now on_top c.in_default.not-Fields);
+      found = sym (none_of_another facts c.args.comparison c.args.key.now c.args.self.now.at.stack
+          c.in_ok-fields.field-0.now on_top c.in_default.not-Fields);
     }

@@ -11,7 +11,12 @@ pub offset_bounds-code-self-inside : goal.offset_bounds-code-self-inside
 offset_bounds-code-self-inside g c =
     let p = c.args.program.now in
     let f = g.C.Case.facts c.args.case.now in
-    let stands : Stands p f (record { at = c.self.inside.at; progress = c.self.inside.progress; steps = c.self.inside.steps }) = subst (Stands p f) (sym c.self.view_is) c.requires.stands in
+    let stands : Stands p f (record {
+      at = c.self.inside.at;
+      progress = c.self.inside.progress;
+      steps =
+          c.self.inside.steps;
+    }) = subst (Stands p f) (sym c.self.view_is) c.requires.stands in
     let r = ready p f _ c.image-image.ensures.well (rw (← c.self.view_is) at c.requires.running) stands in
     let code-is : c.code.result.now ≡ p.code = c.code.ensures.value ∙ ap (λ q. q.code) c.image-image.ensures.is in
     omega (arith, r.within, c.code.type_inv, ap length code-is)
@@ -20,7 +25,12 @@ pub bounds-code-self-inside : goal.bounds-code-self-inside
 bounds-code-self-inside g c =
     let p = c.args.program.now in
     let f = g.C.Case.facts c.args.case.now in
-    let stands : Stands p f (record { at = c.self.inside.at; progress = c.self.inside.progress; steps = c.self.inside.steps }) = subst (Stands p f) (sym c.self.view_is) c.requires.stands in
+    let stands : Stands p f (record {
+      at = c.self.inside.at;
+      progress = c.self.inside.progress;
+      steps =
+          c.self.inside.steps;
+    }) = subst (Stands p f) (sym c.self.view_is) c.requires.stands in
     let r = ready p f _ c.image-image.ensures.well (rw (← c.self.view_is) at c.requires.running) stands in
     let code-is : c.code.result.now ≡ p.code = c.code.ensures.value ∙ ap (λ q. q.code) c.image-image.ensures.is in
     rw code-is r.within
@@ -29,7 +39,12 @@ pub act-requires-clause-place : goal.act-requires-clause-place
 act-requires-clause-place g c =
     let p = c.args.program.now in
     let f = g.C.Case.facts c.args.case.now in
-    let stands : Stands p f (record { at = c.self.inside.at; progress = c.self.inside.progress; steps = c.self.inside.steps }) = subst (Stands p f) (sym c.self.view_is) c.requires.stands in
+    let stands : Stands p f (record {
+      at = c.self.inside.at;
+      progress = c.self.inside.progress;
+      steps =
+          c.self.inside.steps;
+    }) = subst (Stands p f) (sym c.self.view_is) c.requires.stands in
     let r = ready p f _ c.image-image.ensures.well (rw (← c.self.view_is) at c.requires.running) stands in
     let code-is : c.code.result.now ≡ p.code = c.code.ensures.value ∙ ap (λ q. q.code) c.image-image.ensures.is in
     omega (arith, r.within, c.code.ensures.short, ap length code-is)
@@ -38,7 +53,12 @@ pub act-requires-clause-sound : goal.act-requires-clause-sound
 act-requires-clause-sound g c =
     let p = c.args.program.now in
     let f = g.C.Case.facts c.args.case.now in
-    let stands : Stands p f (record { at = c.self.inside.at; progress = c.self.inside.progress; steps = c.self.inside.steps }) = subst (Stands p f) (sym c.self.view_is) c.requires.stands in
+    let stands : Stands p f (record {
+      at = c.self.inside.at;
+      progress = c.self.inside.progress;
+      steps =
+          c.self.inside.steps;
+    }) = subst (Stands p f) (sym c.self.view_is) c.requires.stands in
     let r = ready p f _ c.image-image.ensures.well (rw (← c.self.view_is) at c.requires.running) stands in
     let code-is : c.code.result.now ≡ p.code = c.code.ensures.value ∙ ap (λ q. q.code) c.image-image.ensures.is in
     rw (code-is, c.image-image.ensures.is) r.sound
@@ -47,7 +67,12 @@ pub act-requires-clause-deep : goal.act-requires-clause-deep
 act-requires-clause-deep g c =
     let p = c.args.program.now in
     let f = g.C.Case.facts c.args.case.now in
-    let stands : Stands p f (record { at = c.self.inside.at; progress = c.self.inside.progress; steps = c.self.inside.steps }) = subst (Stands p f) (sym c.self.view_is) c.requires.stands in
+    let stands : Stands p f (record {
+      at = c.self.inside.at;
+      progress = c.self.inside.progress;
+      steps =
+          c.self.inside.steps;
+    }) = subst (Stands p f) (sym c.self.view_is) c.requires.stands in
     let r = ready p f _ c.image-image.ensures.well (rw (← c.self.view_is) at c.requires.running) stands in
     let code-is : c.code.result.now ≡ p.code = c.code.ensures.value ∙ ap (λ q. q.code) c.image-image.ensures.is in
     r.deep
@@ -56,7 +81,12 @@ pub act-requires-clause-room : goal.act-requires-clause-room
 act-requires-clause-room g c =
     let p = c.args.program.now in
     let f = g.C.Case.facts c.args.case.now in
-    let stands : Stands p f (record { at = c.self.inside.at; progress = c.self.inside.progress; steps = c.self.inside.steps }) = subst (Stands p f) (sym c.self.view_is) c.requires.stands in
+    let stands : Stands p f (record {
+      at = c.self.inside.at;
+      progress = c.self.inside.progress;
+      steps =
+          c.self.inside.steps;
+    }) = subst (Stands p f) (sym c.self.view_is) c.requires.stands in
     let r = ready p f _ c.image-image.ensures.well (rw (← c.self.view_is) at c.requires.running) stands in
     let code-is : c.code.result.now ≡ p.code = c.code.ensures.value ∙ ap (λ q. q.code) c.image-image.ensures.is in
     r.room
@@ -65,7 +95,12 @@ pub overflow_add-self : goal.overflow_add-self
 overflow_add-self g c =
     let p = c.args.program.now in
     let f = g.C.Case.facts c.args.case.now in
-    let stands : Stands p f (record { at = c.self.inside.at; progress = c.self.inside.progress; steps = c.self.inside.steps }) = subst (Stands p f) (sym c.self.view_is) c.requires.stands in
+    let stands : Stands p f (record {
+      at = c.self.inside.at;
+      progress = c.self.inside.progress;
+      steps =
+          c.self.inside.steps;
+    }) = subst (Stands p f) (sym c.self.view_is) c.requires.stands in
     let r = ready p f _ c.image-image.ensures.well (rw (← c.self.view_is) at c.requires.running) stands in
     let code-is : c.code.result.now ≡ p.code = c.code.ensures.value ∙ ap (λ q. q.code) c.image-image.ensures.is in
     omega (arith, r.budget, r.small)
@@ -74,11 +109,17 @@ pub returns-clause-stands : goal.returns-clause-stands
 returns-clause-stands g c =
     let p = c.args.program.now in
     let f = g.C.Case.facts c.args.case.now in
-    let stands : Stands p f (record { at = c.self.inside.at; progress = c.self.inside.progress; steps = c.self.inside.steps }) = subst (Stands p f) (sym c.self.view_is) c.requires.stands in
+    let stands : Stands p f (record {
+      at = c.self.inside.at;
+      progress = c.self.inside.progress;
+      steps =
+          c.self.inside.steps;
+    }) = subst (Stands p f) (sym c.self.view_is) c.requires.stands in
     let r = ready p f _ c.image-image.ensures.well (rw (← c.self.view_is) at c.requires.running) stands in
     let code-is : c.code.result.now ≡ p.code = c.code.ensures.value ∙ ap (λ q. q.code) c.image-image.ensures.is in
     let does = rw (code-is, c.image-image.ensures.is) at c.in_ok-self-inside.ensures.does in
-    let goes : run_at c.in_ok-self-inside.field-0 (state f c.act.new.at) ≡ step p f (run_at c.self.inside.progress (state f c.self.inside.at)) = sym does ∙ sym r.to in
+    let goes : run_at c.in_ok-self-inside.field-0 (state f c.act.new.at)
+    ≡ step p f (run_at c.self.inside.progress (state f c.self.inside.at)) = sym does ∙ sym r.to in
     record {
       on_run = rw add-one (goes ∙ ap (step p f) stands.on_run);
       going = one_more p f c.self.inside.steps (state f c.self.inside.at) r.here stands.going;
@@ -89,18 +130,29 @@ pub returns-clause-step : goal.returns-clause-step
 returns-clause-step g c =
     let p = c.args.program.now in
     let f = g.C.Case.facts c.args.case.now in
-    let stands : Stands p f (record { at = c.self.inside.at; progress = c.self.inside.progress; steps = c.self.inside.steps }) = subst (Stands p f) (sym c.self.view_is) c.requires.stands in
+    let stands : Stands p f (record {
+      at = c.self.inside.at;
+      progress = c.self.inside.progress;
+      steps =
+          c.self.inside.steps;
+    }) = subst (Stands p f) (sym c.self.view_is) c.requires.stands in
     let r = ready p f _ c.image-image.ensures.well (rw (← c.self.view_is) at c.requires.running) stands in
     let code-is : c.code.result.now ≡ p.code = c.code.ensures.value ∙ ap (λ q. q.code) c.image-image.ensures.is in
     let does = rw (code-is, c.image-image.ensures.is) at c.in_ok-self-inside.ensures.does in
-    let goes : run_at c.in_ok-self-inside.field-0 (state f c.act.new.at) ≡ step p f (run_at c.self.inside.progress (state f c.self.inside.at)) = sym does ∙ sym r.to in
+    let goes : run_at c.in_ok-self-inside.field-0 (state f c.act.new.at)
+    ≡ step p f (run_at c.self.inside.progress (state f c.self.inside.at)) = sym does ∙ sym r.to in
     goes ∙ ap (λ (m : Snapshot). step p f (run_view f m)) c.self.view_is
 
 pub returns-clause-budget : goal.returns-clause-budget
 returns-clause-budget g c =
     let p = c.args.program.now in
     let f = g.C.Case.facts c.args.case.now in
-    let stands : Stands p f (record { at = c.self.inside.at; progress = c.self.inside.progress; steps = c.self.inside.steps }) = subst (Stands p f) (sym c.self.view_is) c.requires.stands in
+    let stands : Stands p f (record {
+      at = c.self.inside.at;
+      progress = c.self.inside.progress;
+      steps =
+          c.self.inside.steps;
+    }) = subst (Stands p f) (sym c.self.view_is) c.requires.stands in
     let r = ready p f _ c.image-image.ensures.well (rw (← c.self.view_is) at c.requires.running) stands in
     let code-is : c.code.result.now ≡ p.code = c.code.ensures.value ∙ ap (λ q. q.code) c.image-image.ensures.is in
     r.budget
@@ -109,7 +161,12 @@ pub returns-in_err-self-inside-clause-budget : goal.returns-in_err-self-inside-c
 returns-in_err-self-inside-clause-budget g c =
     let p = c.args.program.now in
     let f = g.C.Case.facts c.args.case.now in
-    let stands : Stands p f (record { at = c.self.inside.at; progress = c.self.inside.progress; steps = c.self.inside.steps }) = subst (Stands p f) (sym c.self.view_is) c.requires.stands in
+    let stands : Stands p f (record {
+      at = c.self.inside.at;
+      progress = c.self.inside.progress;
+      steps =
+          c.self.inside.steps;
+    }) = subst (Stands p f) (sym c.self.view_is) c.requires.stands in
     let r = ready p f _ c.image-image.ensures.well (rw (← c.self.view_is) at c.requires.running) stands in
     let code-is : c.code.result.now ≡ p.code = c.code.ensures.value ∙ ap (λ q. q.code) c.image-image.ensures.is in
     omega (arith, r.budget)
@@ -118,7 +175,12 @@ pub returns-in_err-self-inside-clause-modest : goal.returns-in_err-self-inside-c
 returns-in_err-self-inside-clause-modest g c =
     let p = c.args.program.now in
     let f = g.C.Case.facts c.args.case.now in
-    let stands : Stands p f (record { at = c.self.inside.at; progress = c.self.inside.progress; steps = c.self.inside.steps }) = subst (Stands p f) (sym c.self.view_is) c.requires.stands in
+    let stands : Stands p f (record {
+      at = c.self.inside.at;
+      progress = c.self.inside.progress;
+      steps =
+          c.self.inside.steps;
+    }) = subst (Stands p f) (sym c.self.view_is) c.requires.stands in
     let r = ready p f _ c.image-image.ensures.well (rw (← c.self.view_is) at c.requires.running) stands in
     let code-is : c.code.result.now ≡ p.code = c.code.ensures.value ∙ ap (λ q. q.code) c.image-image.ensures.is in
     λ modest.

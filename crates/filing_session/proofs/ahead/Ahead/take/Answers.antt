@@ -5,4 +5,5 @@ use Rattle.filing_session.proofs.ahead.Ahead.take.Goals as goal
 
 pub returns-clause-rest : goal.returns-clause-rest
 returns-clause-rest c =
-    rest_of c.self.inside.octets c.self.inside.start c.self.inside.end c.min-count.result (grind (arith, common_steps)) ∙ ap (drop c.min-count.result) c.self.view_is
+    rest_of c.self.inside.octets c.self.inside.start c.self.inside.end c.min-count.result (grind (arith, common_steps))
+    ∙ ap (drop c.min-count.result) c.self.view_is

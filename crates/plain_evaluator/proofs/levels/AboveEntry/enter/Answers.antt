@@ -16,4 +16,8 @@ returns g c =
     let new : Filing = record old { entered = c.insert.new.self } in
     let active = ap (map script_of) (c.as_slice.ensures.value ∙ c.in_ok-chain.ensures) in
     let begun = filing_entered old new c.args.include.now.script refl refl refl c.in_ok-insert.ensures.items in
-    entered_runs (facts_of s.case.now) (library_of (scripts_of s.shelves)) g.L.Level.depth (map script_of s.chain.now) (map script_of c.as_slice.result.now) (include_view c.args.include.now) (tree_of c.args.script.now) (filing_of old) (filing_of new) (ending_at c.in_ok-ending.ending c.run.new.filing) (ending_at c.ended.result c.run.new.filing) active begun c.in_ok-ending.ensures (c.ended.ensures c.run.new.filing)
+    entered_runs (facts_of s.case.now) (library_of (scripts_of s.shelves)) g.L.Level.depth (map script_of s.chain.now)
+    (map script_of c.as_slice.result.now) (include_view c.args.include.now) (tree_of c.args.script.now)
+    (filing_of old) (filing_of new) (ending_at c.in_ok-ending.ending c.run.new.filing)
+    (ending_at c.ended.result c.run.new.filing) active begun c.in_ok-ending.ensures
+    (c.ended.ensures c.run.new.filing)

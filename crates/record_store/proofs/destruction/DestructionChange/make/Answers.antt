@@ -15,11 +15,18 @@ returns-clause-ok g c clean inside =
     let one = c.in_ok-delete_due.ensures.ok (omega (arith, c.set_destroyed.ensures.survives.clean, c.delete_body.ensures.survives.clean)) inside in
     let two = c.in_ok-set_destroyed.ensures.ok (omega (arith, c.delete_body.ensures.survives.clean)) (one.mode ∙ inside) in
     let three = c.in_ok-delete_body.ensures.ok clean (two.mode ∙ one.mode ∙ inside) in
-    turned first last Always _ (puts_then first third last Always Always (λ t. with_destruction n (without_due n t)) (without_body c.args.self.last) (λ t h. tt) (puts_then first second third Always Always (without_due n) (with_destruction n) (λ t h. tt) one two) three)
+    turned first last Always _ (puts_then first third last Always Always (λ t.
+    with_destruction n (without_due n t)) (without_body c.args.self.last) (λ t h.
+    tt) (puts_then first second third Always Always (without_due n) (with_destruction n) (λ t h. tt) one two) three)
 
 pub returns-clause-goes_on : goal.returns-clause-goes_on
 returns-clause-goes_on g c clean inside =
     let one = c.in_ok-delete_due.ensures.ok (omega (arith, c.set_destroyed.ensures.survives.clean, c.delete_body.ensures.survives.clean)) inside in
     let two = c.in_ok-set_destroyed.ensures.ok (omega (arith, c.delete_body.ensures.survives.clean)) (one.mode ∙ inside) in
     let three = c.in_ok-delete_body.ensures.ok clean (two.mode ∙ one.mode ∙ inside) in
-    record { committed = three.committed ∙ two.committed ∙ one.committed; mode = three.mode ∙ two.mode ∙ one.mode; is_open = three.is_open ∙ two.is_open ∙ one.is_open }
+    record {
+      committed = three.committed ∙ two.committed ∙ one.committed;
+      mode = three.mode ∙ two.mode
+          ∙ one.mode;
+      is_open = three.is_open ∙ two.is_open ∙ one.is_open;
+    }

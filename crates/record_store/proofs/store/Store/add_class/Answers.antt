@@ -26,15 +26,21 @@ returns-in-Ok-clause-obeys g c = λ (a : Archive) s.
     let q = c.plan_class.new.plan in
     let path = c.args.path.now in
     let made = c.in_ok-plan_class.ensures.ok in
-    let falls : HasCleanDisk (state g.S.Store c.transact.new.conn) → HasCleanDisk (state g.S.Store c.args.self.now.conn) = λ clean. omega (arith, c.transact.ensures.crash.clean, clean) in (
+    let falls : HasCleanDisk (state g.S.Store c.transact.new.conn)
+    → HasCleanDisk (state g.S.Store c.args.self.now.conn) = λ clean.
+    omega (arith, c.transact.ensures.crash.clean, clean) in (
       subst (Becomes g.S.Store _) (sym (is_added a p q path s.plan made))
-          (stands_turned g.S.Store c.args.self.now _ a (with_plan a q) Always (with_class path true None) s (added_archive a p q path s.plan made s.archive c.in_ok-plan_class.ensures.plans.1) c.transact.ensures.idle refl s.next s.held s.others falls c.transact.ensures.was_open c.in-Ok.ensures.ok
+          (stands_turned g.S.Store c.args.self.now _ a (with_plan a q) Always (with_class path true None) s
+          (added_archive a p q path s.plan made s.archive c.in_ok-plan_class.ensures.plans.1)
+          c.transact.ensures.idle refl s.next s.held s.others falls c.transact.ensures.was_open c.in-Ok.ensures.ok
           (keeps_added a p q path s.plan made s.archive)),
       tt,
     )
 
 pub returns-in-Ok-clause-dues : goal.returns-in-Ok-clause-dues
-returns-in-Ok-clause-dues g c = λ (a : Archive) s. same_dues a c.args.self.now.plan c.plan_class.new.plan c.args.path.now s.plan c.in_ok-plan_class.ensures.ok s.archive
+returns-in-Ok-clause-dues g c = λ (a : Archive) s.
+    same_dues a c.args.self.now.plan c.plan_class.new.plan c.args.path.now s.plan c.in_ok-plan_class.ensures.ok
+    s.archive
 
 pub returns-in-Ok-clause-crash : goal.returns-in-Ok-clause-crash
 returns-in-Ok-clause-crash g c =
@@ -43,7 +49,9 @@ returns-in-Ok-clause-crash g c =
     let path = c.args.path.now in
     let made = c.in_ok-plan_class.ensures.ok in
     leaves_added g.S.Store c.args.self.now (record c.args.self.now { conn = c.transact.new.conn }) path q made
-    (λ (a : Archive) s. leaves_turned g.S.Store c.args.self.now c.transact.new.conn a (with_plan a q) (◌≡◌ {A = Result Archive ArchiveRefusal} (Ok (with_plan a q)) (Ok (with_plan a q))) Always (with_class path true None) s
+    (λ (a : Archive) s.
+    leaves_turned g.S.Store c.args.self.now c.transact.new.conn a (with_plan a q) (◌≡◌ {A =
+    Result Archive ArchiveRefusal} (Ok (with_plan a q)) (Ok (with_plan a q))) Always (with_class path true None) s
     (λ was db kept legal turns. keeps_added a p q path s.plan made s.archive was db kept turns) c.transact.ensures.crash)
 
 pub returns-in-Err-clause-crash : goal.returns-in-Err-clause-crash
@@ -53,14 +61,19 @@ returns-in-Err-clause-crash g c =
     let path = c.args.path.now in
     let made = c.in_ok-plan_class.ensures.ok in
     leaves_added g.S.Store c.args.self.now (record c.args.self.now { conn = c.transact.new.conn }) path q made
-    (λ (a : Archive) s. leaves_turned g.S.Store c.args.self.now c.transact.new.conn a (with_plan a q) (◌≡◌ {A = Result Archive ArchiveRefusal} (Ok (with_plan a q)) (Ok (with_plan a q))) Always (with_class path true None) s
+    (λ (a : Archive) s.
+    leaves_turned g.S.Store c.args.self.now c.transact.new.conn a (with_plan a q) (◌≡◌ {A =
+    Result Archive ArchiveRefusal} (Ok (with_plan a q)) (Ok (with_plan a q))) Always (with_class path true None) s
     (λ was db kept legal turns. keeps_added a p q path s.plan made s.archive was db kept turns) c.transact.ensures.crash)
 
 pub returns-in-Err-clause-obeys : goal.returns-in-Err-clause-obeys
 returns-in-Err-clause-obeys g c = λ (a : Archive) s.
     let same = without-added c.args.self.now.plan c.plan_class.new.plan c.args.path.now c.in_ok-plan_class.ensures.ok in
-    let falls : HasCleanDisk (state g.S.Store c.transact.new.conn) → HasCleanDisk (state g.S.Store c.args.self.now.conn) = λ clean. omega (arith, c.transact.ensures.crash.clean, clean) in (
-      stands_refused g.S.Store c.args.self.now _ a s c.transact.ensures.idle (c.remove.ensures ∙ same) refl (λ n. refl) (λ m. refl) falls c.transact.ensures.was_open
+    let falls : HasCleanDisk (state g.S.Store c.transact.new.conn)
+    → HasCleanDisk (state g.S.Store c.args.self.now.conn) = λ clean.
+    omega (arith, c.transact.ensures.crash.clean, clean) in (
+      stands_refused g.S.Store c.args.self.now _ a s c.transact.ensures.idle (c.remove.ensures
+          ∙ same) refl (λ n. refl) (λ m. refl) falls c.transact.ensures.was_open
           (λ clean is_open. (c.in-Err.ensures.err clean is_open).0),
       λ r is. absurd (true≢false (sym (is_trouble-fault_of c.in-Err.error) ∙ ap is_trouble (sym c.fault_of.ensures ∙ is))),
     )
@@ -76,4 +89,5 @@ returns-in_err-plan_class-clause-obeys g c =
     ))
 
 pub returns-then-not-is_autocommit-clause-cause : goal.returns-then-not-is_autocommit-clause-cause
-returns-then-not-is_autocommit-clause-cause g c = λ (a : Archive) s clean. absurd (never_busy _ _ s.idle c.is_autocommit.ensures.value c.if-not-is_autocommit.true)
+returns-then-not-is_autocommit-clause-cause g c = λ (a : Archive) s clean.
+    absurd (never_busy _ _ s.idle c.is_autocommit.ensures.value c.if-not-is_autocommit.true)

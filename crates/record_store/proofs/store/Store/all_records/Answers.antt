@@ -32,8 +32,12 @@ returns-in-Ok-clause-crash g c = λ (a : Archive) s.
 pub returns-in-Err-clause-tells : goal.returns-in-Err-clause-tells
 returns-in-Err-clause-tells g c = λ (a : Archive) s.
     let made = c.records.ensures in
-    let looks = looks_common g.S.Store c.args.self.now.conn c.records.new.conn made.idle made.falls made.quiet made.survives in
-    (stands_looked g.S.Store c.args.self.now _ a s looks refl refl (λ n. refl) (λ m. refl), λ clean r is. absurd (true≢false (sym (ap is_trouble c.lost_or.ensures ∙ is_trouble-lost_or c.in-Err.fault) ∙ ap is_trouble is)))
+    let looks = looks_common g.S.Store c.args.self.now.conn c.records.new.conn made.idle made.falls made.quiet made.survives in (
+      stands_looked g.S.Store c.args.self.now _ a s looks refl refl (λ n. refl) (λ m. refl),
+      λ clean r is.
+          absurd (true≢false (sym (ap is_trouble c.lost_or.ensures ∙ is_trouble-lost_or c.in-Err.fault)
+          ∙ ap is_trouble is)),
+    )
 
 pub returns-in-Err-clause-crash : goal.returns-in-Err-clause-crash
 returns-in-Err-clause-crash g c = λ (a : Archive) s.

@@ -15,7 +15,8 @@ returns-clause-obeys g c = λ (a : Archive) s.
     let day = number_of_day c.args.day in
     let room : next_number a + length ps ≤ 2 ^ 32 = omega (arith, long, s.next) in
     obeys_captured g.S.Store c.place_capture.new.self a c.args.body.now day ps (map line_view c.in_ok-lines.lines.items) room
-    (subst (λ k. StandsFor g.S.Store c.place_capture.new.self (after_capture a c.args.body.now k ps)) c.capture_number.ensures.number (c.in_ok-place_capture.ensures.ok a s))
+    (subst (λ k. StandsFor g.S.Store c.place_capture.new.self (after_capture a c.args.body.now k ps))
+    c.capture_number.ensures.number (c.in_ok-place_capture.ensures.ok a s))
     (c.in_ok-lines.ensures.lines ∙ (λ i. lines_of (s.plan i) (s.next i) day ps))
 
 pub returns-clause-crash : goal.returns-clause-crash
@@ -23,11 +24,15 @@ returns-clause-crash g c =
     let ps = map (λ p. p.items) c.args.paths.now in
     let long = length-map c.args.paths.now (λ p. p.items) in
     leaves_command g.S.Store c.args.self.now c.place_capture.new.self c.args.body.now (number_of_day c.args.day) ps (omega (arith, long))
-    (subst (λ k. LeavesMade g.S.Store c.args.self.now c.place_capture.new.self (λ a. Ok (after_capture a c.args.body.now k ps)) (λ a. after_capture a c.args.body.now k ps)) c.capture_number.ensures.number c.place_capture.ensures.crash)
+    (subst (λ k. LeavesMade g.S.Store c.args.self.now c.place_capture.new.self (λ a.
+    Ok (after_capture a c.args.body.now k ps)) (λ a. after_capture a c.args.body.now k ps))
+    c.capture_number.ensures.number c.place_capture.ensures.crash)
 
 pub returns-in_err-place_capture-clause-crash : goal.returns-in_err-place_capture-clause-crash
 returns-in_err-place_capture-clause-crash g c =
     let ps = map (λ p. p.items) c.args.paths.now in
     let long = length-map c.args.paths.now (λ p. p.items) in
     leaves_command g.S.Store c.args.self.now c.place_capture.new.self c.args.body.now (number_of_day c.args.day) ps (omega (arith, long))
-    (subst (λ k. LeavesMade g.S.Store c.args.self.now c.place_capture.new.self (λ a. Ok (after_capture a c.args.body.now k ps)) (λ a. after_capture a c.args.body.now k ps)) c.capture_number.ensures.number c.place_capture.ensures.crash)
+    (subst (λ k. LeavesMade g.S.Store c.args.self.now c.place_capture.new.self (λ a.
+    Ok (after_capture a c.args.body.now k ps)) (λ a. after_capture a c.args.body.now k ps))
+    c.capture_number.ensures.number c.place_capture.ensures.crash)

@@ -18,11 +18,15 @@ returns-in-Ok-lay-clause-ok g c clean empty =
 pub returns-in-Ok-lay-clause-crash : goal.returns-in-Ok-lay-clause-crash
 returns-in-Ok-lay-clause-crash g c =
     leaves_laid g.S.Store c.args.conn c.lay.new.conn (map rule_of c.as_slice.result.now) (map class_entry_of c.as_slice-2.result.now)
-    (ap (map rule_of) c.as_slice.ensures.value ∙ c.in-Ok-rules_of.ensures ∙ (λ i. rows.rules_of (c.in-Ok.ensures i))) (ap (map class_entry_of) c.as_slice-2.ensures.value ∙ c.in-Ok-classes_of.ensures ∙ (λ i. rows.classes_of (c.in-Ok.ensures i)))
+    (ap (map rule_of) c.as_slice.ensures.value ∙ c.in-Ok-rules_of.ensures
+    ∙ (λ i. rows.rules_of (c.in-Ok.ensures i))) (ap (map class_entry_of) c.as_slice-2.ensures.value
+    ∙ c.in-Ok-classes_of.ensures ∙ (λ i. rows.classes_of (c.in-Ok.ensures i)))
     c.lay.ensures.crash
 
 pub returns-in-Err-clause-crash_refused : goal.returns-in-Err-clause-crash_refused
 returns-in-Err-clause-crash_refused g c =
     leaves_laid g.S.Store c.args.conn c.lay.new.conn (map rule_of c.as_slice.result.now) (map class_entry_of c.as_slice-2.result.now)
-    (ap (map rule_of) c.as_slice.ensures.value ∙ c.in-Ok-rules_of.ensures ∙ (λ i. rows.rules_of (c.in-Ok.ensures i))) (ap (map class_entry_of) c.as_slice-2.ensures.value ∙ c.in-Ok-classes_of.ensures ∙ (λ i. rows.classes_of (c.in-Ok.ensures i)))
+    (ap (map rule_of) c.as_slice.ensures.value ∙ c.in-Ok-rules_of.ensures
+    ∙ (λ i. rows.rules_of (c.in-Ok.ensures i))) (ap (map class_entry_of) c.as_slice-2.ensures.value
+    ∙ c.in-Ok-classes_of.ensures ∙ (λ i. rows.classes_of (c.in-Ok.ensures i)))
     c.lay.ensures.crash

@@ -11,14 +11,20 @@ pub returns-clause-crash : goal.returns-clause-crash
 returns-clause-crash g c =
     let n = c.args.number in
     let r = record_of c.in_ok-record.record in
-    subst (λ k. Leaves g.S.Store c.args.self.now c.remove_record.new.self (λ (a : Archive). archive.destroy_by a n k (archive.record_at a n))) c.number_from_1970.ensures
-    (leaves_allowed g.S.Store c.args.self.now c.judge_destruction.new.self c.remove_record.new.self (λ (a : Archive). archive.destroy_by a n c.number_from_1970.result (archive.record_at a n)) (λ (a : Archive). IsFree a n r) (λ (a : Archive). archive.without a r)
+    subst (λ k. Leaves g.S.Store c.args.self.now c.remove_record.new.self (λ (a : Archive).
+    archive.destroy_by a n k (archive.record_at a n))) c.number_from_1970.ensures
+    (leaves_allowed g.S.Store c.args.self.now c.judge_destruction.new.self c.remove_record.new.self (λ (a : Archive).
+    archive.destroy_by a n c.number_from_1970.result (archive.record_at a n)) (λ (a : Archive).
+    IsFree a n r) (λ (a : Archive). archive.without a r)
     c.in_ok-record.ensures.tells c.judge_destruction.ensures.crash c.in_ok-record.ensures.open c.remove_record.ensures.crash)
 
 pub returns-in_err-remove_record-clause-crash : goal.returns-in_err-remove_record-clause-crash
 returns-in_err-remove_record-clause-crash g c =
     let n = c.args.number in
     let r = record_of c.in_ok-record.record in
-    subst (λ k. Leaves g.S.Store c.args.self.now c.remove_record.new.self (λ (a : Archive). archive.destroy_by a n k (archive.record_at a n))) c.number_from_1970.ensures
-    (leaves_allowed g.S.Store c.args.self.now c.judge_destruction.new.self c.remove_record.new.self (λ (a : Archive). archive.destroy_by a n c.number_from_1970.result (archive.record_at a n)) (λ (a : Archive). IsFree a n r) (λ (a : Archive). archive.without a r)
+    subst (λ k. Leaves g.S.Store c.args.self.now c.remove_record.new.self (λ (a : Archive).
+    archive.destroy_by a n k (archive.record_at a n))) c.number_from_1970.ensures
+    (leaves_allowed g.S.Store c.args.self.now c.judge_destruction.new.self c.remove_record.new.self (λ (a : Archive).
+    archive.destroy_by a n c.number_from_1970.result (archive.record_at a n)) (λ (a : Archive).
+    IsFree a n r) (λ (a : Archive). archive.without a r)
     c.in_ok-record.ensures.tells c.judge_destruction.ensures.crash c.in_ok-record.ensures.open c.remove_record.ensures.crash)

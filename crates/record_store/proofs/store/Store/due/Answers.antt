@@ -35,5 +35,8 @@ returns-in_default-clause-tells g c = λ (a : Archive) s.
 
 pub returns-in_err-lines-clause-cause : goal.returns-in_err-lines-clause-cause
 returns-in_err-lines-clause-cause g c =
-    passed_cause g.S.Store c.args.self.now c.due_records.new.self c.from_residual-in_err-lines.result c.in_err-lines.field-0.0 c.from_residual-in_err-lines.ensures.1
-    (λ (a : Archive) s clean. c.in_err-lines.ensures.lost (subst (AllByRecursion IsDatable) (sym ((c.in_ok-due.ensures.tells a s).1 clean)) (due_records_datable a c.in-Some.day s.archive)))
+    passed_cause g.S.Store c.args.self.now c.due_records.new.self c.from_residual-in_err-lines.result
+    c.in_err-lines.field-0.0 c.from_residual-in_err-lines.ensures.1
+    (λ (a : Archive) s clean.
+    c.in_err-lines.ensures.lost (subst (AllByRecursion IsDatable) (sym ((c.in_ok-due.ensures.tells a s).1 clean))
+    (due_records_datable a c.in-Some.day s.archive)))

@@ -14,21 +14,31 @@ pub returns-in-Ok-clause-ok : goal.returns-in-Ok-clause-ok
 returns-in-Ok-clause-ok g c = λ (a : Archive) s e.
     let name = c.args.name.now in
     let n = c.args.number in
-    let falls : HasCleanDisk (state g.S.Store c.transact.new.conn) → HasCleanDisk (state g.S.Store c.args.self.now.conn) = λ clean. omega (arith, c.transact.ensures.crash.clean, clean) in
-    stands_turned g.S.Store c.args.self.now _ a (archive.without_hold a name n) Always (tables.without_hold name n) s (released_is_archive a name n s.archive) c.transact.ensures.idle s.plan s.next
-    (λ m. let sum = count_released name n m a.holds s.archive.once (is_there a name n e) in omega (arith, c.take.ensures m, s.held m, sum)) s.others falls c.transact.ensures.was_open c.in-Ok.ensures.ok (stores_released name n a)
+    let falls : HasCleanDisk (state g.S.Store c.transact.new.conn)
+    → HasCleanDisk (state g.S.Store c.args.self.now.conn) = λ clean.
+    omega (arith, c.transact.ensures.crash.clean, clean) in
+    stands_turned g.S.Store c.args.self.now _ a (archive.without_hold a name n) Always (tables.without_hold name n) s
+    (released_is_archive a name n s.archive) c.transact.ensures.idle s.plan s.next
+    (λ m. let sum = count_released name n m a.holds s.archive.once (is_there a name n e) in
+    omega (arith, c.take.ensures m, s.held m, sum)) s.others falls c.transact.ensures.was_open c.in-Ok.ensures.ok
+    (stores_released name n a)
 
 pub returns-in-Ok-clause-crash : goal.returns-in-Ok-clause-crash
 returns-in-Ok-clause-crash g c = λ (a : Archive) s.
     let name = c.args.name.now in
     let n = c.args.number in
-    leaves_turned g.S.Store c.args.self.now c.transact.new.conn a (archive.without_hold a name n) (archive.release a name n ≡ Ok (archive.without_hold a name n)) Always (tables.without_hold name n) s (λ was db kept legal turns. stores_released name n a was db kept turns) c.transact.ensures.crash
+    leaves_turned g.S.Store c.args.self.now c.transact.new.conn a (archive.without_hold a name n)
+    (archive.release a name n ≡ Ok (archive.without_hold a name n)) Always (tables.without_hold name n) s
+    (λ was db kept legal turns. stores_released name n a was db kept turns) c.transact.ensures.crash
 
 pub returns-in-Err-clause-crash : goal.returns-in-Err-clause-crash
 returns-in-Err-clause-crash g c = λ (a : Archive) s.
     let name = c.args.name.now in
     let n = c.args.number in
-    leaves_turned g.S.Store c.args.self.now c.transact.new.conn a (archive.without_hold a name n) (archive.release a name n ≡ Ok (archive.without_hold a name n)) Always (tables.without_hold name n) s (λ was db kept legal turns. stores_released name n a was db kept turns) c.transact.ensures.crash
+    leaves_turned g.S.Store c.args.self.now c.transact.new.conn a (archive.without_hold a name n)
+    (archive.release a name n ≡ Ok (archive.without_hold a name n)) Always (tables.without_hold name n) s
+    (λ was db kept legal turns. stores_released name n a was db kept turns) c.transact.ensures.crash
 
 pub returns-then-not-is_autocommit-clause-cause : goal.returns-then-not-is_autocommit-clause-cause
-returns-then-not-is_autocommit-clause-cause g c = λ (a : Archive) s clean. absurd (never_busy _ _ s.idle c.is_autocommit.ensures.value c.if-not-is_autocommit.true)
+returns-then-not-is_autocommit-clause-cause g c = λ (a : Archive) s clean.
+    absurd (never_busy _ _ s.idle c.is_autocommit.ensures.value c.if-not-is_autocommit.true)

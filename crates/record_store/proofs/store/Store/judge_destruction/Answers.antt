@@ -27,7 +27,8 @@ returns-in-Err-clause-tells g c = λ (a : Archive) s.
     let free = free_if (λ h. h.number == n) a.holds (omega (arith, c.count.ensures, t.0.held n, c.if-count-gt0.false)) in (
       t.0,
       λ clean q is.
-          refused_by_plan a n c.args.day r q (t.1 clean) c.if-record.false free (subst (λ p. against_destruction p c.args.day r ≡ Some q) t.0.plan (c.in-Err.ensures.err q is)),
+          refused_by_plan a n c.args.day r q (t.1 clean) c.if-record.false free (subst (λ p.
+          against_destruction p c.args.day r ≡ Some q) t.0.plan (c.in-Err.ensures.err q is)),
     )
 
 pub returns-in-Ok-clause-tells : goal.returns-in-Ok-clause-tells
@@ -39,7 +40,8 @@ returns-in-Ok-clause-tells g c = λ (a : Archive) s.
       t.0,
       λ clean. (
         record { found = t.1 clean; live = c.if-record.false; free = free },
-        may_go a n c.args.day r (t.1 clean) c.if-record.false free (subst (λ p. against_destruction p c.args.day r ≡ None) t.0.plan c.in-Ok.ensures.ok),
+        may_go a n c.args.day r (t.1 clean) c.if-record.false free (subst (λ p. against_destruction p c.args.day r
+            ≡ None) t.0.plan c.in-Ok.ensures.ok),
       ),
     )
 

@@ -15,21 +15,31 @@ pub returns-in-Ok-transact-clause-ok : goal.returns-in-Ok-transact-clause-ok
 returns-in-Ok-transact-clause-ok g c = λ (a : Archive) s e.
     let name = c.args.name.now in
     let n = c.args.number in
-    let falls : HasCleanDisk (state g.S.Store c.transact.new.conn) → HasCleanDisk (state g.S.Store c.args.self.now.conn) = λ clean. omega (arith, c.transact.ensures.crash.clean, clean) in
-    stands_turned g.S.Store c.args.self.now _ a (archive.with_hold a name n) Always (tables.with_hold name n) s (held_is_archive a name n s.archive e) c.transact.ensures.idle s.plan s.next
-    (λ m. c.in-Ok.ensures.ok m ∙ ap (λ k. k + only_at n 1 m) (s.held m) ∙ sym (count_held a name n m)) s.others falls c.transact.ensures.was_open c.in-Ok-transact.ensures.ok (stores_held name n a)
+    let falls : HasCleanDisk (state g.S.Store c.transact.new.conn)
+    → HasCleanDisk (state g.S.Store c.args.self.now.conn) = λ clean.
+    omega (arith, c.transact.ensures.crash.clean, clean) in
+    stands_turned g.S.Store c.args.self.now _ a (archive.with_hold a name n) Always (tables.with_hold name n) s
+    (held_is_archive a name n s.archive e) c.transact.ensures.idle s.plan s.next
+    (λ m. c.in-Ok.ensures.ok m ∙ ap (λ k. k + only_at n 1 m) (s.held m)
+    ∙ sym (count_held a name n m)) s.others falls c.transact.ensures.was_open c.in-Ok-transact.ensures.ok
+    (stores_held name n a)
 
 pub returns-in-Ok-transact-clause-crash : goal.returns-in-Ok-transact-clause-crash
 returns-in-Ok-transact-clause-crash g c = λ (a : Archive) s.
     let name = c.args.name.now in
     let n = c.args.number in
-    leaves_turned g.S.Store c.args.self.now c.transact.new.conn a (archive.with_hold a name n) (archive.hold a name n ≡ Ok (archive.with_hold a name n)) Always (tables.with_hold name n) s (λ was db kept legal turns. stores_held name n a was db kept turns) c.transact.ensures.crash
+    leaves_turned g.S.Store c.args.self.now c.transact.new.conn a (archive.with_hold a name n) (archive.hold a name n
+    ≡ Ok (archive.with_hold a name n)) Always (tables.with_hold name n) s (λ was db kept legal turns.
+    stores_held name n a was db kept turns) c.transact.ensures.crash
 
 pub returns-in-Err-clause-crash : goal.returns-in-Err-clause-crash
 returns-in-Err-clause-crash g c = λ (a : Archive) s.
     let name = c.args.name.now in
     let n = c.args.number in
-    leaves_turned g.S.Store c.args.self.now c.transact.new.conn a (archive.with_hold a name n) (archive.hold a name n ≡ Ok (archive.with_hold a name n)) Always (tables.with_hold name n) s (λ was db kept legal turns. stores_held name n a was db kept turns) c.transact.ensures.crash
+    leaves_turned g.S.Store c.args.self.now c.transact.new.conn a (archive.with_hold a name n) (archive.hold a name n
+    ≡ Ok (archive.with_hold a name n)) Always (tables.with_hold name n) s (λ was db kept legal turns.
+    stores_held name n a was db kept turns) c.transact.ensures.crash
 
 pub returns-then-not-is_autocommit-clause-cause : goal.returns-then-not-is_autocommit-clause-cause
-returns-then-not-is_autocommit-clause-cause g c = λ (a : Archive) s clean. absurd (never_busy _ _ s.idle c.is_autocommit.ensures.value c.if-not-is_autocommit.true)
+returns-then-not-is_autocommit-clause-cause g c = λ (a : Archive) s clean.
+    absurd (never_busy _ _ s.idle c.is_autocommit.ensures.value c.if-not-is_autocommit.true)

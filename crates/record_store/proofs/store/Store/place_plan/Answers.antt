@@ -22,8 +22,12 @@ returns-in-Ok-clause-ok g c = λ (a : Archive) s is.
     let same_rules : rs ≡ rows.rules_of p = ap (map rule_of) c.as_slice.ensures.value ∙ c.in_ok-rules.ensures in
     let same_classes : cs ≡ rows.classes_of p = ap (map class_entry_of) c.as_slice-2.ensures.value ∙ c.in_ok-classes.ensures in
     let plan : IsPlan p = search rules in
-    let falls : HasCleanDisk (state g.S.Store c.replace_plan.new.conn) → HasCleanDisk (state g.S.Store c.args.self.now.conn) = λ clean. omega (arith, c.replace_plan.ensures.crash.clean, clean) in
-    stands_turned g.S.Store c.args.self.now _ a (with_plan a p) Always (tables.with_plan rs cs ds) s (revised_is_archive a p s.archive plan is.kept) c.replace_plan.ensures.idle refl s.next s.held s.others falls c.replace_plan.ensures.was_open c.in-Ok.ensures.ok
+    let falls : HasCleanDisk (state g.S.Store c.replace_plan.new.conn)
+    → HasCleanDisk (state g.S.Store c.args.self.now.conn) = λ clean.
+    omega (arith, c.replace_plan.ensures.crash.clean, clean) in
+    stands_turned g.S.Store c.args.self.now _ a (with_plan a p) Always (tables.with_plan rs cs ds) s
+    (revised_is_archive a p s.archive plan is.kept) c.replace_plan.ensures.idle refl s.next s.held s.others falls
+    c.replace_plan.ensures.was_open c.in-Ok.ensures.ok
     (stores_revised a p rs cs ds same_rules same_classes is.dues)
 
 pub returns-in-Ok-clause-crash : goal.returns-in-Ok-clause-crash
@@ -49,4 +53,5 @@ returns-in-Err-clause-crash g c = λ (a : Archive) s.
     (λ was db kept is turns. stores_revised a p rs cs ds same_rules same_classes is.dues was db kept turns) c.replace_plan.ensures.crash
 
 pub returns-then-not-is_autocommit-clause-cause : goal.returns-then-not-is_autocommit-clause-cause
-returns-then-not-is_autocommit-clause-cause g c = λ (a : Archive) s clean. absurd (never_busy _ _ s.idle c.is_autocommit.ensures.value c.if-not-is_autocommit.true)
+returns-then-not-is_autocommit-clause-cause g c = λ (a : Archive) s clean.
+    absurd (never_busy _ _ s.idle c.is_autocommit.ensures.value c.if-not-is_autocommit.true)

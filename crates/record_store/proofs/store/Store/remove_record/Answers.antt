@@ -16,9 +16,13 @@ returns-in-Ok-clause-ok g c = λ (a : Archive) s free.
     let n = c.args.number in
     let r = record_of c.args.row.now in
     let last = c.last_body-last.result in
-    let falls : HasCleanDisk (state g.S.Store c.transact.new.conn) → HasCleanDisk (state g.S.Store c.args.self.now.conn) = λ clean. omega (arith, c.transact.ensures.crash.clean, clean) in
-    stands_turned g.S.Store c.args.self.now _ a (archive.without a r) Always (with_destruction n last) s (destroyed_archive a n r s.archive free) c.transact.ensures.idle s.plan (s.next ∙ sym (next_destroyed a r))
-    s.held (λ m. let sum = count_destroyed a r s.archive (free_itself a n r free) m in omega (arith, c.take.ensures m, s.others m, sum)) falls c.transact.ensures.was_open c.in-Ok.ensures.ok
+    let falls : HasCleanDisk (state g.S.Store c.transact.new.conn)
+    → HasCleanDisk (state g.S.Store c.args.self.now.conn) = λ clean.
+    omega (arith, c.transact.ensures.crash.clean, clean) in
+    stands_turned g.S.Store c.args.self.now _ a (archive.without a r) Always (with_destruction n last) s
+    (destroyed_archive a n r s.archive free) c.transact.ensures.idle s.plan (s.next ∙ sym (next_destroyed a r))
+    s.held (λ m. let sum = count_destroyed a r s.archive (free_itself a n r free) m in
+    omega (arith, c.take.ensures m, s.others m, sum)) falls c.transact.ensures.was_open c.in-Ok.ensures.ok
     (keeps_destroyed g.S.Store c.args.self.now a s n r last free c.last_body-last.ensures)
 
 pub returns-in-Ok-clause-crash : goal.returns-in-Ok-clause-crash
@@ -27,7 +31,9 @@ returns-in-Ok-clause-crash g c = λ (a : Archive) s.
     let r = record_of c.args.row.now in
     let last = c.last_body-last.result in
     leaves_turned g.S.Store c.args.self.now c.transact.new.conn a (archive.without a r) (IsFree a n r) Always (with_destruction n last) s
-    (λ was db kept free turns. keeps_destroyed g.S.Store c.args.self.now a s n r last free c.last_body-last.ensures was db kept turns) c.transact.ensures.crash
+    (λ was db kept free turns.
+    keeps_destroyed g.S.Store c.args.self.now a s n r last free c.last_body-last.ensures was db kept turns)
+    c.transact.ensures.crash
 
 pub returns-in-Err-clause-crash : goal.returns-in-Err-clause-crash
 returns-in-Err-clause-crash g c = λ (a : Archive) s.
@@ -35,7 +41,10 @@ returns-in-Err-clause-crash g c = λ (a : Archive) s.
     let r = record_of c.args.row.now in
     let last = c.last_body-last.result in
     leaves_turned g.S.Store c.args.self.now c.transact.new.conn a (archive.without a r) (IsFree a n r) Always (with_destruction n last) s
-    (λ was db kept free turns. keeps_destroyed g.S.Store c.args.self.now a s n r last free c.last_body-last.ensures was db kept turns) c.transact.ensures.crash
+    (λ was db kept free turns.
+    keeps_destroyed g.S.Store c.args.self.now a s n r last free c.last_body-last.ensures was db kept turns)
+    c.transact.ensures.crash
 
 pub returns-then-not-is_autocommit-clause-cause : goal.returns-then-not-is_autocommit-clause-cause
-returns-then-not-is_autocommit-clause-cause g c = λ (a : Archive) s clean. absurd (never_busy _ _ s.idle c.is_autocommit.ensures.value c.if-not-is_autocommit.true)
+returns-then-not-is_autocommit-clause-cause g c = λ (a : Archive) s clean.
+    absurd (never_busy _ _ s.idle c.is_autocommit.ensures.value c.if-not-is_autocommit.true)

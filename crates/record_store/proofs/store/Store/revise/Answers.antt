@@ -17,9 +17,12 @@ returns-clause-obeys g c =
     let mid = c.all_records.new.self in
     let q = c.in_ok-kept.kept in
     let ds = map due_of c.as_slice-2.result.now in
-    obeys_allowed g.S.Store old mid c.place_plan.new.self (λ (a : Archive). archive.revise a c.args.plan) (λ (a : Archive). IsRevision a q ds) (λ (a : Archive). with_plan a q)
-    (judged_revision g.S.Store old mid c.args.plan q (map record_of c.in_ok-rows.rows.items) ds c.in_ok-kept.ensures.judged.0 c.in_ok-kept.ensures.judged.1
-    (ap (map due_of) c.as_slice-2.ensures.value ∙ c.in_ok-dues.ensures.rows ∙ ap (λ l. dues_in q (map record_of l)) c.as_slice.ensures.value) c.in_ok-rows.ensures.tells)
+    obeys_allowed g.S.Store old mid c.place_plan.new.self (λ (a : Archive).
+    archive.revise a c.args.plan) (λ (a : Archive). IsRevision a q ds) (λ (a : Archive). with_plan a q)
+    (judged_revision g.S.Store old mid c.args.plan q (map record_of c.in_ok-rows.rows.items) ds
+    c.in_ok-kept.ensures.judged.0 c.in_ok-kept.ensures.judged.1
+    (ap (map due_of) c.as_slice-2.ensures.value ∙ c.in_ok-dues.ensures.rows
+    ∙ ap (λ l. dues_in q (map record_of l)) c.as_slice.ensures.value) c.in_ok-rows.ensures.tells)
     c.in_ok-place_plan.ensures.ok c.place_plan.ensures.falls
 
 pub returns-clause-crash : goal.returns-clause-crash
@@ -28,9 +31,12 @@ returns-clause-crash g c = λ (a : Archive) s.
     let mid = c.all_records.new.self in
     let q = c.in_ok-kept.kept in
     let ds = map due_of c.as_slice-2.result.now in
-    leaves_allowed g.S.Store old mid c.place_plan.new.self (λ (b : Archive). archive.revise b c.args.plan) (λ (b : Archive). IsRevision b q ds) (λ (b : Archive). with_plan b q)
-    (judged_revision g.S.Store old mid c.args.plan q (map record_of c.in_ok-rows.rows.items) ds c.in_ok-kept.ensures.judged.0 c.in_ok-kept.ensures.judged.1
-    (ap (map due_of) c.as_slice-2.ensures.value ∙ c.in_ok-dues.ensures.rows ∙ ap (λ l. dues_in q (map record_of l)) c.as_slice.ensures.value) c.in_ok-rows.ensures.tells)
+    leaves_allowed g.S.Store old mid c.place_plan.new.self (λ (b : Archive).
+    archive.revise b c.args.plan) (λ (b : Archive). IsRevision b q ds) (λ (b : Archive). with_plan b q)
+    (judged_revision g.S.Store old mid c.args.plan q (map record_of c.in_ok-rows.rows.items) ds
+    c.in_ok-kept.ensures.judged.0 c.in_ok-kept.ensures.judged.1
+    (ap (map due_of) c.as_slice-2.ensures.value ∙ c.in_ok-dues.ensures.rows
+    ∙ ap (λ l. dues_in q (map record_of l)) c.as_slice.ensures.value) c.in_ok-rows.ensures.tells)
     c.all_records.ensures.crash (c.in_ok-rows.ensures.open a s) c.place_plan.ensures.crash a s
 
 pub returns-in_err-place_plan-clause-crash : goal.returns-in_err-place_plan-clause-crash
@@ -39,12 +45,18 @@ returns-in_err-place_plan-clause-crash g c = λ (a : Archive) s.
     let mid = c.all_records.new.self in
     let q = c.in_ok-kept.kept in
     let ds = map due_of c.as_slice-2.result.now in
-    leaves_allowed g.S.Store old mid c.place_plan.new.self (λ (b : Archive). archive.revise b c.args.plan) (λ (b : Archive). IsRevision b q ds) (λ (b : Archive). with_plan b q)
-    (judged_revision g.S.Store old mid c.args.plan q (map record_of c.in_ok-rows.rows.items) ds c.in_ok-kept.ensures.judged.0 c.in_ok-kept.ensures.judged.1
-    (ap (map due_of) c.as_slice-2.ensures.value ∙ c.in_ok-dues.ensures.rows ∙ ap (λ l. dues_in q (map record_of l)) c.as_slice.ensures.value) c.in_ok-rows.ensures.tells)
+    leaves_allowed g.S.Store old mid c.place_plan.new.self (λ (b : Archive).
+    archive.revise b c.args.plan) (λ (b : Archive). IsRevision b q ds) (λ (b : Archive). with_plan b q)
+    (judged_revision g.S.Store old mid c.args.plan q (map record_of c.in_ok-rows.rows.items) ds
+    c.in_ok-kept.ensures.judged.0 c.in_ok-kept.ensures.judged.1
+    (ap (map due_of) c.as_slice-2.ensures.value ∙ c.in_ok-dues.ensures.rows
+    ∙ ap (λ l. dues_in q (map record_of l)) c.as_slice.ensures.value) c.in_ok-rows.ensures.tells)
     c.all_records.ensures.crash (c.in_ok-rows.ensures.open a s) c.place_plan.ensures.crash a s
 
 pub returns-in_err-dues-clause-cause : goal.returns-in_err-dues-clause-cause
 returns-in_err-dues-clause-cause g c =
-    passed_cause g.S.Store c.args.self.now c.all_records.new.self c.from_residual-in_err-dues.result c.in_err-dues.field-0.0 c.from_residual-in_err-dues.ensures.1
-    (λ (a : Archive) s clean. c.in_err-dues.ensures.lost (subst AreInOrder (sym (ap (map record_of) c.as_slice.ensures.value ∙ (c.in_ok-rows.ensures.tells a s).1 clean)) (archive_in_order a s.archive)))
+    passed_cause g.S.Store c.args.self.now c.all_records.new.self c.from_residual-in_err-dues.result
+    c.in_err-dues.field-0.0 c.from_residual-in_err-dues.ensures.1
+    (λ (a : Archive) s clean.
+    c.in_err-dues.ensures.lost (subst AreInOrder (sym (ap (map record_of) c.as_slice.ensures.value
+    ∙ (c.in_ok-rows.ensures.tells a s).1 clean)) (archive_in_order a s.archive)))

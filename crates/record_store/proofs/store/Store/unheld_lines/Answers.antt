@@ -14,7 +14,8 @@ loop-record-init g c =
     let p = λ (d : DueRecord). count_at c.args.self.now.held d.number == 0 in
     let gives = c.into_iter-record-iterator.ensures.into_iter_gives.0 in
     record {
-      lines = ap (λ l. map line_view l ++ lines_told p due_record_of c.into_iter-record-iterator.result.rest.items) c.new-lines.ensures.items ∙ ap (lines_told p due_record_of) gives;
+      lines = ap (λ l. map line_view l ++ lines_told p due_record_of c.into_iter-record-iterator.result.rest.items)
+          c.new-lines.ensures.items ∙ ap (lines_told p due_record_of) gives;
       datable = subst (λ l. AllByRecursion IsDatable (map due_record_of l)) (sym gives);
     }
 
@@ -26,7 +27,8 @@ loop-record-preserved-in_ok-push g c =
     record {
       lines =
           ap (λ l. map line_view l ++ lines_told p due_record_of rest) c.in_ok-push.ensures.items
-          ∙ line_more line_view due_record_of p c.loop-record.lines.items c.in_ok-line_of.field-0 c.in-Some.record rest c.in_ok-line_of.ensures.line (is_zero _ (sym c.count.ensures ∙ c.if-count-eq0.true))
+          ∙ line_more line_view due_record_of p c.loop-record.lines.items c.in_ok-line_of.field-0 c.in-Some.record rest
+          c.in_ok-line_of.ensures.line (is_zero _ (sym c.count.ensures ∙ c.if-count-eq0.true))
           ∙ ap (λ l. map line_view c.loop-record.lines.items ++ lines_told p due_record_of l) (sym steps)
           ∙ c.loop-record.invariant.lines;
       datable = λ all. (subst (λ l. AllByRecursion IsDatable (map due_record_of l)) steps (c.loop-record.invariant.datable all)).1;
@@ -39,7 +41,9 @@ loop-record-preserved g c =
     let steps = c.in-Some.ensures.steps.0 in
     record {
       lines =
-          ap (λ l. map line_view c.loop-record.lines.items ++ l) (line_none due_record_of p c.in-Some.record rest (is_not_zero _ (λ e. c.if-count-eq0.false (c.count.ensures ∙ e))))
+          ap (λ l. map line_view c.loop-record.lines.items
+          ++ l) (line_none due_record_of p c.in-Some.record rest (is_not_zero _ (λ e.
+          c.if-count-eq0.false (c.count.ensures ∙ e))))
           ∙ ap (λ l. map line_view c.loop-record.lines.items ++ lines_told p due_record_of l) (sym steps)
           ∙ c.loop-record.invariant.lines;
       datable = λ all. (subst (λ l. AllByRecursion IsDatable (map due_record_of l)) steps (c.loop-record.invariant.datable all)).1;
@@ -50,10 +54,13 @@ returns-clause-lines g c =
     let p = λ (d : DueRecord). count_at c.args.self.now.held d.number == 0 in
     let rest = c.loop-record.record-iterator.rest in
     sym (append-nil (map line_view c.loop-record.lines.items))
-    ∙ ap (λ l. map line_view c.loop-record.lines.items ++ lines_told p due_record_of l) (sym (no_items rest.items rest.len rest.ok.0 c.in-None.ensures.steps.0))
+    ∙ ap (λ l. map line_view c.loop-record.lines.items
+    ++ lines_told p due_record_of l) (sym (no_items rest.items rest.len rest.ok.0 c.in-None.ensures.steps.0))
     ∙ c.loop-record.invariant.lines
 
 pub returns-in_err-line_of-clause-lost : goal.returns-in_err-line_of-clause-lost
 returns-in_err-line_of-clause-lost g c =
     passed_own c.from_residual.result c.in_err-line_of.field-0.0 _ c.from_residual.ensures.1
-    (λ all. c.in_err-line_of.ensures.lost (subst (λ l. AllByRecursion IsDatable (map due_record_of l)) c.in-Some.ensures.steps.0 (c.loop-record.invariant.datable all)).0)
+    (λ all. c.in_err-line_of.ensures.lost (subst (λ l.
+    AllByRecursion IsDatable (map due_record_of l)) c.in-Some.ensures.steps.0
+    (c.loop-record.invariant.datable all)).0)

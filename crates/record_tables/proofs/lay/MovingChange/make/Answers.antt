@@ -24,4 +24,7 @@ pub returns-in_err-fill-clause-err : goal.returns-in_err-fill-clause-err
 returns-in_err-fill-clause-err g c clean inside =
     let on = c.in_ok-lay_beside.ensures.goes_on (omega (arith, c.fill.ensures.survives.clean)) inside in
     let left = c.in_err-fill.ensures.err clean (on.mode ∙ inside) in
-    on_err c.from_residual-in_err-fill.result _ (record { was_open = λ is. subst IsTrue on.is_open (left.was_open is); committed = λ is. left.committed is ∙ on.committed })
+    on_err c.from_residual-in_err-fill.result _ (record {
+      was_open = λ is. subst IsTrue on.is_open (left.was_open is);
+      committed = λ is. left.committed is ∙ on.committed;
+    })

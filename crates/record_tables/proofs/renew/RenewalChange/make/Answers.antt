@@ -15,4 +15,8 @@ returns-in_ok-put_plan-clause-ok g c clean inside =
     let gone = c.in_ok-empty_dues.ensures.ok (omega (arith, c.put_plan.ensures.survives.clean)) inside in
     let has : c.args.self.is_alone ≡ true = search in
     let tells = subst (TellsAlone old.now.schema) has c.requires.0 in
-    turned old new Always _ (renewed old mid new (with_plan (map rule_of c.args.self.schedules.now) (map class_entry_of c.args.self.classes.now) (map due_of c.args.self.dues.now)) (λ t. refl) tells gone (c.in_ok-put_plan.ensures.ok clean (gone.mode ∙ inside)))
+    turned old new Always _
+    (renewed old mid new
+    (with_plan (map rule_of c.args.self.schedules.now) (map class_entry_of c.args.self.classes.now)
+    (map due_of c.args.self.dues.now)) (λ t. refl) tells gone (c.in_ok-put_plan.ensures.ok clean (gone.mode
+    ∙ inside)))

@@ -9,5 +9,6 @@ use Rattle.script_procedures.proofs.procedure.Procedure.contains.Goals as goal
 
 pub returns : goal.returns
 returns c =
-    any_from_yields_List (λ (n : ScriptName). same_script (script_of c.args.script.now) (script_of n)) _ _ c.any.result c.any.ensures.ran (YieldsList-from_slice c.args.self.now.chain.items cc) (λ x b q k. search (rules, tests))
+    any_from_yields_List (λ (n : ScriptName). same_script (script_of c.args.script.now) (script_of n)) _ _ c.any.result
+    c.any.ensures.ran (YieldsList-from_slice c.args.self.now.chain.items cc) (λ x b q k. search (rules, tests))
     ∙ sym (any_map (same_script (script_of c.args.script.now)) script_of c.args.self.now.chain.items)

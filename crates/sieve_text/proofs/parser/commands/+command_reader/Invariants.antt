@@ -15,7 +15,10 @@ abbrev pub decreases-commands : goal.decreases-commands
 decreases-commands l = 3 * l.depth + 2
 
 abbrev pub invariant-commands-loop-commands : goal.invariant-commands-loop-commands
-invariant-commands-loop-commands l = GoesOn (command_with 32 (inside_at 32 l.depth)) (map command_of l.commands.items) (kinds_in l.rest) (many_at (command_with 32 (inside_at 32 l.depth)) (length (kinds_in l.fn.text)) (kinds_in l.fn.text)) × (length (kinds_in l.rest) ≤ length (kinds_in l.fn.text)) × (left_in l.rest ≡ left_in l.fn.text)
+invariant-commands-loop-commands l =
+    GoesOn (command_with 32 (inside_at 32 l.depth)) (map command_of l.commands.items) (kinds_in l.rest)
+    (many_at (command_with 32 (inside_at 32 l.depth)) (length (kinds_in l.fn.text)) (kinds_in l.fn.text))
+    × (length (kinds_in l.rest) ≤ length (kinds_in l.fn.text)) × (left_in l.rest ≡ left_in l.fn.text)
 
 abbrev pub decreases-commands-loop-commands : goal.decreases-commands-loop-commands
 decreases-commands-loop-commands l = length (kinds_in l.rest)

@@ -24,7 +24,10 @@ abbrev pub decreases-inner_tests : goal.decreases-inner_tests
 decreases-inner_tests l = 6 * l.depth + 5
 
 abbrev pub invariant-other_tests-loop-tests : goal.invariant-other_tests-loop-tests
-invariant-other_tests-loop-tests l = GoesOn (next_with (test_at l.depth)) (map test_of l.tests.items) (kinds_in l.rest) (many_at (next_with (test_at l.depth)) (length (kinds_in l.fn.text)) (kinds_in l.fn.text)) × (length (kinds_in l.rest) ≤ length (kinds_in l.fn.text)) × (left_in l.rest ≡ left_in l.fn.text)
+invariant-other_tests-loop-tests l =
+    GoesOn (next_with (test_at l.depth)) (map test_of l.tests.items) (kinds_in l.rest)
+    (many_at (next_with (test_at l.depth)) (length (kinds_in l.fn.text)) (kinds_in l.fn.text))
+    × (length (kinds_in l.rest) ≤ length (kinds_in l.fn.text)) × (left_in l.rest ≡ left_in l.fn.text)
 
 abbrev pub decreases-other_tests-loop-tests : goal.decreases-other_tests-loop-tests
 decreases-other_tests-loop-tests l = length (kinds_in l.rest)

@@ -15,10 +15,13 @@ pub gap-preserved : goal.gap-preserved
 gap-preserved c =
     let some : 0 < c.comment_length-comment.result = omega arith in
     let is : c.comment_length-comment.result ≡ comment_len (drop c.white_length-white.result c.split_at.result.1.now) = cc in
-    let within : c.comment_length-comment.result ≤ length (drop c.white_length-white.result c.split_at.result.1.now) = rw c.split_at-in-gap.ensures.back at c.comment_length-comment.ensures.within in
-    let piece = gap_piece c.split_at.result.1.now c.white_length-white.result c.comment_length-comment.result c.white_length-white.ensures.value is some within in
+    let within : c.comment_length-comment.result ≤ length (drop c.white_length-white.result c.split_at.result.1.now) =
+    rw c.split_at-in-gap.ensures.back at c.comment_length-comment.ensures.within in
+    let piece = gap_piece c.split_at.result.1.now c.white_length-white.result c.comment_length-comment.result
+    c.white_length-white.ensures.value is some within in
     let whole = rw (← c.split_at.ensures.back) at c.gap.invariant.0 in
-    let far = rw (← c.split_at.ensures.back) at (drop_more c.gap.at (c.white_length-white.result + c.comment_length-comment.result) c.args.rest.now) in
+    let far = rw (← c.split_at.ensures.back) at
+    (drop_more c.gap.at (c.white_length-white.result + c.comment_length-comment.result) c.args.rest.now) in
     (rw far (omega arith), omega arith)
 
 pub returns-clause-value : goal.returns-clause-value
