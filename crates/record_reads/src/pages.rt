@@ -10,6 +10,7 @@ ghost use Rattle.record_tables.specs.Tables.{IsArchiveSchema};
 ghost use Rattle.record_tables.specs.Rows.{Tables, Stores, AreKeyed};
 ghost use Rattle.record_tables.specs.Reads.{FitsRecord, AreHolds, ForRows};
 ghost use Rattle.record_tables.specs.CodeRows.{record_of, hold_entry_of};
+ghost use Rattle.record_reads.specs.Lookups.{WasOpenOnNoArchive};
 ghost use Rattle.record_reads.specs.Pages.{records_from, is_between};
 ghost use Rattle.record_tables.specs.Steps.{CommitsNothingOf, IsStill, Falls, IsIdle, ReadsAlone, Learns, Rejects, WasOpenOnOk};
 
@@ -34,6 +35,7 @@ pub fn records_from<S: Alter>(
     ensures none { Rejects S.Store conn.old conn.new result
         (λ db. (t : Tables) → Stores db t → AreKeyed t →
         AllByRecursion FitsRecord (take most (records_from from t)) → ⊥) }
+    ensures seen { WasOpenOnNoArchive S.Store conn.old conn.new result }
     ensures same { ReadsAlone S.Store conn.old conn.new result
         (IsArchiveSchema (state S.Store conn.old).now.schema) }
     ensures still { IsStill S.Store conn.old conn.new
@@ -65,6 +67,7 @@ pub fn holds_between<S: Alter>(
         (λ hs. map hold_entry_of all.items ≡ filter (is_between first last) hs)) }
     ensures none { Rejects S.Store conn.old conn.new result
         (λ db. ForRows Stores AreHolds db (λ hs. ⊥)) }
+    ensures seen { WasOpenOnNoArchive S.Store conn.old conn.new result }
     ensures same { ReadsAlone S.Store conn.old conn.new result
         (IsArchiveSchema (state S.Store conn.old).now.schema) }
     ensures still { IsStill S.Store conn.old conn.new

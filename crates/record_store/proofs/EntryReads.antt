@@ -1,17 +1,20 @@
 -- Reads of a page, as looks at the archive's tables.
 use Rattle.std.proofs.Common.{◌≡◌, ℕ, pos, false, List, filter, take, length, map, nat_le, int_le, Some, None}
 use Rattle.std.proofs.Common.{slice_get, [], ◌∷◌, zero, suc, ◌-◌, ◌<◌, refl, ap, ◌∙◌, arith, IsTrue}
+use Rattle.std.specs.List.{AllByRecursion}
 use Rattle.std.proofs.lemmas.Int.{ints}
+use Rattle.std.proofs.lemmas.List.Elements.{recursion_from_All}
 use Rattle.sqlite.specs.Store.{Ghosts}
 use Rattle.sqlite.specs.State.{HasCleanDisk, Survives}
 use Rattle.sqlite.specs.Held.{Held, state}
-use Rattle.sqlite_keyed.proofs.ListLemmas.{filter_same}
-use Rattle.record_archive.specs.Archive.{Record, Archive}
+use Rattle.sqlite_keyed.proofs.ListLemmas.{filter_same, all-filter, all_weaker}
+use Rattle.record_archive.specs.Archive.{Record, Archive, IsArchive, IsRecord}
+use Rattle.record_tables.specs.Reads.{FitsRecord}
 use Rattle.record_tables.specs.Tables.{IsArchiveSchema}
 use Rattle.record_tables.specs.Rows.{Tables}
 use Rattle.record_reads.specs.Lookups.{Looks}
 use Rattle.record_reads.specs.Pages as pages
-use Rattle.record_store.specs.Entries.{records_from}
+use Rattle.record_store.specs.Entries.{records_from, IsListable}
 
 -- a read of the archive's tables is a look at them
 pub looks_at : {S : Type 0} (g : Ghosts S) (old new : Held S) → (old.in_transaction ≡ false → new.in_transaction ≡ false)
@@ -32,6 +35,23 @@ from_told a t from most same =
     ap (take most)
     (filter_same (pages.is_from from) (λ (r : Record). nat_le from r.number) (λ r. le_is from r.number) t.records
     ∙ ap (filter (λ (r : Record). nat_le from r.number)) same)
+
+all_taken : {X : Type 0} (P : X → Type 0) (n : ℕ) (xs : List X) → AllByRecursion P xs → AllByRecursion P (take n xs)
+all_taken P zero xs all = tt
+all_taken P (suc n) [] all = tt
+all_taken P (suc n) (x ∷ xs) all = (all.0, all_taken P n xs all.1)
+
+-- what holds of each record holds of each record of a page
+pub page_fits : (from most : ℕ) (rs : List Record) → AllByRecursion FitsRecord rs
+    → AllByRecursion FitsRecord (take most (filter (pages.is_from from) rs))
+page_fits from most rs all = all_taken FitsRecord most _ (all-filter FitsRecord (pages.is_from from) rs all)
+
+-- no record of an archive was captured after 2199
+pub page_listable : (a : Archive) (from most : ℕ) → IsArchive a
+    → AllByRecursion IsListable (take most (records_from a from))
+page_listable a from most is =
+    let all = all_weaker (IsRecord a) IsListable (λ r h. h.day) a.records (recursion_from_All (IsRecord a) a.records is.records) in
+    all_taken IsListable most _ (all-filter IsListable (λ (r : Record). nat_le from r.number) a.records all)
 
 is_got : {V : Type 0} (vs : List V) (i : ℕ) → i < length vs → None ≡ slice_get vs i → ⊥
 is_got [] i low none = absurd (omega arith)

@@ -1,5 +1,5 @@
 -- Records as they are listed.
-use Rattle.std.specs.Prelude.{◌≡◌, ℕ, ◌==◌, nat_le, nat_lt, ℤ, pos, Bool, if◌then◌else◌, List, [], ◌∷◌, map, filter, take, drop, length, Option, None, option_map}
+use Rattle.std.specs.Prelude.{◌≡◌, ◌≤◌, ℕ, ◌==◌, nat_le, nat_lt, ℤ, pos, Bool, if◌then◌else◌, List, [], ◌∷◌, map, filter, take, drop, length, Option, None, option_map}
 use Rattle.std.specs.List.{list_any}
 use Rattle.std.specs.Ordering.{nat_cmp}
 use Rattle.std.specs.Cmp.Lexicographic.{slice_cmp}
@@ -33,6 +33,10 @@ due_if_live p r = if r.destroyed then None else due_on p r.path r.day
 -- a record by a plan, with the names of its holds
 abbrev pub listed : Listing → Record → List (List ℕ) → Entry
 listed p r names = record { number = r.number; path = r.path; day = pos r.day; due = option_map pos (due_if_live p r); message = r.message; destroyed = r.destroyed; holds = names }
+
+-- the day of the capture is not after 2199-12-31
+abbrev pub IsListable : Record → Type 0
+IsListable r = r.day ≤ 84005
 
 -- the names of the holds on the record of a number, in byte order
 abbrev pub hold_names : Archive → ℕ → List (List ℕ)

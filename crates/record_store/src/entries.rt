@@ -1,14 +1,15 @@
 //! A walk over the records.
 
-ghost use Rattle.std.specs.Prelude.{◌≡◌, ◌-◌, ◌^◌, min, true, map, take, filter, IfOk, IfErr};
-ghost use Rattle.std.specs.List.{list_any};
+ghost use Rattle.std.specs.Prelude.{◌≡◌, ◌-◌, ◌^◌, min, false, true, map, take, filter, IfOk, IfErr};
+ghost use Rattle.std.specs.List.{AllByRecursion, list_any};
 ghost use Rattle.record_archive.specs.Archive.{Archive, path_list};
 ghost use Rattle.record_archive.specs.Faults.{is_trouble};
 ghost use Rattle.record_reads.specs.Pages.{is_between};
 ghost use Rattle.record_tables.specs.CodeRows.{record_of, hold_entry_of};
 ghost use Rattle.record_adoption.specs.Adoption.{sorted_holds};
-ghost use Rattle.record_store.specs.Entries.{entry_view, listed, names_at_front, listed_beside, records_from, entries_from, AreHoldsOf, IsPage, is_counted};
-ghost use Rattle.record_store.specs.Stores.{StandsFor, Tells, LeavesAll, Falls, IsOpenOnOk};
+ghost use Rattle.record_store.specs.Entries.{entry_view, listed, names_at_front, listed_beside, records_from, entries_from, AreHoldsOf, IsPage, IsListable, is_counted};
+ghost use Rattle.record_store.specs.Faults.{is_own};
+ghost use Rattle.record_store.specs.Stores.{StandsFor, Tells, LeavesAll, Falls, IsOpenOnOk, IsNeverOwn};
 
 use crate::fault::{LOST, StoreFault, lost_or};
 use crate::store::Store;
@@ -72,6 +73,7 @@ fn entry_of(plan: &Plan, row: RecordRow, holds: Vec<Vec<u8>>) -> Result<Entry, S
     ensures entry { IfOk result
         (λ e. entry_view e ≡ listed plan.now (record_of row) (path_list holds.items)) }
     ensures trouble { IfErr result (λ f. is_trouble f ≡ true) }
+    ensures lost { IfErr result (λ f. IsListable (record_of row) → is_own f ≡ false) }
 {
     if row.day > LAST_CAPTURE_DAY {
         return Err(LOST);
@@ -105,6 +107,8 @@ fn entries_beside(
     ensures entries { IfOk result (λ v. map entry_view v.items ≡
         listed_beside plan.now (map hold_entry_of holds.now) (map record_of rows.items)) }
     ensures trouble { IfErr result (λ f. is_trouble f ≡ true) }
+    ensures lost { IfErr result
+        (λ f. AllByRecursion IsListable (map record_of rows.items) → is_own f ≡ false) }
 {
     let mut entries = Vec::new(alloc);
     let mut at = 0;
@@ -125,6 +129,7 @@ impl<S: Alter> Store<S> {
         ensures falls { Falls S.Store self.old self.new }
         ensures open { (a : Archive) → StandsFor S.Store self.old a →
             IsOpenOnOk S.Store self.new result }
+        ensures cause { IsNeverOwn S.Store self.old self.new result }
         ensures crash { LeavesAll S.Store self.old self.new }
     {
         match records_from(self.alloc, &mut self.conn, from, most) {
@@ -139,6 +144,7 @@ impl<S: Alter> Store<S> {
             (λ a holds. map hold_entry_of holds.items ≡
             filter (is_between first last) (sorted_holds a)) (λ a f. ⊥) }
         ensures falls { Falls S.Store self.old self.new }
+        ensures cause { IsNeverOwn S.Store self.old self.new result }
         ensures crash { LeavesAll S.Store self.old self.new }
     {
         match holds_between(self.alloc, &mut self.conn, first, last) {
@@ -154,6 +160,7 @@ impl<S: Alter> Store<S> {
             (λ a holds. IsPage a from (map record_of rows.now) →
             AreHoldsOf a (map record_of rows.now) (map hold_entry_of holds.items)) (λ a f. ⊥) }
         ensures falls { Falls S.Store self.old self.new }
+        ensures cause { IsNeverOwn S.Store self.old self.new result }
         ensures crash { LeavesAll S.Store self.old self.new }
     {
         let Some(last) = rows.last() else {
@@ -172,8 +179,10 @@ impl<S: Alter> Store<S> {
     /// all records is best made in pages of some thousands. The only refusals are 89 (`sqlite`) and 99 (no memory).
     pub fn entries(&mut self, from: u32, most: usize) -> Result<Vec<Entry>, StoreFault>
         ensures tells { Tells S.Store self.old self.new result
-            (λ a entries. map entry_view entries.items ≡ take most (entries_from a from)) (λ a f. ⊥) }
+            (λ a entries. map entry_view entries.items ≡ take most (entries_from a from))
+            (λ a f. ⊥) }
         ensures falls { Falls S.Store self.old self.new }
+        ensures cause { IsNeverOwn S.Store self.old self.new result }
         ensures crash { LeavesAll S.Store self.old self.new }
     {
         let rows = self.rows_from(from, limit_of(most))?;

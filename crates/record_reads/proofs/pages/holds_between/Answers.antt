@@ -48,6 +48,12 @@ returns-clause-none g c clean is t hs are s keyed =
 pub returns-in_err-rows-clause-none : goal.returns-in_err-rows-clause-none
 returns-in_err-rows-clause-none g c clean is = absurd (never_none c.from_residual.result c.in_err-rows.field-0.0 c.from_residual.ensures.1 is)
 
+pub returns-clause-seen : goal.returns-clause-seen
+returns-clause-seen g c clean is = c.in_ok-rows.ensures.was_open clean
+
+pub returns-in_err-rows-clause-seen : goal.returns-in_err-rows-clause-seen
+returns-in_err-rows-clause-seen g c clean is = absurd (never_none c.from_residual.result c.in_err-rows.field-0.0 c.from_residual.ensures.1 is)
+
 pub returns-clause-same : goal.returns-clause-same
 returns-clause-same g c clean has =
     on_ok c.rows_in.result _ (c.in_ok-rows.ensures.same clean (plain (state g.S.Store c.args.conn.now).now.schema has))

@@ -1,10 +1,13 @@
-use Rattle.std.proofs.Common.{◌≡◌, ◌∙◌, map, take, refl, sym, ap, ap₂}
+use Rattle.std.proofs.Common.{◌≡◌, ◌∙◌, map, take, refl, sym, ap, ap₂, subst}
+use Rattle.std.specs.List.{AllByRecursion}
 use Rattle.std.proofs.lemmas.List.{take-map}
 use Rattle.record_archive.specs.Archive.{Archive}
 use Rattle.record_tables.specs.CodeRows.{record_of, hold_entry_of}
-use Rattle.record_store.specs.Entries.{entry_of, entries_from, records_from, listed_beside, IsPage}
+use Rattle.record_store.specs.Entries.{entry_of, entries_from, records_from, listed_beside, IsPage, IsListable}
+use Rattle.record_store.proofs.Causes.{passed_cause}
 use Rattle.record_store.proofs.CommandLemmas.{leaves_then}
 use Rattle.record_store.proofs.EntryLemmas.{page_is, limited_is}
+use Rattle.record_store.proofs.EntryReads.{page_listable}
 use Rattle.record_store.proofs.store.Store.entries.Goals as goal
 
 pub returns-clause-tells : goal.returns-clause-tells
@@ -35,3 +38,18 @@ pub returns-in_err-holds-clause-crash : goal.returns-in_err-holds-clause-crash
 returns-in_err-holds-clause-crash g c = λ (a : Archive) s.
     leaves_then g.S.Store c.args.self.now c.rows_from.new.self c.holds_on.new.self
     (λ (b : Archive) t. (c.in_ok-rows.ensures.tells b t).0) c.rows_from.ensures.crash (c.in_ok-rows.ensures.open a s) c.holds_on.ensures.crash a s
+
+pub returns-in_err-holds-clause-cause : goal.returns-in_err-holds-clause-cause
+returns-in_err-holds-clause-cause g c =
+    passed_cause g.S.Store c.args.self.now c.holds_on.new.self c.from_residual-in_err-holds.result
+    c.in_err-holds.field-0.0 c.from_residual-in_err-holds.ensures.1
+    (λ (a : Archive) s clean. c.in_err-holds.ensures.cause a (c.in_ok-rows.ensures.tells a s).0 clean)
+
+pub returns-in_err-entries-clause-cause : goal.returns-in_err-entries-clause-cause
+returns-in_err-entries-clause-cause g c =
+    passed_cause g.S.Store c.args.self.now c.holds_on.new.self c.from_residual-in_err-entries.result
+    c.in_err-entries.field-0.0 c.from_residual-in_err-entries.ensures.1
+    (λ (a : Archive) s clean.
+    c.in_err-entries.ensures.lost (subst (AllByRecursion IsListable)
+    (sym ((c.in_ok-rows.ensures.tells a s).1 (c.holds_on.ensures.falls clean)))
+    (page_listable a c.args.from c.limit_of.result s.archive)))

@@ -1,9 +1,11 @@
-use Rattle.std.proofs.Common.{◌∙◌, refl, sym, ap, true≢false}
+use Rattle.std.proofs.Common.{◌≡◌, false, ◌∙◌, Err, refl, sym, ap, subst, true≢false}
+use Rattle.record_tables.specs.declared.fault.Fault.TheVariants.{NoArchive}
 use Rattle.record_archive.specs.Archive.{Archive}
 use Rattle.record_archive.specs.Faults.{is_trouble}
-use Rattle.record_store.proofs.Causes.{is_trouble-lost_or}
+use Rattle.record_store.specs.Faults.{is_own}
+use Rattle.record_store.proofs.Causes.{not_own-lost_or, is_trouble-lost_or, fits_kept}
 use Rattle.record_store.proofs.CommandLemmas.{stands_looked, leaves_looked}
-use Rattle.record_store.proofs.EntryReads.{looks_at, from_told}
+use Rattle.record_store.proofs.EntryReads.{looks_at, from_told, page_fits}
 use Rattle.record_store.proofs.store.Store.rows_from.Goals as goal
 
 pub returns-in-Ok-clause-tells : goal.returns-in-Ok-clause-tells
@@ -41,3 +43,11 @@ returns-in-Err-clause-crash g c = λ (a : Archive) s.
     let made = c.records_from.ensures in
     let looks = looks_at g.S.Store c.args.self.now.conn c.records_from.new.conn made.idle made.falls made.still made.survives in
     leaves_looked g.S.Store c.args.self.now (record c.args.self.now { conn = c.records_from.new.conn }) a s looks
+
+pub returns-in-Err-clause-cause : goal.returns-in-Err-clause-cause
+returns-in-Err-clause-cause g c = λ (a : Archive) s clean.
+    let none : c.in-Err.fault ≡ NoArchive → ⊥ = λ e.
+    let kept = s.rows (c.records_from.ensures.falls clean) (c.in-Err.ensures.seen clean (ap Err e)) in
+    let fit = page_fits c.args.from c.args.most kept.tables.records (fits_kept a _ kept s.archive) in
+    c.in-Err.ensures.none clean (ap Err e) kept.tables kept.stored kept.keyed fit in
+    subst (λ f. is_own f ≡ false) (sym c.lost_or.ensures) (not_own-lost_or c.in-Err.fault none)
