@@ -1,20 +1,24 @@
-//! `check`: scripts judged without a session.
+//! `check`: scripts and plans judged without a session.
 
 use crate::Verdict;
+use crate::circles::warn_of_circles;
 use crate::failure::Failure;
 use crate::files::{read_file, read_input, write_line};
-use crate::plans::plan_of;
+use crate::plans::{check_plan, plan_of};
 use crate::warnings::{Surroundings, warn};
 use clap::ArgMatches;
 use script_findings::{Finding, Report, Subject, judge};
 use std::alloc::{AllocError, Global};
-use tool_texts::{Payload, place_of, refusal_text};
+use tool_texts::{Payload, place_of, quoted, refusal_text};
 
 /// A file of up to this number of times the limit of a script is still read, and refused by its number.
 const LONGER: u64 = 64;
 
 /// The greatest number of octets of a word that are shown.
 const MAX_SHOWN: usize = 60;
+
+/// What the path of a plan's file ends with.
+const PLAN_ENDING: &str = ".toml";
 
 /// The name of standard input on the command line.
 const STANDARD_INPUT: &str = "-";
@@ -56,11 +60,11 @@ fn words_of(alloc: Global, text: &[u8], finding: Finding) -> Result<String, Allo
         ),
         Subject::Word(start, end, meant) => {
             let fault = fault_of_word(finding.number);
-            let word = shown_word(text, start, end).escape_ascii();
+            let word = quoted(alloc, shown_word(text, start, end))?;
             match (meant, general.split_once("; ")) {
-                (Some(name), _) => format!(in alloc; "{fault} \"{word}\"; is it {name}?"),
-                (None, Some((_, advice))) => format!(in alloc; "{fault} \"{word}\"; {advice}"),
-                (None, None) => format!(in alloc; "{fault} \"{word}\""),
+                (Some(name), _) => format!(in alloc; "{fault} {word}; is it {name}?"),
+                (None, Some((_, advice))) => format!(in alloc; "{fault} {word}; {advice}"),
+                (None, None) => format!(in alloc; "{fault} {word}"),
             }
         }
     }
@@ -122,9 +126,24 @@ pub fn read_good_script(rt: &HostRuntime, path: &str) -> Result<Option<Vec<u8>>,
     }
 }
 
-/// Judges the scripts that the command line names, one after the other. The verdict is `Refused` where one of them, or
-/// the plan, is refused. A warning changes no verdict.
-pub fn check_scripts(rt: &HostRuntime, asked: &ArgMatches<'_>) -> Result<Verdict, Failure> {
+/// Judges a script, and warns of what may go wrong when it runs.
+fn check_script(
+    rt: &HostRuntime,
+    path: &str,
+    around: &Surroundings<'_>,
+    told: &mut Vec<String>,
+) -> Result<Verdict, Failure> {
+    let Some(text) = read_good_script(rt, path)? else {
+        return Ok(Verdict::Refused);
+    };
+    warn(rt, path, &text, around)?;
+    warn_of_circles(rt, path, &text, around, told)?;
+    Ok(Verdict::Good)
+}
+
+/// Judges the scripts and plans that the command line names, one after the other; a plan's path ends with `.toml`. The
+/// verdict is `Refused` where one of them, or the present plan, is refused. A warning changes no verdict.
+pub fn check_files(rt: &HostRuntime, asked: &ArgMatches<'_>) -> Result<Verdict, Failure> {
     let Some(plan) = plan_of(rt, asked)? else {
         return Ok(Verdict::Refused);
     };
@@ -133,11 +152,16 @@ pub fn check_scripts(rt: &HostRuntime, asked: &ArgMatches<'_>) -> Result<Verdict
         personal: asked.get_str("personal"),
         global: asked.get_str("global"),
     };
+    let mut told = Vec::new(rt.alloc());
     let mut verdict = Verdict::Good;
-    for path in asked.get_strs("scripts").unwrap_or(&[]) {
-        match read_good_script(rt, *path)? {
-            Some(text) => warn(rt, *path, &text, &around)?,
-            None => verdict = Verdict::Refused,
+    for path in asked.get_strs("files").unwrap_or(&[]) {
+        let judged = if path.ends_with(PLAN_ENDING) {
+            check_plan(rt, *path, around.plan)?
+        } else {
+            check_script(rt, *path, &around, &mut told)?
+        };
+        if let Verdict::Refused = judged {
+            verdict = Verdict::Refused;
         }
     }
     Ok(verdict)

@@ -5,10 +5,9 @@ use crate::files::write_line;
 use class_plan::{Plan, day_of, schedule_text};
 use filing_image::{Image, Operation};
 use filing_trace::Trace;
-use run_report::{named, quoted};
-use sieve_meaning::Outcome;
 use std::alloc::{AllocError, Global};
 use std::str;
+use tool_texts::{named, quoted};
 
 /// The script command of an instruction that files into the class of a path; none for any other instruction.
 fn filing_command(
@@ -113,23 +112,6 @@ pub fn show_classes(
         let schedule = told_schedule(alloc, plan, moment, path.as_slice())?;
         let shown = named(alloc, path.as_slice())?;
         write_line(rt, format!(in alloc; "{shown} by {reason}; {schedule}")?)?;
-    }
-    Ok(())
-}
-
-/// Writes an outcome as a session does: the fault, if there is one, then the classes, or `discarded`.
-pub fn show_outcome(rt: &HostRuntime, outcome: &Outcome) -> Result<(), Failure> {
-    let alloc = rt.alloc();
-    if let Some(fault) = outcome.fault {
-        let number = fault.number();
-        write_line(rt, format!(in alloc; "fault {number}")?)?;
-    }
-    if outcome.classes.as_slice().is_empty() {
-        return write_line(rt, String::from_str(alloc, "discarded")?);
-    }
-    for path in outcome.classes.as_slice() {
-        let shown = path.as_slice().escape_ascii();
-        write_line(rt, format!(in alloc; "class {shown}")?)?;
     }
     Ok(())
 }

@@ -78,16 +78,17 @@ fn explain<'a>(alloc: Global) -> Result<Command<'a>, AllocError> {
 }
 
 fn check<'a>(alloc: Global) -> Result<Command<'a>, AllocError> {
-    const PLAN: &str = "The plan: classes that it does not have, or that are closed, are warnings";
+    const PLAN: &str =
+        "The present plan: classes that it does not have, or that are closed, are warnings in a script, and those that a plan leaves out are faults";
     let command = Command::new(alloc, "check")
         .about(
-            "Checks scripts: prints nothing for good ones, else FILE:LINE:COLUMN: NUMBER: TEXT for each fault, with status 1",
+            "Checks scripts, and plans by the ending .toml: prints nothing for good ones, else FILE:LINE:COLUMN: NUMBER: TEXT for each fault, with status 1",
         )
         .after_help(
-            "Example: mailfile-tool check scripts/*.sieve --plan plan.toml; - is standard input",
+            "Example: mailfile-tool check plan.toml scripts/*.sieve --plan plan.toml; - is standard input, a script",
         )
         .arg(
-            positional(alloc, "scripts", "SCRIPT")
+            positional(alloc, "files", "FILE")
                 .action(ArgAction::Append)
                 .num_args(1..),
         )?
@@ -159,18 +160,27 @@ fn why<'a>(alloc: Global) -> Result<Command<'a>, AllocError> {
     with_folders(alloc, command)
 }
 
+/// Adds a subcommand, where there was memory to make it.
+fn with<'a>(
+    command: Command<'a>,
+    made: Result<Command<'a>, AllocError>,
+) -> Result<Command<'a>, AllocError> {
+    let subcommand = made?;
+    command.subcommand(subcommand)
+}
+
 /// The whole command line, with all subcommands.
 pub fn command<'a>(alloc: Global) -> Result<Command<'a>, AllocError> {
-    Command::new(alloc, "mailfile-tool")
+    let command = Command::new(alloc, "mailfile-tool")
         .version("0.1.0")
         .about(
             "Tools for mailfile: sessions without counting octets, texts for numbers, script checks, images as text, and why a message is filed",
         )
-        .subcommand_required(true)
-        .subcommand(frame(alloc)?)?
-        .subcommand(explain(alloc)?)?
-        .subcommand(check(alloc)?)?
-        .subcommand(compile(alloc)?)?
-        .subcommand(dump(alloc)?)?
-        .subcommand(why(alloc)?)
+        .subcommand_required(true);
+    let command = with(command, frame(alloc))?;
+    let command = with(command, explain(alloc))?;
+    let command = with(command, check(alloc))?;
+    let command = with(command, compile(alloc))?;
+    let command = with(command, dump(alloc))?;
+    with(command, why(alloc))
 }

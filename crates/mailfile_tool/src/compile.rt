@@ -4,29 +4,27 @@ use crate::Verdict;
 use crate::check::text_of;
 use crate::failure::Failure;
 use crate::files::{write_file, write_line};
-use crate::libraries::{library_of, read_folders, read_script, script_name};
+use crate::libraries::{read_folders, read_script, unless_full};
 use clap::ArgMatches;
 use filing_gen::{GenFault, compile};
 use filing_image::encode;
 use filing_verify::Verified;
-use sieve_check::{Checked, check};
+use run_inquiry::{library_of, script_name};
+use script_library::Library;
 use sieve_meaning::Location;
-use sieve_text::{TextFault, parse};
-use std::alloc::Global;
-
-/// The checked script of a text; none where it is not good.
-pub fn checked(alloc: Global, text: &[u8]) -> Result<Option<Checked>, Failure> {
-    match parse(alloc, text) {
-        Ok(script) => Ok(check(script).ok()),
-        Err(TextFault::NoMemory) => Err(Failure::NoMemory),
-        Err(TextFault::Refused(_, _)) => Ok(None),
-    }
-}
 
 /// Reports that a script is too heavy (5).
 pub fn tell_too_heavy(rt: &HostRuntime, path: &str) -> Result<(), Failure> {
     let words = text_of(5);
     write_line(rt, format!(in rt.alloc(); "{path}: 5: {words}")?)
+}
+
+/// The library of the scripts that can be included; none where one is refused, which is reported.
+fn read_library(rt: &HostRuntime, asked: &ArgMatches<'_>) -> Result<Option<Library>, Failure> {
+    let Some(others) = read_folders(rt, asked)? else {
+        return Ok(None);
+    };
+    unless_full(rt, library_of(rt.alloc(), others.as_slice()))
 }
 
 /// The image of a script with what it includes; none where something is refused, which is reported. Where there is a
@@ -36,10 +34,7 @@ fn image_of(rt: &HostRuntime, asked: &ArgMatches<'_>) -> Result<Option<Verified>
     let Some(script) = read_script(rt, path, Location::Personal)? else {
         return Ok(None);
     };
-    let Some(others) = read_folders(rt, asked)? else {
-        return Ok(None);
-    };
-    let Some(library) = library_of(rt, others.as_slice())? else {
+    let Some(library) = read_library(rt, asked)? else {
         return Ok(None);
     };
     let name = script_name(path);
@@ -54,15 +49,19 @@ fn image_of(rt: &HostRuntime, asked: &ArgMatches<'_>) -> Result<Option<Verified>
     }
 }
 
+/// Writes an image to a file.
+fn write_image(rt: &HostRuntime, path: &str, program: Verified) -> Result<(), Failure> {
+    let octets = encode(rt.alloc(), program.image())?;
+    write_file(rt, path, &octets)
+}
+
 /// Writes the image of a script to a file, and reports its budget in steps.
 pub fn compile_script(rt: &HostRuntime, asked: &ArgMatches<'_>) -> Result<Verdict, Failure> {
-    let alloc = rt.alloc();
     let Some(program) = image_of(rt, asked)? else {
         return Ok(Verdict::Refused);
     };
-    let octets = encode(alloc, program.image())?;
-    write_file(rt, asked.get_str("image").unwrap_or(""), &octets)?;
     let budget = program.budget();
-    write_line(rt, format!(in alloc; "budget {budget}")?)?;
+    write_image(rt, asked.get_str("image").unwrap_or(""), program)?;
+    write_line(rt, format!(in rt.alloc(); "budget {budget}")?)?;
     Ok(Verdict::Good)
 }

@@ -8,7 +8,10 @@ use std::alloc::{AllocError, Global};
 use std::io::{BufRead, BufReader};
 use std::str;
 use std::time::{SystemTime, UNIX_EPOCH};
-use tool_texts::{Framed, LineFault, LinePart, Payload, framed_line, line_fault, parts, slots};
+use tool_texts::{
+    Framed, LineFault, LinePart, Payload, framed_line, line_fault, named, parts, path_of, quoted,
+    slots,
+};
 
 /// The time of the clock, in seconds since 1970-01-01T00:00:00Z.
 pub fn now(rt: &HostRuntime) -> Result<u64, Failure> {
@@ -22,9 +25,9 @@ pub fn now(rt: &HostRuntime) -> Result<u64, Failure> {
     }
 }
 
-/// The octets of a payload's file.
-fn payload(rt: &HostRuntime, kind: Payload, path: &[u8]) -> Result<Vec<u8>, Failure> {
-    match str::from_utf8(path) {
+/// The octets of a payload's file, whose path is given as typed.
+fn payload(rt: &HostRuntime, kind: Payload, typed: &[u8]) -> Result<Vec<u8>, Failure> {
+    match str::from_utf8(path_of(typed)) {
         Ok(path) => read_file(rt, path, kind.limit()),
         Err(_) => Err(Failure::told(rt.alloc(), "a path is not UTF-8")),
     }
@@ -54,30 +57,47 @@ fn outline<'a>(alloc: Global, parts: &[LinePart<'a>]) -> Result<Vec<Framed<'a>>,
     Ok(words)
 }
 
+/// What the words after the name of a command are, with commas between them.
+fn slot_names(alloc: Global, name: &[u8]) -> Result<String, AllocError> {
+    let mut names = String::new(alloc);
+    for (place, slot) in slots(name).iter().enumerate() {
+        if place > 0 {
+            names.push_str(", ")?;
+        }
+        names.push_str(slot.name())?;
+    }
+    Ok(names)
+}
+
 /// What is wrong with a line, in words: a word of it by its place after the name, and the form that it must have.
 fn fault_text(alloc: Global, line: &[u8], fault: LineFault) -> Result<String, AllocError> {
     let mut words = line.split(|octet| *octet == b' ');
     let name = words.next().unwrap_or(b"");
-    let shown = name.escape_ascii();
+    let shown = named(alloc, name)?;
     match fault {
         LineFault::TooLong => String::from_str(alloc, "the line has more than 512 octets (73)"),
-        LineFault::UnknownCommand => format!(in alloc; "there is no command \"{shown}\" (70)"),
+        LineFault::UnknownCommand => {
+            let shown = quoted(alloc, name)?;
+            format!(in alloc; "there is no command {shown} (70)")
+        }
         LineFault::WordCount(wanted) => {
             let count = words.count();
-            let hint = if count > wanted && line.contains(&b'@') {
-                "; a path after @ has no space"
+            let forms = slot_names(alloc, name)?;
+            let noun = if wanted == 1 { "word" } else { "words" };
+            let hint = if count > wanted {
+                "; a path with spaces stands in quotation marks, as in @\"my mail.eml\""
             } else {
                 ""
             };
             format!(in alloc;
-                "the number of words after {shown} must be {wanted}, and not {count} (71){hint}"
+                "{wanted} {noun} must follow {shown}, namely {forms}, and not {count} (71){hint}"
             )
         }
         LineFault::WrongWord(place) => {
-            let word = words.nth(place).unwrap_or(b"").escape_ascii();
+            let word = quoted(alloc, words.nth(place).unwrap_or(b""))?;
             let form = slots(name).get(place).map_or("", |slot| slot.text());
             let number = place.saturating_add(1);
-            format!(in alloc; "word {number} of {shown} must be {form}, and not \"{word}\" (71)")
+            format!(in alloc; "word {number} of {shown} must be {form}, and not {word} (71)")
         }
     }
 }

@@ -1,36 +1,16 @@
 //! Scripts in files, and folders of scripts that can be included.
 
 use crate::check::{read_good_script, text_of};
-use crate::compile::checked;
 use crate::failure::Failure;
 use crate::files::write_line;
 use clap::ArgMatches;
-use script_library::{Library, LibraryFault};
-use sieve_check::Checked;
+use run_inquiry::{ScriptFile, script_of};
+use script_library::LibraryFault;
 use sieve_meaning::Location;
 use std::fs;
-use std::rc::Rc;
 
 /// What the name of a script's file ends with.
 const ENDING: &str = ".sieve";
-
-/// A script of a file.
-#[derive(Drop)]
-pub struct ScriptFile {
-    pub path: String,
-    pub location: Location,
-    pub text: Vec<u8>,
-    pub script: Rc<Checked>,
-}
-
-/// The name of a script by the path of its file: what follows the last `/`, without `.sieve`.
-pub fn script_name(path: &str) -> &str {
-    let name = match path.rsplit_once('/') {
-        Some((_, name)) => name,
-        None => path,
-    };
-    name.strip_suffix(ENDING).unwrap_or(name)
-}
 
 /// The script of a file; none where it is refused, which is reported on standard output.
 pub fn read_script(
@@ -38,19 +18,10 @@ pub fn read_script(
     path: &str,
     location: Location,
 ) -> Result<Option<ScriptFile>, Failure> {
-    let alloc = rt.alloc();
-    let Some(text) = read_good_script(rt, path)? else {
-        return Ok(None);
-    };
-    let Some(script) = checked(alloc, &text)? else {
-        return Ok(None);
-    };
-    Ok(Some(ScriptFile {
-        path: String::from_str(alloc, path)?,
-        location,
-        text,
-        script: Rc::new(alloc, script)?,
-    }))
+    match read_good_script(rt, path)? {
+        Some(text) => Ok(script_of(rt.alloc(), path, location, text)?),
+        None => Ok(None),
+    }
 }
 
 /// The paths of the scripts of a folder, in byte order.
@@ -111,39 +82,24 @@ pub fn read_folders(
     Ok(Some(scripts))
 }
 
-/// Puts a script into a library, under the name of its file; false where it is refused, which is reported. 96 is the
-/// refusal of a new name where the location has thirty-two scripts.
-pub fn put_script(
+/// What a library of scripts is; none where it is refused, which is reported. 96 is the refusal of a new name where the
+/// location has thirty-two scripts.
+pub fn unless_full<T: Drop>(
     rt: &HostRuntime,
-    script: &ScriptFile,
-    library: &mut Library,
-) -> Result<bool, Failure> {
-    let alloc = rt.alloc();
-    let path = script.path.as_str();
-    let name = script_name(path).as_bytes();
-    let shared = script.script.clone()?;
-    let put = match script.location {
-        Location::Personal => library.set_personal(name, shared),
-        Location::Global => library.set_global(name, shared),
-    };
-    match put {
-        Ok(()) => Ok(true),
+    library: Result<T, LibraryFault>,
+) -> Result<Option<T>, Failure> {
+    match library {
+        Ok(library) => Ok(Some(library)),
         Err(LibraryFault::NoMemory) => Err(Failure::NoMemory),
         Err(LibraryFault::Full) => {
-            let words = text_of(96);
-            write_line(rt, format!(in alloc; "{path}: 96: {words}")?)?;
-            Ok(false)
+            tell_full(rt)?;
+            Ok(None)
         }
     }
 }
 
-/// The library of scripts; none where one is refused, which is reported.
-pub fn library_of(rt: &HostRuntime, scripts: &[ScriptFile]) -> Result<Option<Library>, Failure> {
-    let mut library = Library::new(rt.alloc());
-    for script in scripts {
-        if !put_script(rt, script, &mut library)? {
-            return Ok(None);
-        }
-    }
-    Ok(Some(library))
+/// Reports that a folder has more scripts than a session takes (96).
+pub fn tell_full(rt: &HostRuntime) -> Result<(), Failure> {
+    let words = text_of(96);
+    write_line(rt, format!(in rt.alloc(); "96: {words}")?)
 }

@@ -3,6 +3,7 @@
 #![tactic(auto)]
 
 mod check;
+mod circles;
 mod classes;
 mod command_line;
 mod compile;
@@ -41,7 +42,7 @@ pub enum Verdict {
 fn do_subcommand(rt: &HostRuntime, matches: &ArgMatches<'_>) -> Result<Verdict, Failure> {
     match matches.subcommand() {
         Some(("explain", asked)) => explain::explain(rt, asked),
-        Some(("check", asked)) => check::check_scripts(rt, asked),
+        Some(("check", asked)) => check::check_files(rt, asked),
         Some(("compile", asked)) => compile::compile_script(rt, asked),
         Some(("dump", asked)) => dump::dump_image(rt, asked),
         Some(("frame", asked)) => frame::frame(rt, asked),

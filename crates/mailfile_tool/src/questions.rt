@@ -1,15 +1,12 @@
 //! What `why` is asked about: a message, a plan and a day.
 
-use crate::failure::{Failure, FileFault};
+use crate::failure::Failure;
 use crate::files::read_file;
 use crate::frame::now;
 use crate::plans::plan_of_text;
 use clap::ArgMatches;
 use class_plan::{Date, Plan, day_number, day_of};
-use filing_case::WholeCase;
-use mail_head::MAX_OCTETS;
 use std::alloc::Global;
-use std::collections::BTreeSet;
 use tool_texts::Payload;
 
 /// The seconds of a day.
@@ -24,18 +21,6 @@ pub struct Question {
     pub message: Vec<u8>,
     /// The moment of the capture, in seconds since 1970-01-01.
     pub moment: u64,
-}
-
-impl Question {
-    /// The message, as the machine's run asks about it. A failure where it is longer than a session takes.
-    pub fn case(&self, alloc: Global) -> Result<WholeCase<BTreeSet<Vec<u8>>>, Failure> {
-        let message = self.message.as_slice();
-        if message.len() as u64 > MAX_OCTETS {
-            return Err(Failure::at(alloc, "the message", &FileFault::TooLong(MAX_OCTETS)));
-        }
-        let case = WholeCase::from_message(alloc, message, self.plan.open_paths(alloc)?)?;
-        Ok(case)
-    }
 }
 
 /// The number of a word of exactly `count` decimal digits.

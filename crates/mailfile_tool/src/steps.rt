@@ -7,8 +7,8 @@ use filing_image::{Image, Operation};
 use filing_machine::Top;
 use filing_trace::{Step, Trace};
 use mail_head::read_head;
-use run_report::{named, quoted};
 use std::alloc::{AllocError, Global};
+use tool_texts::{named, quoted};
 
 /// The value of a field in quotation marks.
 fn quoted_value<C: Case>(alloc: Global, case: &C, field: usize) -> Result<String, AllocError> {

@@ -3,12 +3,13 @@
 use crate::failure::Failure;
 use crate::files::{is_there, write_line};
 use class_plan::Plan;
+use run_inquiry::script_name;
 use script_findings::{Named, fronts_of, name_in};
 use sieve_syntax::Token;
 use sieve_text::{ScanFault, scan};
 use std::alloc::{AllocError, Global};
 use std::str;
-use tool_texts::place_of;
+use tool_texts::{place_of, quoted};
 
 /// What a script is to run among.
 #[derive(Clone, Copy)]
@@ -26,11 +27,11 @@ fn warning_of_class(alloc: Global, plan: &Plan, path: &[u8]) -> Result<Option<St
     if plan.is_open(path) {
         return Ok(None);
     }
-    let shown = path.escape_ascii();
+    let shown = quoted(alloc, path)?;
     let warning = if plan.contains(path) {
-        format!(in alloc; "the class \"{shown}\" is closed")?
+        format!(in alloc; "the class {shown} is closed")?
     } else {
-        format!(in alloc; "the plan has no class \"{shown}\"")?
+        format!(in alloc; "the plan has no class {shown}")?
     };
     Ok(Some(warning))
 }
@@ -42,19 +43,20 @@ fn warning_of_script(
     name: &[u8],
 ) -> Result<Option<String>, Failure> {
     let alloc = rt.alloc();
-    let shown = name.escape_ascii();
+    let shown = quoted(alloc, name)?;
     if let Ok(text) = str::from_utf8(name) {
         let path = format!(in alloc; "{folder}/{text}.sieve")?;
         if !text.contains('/') && is_there(rt, path.as_str()) {
             return Ok(None);
         }
     }
-    Ok(Some(format!(in alloc; "{folder} has no script \"{shown}\"")?))
+    Ok(Some(format!(in alloc; "{folder} has no script {shown}")?))
 }
 
-/// What is to be said of what a command names.
+/// What is to be said of what a command names, in the script at a path.
 fn warning_of(
     rt: &HostRuntime,
+    path: &str,
     around: &Surroundings<'_>,
     named: Named<'_>,
 ) -> Result<Option<String>, Failure> {
@@ -67,6 +69,11 @@ fn warning_of(
             is_optional: true,
             ..
         } => Ok(None),
+        Named::Script {
+            name,
+            is_global: false,
+            ..
+        } if name == script_name(path).as_bytes() => Ok(None),
         Named::Script {
             name,
             is_global,
@@ -97,7 +104,7 @@ fn warn_of_command(
     };
     let place = place_of(text, at);
     let (line, column) = (place.line, place.column);
-    match warning_of(rt, around, named)? {
+    match warning_of(rt, path, around, named)? {
         Some(warning) => {
             write_line(
                 rt,

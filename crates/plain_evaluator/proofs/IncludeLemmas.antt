@@ -1,7 +1,7 @@
 -- Includes, in the order in which they are judged.
 use Rattle.std.proofs.Common.{◌≡◌, ℕ, zero, suc, List, ◌∷◌, Bool, true, false, ◌&&◌, refl, sym, ap, ◌∙◌, map}
 use Rattle.std.specs.Prelude.{Option, Some}
-use Rattle.std.specs.List.{list_any, insert}
+use Rattle.std.specs.List.{list_any}
 use Rattle.sieve_meaning.specs.declared.run_fault.RunFault.TheVariants.{RecursiveInclude}
 use Rattle.sieve_meaning.specs.Case.{Facts}
 use Rattle.sieve_meaning.specs.Program.{Include, Commands}
@@ -75,7 +75,7 @@ included_entered facts lib left chain i f script e once is active ran =
 
 -- the entered script comes before the others
 pub filing_entered : (f g : kept.Filing) (s : code.ScriptName) → g.filed ≡ f.filed → g.kept ≡ f.kept
-    → g.cancelled ≡ f.cancelled → g.entered.items ≡ insert f.entered.items 0 s
+    → g.cancelled ≡ f.cancelled → g.entered.items ≡ s ∷ f.entered.items
     → filing_of g ≡ with_entry (script_of s) (filing_of f)
 filing_entered f g s filed is_kept cancelled is = rw (filed, is_kept, cancelled, is) refl
 

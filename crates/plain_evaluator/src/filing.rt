@@ -5,6 +5,7 @@ ghost use Rattle.plain_evaluator.specs.Runs.{fault_of};
 
 use class_paths::Paths;
 use sieve_meaning::{RunFault, ScriptName};
+use std::collections::VecDeque;
 
 /// What a run has done so far.
 #[derive(Drop)]
@@ -13,7 +14,7 @@ pub struct Filing<'a> {
     pub kept: bool,
     pub cancelled: bool,
     /// The scripts that were entered, the last one first; the main one too where it has a name.
-    pub entered: Vec<ScriptName<'a>>,
+    pub entered: VecDeque<ScriptName<'a>>,
 }
 
 /// How commands end.

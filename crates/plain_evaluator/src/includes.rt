@@ -13,6 +13,7 @@ use crate::observer::{Inclusion, Observer};
 use crate::scope::Scope;
 use sieve_meaning::{Include, RunFault, ScriptName};
 use std::alloc::{AllocError, Global};
+use std::collections::VecDeque;
 
 fn is_among(names: &[ScriptName<'_>], script: &ScriptName<'_>) -> bool
     ensures { result
@@ -21,12 +22,20 @@ fn is_among(names: &[ScriptName<'_>], script: &ScriptName<'_>) -> bool
     names.iter().any(|other| script.is_same(other))
 }
 
-/// Whether an include does nothing: it has `:once`, and its script was entered before.
-fn is_passed(include: &Include<'_>, entered: &[ScriptName<'_>]) -> bool
-    ensures { result ≡ (include.now.is_once
-        && is_among_of (map script_of entered.now) (script_of include.now.script)) }
+/// Whether a script was entered before.
+fn was_entered(entered: &VecDeque<ScriptName<'_>>, script: &ScriptName<'_>) -> bool
+    ensures { result ≡ list_any (λ other. same_script (script_of script.now) (script_of other))
+        entered.now.items }
 {
-    include.is_once && is_among(entered, &include.script)
+    entered.iter().any(|other| script.is_same(other))
+}
+
+/// Whether an include does nothing: it has `:once`, and its script was entered before.
+fn is_passed(include: &Include<'_>, entered: &VecDeque<ScriptName<'_>>) -> bool
+    ensures { result ≡ (include.now.is_once
+        && is_among_of (map script_of entered.now.items) (script_of include.now.script)) }
+{
+    include.is_once && was_entered(entered, &include.script)
 }
 
 /// An include of a missing script: nothing where it is optional, otherwise a fault.
@@ -53,7 +62,7 @@ pub fn run_include<'a, L: Entry, O: Observer>(
     ensures { IfOk result (λ e. ending_at e filing.new ≡
         includes_at L.depth scope.now (include_view include.now) (filing_of filing.old)) }
 {
-    if is_passed(include, filing.entered.as_slice()) {
+    if is_passed(include, &filing.entered) {
         observer.include(include, Inclusion::EnteredBefore);
         return Ok(Ending::GoesOn);
     }

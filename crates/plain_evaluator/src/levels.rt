@@ -65,7 +65,7 @@ impl<L: Entry> Entry for Above<L> {
     ) -> Result<Ending, AllocError> {
         observer.include(include, Inclusion::Enters);
         let chain = chain_with(alloc, include.script, scope.chain)?;
-        filing.entered.insert(0, include.script)?;
+        filing.entered.push_front(include.script)?;
         let inner = Scope {
             case: scope.case,
             shelves: scope.shelves,

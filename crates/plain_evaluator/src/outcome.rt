@@ -19,6 +19,7 @@ use script_library::Shelves;
 use sieve_meaning::{Levels, Location, Outcome, ScriptName, outcome_at_end};
 use sieve_syntax::Script;
 use std::alloc::{AllocError, Global};
+use std::collections::VecDeque;
 
 /// The outcome of a run, from its end and from what it has done.
 fn captured(alloc: Global, ending: Ending, filing: &Filing<'_>) -> Result<Outcome, AllocError>
@@ -51,6 +52,23 @@ fn main_names<'a>(
     Ok(names)
 }
 
+/// The scripts that are entered at the beginning: the main one, where it has a personal name.
+fn main_entered<'a>(
+    alloc: Global,
+    known_as: Option<&'a [u8]>,
+) -> Result<VecDeque<ScriptName<'a>>, AllocError>
+    ensures { IfOk result (λ v. map script_of v.items ≡ main_names (option_copied known_as.entry)) }
+{
+    let mut names = VecDeque::new(alloc);
+    if let Some(name) = known_as {
+        names.push_front(ScriptName {
+            location: Location::Personal,
+            name,
+        })?;
+    }
+    Ok(names)
+}
+
 /// What a main script captures a message in: the outcome of what the script means in the message's case. The script may
 /// be known by a personal name, and may include the scripts of two shelves. Its weight is not looked at: a script that
 /// is too heavy for an image is run like any other. The observer is told what the run comes to. The only error is out
@@ -72,7 +90,7 @@ pub fn evaluate_observed<'a, O: Observer>(
         shelves,
         chain: chain.as_slice(),
     };
-    let entered = main_names(alloc, known_as)?;
+    let entered = main_entered(alloc, known_as)?;
     let mut filing = Filing {
         filed: Paths::new(alloc),
         kept: false,

@@ -1,3 +1,2 @@
-pub mod Quoting
 pub mod Comparisons
 pub mod Nodes

@@ -5,7 +5,6 @@ use crate::details::detail_lines;
 use crate::fields::passed_over;
 use crate::narrator::{Row, Told};
 use crate::nodes::{Node, Thing};
-use crate::quoting::escaped;
 use crate::report::{Digest, Report};
 use crate::schedules::{due_date, schedule_words, stated_by, stated_words};
 use crate::verdict::{Reason, reason_of};
@@ -15,7 +14,7 @@ use class_plan::{Date, Schedule, day_of};
 use plain_evaluator::BorrowedField;
 use serde_json::{Map, Number, Value, put};
 use std::alloc::{AllocError, Global};
-use tool_texts::fault_text;
+use tool_texts::{escaped, fault_text};
 
 /// An object that is made member by member.
 #[derive(Drop)]

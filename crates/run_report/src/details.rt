@@ -1,13 +1,13 @@
 //! What a test was decided by, in lines.
 
 use crate::comparisons::{compared_fields, deciding_field, deciding_key};
-use crate::quoting::{named, quoted};
 use class_paths::Paths;
 use plain_evaluator::{BorrowedCase, BorrowedField};
 use sieve_meaning::reading::{comparator, match_type, next_string_list};
 use sieve_meaning::{MatchType, TestWord, is_same_word, test_word};
 use sieve_syntax::{Argument, StringList, Test};
 use std::alloc::{AllocError, Global};
+use tool_texts::{named, quoted};
 
 /// What a match type says of a value and a key.
 fn verb(how: MatchType) -> &'static str {

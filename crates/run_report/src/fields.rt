@@ -1,11 +1,11 @@
 //! The message as it was read.
 
 use crate::details::field_text;
-use crate::quoting::quoted;
 use crate::report::Report;
 use crate::way::push_line;
 use mail_head::first_field;
 use std::alloc::{AllocError, Global};
+use tool_texts::quoted;
 
 /// The octets of a header after its last field, up to the first line without octets.
 fn header_rest(text: &[u8]) -> &[u8] {

@@ -3,10 +3,10 @@
 //! The evaluator of `plain_evaluator` tells a `Narrator` what a run comes to; `script_places` says where the commands
 //! and tests stand. A `Report` shows both, in lines (`report_text`) or as JSON (`report_json`).
 //!
-//! The modules from the bottom: `quoting` (octets between quotation marks), `nodes` (the commands and tests of a script
-//! in one list) and `book` (all scripts of a run, with places), `narrator` (what a run comes to), `words`,
+//! The modules from the bottom: `nodes` (the commands and tests of a script in one list) and `book` (all scripts of a
+//! run, with places), `narrator` (what a run comes to), `words`,
 //! `comparisons` and `details` (commands, tests and what these looked at), `way`, `fields`, `schedules`, `verdict`
-//! (parts of a report), `report`, `data` (as JSON).
+//! (parts of a report), `report`, `data` (as JSON), `events` (so that two runs can be compared).
 #![tactic(auto)]
 
 mod alike;
@@ -15,10 +15,10 @@ mod comparisons;
 mod data;
 mod details;
 mod digests;
+mod events;
 mod fields;
 mod narrator;
 mod nodes;
-mod quoting;
 mod report;
 mod schedules;
 mod verdict;
@@ -30,7 +30,7 @@ pub use book::{Book, Mark, Page, Source};
 pub use comparisons::{compared_fields, deciding_field, deciding_key};
 pub use data::report_json;
 pub use digests::sha256_text;
+pub use events::{Event, events_of};
 pub use narrator::{Narration, Narrator, Row, Told};
 pub use nodes::{Node, Thing};
-pub use quoting::{escaped, named, quoted};
 pub use report::{Digest, Report, report_text};

@@ -3,7 +3,6 @@
 use crate::book::Book;
 use crate::fields::push_fields;
 use crate::narrator::Narration;
-use crate::quoting::named;
 use crate::verdict::push_verdict;
 use crate::way::{push_line, push_way};
 use class_paths::Paths;
@@ -11,6 +10,7 @@ use class_plan::Plan;
 use plain_evaluator::BorrowedCase;
 use sieve_meaning::Outcome;
 use std::alloc::{AllocError, Global};
+use tool_texts::named;
 
 /// A file that a run was about, by the SHA-256 of its octets in hexadecimal digits.
 #[derive(Drop)]

@@ -1,9 +1,9 @@
 //! The schedule of a class, and where it comes from.
 
-use crate::quoting::named;
 use class_plan::{Date, Plan, Schedule, day_of, schedule_text};
 use std::alloc::{AllocError, Global};
 use std::str;
+use tool_texts::named;
 
 /// Which class of a plan states the schedule of a class.
 #[derive(Clone, Copy)]

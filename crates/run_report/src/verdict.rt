@@ -2,14 +2,13 @@
 
 use crate::book::Mark;
 use crate::narrator::Narration;
-use crate::quoting::named;
 use crate::report::Report;
 use crate::schedules::{due_words, schedule_words, stated_by, stated_words};
 use crate::way::push_line;
 use crate::words::mark_text;
 use class_plan::Schedule;
 use std::alloc::{AllocError, Global};
-use tool_texts::fault_text;
+use tool_texts::{fault_text, named};
 
 /// Why a message is in a class.
 #[derive(Clone, Copy)]

@@ -2,9 +2,9 @@
 
 use crate::book::{Book, Mark};
 use crate::nodes::Thing;
-use crate::quoting::{named, quoted};
 use sieve_syntax::{Argument, StringList};
 use std::alloc::{AllocError, Global};
+use tool_texts::{named, quoted};
 
 /// Adds strings in quotation marks, in brackets where they were written so.
 fn push_strings(alloc: Global, text: &mut String, strings: &StringList) -> Result<(), AllocError> {

@@ -4,6 +4,7 @@
 //! a good one.
 #![tactic(auto)]
 
+mod circles;
 mod findings;
 mod fronts;
 mod halving;
@@ -13,6 +14,7 @@ mod repairs;
 mod subjects;
 mod words;
 
+pub use circles::{Circle, Edge, circles_of};
 pub use findings::{Finding, Report, judge};
 pub use fronts::{Front, fronts_of};
 pub use halving::Search;

@@ -15,6 +15,8 @@ pub enum Named<'a> {
         is_global: bool,
         /// Whether it need not be there.
         is_optional: bool,
+        /// Whether nothing is done where the script was entered before.
+        is_once: bool,
     },
 }
 
@@ -49,11 +51,13 @@ pub fn name_in(tokens: &[Token]) -> Option<(Named<'_>, usize)> {
     if is_among(command.as_slice(), &["include"]) {
         let is_global = has_tag(tokens, "global");
         let is_optional = has_tag(tokens, "optional");
+        let is_once = has_tag(tokens, "once");
         return Some((
             Named::Script {
                 name,
                 is_global,
                 is_optional,
+                is_once,
             },
             at,
         ));

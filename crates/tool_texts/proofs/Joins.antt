@@ -4,7 +4,7 @@ use Rattle.std.specs.List.{join_with_byte}
 use Rattle.std.proofs.lemmas.List.{take_more}
 
 -- one more piece after the first one
-join_one_more : (c : ℕ) (y x : List ℕ) (xs : List (List ℕ)) → join_with_byte c ((x ∷ xs) ++ y ∷ []) ≡ join_with_byte c (x ∷ xs) ++ (c ∷ y)
+pub join_one_more : (c : ℕ) (y x : List ℕ) (xs : List (List ℕ)) → join_with_byte c ((x ∷ xs) ++ y ∷ []) ≡ join_with_byte c (x ∷ xs) ++ (c ∷ y)
 join_one_more c y x [] = refl
 join_one_more c y x (z ∷ zs) = ap (λ r. x ++ (c ∷ r)) (join_one_more c y z zs) ∙ sym (append_assoc x (c ∷ join_with_byte c (z ∷ zs)) (c ∷ y))
 

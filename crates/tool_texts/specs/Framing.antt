@@ -1,5 +1,5 @@
 -- The words of a command as typed, and its line as a session takes it.
-use Rattle.std.specs.Prelude.{ℕ, Bool, List, [], ◌∷◌, ◌++◌, ◌==◌, codes, decimal, length, map}
+use Rattle.std.specs.Prelude.{ℕ, Bool, List, [], ◌∷◌, ◌++◌, ◌==◌, ◌&&◌, ◌-◌, nat_le, if◌then◌else◌, codes, decimal, length, map, take, drop, slice_index}
 use Rattle.std.specs.List.{join_with_byte, slice_split}
 use Rattle.tool_texts.specs.declared.framing.Framed.{Framed}
 use Rattle.tool_texts.specs.declared.framing.Framed.TheVariants as framed
@@ -12,6 +12,11 @@ is_space b = b == 32
 -- a line's words, with one space between each two
 abbrev pub words_of : List ℕ → List (List ℕ)
 words_of line = slice_split is_space line
+
+-- a path as typed, without the quotation marks around it, if these are there
+abbrev pub path_in : List ℕ → List ℕ
+path_in typed = if nat_le 2 (length typed) && (slice_index typed 0 == 34) && (slice_index typed (length typed - 1) == 34)
+    then take (length typed - 2) (drop 1 typed) else typed
 
 -- the word as typed
 abbrev pub word_of : LinePart → List ℕ

@@ -3,3 +3,4 @@ pub mod Places
 pub mod Framing
 pub mod Words
 pub mod Forms
+pub mod Quoting

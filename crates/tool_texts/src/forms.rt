@@ -48,13 +48,24 @@ pub enum Slot {
 }
 
 impl Slot {
+    /// What such a word is.
+    pub fn name(self) -> &'static str {
+        match self {
+            Slot::Officer => "an officer",
+            Slot::ScriptName => "the name of a script",
+            Slot::Moment => "a moment",
+            Slot::Length(_) => "a length",
+        }
+    }
+
     /// What such a word is, with the form that it must have.
     pub fn text(self) -> &'static str {
         match self {
             Slot::Officer => "an officer, 1 to 64 octets from 33 to 126",
             Slot::ScriptName => "the name of a script, 1 to 64 octets from 33 to 126",
             Slot::Moment => "a moment, @now or seconds since 1970 without leading zeros",
-            Slot::Length(_) => "a length, @PATH or a number of octets without leading zeros",
+            Slot::Length(_) =>
+                "a length, @PATH, @\"PATH\" or a number of octets without leading zeros",
         }
     }
 }

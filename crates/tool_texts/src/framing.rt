@@ -1,7 +1,8 @@
 //! Commands as a person types them, with the paths of files in place of lengths.
 
-ghost use Rattle.std.specs.Prelude.{◌≡◌, ◌++◌, map, IfOk, OnOk};
-ghost use Rattle.tool_texts.specs.Framing.{line_of, session_word, word_of, words_of};
+ghost use Rattle.std.specs.Prelude.{◌≡◌, ◌++◌, ◌≤◌, ◌<◌, true, length, slice_index, map, IfOk, IfSome, OnOk};
+ghost use Rattle.std.specs.List.{join_with_byte};
+ghost use Rattle.tool_texts.specs.Framing.{line_of, session_word, word_of, words_of, path_in};
 
 use crate::forms::{Payload, Slot, slots};
 use crate::words::read_length;
@@ -15,7 +16,8 @@ pub enum LinePart<'a> {
     Word(&'a [u8]),
     /// `@now`: replaced by the seconds of the clock.
     Moment,
-    /// `@PATH`: replaced by the length of the file at this path, whose octets follow the line.
+    /// `@PATH` or `@"PATH"`: replaced by the length of the file at this path, whose octets follow the line. The path is
+    /// as typed: see `path_of`.
     File(Payload, &'a [u8]),
     /// A length in octets, as typed: that number of octets follows the line where it was typed.
     Here(&'a [u8], u32),
@@ -43,11 +45,86 @@ pub(crate) fn words(alloc: Global, line: &[u8]) -> Result<Vec<&[u8]>, AllocError
     line.split(|octet| *octet == b' ').collect(alloc)
 }
 
-/// The parts of a line without its line feed: one for each word, in order. Fails only if memory runs out.
-pub fn parts(alloc: Global, line: &[u8]) -> Result<Vec<LinePart<'_>>, AllocError>
-    ensures { IfOk result (λ v. map word_of v.items ≡ words_of line.now) }
+/// A path as it was typed, without the quotation marks that it stands in, if it does.
+pub fn path_of(typed: &[u8]) -> &[u8]
+    ensures { result.now ≡ path_in typed.now }
 {
-    let words = words(alloc, line)?;
+    match typed {
+        [b'"', path @ .., b'"'] => path,
+        _ => typed,
+    }
+}
+
+/// Whether a word ends at an offset: a space comes there, or nothing.
+fn ends_word(rest: &[u8], at: usize) -> bool
+    ensures { result ≡ true → at < length rest.now → slice_index rest.now at ≡ 32 }
+{
+    at >= rest.len() || rest[at] == b' '
+}
+
+/// Where the first word of a rest ends that begins with `@"`: after the first quotation mark that ends a word. None
+/// where there is none.
+fn end_of_quoted(rest: &[u8]) -> Option<usize>
+    ensures within { IfSome result (λ n. n ≤ length rest.now) }
+    ensures space { IfSome result (λ n. n < length rest.now → slice_index rest.now n ≡ 32) }
+{
+    for index in 2..rest.len() {
+        if rest[index] == b'"' && ends_word(rest, index + 1) {
+            return Some(index + 1);
+        }
+    }
+    None
+}
+
+/// Where the first word of a rest ends that has no space.
+fn end_of_plain(rest: &[u8]) -> usize
+    ensures within { result ≤ length rest.now }
+    ensures space { result < length rest.now → slice_index rest.now result ≡ 32 }
+{
+    for index in 0..rest.len() {
+        if rest[index] == b' ' {
+            return index;
+        }
+    }
+    rest.len()
+}
+
+/// Where the first word of a rest ends: before a space, or at the end.
+fn word_end(rest: &[u8]) -> usize
+    ensures within { result ≤ length rest.now }
+    ensures space { result < length rest.now → slice_index rest.now result ≡ 32 }
+{
+    if rest.starts_with(b"@\"") {
+        if let Some(end) = end_of_quoted(rest) {
+            return end;
+        }
+    }
+    end_of_plain(rest)
+}
+
+/// The words of a line as it was typed, without its line feed. A word has no space, but for a path in quotation marks.
+fn typed_words(alloc: Global, line: &[u8]) -> Result<Vec<&[u8]>, AllocError>
+    ensures { IfOk result (λ v. join_with_byte 32 (map (λ w. w.now) v.items) ≡ line.now) }
+{
+    let mut words = Vec::new(alloc);
+    let mut rest = line;
+    loop {
+        let end = word_end(rest);
+        words.push(&rest[..end])?;
+        if end == rest.len() {
+            return Ok(words);
+        }
+        rest = &rest[end + 1..];
+    }
+}
+
+/// The parts of a line as it was typed, without its line feed: one for each word, in order, with one space between each
+/// two. A word that begins with `@"` ends with the next quotation mark that a space or the line's end follows, and where
+/// there is none, with the next space, as each other word. Fails only if memory runs out.
+pub fn parts(alloc: Global, line: &[u8]) -> Result<Vec<LinePart<'_>>, AllocError>
+    ensures { IfOk result (λ v. join_with_byte 32 (map word_of v.items) ≡ line.now) }
+{
+    let words = typed_words(alloc, line)?;
     let slots = slots(words.first().copied().unwrap_or(b""));
     let mut parts = Vec::new(alloc);
     for (index, word) in words.iter().enumerate() {

@@ -6,12 +6,12 @@ mod forms;
 mod framing;
 mod numbers;
 mod places;
-mod quotes;
+mod quoting;
 mod words;
 
 pub use forms::{LineFault, Payload, Slot, line_fault, slots};
-pub use framing::{Framed, LinePart, framed_line, parts};
+pub use framing::{Framed, LinePart, framed_line, parts, path_of};
 pub use numbers::{fault_text, refusal_text};
 pub use places::{Place, line_at, place_of};
-pub use quotes::quoted;
+pub use quoting::{escaped, named, quoted};
 pub use words::is_name;

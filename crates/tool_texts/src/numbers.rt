@@ -119,7 +119,7 @@ fn plan_text(number: u8) -> Option<&'static str>
         53 => "the path without its last segment is no class; add that class first",
         54 => "the path is a class already",
         55 =>
-            "a schedule is neither permanent nor a count, a unit and an action, as in 7 years destroy, with a count in the unit's range",
+            "a schedule is neither permanent nor a count, a unit and an action, as in 7 years destroy or 7 years destroy year-end, with a count in the unit's range",
         56 => "there would be more than 4,096 classes",
         57 =>
             "the new plan leaves out a path of the plan before; list it, and close it by open = false if nothing is to be filed there",

@@ -1,4 +1,4 @@
-use Rattle.std.proofs.Common.{◌≡◌, map, ap, sym, ◌∙◌}
+use Rattle.std.proofs.Common.{◌≡◌, map, ap, sym, refl, ◌∙◌}
 use Rattle.std.proofs.lemmas.Result.{IfOk-weaker}
 use Rattle.std.specs.Prelude.{option_map, Some}
 use Rattle.sieve_syntax.specs.View.{tree_of}
@@ -19,8 +19,8 @@ returns-then-is_among g c =
     let script = program_of (tree_of c.in-Some.script.now.script) in
     included_active (facts_of s.case.now) (library_of (scripts_of s.shelves)) g.L.Level.depth
     (map script_of s.chain.now) i (filing_of c.args.filing.now) script
-    (not_passed i.once c.as_slice.result.now c.args.filing.now.entered.items (script_named i) c.is_passed.result
-    c.as_slice.ensures.value c.is_passed.ensures c.if-is_passed.false)
+    (not_passed i.once c.args.filing.now.entered.items c.args.filing.now.entered.items (script_named i) c.is_passed.result
+    refl c.is_passed.ensures c.if-is_passed.false)
     (ap (option_map (λ x. program_of (tree_of x))) (sym c.in-Some.ensures))
     (among_told s.chain.now (script_named i) c.is_among.result _ c.is_among.ensures c.if-is_among.true)
 
@@ -37,7 +37,7 @@ returns g c =
     IfOk-weaker c.enter.result (λ e. ending_at e c.enter.new.filing ≡ entry_ending facts lib left chain i script f)
     (λ e. ending_at e c.enter.new.filing ≡ includes_at left s i f)
     (λ e ran. included_entered facts lib left chain i f script (ending_at e c.enter.new.filing)
-    (not_passed i.once c.as_slice.result.now c.args.filing.now.entered.items (script_named i) c.is_passed.result
-    c.as_slice.ensures.value c.is_passed.ensures c.if-is_passed.false)
+    (not_passed i.once c.args.filing.now.entered.items c.args.filing.now.entered.items (script_named i) c.is_passed.result
+    refl c.is_passed.ensures c.if-is_passed.false)
     (ap (option_map (λ x. program_of (tree_of x))) (sym c.in-Some.ensures) ∙ ap (λ x. Some (program_of (tree_of x))) (sym c.script.ensures.value))
     (among_told s.chain.now (script_named i) c.is_among.result _ c.is_among.ensures c.if-is_among.false) ran) c.enter.ensures

@@ -13,9 +13,9 @@ pub returns : goal.returns
 returns g c =
     let s = c.args.scope.now in
     let old = c.args.filing.now in
-    let new : Filing = record old { entered = c.insert.new.self } in
+    let new : Filing = record old { entered = c.push_front.new.self } in
     let active = ap (map script_of) (c.as_slice.ensures.value ∙ c.in_ok-chain.ensures) in
-    let begun = filing_entered old new c.args.include.now.script refl refl refl c.in_ok-insert.ensures.items in
+    let begun = filing_entered old new c.args.include.now.script refl refl refl c.in_ok-push_front.ensures.items in
     entered_runs (facts_of s.case.now) (library_of (scripts_of s.shelves)) g.L.Level.depth (map script_of s.chain.now)
     (map script_of c.as_slice.result.now) (include_view c.args.include.now) (tree_of c.args.script.now)
     (filing_of old) (filing_of new) (ending_at c.in_ok-ending.ending c.run.new.filing)

@@ -1,5 +1,7 @@
 -- Characters that are never shown as they are, by their numbers.
-use Rattle.std.specs.Prelude.{ℕ, Bool, nat_le, ◌==◌, ◌&&◌, ◌||◌}
+use Rattle.std.specs.Prelude.{◌≡◌, ℕ, Bool, true, not, List, nat_le, ◌==◌, ◌&&◌, ◌||◌}
+use Rattle.std.specs.List.{list_all}
+use Rattle.std.specs.Str.{encode_utf8_all}
 
 abbrev pub is_from : ℕ → ℕ → ℕ → Bool
 is_from first last c = nat_le first c && nat_le c last
@@ -23,3 +25,9 @@ is_tag c = is_from 0xfff9 0xfffb c || is_from 0xe0000 0xe007f c
 
 abbrev pub is_hidden : ℕ → Bool
 is_hidden c = is_control c || is_mark c || is_formless c || is_tag c
+
+-- the text of characters of which none is hidden
+pub record IsShown (text : List ℕ) : Type 0 where
+  pub characters : List ℕ
+  pub are_shown : list_all (λ c. not (is_hidden c)) characters ≡ true
+  pub spelled : encode_utf8_all characters ≡ text
