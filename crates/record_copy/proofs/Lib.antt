@@ -1,0 +1,4 @@
+pub mod NewRowsLemmas
+pub mod LookLemmas
+pub mod CopyLemmas
+pub mod CauseLemmas

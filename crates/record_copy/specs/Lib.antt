@@ -1,0 +1,4 @@
+pub mod Faults
+pub mod NewRows
+pub mod Messages
+pub mod Copies
