@@ -1,0 +1,4 @@
+pub mod CountLemmas
+pub mod InertLemmas
+pub mod ShownLemmas
+pub mod TallyLemmas

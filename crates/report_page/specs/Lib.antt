@@ -1,0 +1,4 @@
+pub mod Escaping
+pub mod Counting
+pub mod Columns
+pub mod Tallies

@@ -1,0 +1,19 @@
+//! Due dates, as a report counts them.
+
+use class_plan::{Date, day_number};
+
+/// A due date, as a report counts it.
+#[derive(Clone, Copy, Debug)]
+pub struct DueDay {
+    /// Its day, counted from 1970-01-01.
+    pub day: u32,
+    /// Its year.
+    pub year: u16,
+}
+
+/// A date as a report counts it. None for one before 1970.
+pub fn due_day(date: Date) -> Option<DueDay> {
+    let day = u32::try_from(day_number(date)).ok()?;
+    let year = u16::try_from(date.year()).ok()?;
+    Some(DueDay { day, year })
+}

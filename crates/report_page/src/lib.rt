@@ -1,0 +1,29 @@
+//! The pages of a report on an archive: one document of HTML, without scripts and without anything that it would load.
+//!
+//! A [`Report`] counts records one after the other, and keeps what it lists: the holds, and what is due by its day. Then it
+//! writes its parts. What a part has of an archive's names goes through [`Page::text`], and so cannot be taken for markup.
+#![tactic(auto)]
+
+mod counts;
+mod dates;
+mod due_list;
+mod escaping;
+mod fault;
+mod holds;
+mod page;
+mod report;
+mod style;
+mod summary;
+mod tally;
+mod tallying;
+mod timeline;
+mod years;
+
+pub use counts::{Counts, Seen};
+pub use dates::{DueDay, due_day};
+pub use escaping::escaped;
+pub use fault::ReportFault;
+pub use page::Page;
+pub use report::{Heading, Record, Report};
+pub use tally::{ClassCounts, Tally};
+pub use years::{Column, Year, Years};
