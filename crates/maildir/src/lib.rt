@@ -4,11 +4,14 @@
 #![tactic(auto)]
 
 use std::alloc::{AllocError, Global};
-use std::fs::{self, DirEntry};
+use std::fs::{self, DirEntry, File};
 use std::io::{self, Error, ErrorKind};
 
 /// What the name of a message ends with once it was taken over, with no flag.
 const SEEN: &str = ":2,";
+
+/// The name of a file by which a move is tried. It begins with a dot, so it is no message.
+const TRIAL: &str = ".mailfile-store";
 
 /// The new messages of a Maildir.
 #[derive(Drop)]
@@ -72,14 +75,46 @@ pub fn has_cur(rt: &HostRuntime, maildir: &str) -> io::Result<bool> {
     }
 }
 
+/// Where a message is moved to.
+fn path_in_cur(alloc: Global, maildir: &str, name: &str) -> Result<String, AllocError> {
+    format!(in alloc; "{maildir}/cur/{name}{SEEN}")
+}
+
+/// Tries to move an empty file as messages are moved, and removes it.
+///
+/// An error says that no message of this Maildir can be moved now. A file that is there from an earlier trial is used
+/// again.
+pub fn try_move(rt: &HostRuntime, maildir: &str) -> io::Result<()> {
+    let from = new_path(rt.alloc(), maildir, TRIAL)?;
+    let to = format!(in rt.alloc(); "{maildir}/cur/{TRIAL}")?;
+    match File::create_new(rt, from.as_str()) {
+        Ok(_) => {}
+        Err(error) if error.kind() == ErrorKind::AlreadyExists => {}
+        Err(error) => return Err(error),
+    }
+    match fs::rename(rt, from.as_str(), to.as_str()) {
+        Ok(()) => fs::remove_file(rt, to.as_str()),
+        Err(error) => {
+            let _ = fs::remove_file(rt, from.as_str());
+            Err(error)
+        }
+    }
+}
+
+/// Whether `cur` has a message under the name to which this one would be moved.
+pub fn is_in_cur(rt: &HostRuntime, maildir: &str, name: &str) -> io::Result<bool> {
+    let to = path_in_cur(rt.alloc(), maildir, name)?;
+    fs::exists(rt, to.as_str())
+}
+
 /// Moves a new message to `cur`. Nothing there is replaced.
 pub fn move_to_cur(rt: &HostRuntime, maildir: &str, name: &str) -> io::Result<()> {
     let alloc = rt.alloc();
-    let from = new_path(alloc, maildir, name)?;
-    let to = format!(in alloc; "{maildir}/cur/{name}{SEEN}")?;
-    if fs::exists(rt, to.as_str())? {
+    if is_in_cur(rt, maildir, name)? {
         return Err(Error::new(ErrorKind::AlreadyExists, "cur has a message of this name"));
     }
+    let from = new_path(alloc, maildir, name)?;
+    let to = path_in_cur(alloc, maildir, name)?;
     fs::rename(rt, from.as_str(), to.as_str())
 }
 
