@@ -9,8 +9,9 @@ readonly CAPTURES=1000 KILLS=100
 # The octets of a page, of a log's header, and of a page's header in the log (SQLite's file format, sections 1.3 and 4.1).
 readonly PAGE=4096 LOG_HEAD=32 FRAME_HEAD=24
 
-# Removes a disk that was made, and the files.
+# Ends a mail server that was started, and removes a disk that was made, and the files.
 clear_up() {
+    ! declare -F stop_postfix > /dev/null || stop_postfix
     umount -- "$work/disk" 2> /dev/null
     rm -rf -- "$work"
 }

@@ -12,7 +12,7 @@
 
 # The crates of the programs. Each is started by a script whose name has `-` for each `_`.
 # shellcheck disable=SC2034 # for the scripts that source this file
-PROGRAMS=(mailfile mailfile_tool)
+PROGRAMS=(mailfile mailfile_tool mailfile_store)
 
 # The folder of a program that nothing can keep, which is removed as it starts.
 private=

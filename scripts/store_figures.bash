@@ -1,0 +1,196 @@
+# shellcheck shell=bash
+# shellcheck disable=SC2317 # best calls its runs by their names
+# Times ./mailfile-store beside a session of ./mailfile over the same messages, beside the opening of the store, and beside `cp`. ./bench
+# sources this file.
+
+: "${folder:?}"
+
+# How often each is timed, and the octets of a message.
+readonly RUNS=3 SMALL=2048 LARGE=51200
+
+# Writes a number of messages of a length: each to a file of a folder, or, without one, as the commands that capture them. All are
+# different.
+write_messages() {
+    awk -v count="$1" -v octets="$2" -v to="${3-}" -v moment="$(date +%s)" '
+        BEGIN {
+            for (line = 0; line < 70; line++) filler = filler "x"
+            filler = filler "\n"
+            while (length(body) < octets) body = body filler
+            for (number = 1; number <= count; number++) {
+                head = sprintf("Message-Id: <%d@sender.example>\nFrom: sender@sender.example\nTo: ann@records.example\nSubject: mail %d\n\n", number, number)
+                text = head substr(body, 1, octets - length(head) - 1) "\n"
+                if (to != "") {
+                    file = sprintf("%s/%06d", to, number)
+                    printf "%s", text > file
+                    close(file)
+                } else {
+                    printf "BEGIN ann %d %d\n%sTURN %d 1000000\nFINISH %d\n", moment, length(text), text, number, number
+                }
+            }
+        }'
+}
+
+# The rules of an officer, as a folder has them, and as commands.
+write_rules() {
+    mkdir -p -- "$here/rules/ann" || return
+    printf 'root = "7 years destroy"\n\n[[class]]\npath = "finance"\n' > "$here/plan.toml"
+    printf 'require "fileinto";\nif header :contains "subject" "invoice" { fileinto "finance"; }\n' > "$here/rules/ann/main.sieve"
+    printf 'SCRIPT ann main %d\n%s\nACTIVE ann main\n' "$(stat -c %s "$here/rules/ann/main.sieve")" "$(< "$here/rules/ann/main.sieve")" > "$here/commands"
+}
+
+new_store() {
+    rm -f -- "$here/store"*
+    "$keeper" create --store "$here/store" --plan "$here/plan.toml"
+}
+
+serve_file() {
+    "$mailfile" --store "$here/store" < "$1"
+}
+
+new_maildir() {
+    new_store && rm -rf -- "$here/box" && mkdir -p -- "$here/box/new" "$here/box/cur" && write_messages "$1" "$SMALL" "$here/box/new"
+}
+
+take_over() {
+    "$keeper" intake --store "$here/store" --rules "$here/rules" ann "$here/box"
+}
+
+open_store() {
+    "$mailfile" --store "$here/store" < /dev/null
+}
+
+list_records() {
+    "$keeper" list --store "$here/store"
+}
+
+no_export() {
+    rm -rf -- "$here/export"
+}
+
+export_records() {
+    "$keeper" export --store "$here/store" "$here/export"
+}
+
+no_second_export() {
+    rm -rf -- "$here/second"
+}
+
+copy_files() {
+    cp -r -- "$here/export" "$here/second"
+}
+
+no_copy() {
+    rm -f -- "$here/copy"*
+}
+
+copy_store() {
+    "$keeper" copy --store "$here/store" "$here/copy"
+}
+
+copy_file() {
+    cp -- "$here/store" "$here/copy"
+}
+
+# The least time in which a command was done, in microseconds, each time after another one.
+best() {
+    local turn began spans=()
+    for ((turn = 0; turn < RUNS; turn++)); do
+        $1 || return
+        began=${EPOCHREALTIME/[.,]/}
+        "${@:2}" > "$here/said" || return
+        spans+=($((${EPOCHREALTIME/[.,]/} - began)))
+    done
+    printf '%s\n' "${spans[@]}" | sort -n | head -n 1
+}
+
+# The greatest size of a program in kilobytes, as the system reports it while it runs.
+size_of() {
+    local process size=0 seen
+    "$@" > "$here/said" < /dev/null &
+    process=$!
+    while seen=$(sed -n 's/^VmHWM:[^0-9]*\([0-9]*\).*/\1/p' "/proc/$process/status") && [[ -n $seen ]]; do
+        size=$seen
+        sleep 0.01
+    done 2> /dev/null
+    wait "$process" && echo "$size"
+}
+
+# A row: what was timed and its place, what was asked, the time, what it is compared with, and the time of that. What is asked is that
+# the second time, divided by the first, reaches a hundredth of a number.
+row() {
+    awk -v what="$1" -v asked="$2" -v time="$3" -v other="$4" -v beside="$5" -v least="$6" 'BEGIN {
+        share = beside / (time > 0 ? time : 1)
+        printf "| %s | %s | %.2f | %s | %.0f | %s | %.0f |\n", what, asked, share, (asked == "–" ? asked : share * 100 >= least ? "yes" : "no"), time / 1000, other, beside / 1000
+    }'
+}
+
+# The rate of an intake, beside that of a session.
+intake_rows() {
+    local taken=$1 session whole
+    { cat -- "$here/commands" && write_messages "$taken" "$SMALL"; } > "$here/session"
+    session=$(best new_store serve_file "$here/session") && whole=$(best "new_maildir $taken" take_over) || return
+    [[ $(list_records | wc -l) -eq $taken ]] || return
+    row "intake of $taken messages of 2 KB, $place" "0.9 of the rate" "$whole" "a session of the same captures" "$session" 90
+    rm -f -- "$here/session"
+}
+
+# The time of an intake, beside that of one of a quarter as many messages, times four.
+growth_rows() {
+    local taken=$1 whole quarter
+    quarter=$(best "new_maildir $((taken / 4))" take_over) && whole=$(best "new_maildir $taken" take_over) || return
+    row "intake of $taken messages of 2 KB, $place" "0.8 of the rate" "$whole" "four times that of $((taken / 4))" $((4 * quarter)) 80
+}
+
+# The list of a store, beside its opening.
+list_rows() {
+    local opening listing
+    { cat -- "$here/commands" && write_messages "$1" "$SMALL"; } > "$here/session"
+    new_store && serve_file "$here/session" > "$here/said" && rm -f -- "$here/session" || return
+    opening=$(best true open_store) && listing=$(best true list_records) || return
+    row "list of $1 records, $place" "1.5 times at most" "$listing" "the opening, times 1.5" $((opening * 3 / 2)) 100
+}
+
+# What a command of a store takes beyond its opening, in time and in memory.
+beyond_opening() {
+    local name=$1 asked=$2 time=$3 other=$4 beside=$5 size=$6 open=$7
+    row "$name, $place, after the opening" "$asked" $((time - opening)) "$other" "$beside" 50
+    row "$name, $place, with the opening" "–" "$time" "$other" "$beside" 0
+    echo "$name, $place: $((size / 1024)) MB of memory, and $((open / 1024)) MB for the opening" >> "$here/sizes"
+}
+
+# An export of a number of messages of a length, beside a copy of its files; and a copy of the store, beside one of its file.
+export_rows() {
+    local what="$1 messages of $(($2 / 1024)) KB" opening open
+    { cat -- "$here/commands" && write_messages "$1" "$2"; } > "$here/session"
+    new_store && serve_file "$here/session" > "$here/said" && rm -f -- "$here/session" || return
+    opening=$(best true open_store) && open=$(size_of "$mailfile" --store "$here/store") || return
+    beyond_opening "export of $what" "half the speed of cp" "$(best no_export export_records)" "cp -r of the export" "$(best no_second_export copy_files)" \
+        "$(no_export && size_of "$keeper" export --store "$here/store" "$here/export")" "$open"
+    no_second_export && no_export
+    if "$keeper" copy --help > "$here/said" 2>&1; then
+        beyond_opening "copy of $what" "half the speed of cp" "$(best no_copy copy_store)" "cp of the store" "$(best no_copy copy_file)" \
+            "$(no_copy && size_of "$keeper" copy --store "$here/store" "$here/copy")" "$open"
+        no_copy
+    fi
+}
+
+# The rows of a place, in a folder.
+rows_in() {
+    local here=$1 place=$2
+    write_rules && intake_rows 10000 && growth_rows 4000 && growth_rows 40000 && list_rows 100000 && export_rows 100000 "$SMALL" &&
+        export_rows 5000 "$LARGE"
+}
+
+# The table of the program.
+store_figures() {
+    local keeper mailfile
+    ensure_program mailfile
+    ensure_program mailfile_store
+    mailfile=$(program_of mailfile) keeper=$(program_of mailfile_store)
+    echo "| measure | asked | reached | met | ms | beside | ms |"
+    echo "|---|---|---|---|---|---|---|"
+    [[ -z $memory ]] || rows_in "$memory" "over files in memory" || return
+    rows_in "$folder" "in a file" || return
+    echo
+    cat -- ${memory:+"$memory/sizes"} "$folder/sizes"
+}
