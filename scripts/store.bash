@@ -353,7 +353,9 @@ holds() {
     make_due && over_refuses 65 '6: 86: ' hold audit 6 && over_refuses 65 '9: 80: ' hold audit 9 5 && over_says \
         'record 5 class finance day 1970-01-01 due 1977-01-01 hold audit
 record 6 class finance day 1970-01-01 due 1977-01-01 hold audit
-' list --held && over release audit 5 && over_refuses 65 '5: 85: ' release audit 5 && over_refuses 64 'name' hold 'a b' 1
+' list --held && over release audit 5 && over_refuses 65 '5: 85: ' release audit 5 && over_refuses 64 'name' hold 'a b' 1 &&
+        over_refuses 64 'x: not a number' hold later 5 x && over_says 'record 6 class finance day 1970-01-01 due 1977-01-01 hold audit
+' list --held
 }
 
 disposes() {

@@ -2,8 +2,9 @@
 
 use crate::failure::Failure;
 use clap::ArgMatches;
-use record_store::Entry;
-use store_files::{FileArchive, open_archive};
+use record_store::{Entry, Store};
+use sqlite::Alter;
+use store_files::{FileArchive, close_archive, open_archive};
 
 /// How many records are read at a time.
 const PAGE: usize = 4_000;
@@ -22,6 +23,20 @@ pub fn open(rt: &HostRuntime, asked: &ArgMatches<'_>) -> Result<FileArchive, Fai
     }
 }
 
+/// Opens the archive that the command line names, works on it, and closes it.
+pub fn on_archive<T: Drop, F: FnOnce(&mut FileArchive) -> Result<T, Failure>>(
+    rt: &HostRuntime,
+    asked: &ArgMatches<'_>,
+    work: F,
+) -> Result<T, Failure>
+    requires { F.IsAlwaysCallable work }
+{
+    let mut archive = open(rt, asked)?;
+    let done = work(&mut archive);
+    close_archive(archive);
+    done
+}
+
 /// A walk over the records of an archive, by number.
 #[derive(Clone, Copy)]
 pub struct Walk {
@@ -36,10 +51,10 @@ impl Walk {
     }
 
     /// The next records; none at the end.
-    pub fn next_page(
+    pub fn next_page<S: Alter>(
         &mut self,
         rt: &HostRuntime,
-        archive: &mut FileArchive,
+        archive: &mut Store<S>,
     ) -> Result<Vec<Entry>, Failure> {
         let Some(from) = self.from else {
             return Ok(Vec::new(rt.alloc()));

@@ -6,8 +6,9 @@ use crate::output::write_text;
 use clap::ArgMatches;
 use class_plan::{Plan, day_number};
 use record_copy::{CopyFault, copy_alike};
-use record_store::Entry;
+use record_store::{Entry, Store};
 use sha2::{Digest, Sha256};
+use sqlite::Alter;
 use std::alloc::Global;
 use std::fs;
 use store_files::{Closing, FileArchive, close, close_archive, create_archive, open_archive};
@@ -62,10 +63,10 @@ impl Summing {
     }
 
     /// Adds the message of a live record, unless it was that of the one before.
-    fn add_message(
+    fn add_message<S: Alter>(
         &mut self,
         rt: &HostRuntime,
-        archive: &mut FileArchive,
+        archive: &mut Store<S>,
         entry: &Entry,
     ) -> Result<(), Failure> {
         if entry.destroyed || (self.messages > 0 && self.message == entry.message) {
@@ -84,7 +85,11 @@ impl Summing {
     }
 
     /// Adds all records and their messages.
-    fn add_all(&mut self, rt: &HostRuntime, archive: &mut FileArchive) -> Result<(), Failure> {
+    fn add_all<S: Alter>(
+        &mut self,
+        rt: &HostRuntime,
+        archive: &mut Store<S>,
+    ) -> Result<(), Failure> {
         let mut walk = Walk::from(1);
         for _ in 0..u64::MAX {
             let page = walk.next_page(rt, archive)?;
@@ -101,7 +106,7 @@ impl Summing {
 }
 
 /// Reads a whole archive: its plan, its records with their holds, and its messages.
-fn summary_of(rt: &HostRuntime, archive: &mut FileArchive) -> Result<Summary, Failure> {
+fn summary_of<S: Alter>(rt: &HostRuntime, archive: &mut Store<S>) -> Result<Summary, Failure> {
     let mut summing = Summing {
         hasher: Sha256::new(),
         records: 0,
@@ -149,23 +154,21 @@ fn copy_failure(alloc: Global, store: &str, new: &str, fault: CopyFault) -> Fail
     }
 }
 
-/// The store that was just made.
-fn open_new(rt: &HostRuntime, path: &str) -> Result<FileArchive, Failure> {
-    match open_archive(rt, path) {
-        Ok(archive) => Ok(archive),
-        Err(cause) => Err(Failure::not_made(rt.alloc(), path, cause)),
-    }
-}
-
-/// Fills a new store, and closes both.
+/// Fills a store that was just made, and closes both.
 fn fill(
     rt: &HostRuntime,
     archive: FileArchive,
-    new: FileArchive,
     plan: &Plan,
     store: &str,
     path: &str,
 ) -> Result<(), Failure> {
+    let new = match open_archive(rt, path) {
+        Ok(new) => new,
+        Err(cause) => {
+            close_archive(archive);
+            return Err(Failure::not_made(rt.alloc(), path, cause));
+        }
+    };
     let mut from = archive.into_connection();
     let mut to = new.into_connection();
     let copied = copy_alike(rt.alloc(), plan, &mut from, &mut to);
@@ -179,7 +182,10 @@ fn fill(
 
 /// Reads a new store back from its file. All of it is in that file then, and nothing in its log.
 fn read_back(rt: &HostRuntime, path: &str) -> Result<Summary, Failure> {
-    let mut archive = open_new(rt, path)?;
+    let mut archive = match open_archive(rt, path) {
+        Ok(archive) => archive,
+        Err(cause) => return Err(Failure::not_made(rt.alloc(), path, cause)),
+    };
     let summed = summary_of(rt, &mut archive);
     match close_archive(archive) {
         Closing::Copied => summed,
@@ -214,47 +220,10 @@ struct Kept {
 }
 
 /// Reads a whole archive before it is copied.
-fn kept_of(rt: &HostRuntime, archive: &mut FileArchive) -> Result<Kept, Failure> {
+fn kept_of<S: Alter>(rt: &HostRuntime, archive: &mut Store<S>) -> Result<Kept, Failure> {
     let summary = summary_of(rt, archive)?;
     let plan = archive.plan().copy()?;
     Ok(Kept { plan, summary })
-}
-
-/// Copies an archive that was read to a store that was just made, and compares the two.
-fn copy_kept(
-    rt: &HostRuntime,
-    archive: FileArchive,
-    kept: &Kept,
-    store: &str,
-    path: &str,
-) -> Result<Summary, Failure> {
-    match open_new(rt, path) {
-        Ok(new) => {
-            fill(rt, archive, new, &kept.plan, store, path)?;
-            compare(rt, &kept.summary, path)
-        }
-        Err(failure) => {
-            close_archive(archive);
-            Err(failure)
-        }
-    }
-}
-
-/// Copies an archive to a store that was just made, and compares the two.
-fn copy_to_new(
-    rt: &HostRuntime,
-    archive: FileArchive,
-    store: &str,
-    path: &str,
-) -> Result<Summary, Failure> {
-    let mut archive = archive;
-    match kept_of(rt, &mut archive) {
-        Ok(kept) => copy_kept(rt, archive, &kept, store, path),
-        Err(failure) => {
-            close_archive(archive);
-            Err(failure)
-        }
-    }
 }
 
 /// Removes a store that is not whole, with what lies beside it.
@@ -266,23 +235,42 @@ fn remove_new(rt: &HostRuntime, path: &str) {
     }
 }
 
-/// Makes a store in a new file, with the plan of an archive.
-fn make_new(rt: &HostRuntime, path: &str, archive: &FileArchive) -> Result<(), Failure> {
-    let plan = archive.plan().copy()?;
-    match create_archive(rt, path, plan) {
+/// Makes a store with a plan in a new file.
+fn make_new(rt: &HostRuntime, path: &str, plan: &Plan) -> Result<(), Failure> {
+    match create_archive(rt, path, plan.copy()?) {
         Ok(()) => Ok(()),
         Err(cause) => Err(Failure::not_made(rt.alloc(), path, cause)),
     }
 }
 
-/// Copies an archive to a store that was just made, and reports how much it has. Where that fails, the store is removed.
-fn copy_from(
+/// Makes a new store with the plan of an archive, and reads that archive. Where that fails, no new store is left.
+fn prepare<S: Alter>(
     rt: &HostRuntime,
-    archive: FileArchive,
-    store: &str,
+    archive: &mut Store<S>,
+    path: &str,
+) -> Result<Kept, Failure> {
+    make_new(rt, path, archive.plan())?;
+    match kept_of(rt, archive) {
+        Ok(kept) => Ok(kept),
+        Err(failure) => {
+            remove_new(rt, path);
+            Err(failure)
+        }
+    }
+}
+
+/// Reports how much a new store has, if it was filled and has what was copied. Otherwise it is removed.
+fn settle(
+    rt: &HostRuntime,
+    filled: Result<(), Failure>,
+    kept: &Summary,
     path: &str,
 ) -> Result<(), Failure> {
-    match copy_to_new(rt, archive, store, path) {
+    let compared = match filled {
+        Ok(()) => compare(rt, kept, path),
+        Err(failure) => Err(failure),
+    };
+    match compared {
         Ok(copied) => {
             let text = format!(in rt.alloc();
                 "copied records {} messages {} octets {}\n",
@@ -300,9 +288,12 @@ fn copy_from(
 /// Makes a new store with the archive of another one. Where that fails, no new file is left.
 pub fn copy(rt: &HostRuntime, asked: &ArgMatches<'_>) -> Result<(), Failure> {
     let path = asked.get_str("new").unwrap_or("");
-    let archive = open(rt, asked)?;
-    match make_new(rt, path, &archive) {
-        Ok(()) => copy_from(rt, archive, store_path(asked), path),
+    let mut archive = open(rt, asked)?;
+    match prepare(rt, &mut archive, path) {
+        Ok(kept) => {
+            let filled = fill(rt, archive, &kept.plan, store_path(asked), path);
+            settle(rt, filled, &kept.summary, path)
+        }
         Err(failure) => {
             close_archive(archive);
             Err(failure)

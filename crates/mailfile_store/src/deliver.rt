@@ -9,9 +9,10 @@ use clap::ArgMatches;
 use filing_commands::{Capture, DeskFault, MAX_MESSAGE_OCTETS, Payload};
 use mail_delivery::{Delivery, deliver};
 use payload_files::read_payload;
+use record_archive::Records;
 use sieve_meaning::RunFault;
 use std::alloc::{AllocError, Global};
-use store_files::{FileArchive, close_archive};
+use store_files::close_archive;
 use store_texts::captured_line;
 use tool_texts::fault_text;
 
@@ -78,13 +79,13 @@ fn moment_asked(rt: &HostRuntime, asked: &ArgMatches<'_>) -> Result<u64, Failure
 }
 
 /// Delivers a message to an archive, and gives the archive back.
-fn deliver_to(
+fn deliver_to<A: Records>(
     rt: &HostRuntime,
-    archive: FileArchive,
+    archive: A,
     filing: &Filing<'_>,
     moment: u64,
     message: Payload,
-) -> (FileArchive, Result<Delivery, Failure>) {
+) -> (A, Result<Delivery, Failure>) {
     let mut desk = match filing.desk(rt, archive) {
         Ok(desk) => desk,
         Err((archive, failure)) => return (archive, Err(failure)),

@@ -1,13 +1,13 @@
 //! `dispose`: what is due, and its destruction.
 
-use crate::archive::open;
+use crate::archive::on_archive;
 use crate::clock::{day_asked, now};
 use crate::failure::{Failure, Status};
 use crate::output::{tell, write_text};
 use clap::ArgMatches;
 use class_plan::{Action, Date, Plan, Schedule};
-use record_store::{Line, StoreFault};
-use store_files::{FileArchive, close_archive};
+use record_store::{Line, Store, StoreFault};
+use sqlite::Alter;
 use store_texts::{Certificate, captured_line, certificate_line, sum_of};
 
 /// The failure of a call of the store on a record.
@@ -30,9 +30,9 @@ fn destroys(plan: &Plan, path: &[u8]) -> bool {
 }
 
 /// The records that are due by a day, that no hold keeps and whose schedule destroys them.
-fn disposable(
+fn disposable<S: Alter>(
     rt: &HostRuntime,
-    archive: &mut FileArchive,
+    archive: &mut Store<S>,
     day: Date,
 ) -> Result<Vec<Line>, Failure> {
     let due = match archive.due(day) {
@@ -49,9 +49,9 @@ fn disposable(
 }
 
 /// Destroys a record, and answers the line of its certificate.
-fn destroy(
+fn destroy<S: Alter>(
     rt: &HostRuntime,
-    archive: &mut FileArchive,
+    archive: &mut Store<S>,
     line: &Line,
     day: Date,
 ) -> Result<String, Failure> {
@@ -91,9 +91,9 @@ fn write_certificate(rt: &HostRuntime, text: &str) -> Result<(), Failure> {
 }
 
 /// Destroys records, with a certificate for each.
-fn destroy_all(
+fn destroy_all<S: Alter>(
     rt: &HostRuntime,
-    archive: &mut FileArchive,
+    archive: &mut Store<S>,
     lines: &[Line],
     day: Date,
 ) -> Result<(), Failure> {
@@ -111,9 +111,9 @@ fn destroy_all(
 }
 
 /// Lists or destroys what is due by a day.
-fn dispose_by(
+fn dispose_by<S: Alter>(
     rt: &HostRuntime,
-    archive: &mut FileArchive,
+    archive: &mut Store<S>,
     day: Date,
     is_agreed: bool,
 ) -> Result<(), Failure> {
@@ -130,8 +130,9 @@ fn dispose_by(
 /// Lists what is due and may be destroyed, and with `--yes` destroys it.
 pub fn dispose(rt: &HostRuntime, asked: &ArgMatches<'_>) -> Result<(), Failure> {
     let day = day_asked(rt, asked.get_str("day"))?;
-    let mut archive = open(rt, asked)?;
-    let disposed = dispose_by(rt, &mut archive, day, asked.get_flag("yes"));
-    close_archive(archive);
-    disposed
+    on_archive(
+        rt,
+        asked,
+        |archive| dispose_by(rt, archive, day, asked.get_flag("yes")),
+    )
 }

@@ -1,15 +1,15 @@
 //! `export`: records as files, with a manifest.
 
-use crate::archive::{Walk, open};
+use crate::archive::{Walk, on_archive};
 use crate::choice::Choice;
 use crate::failure::{Failure, Status};
 use crate::list::row_of;
 use clap::ArgMatches;
-use record_store::Entry;
+use record_store::{Entry, Store};
+use sqlite::Alter;
 use std::alloc::{AllocError, Global};
 use std::fs::{self, File};
 use std::io::{self, ErrorKind, Write};
-use store_files::{FileArchive, close_archive};
 use store_texts::{Kept, MANIFEST_HEADER, manifest_row, sum_of};
 
 /// The files of an export that lists the others.
@@ -90,9 +90,9 @@ fn write_message(
 }
 
 /// Writes the message of a record, unless it was written for the record before.
-fn write_new(
+fn write_new<S: Alter>(
     rt: &HostRuntime,
-    archive: &mut FileArchive,
+    archive: &mut Store<S>,
     export: &mut ExportFiles<'_>,
     entry: &Entry,
 ) -> Result<(), Failure> {
@@ -129,9 +129,9 @@ fn row_beside(alloc: Global, entry: &Entry, last: &Option<Written>) -> Result<Ve
 }
 
 /// Exports a record: its message, unless it is destroyed, and its row.
-fn export_record(
+fn export_record<S: Alter>(
     rt: &HostRuntime,
-    archive: &mut FileArchive,
+    archive: &mut Store<S>,
     export: &mut ExportFiles<'_>,
     entry: &Entry,
 ) -> Result<(), Failure> {
@@ -145,9 +145,9 @@ fn export_record(
 }
 
 /// Exports the chosen records.
-fn export_records(
+fn export_records<S: Alter>(
     rt: &HostRuntime,
-    archive: &mut FileArchive,
+    archive: &mut Store<S>,
     export: &mut ExportFiles<'_>,
     choice: &Choice<'_>,
 ) -> Result<(), Failure> {
@@ -165,9 +165,9 @@ fn export_records(
 }
 
 /// Exports the chosen records to a folder in which none of the files is yet.
-fn export_to(
+fn export_to<S: Alter>(
     rt: &HostRuntime,
-    archive: &mut FileArchive,
+    archive: &mut Store<S>,
     folder: &str,
     choice: &Choice<'_>,
 ) -> Result<(), Failure> {
@@ -186,13 +186,6 @@ fn export_to(
 /// Exports records to a folder.
 pub fn export(rt: &HostRuntime, asked: &ArgMatches<'_>) -> Result<(), Failure> {
     let choice = Choice::read(rt, asked)?;
-    let mut archive = open(rt, asked)?;
-    let exported = export_to(
-        rt,
-        &mut archive,
-        asked.get_str("folder").unwrap_or(""),
-        &choice,
-    );
-    close_archive(archive);
-    exported
+    let folder = asked.get_str("folder").unwrap_or("");
+    on_archive(rt, asked, |archive| export_to(rt, archive, folder, &choice))
 }

@@ -1,12 +1,12 @@
 //! `hold` and `release`: records that must not be destroyed.
 
-use crate::archive::open;
+use crate::archive::on_archive;
 use crate::choice::read_number;
 use crate::failure::{Failure, Status};
 use crate::output::tell;
 use clap::ArgMatches;
-use record_store::StoreFault;
-use store_files::{FileArchive, close_archive};
+use record_store::{Store, StoreFault};
+use sqlite::Alter;
 use tool_texts::is_name;
 
 /// What is done with a hold.
@@ -17,8 +17,8 @@ enum Change {
 }
 
 /// Changes the hold of a name on a record.
-fn change_one(
-    archive: &mut FileArchive,
+fn change_one<S: Alter>(
+    archive: &mut Store<S>,
     change: Change,
     name: &[u8],
     number: u32,
@@ -41,10 +41,18 @@ fn report(rt: &HostRuntime, word: &str, fault: StoreFault) -> Result<(), Failure
     }
 }
 
+/// Finds that each word is the number of a record.
+fn judge_numbers(rt: &HostRuntime, words: &[&str]) -> Result<(), Failure> {
+    for word in words {
+        read_number(rt, *word)?;
+    }
+    Ok(())
+}
+
 /// Changes the hold of a name on records. Those that the archive refuses are reported, and are a failure in the end.
-fn change_all(
+fn change_all<S: Alter>(
     rt: &HostRuntime,
-    archive: &mut FileArchive,
+    archive: &mut Store<S>,
     change: Change,
     name: &str,
     words: &[&str],
@@ -75,10 +83,12 @@ fn change_holds(rt: &HostRuntime, asked: &ArgMatches<'_>, change: Change) -> Res
         ));
     }
     let words = asked.get_strs("numbers").unwrap_or(&[]);
-    let mut archive = open(rt, asked)?;
-    let changed = change_all(rt, &mut archive, change, name, words);
-    close_archive(archive);
-    changed
+    judge_numbers(rt, words)?;
+    on_archive(
+        rt,
+        asked,
+        |archive| change_all(rt, archive, change, name, words),
+    )
 }
 
 /// Places a hold on records.

@@ -4,17 +4,19 @@ use crate::archive::open;
 use crate::clock::now;
 use crate::deliver::{fault_words, report_capture};
 use crate::failure::{Failure, Status};
-use crate::rules::{FileDesk, Filing};
+use crate::rules::Filing;
 use clap::ArgMatches;
 use filing_commands::{Capture, MAX_MESSAGE_OCTETS, Payload};
+use filing_desk::Desk;
 use mail_delivery::{Delivery, deliver};
 use maildir::{
     NewMail, has_cur, is_in_cur, is_message, move_to_cur, new_mail, new_path, settle, try_move,
 };
 use payload_files::payload_of_file;
+use record_archive::Records;
 use std::fmt::Display;
 use std::io::{self, IsTerminal};
-use store_files::{FileArchive, close_archive};
+use store_files::close_archive;
 
 /// After how many messages progress is shown.
 const STEP: u64 = 100;
@@ -121,9 +123,9 @@ fn file_away(
 }
 
 /// Captures a message and moves it, or reports why it stays.
-fn take_one(
+fn take_one<A: Records>(
     rt: &HostRuntime,
-    desk: &mut FileDesk,
+    desk: &mut Desk<A>,
     job: &MailFiling<'_>,
     name: &str,
 ) -> Result<Taken, Failure> {
@@ -151,9 +153,9 @@ fn show_progress(rt: &HostRuntime, tally: &Tally) {
 }
 
 /// Takes messages over, up to one whose run ends with a fault. Answers how many that were.
-fn take_with(
+fn take_with<A: Records>(
     rt: &HostRuntime,
-    desk: &mut FileDesk,
+    desk: &mut Desk<A>,
     job: &MailFiling<'_>,
     names: &[String],
     tally: &mut Tally,
@@ -173,13 +175,13 @@ fn take_with(
 
 /// Takes messages over at a new desk, up to one whose run ends with a fault: its capture is dropped with the desk.
 /// Answers how many that were.
-fn take_run(
+fn take_run<A: Records>(
     rt: &HostRuntime,
-    archive: FileArchive,
+    archive: A,
     job: &MailFiling<'_>,
     names: &[String],
     tally: &mut Tally,
-) -> (FileArchive, Result<usize, Failure>) {
+) -> (A, Result<usize, Failure>) {
     let mut desk = match job.filing.desk(rt, archive) {
         Ok(desk) => desk,
         Err((archive, failure)) => return (archive, Err(failure)),
@@ -189,13 +191,13 @@ fn take_run(
 }
 
 /// Takes all messages over.
-fn take_all(
+fn take_all<A: Records>(
     rt: &HostRuntime,
-    archive: FileArchive,
+    archive: A,
     job: &MailFiling<'_>,
     names: &[String],
     tally: &mut Tally,
-) -> (FileArchive, Result<(), Failure>) {
+) -> (A, Result<(), Failure>) {
     let mut archive = archive;
     let mut rest = names;
     for _ in 0..names.len() {
@@ -237,11 +239,11 @@ fn movable_mail(rt: &HostRuntime, maildir: &str) -> io::Result<NewMail> {
 }
 
 /// Takes the new messages of a Maildir over, in the order of their names.
-fn take_new(
+fn take_new<A: Records>(
     rt: &HostRuntime,
-    archive: FileArchive,
+    archive: A,
     job: &MailFiling<'_>,
-) -> (FileArchive, Result<(), Failure>) {
+) -> (A, Result<(), Failure>) {
     let mail = match movable_mail(rt, job.maildir) {
         Ok(mail) => mail,
         Err(error) => return (archive, Err(maildir_failure(rt, job.maildir, error))),

@@ -1,13 +1,13 @@
 //! `check`: what an archive holds.
 
-use crate::archive::{Walk, open};
+use crate::archive::{Walk, on_archive};
 use crate::clock::today;
 use crate::failure::Failure;
 use crate::output::write_text;
 use clap::ArgMatches;
 use class_plan::{Date, day_number};
-use record_store::Entry;
-use store_files::{FileArchive, close_archive};
+use record_store::{Entry, Store};
+use sqlite::Alter;
 
 /// What an archive holds.
 #[derive(Clone, Copy)]
@@ -27,10 +27,10 @@ struct Contents {
 
 impl Contents {
     /// Adds a record, and its message where it is the first live one that has it.
-    fn add(
+    fn add<S: Alter>(
         &mut self,
         rt: &HostRuntime,
-        archive: &mut FileArchive,
+        archive: &mut Store<S>,
         entry: &Entry,
         today: Date,
     ) -> Result<(), Failure> {
@@ -53,10 +53,10 @@ impl Contents {
     }
 
     /// Adds the message of a live record, unless it was that of the one before.
-    fn add_message(
+    fn add_message<S: Alter>(
         &mut self,
         rt: &HostRuntime,
-        archive: &mut FileArchive,
+        archive: &mut Store<S>,
         entry: &Entry,
     ) -> Result<(), Failure> {
         if self.messages > 0 && self.message == entry.message {
@@ -75,7 +75,7 @@ impl Contents {
 }
 
 /// What an archive holds.
-fn contents_of(rt: &HostRuntime, archive: &mut FileArchive) -> Result<Contents, Failure> {
+fn contents_of<S: Alter>(rt: &HostRuntime, archive: &mut Store<S>) -> Result<Contents, Failure> {
     let today = today(rt)?;
     let mut contents = Contents {
         records: 0,
@@ -100,13 +100,10 @@ fn contents_of(rt: &HostRuntime, archive: &mut FileArchive) -> Result<Contents, 
     Ok(contents)
 }
 
-/// Judges a whole store, and says what it holds.
-pub fn check(rt: &HostRuntime, asked: &ArgMatches<'_>) -> Result<(), Failure> {
-    let mut archive = open(rt, asked)?;
+/// Says what an archive holds.
+fn write_contents<S: Alter>(rt: &HostRuntime, archive: &mut Store<S>) -> Result<(), Failure> {
     let classes = archive.plan().class_count();
-    let counted = contents_of(rt, &mut archive);
-    close_archive(archive);
-    let held = counted?;
+    let held = contents_of(rt, archive)?;
     let text = format!(in rt.alloc();
         "classes {}\nrecords {}\nlive {}\nheld {}\ndue today {}\nmessages {}\noctets {}\nnext number {}\n",
         classes,
@@ -119,4 +116,9 @@ pub fn check(rt: &HostRuntime, asked: &ArgMatches<'_>) -> Result<(), Failure> {
         u64::from(held.last) + 1
     )?;
     write_text(rt, text.as_str())
+}
+
+/// Judges a whole store, and says what it holds.
+pub fn check(rt: &HostRuntime, asked: &ArgMatches<'_>) -> Result<(), Failure> {
+    on_archive(rt, asked, |archive| write_contents(rt, archive))
 }

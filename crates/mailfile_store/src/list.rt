@@ -1,13 +1,13 @@
 //! `list`: the records, a line each.
 
-use crate::archive::{Walk, open};
+use crate::archive::{Walk, on_archive};
 use crate::choice::Choice;
 use crate::failure::Failure;
 use crate::output::{write, write_text};
 use clap::ArgMatches;
-use record_store::Entry;
+use record_store::{Entry, Store};
+use sqlite::Alter;
 use std::alloc::{AllocError, Global};
-use store_files::{FileArchive, close_archive};
 use store_texts::{LIST_HEADER, Row, json_object, listed_line, listed_row};
 
 /// How records are written.
@@ -74,9 +74,9 @@ fn write_page(
 }
 
 /// Writes the chosen records.
-fn write_records(
+fn write_records<S: Alter>(
     rt: &HostRuntime,
-    archive: &mut FileArchive,
+    archive: &mut Store<S>,
     choice: &Choice<'_>,
     form: Form,
 ) -> Result<(), Failure> {
@@ -93,9 +93,9 @@ fn write_records(
 }
 
 /// Writes the chosen records, with what a form has before and after them.
-fn write_list(
+fn write_list<S: Alter>(
     rt: &HostRuntime,
-    archive: &mut FileArchive,
+    archive: &mut Store<S>,
     choice: &Choice<'_>,
     form: Form,
 ) -> Result<(), Failure> {
@@ -119,8 +119,5 @@ pub fn list(rt: &HostRuntime, asked: &ArgMatches<'_>) -> Result<(), Failure> {
     } else {
         Form::Lines
     };
-    let mut archive = open(rt, asked)?;
-    let listed = write_list(rt, &mut archive, &choice, form);
-    close_archive(archive);
-    listed
+    on_archive(rt, asked, |archive| write_list(rt, archive, &choice, form))
 }

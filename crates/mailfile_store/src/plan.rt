@@ -1,6 +1,6 @@
 //! `plan`: the plan of an archive, and another one in its place.
 
-use crate::archive::{Walk, open};
+use crate::archive::{Walk, on_archive};
 use crate::choice::is_by;
 use crate::clock::today;
 use crate::create::read_plan;
@@ -8,8 +8,8 @@ use crate::failure::{Failure, Status};
 use crate::output::{agrees, write_text};
 use clap::ArgMatches;
 use class_plan::{Date, Plan, day_number};
-use record_store::Entry;
-use store_files::{FileArchive, close_archive};
+use record_store::{Entry, Store};
+use sqlite::Alter;
 use store_texts::{due_by, plan_of_text, plan_text};
 
 /// What a new plan changes.
@@ -44,9 +44,9 @@ impl Changes {
 }
 
 /// What a new plan changes in an archive.
-fn changes_by(
+fn changes_by<S: Alter>(
     rt: &HostRuntime,
-    archive: &mut FileArchive,
+    archive: &mut Store<S>,
     plan: &Plan,
 ) -> Result<Changes, Failure> {
     let today = today(rt)?;
@@ -65,9 +65,9 @@ fn changes_by(
 }
 
 /// Replaces the plan of an archive, once it was told what that changes and someone agrees.
-fn replace(
+fn replace<S: Alter>(
     rt: &HostRuntime,
-    archive: &mut FileArchive,
+    archive: &mut Store<S>,
     path: &str,
     is_agreed: bool,
 ) -> Result<(), Failure> {
@@ -91,9 +91,9 @@ fn replace(
     }
 }
 
-/// Writes the plan of an archive as the text of a plan file. It is read back before, and is the same plan.
-fn write_plan(rt: &HostRuntime, archive: &FileArchive) -> Result<(), Failure> {
-    let text = plan_text(rt.alloc(), archive.plan())?;
+/// Writes a plan as the text of a plan file. It is read back before, and is the same plan.
+fn write_plan(rt: &HostRuntime, plan: &Plan) -> Result<(), Failure> {
+    let text = plan_text(rt.alloc(), plan)?;
     if plan_of_text(rt.alloc(), text.as_str())?.is_none() {
         return Err(Failure::told(
             rt.alloc(),
@@ -106,11 +106,10 @@ fn write_plan(rt: &HostRuntime, archive: &FileArchive) -> Result<(), Failure> {
 
 /// Writes the plan of an archive, or replaces it.
 pub fn print_or_replace(rt: &HostRuntime, asked: &ArgMatches<'_>) -> Result<(), Failure> {
-    let mut archive = open(rt, asked)?;
-    let done = match asked.get_str("set") {
-        Some(path) => replace(rt, &mut archive, path, asked.get_flag("yes")),
-        None => write_plan(rt, &archive),
-    };
-    close_archive(archive);
-    done
+    match asked.get_str("set") {
+        Some(path) => on_archive(rt, asked, |archive| {
+            replace(rt, archive, path, asked.get_flag("yes"))
+        }),
+        None => on_archive(rt, asked, |archive| write_plan(rt, archive.plan())),
+    }
 }

@@ -1,14 +1,14 @@
 //! `report`: one page of HTML on what is kept, what is due and what is held.
 
-use crate::archive::{Walk, open, store_path};
+use crate::archive::{Walk, on_archive, store_path};
 use crate::clock::{future_day_asked, now, today};
 use crate::failure::{Failure, Status};
 use crate::output::write_text;
 use clap::ArgMatches;
-use class_plan::Date;
-use record_store::Entry;
+use class_plan::{Date, Plan};
+use record_store::{Entry, Store};
 use report_page::{Heading, Page, Record, Report, ReportFault};
-use store_files::{FileArchive, close_archive};
+use sqlite::Alter;
 use store_texts::moment_text;
 
 /// The failure of a report.
@@ -37,12 +37,12 @@ fn record_of(entry: &Entry) -> Record<'_> {
 /// Adds the records of a page of the archive.
 fn add_page(
     rt: &HostRuntime,
-    archive: &FileArchive,
+    plan: &Plan,
     report: &mut Report,
     page: &[Entry],
 ) -> Result<(), Failure> {
     for entry in page {
-        if let Err(fault) = report.add(archive.plan(), &record_of(entry)) {
+        if let Err(fault) = report.add(plan, &record_of(entry)) {
             return Err(report_failure(rt, fault));
         }
     }
@@ -50,9 +50,9 @@ fn add_page(
 }
 
 /// Adds all records, a page of the archive at a time.
-fn add_records(
+fn add_records<S: Alter>(
     rt: &HostRuntime,
-    archive: &mut FileArchive,
+    archive: &mut Store<S>,
     report: &mut Report,
 ) -> Result<(), Failure> {
     let mut walk = Walk::from(1);
@@ -61,7 +61,7 @@ fn add_records(
         if page.is_empty() {
             break;
         }
-        add_page(rt, archive, report, page.as_slice())?;
+        add_page(rt, archive.plan(), report, page.as_slice())?;
     }
     Ok(())
 }
@@ -69,7 +69,7 @@ fn add_records(
 /// Writes the page of a report.
 fn write_page(
     rt: &HostRuntime,
-    archive: &FileArchive,
+    plan: &Plan,
     report: &Report,
     file: &str,
     day: Date,
@@ -82,16 +82,16 @@ fn write_page(
         moment: moment.as_str(),
     };
     let mut page = Page::new(rt.alloc());
-    match report.write(&mut page, archive.plan(), &heading) {
+    match report.write(&mut page, plan, &heading) {
         Ok(()) => write_text(rt, page.as_str()),
         Err(fault) => Err(report_failure(rt, fault)),
     }
 }
 
 /// Writes the report on an archive by a day.
-fn report_by(
+fn report_by<S: Alter>(
     rt: &HostRuntime,
-    archive: &mut FileArchive,
+    archive: &mut Store<S>,
     file: &str,
     day: Date,
 ) -> Result<(), Failure> {
@@ -100,14 +100,15 @@ fn report_by(
         Err(fault) => return Err(report_failure(rt, fault)),
     };
     add_records(rt, archive, &mut report)?;
-    write_page(rt, archive, &report, file, day)
+    write_page(rt, archive.plan(), &report, file, day)
 }
 
 /// Writes a report as a page of HTML.
 pub fn report(rt: &HostRuntime, asked: &ArgMatches<'_>) -> Result<(), Failure> {
     let day = future_day_asked(rt, asked.get_str("day"))?;
-    let mut archive = open(rt, asked)?;
-    let reported = report_by(rt, &mut archive, store_path(asked), day);
-    close_archive(archive);
-    reported
+    on_archive(
+        rt,
+        asked,
+        |archive| report_by(rt, archive, store_path(asked), day),
+    )
 }

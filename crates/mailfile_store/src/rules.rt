@@ -5,11 +5,8 @@ use crate::output::tell;
 use clap::ArgMatches;
 use filing_desk::Desk;
 use mail_delivery::OnFault;
+use record_archive::Records;
 use rules_folder::{Rules, RulesFault, read_rules, set_rules};
-use store_files::FileArchive;
-
-/// A desk over the store in a file.
-pub type FileDesk = Desk<FileArchive>;
 
 /// How mail is filed.
 #[derive(Drop)]
@@ -22,12 +19,16 @@ pub struct Filing<'a> {
 
 /// Reports a fault of rules. It is no failure where mail may go to `unfiled` then.
 fn excuse(rt: &HostRuntime, fault: &RulesFault, on_fault: OnFault) -> Result<(), Failure> {
-    match (Failure::of_rules(rt.alloc(), fault), on_fault) {
-        (Failure::Told(_, text), OnFault::Capture) if fault.is_of_rules() => {
+    let failure = Failure::of_rules(rt.alloc(), fault);
+    if !fault.is_of_rules() || matches!(on_fault, OnFault::GiveUp) {
+        return Err(failure);
+    }
+    match failure {
+        Failure::Told(_, text) => {
             tell(rt, text.as_str());
             Ok(())
         }
-        (failure, _) => Err(failure),
+        other => Err(other),
     }
 }
 
@@ -56,7 +57,7 @@ impl<'a> Filing<'a> {
     }
 
     /// Sets the rules at a desk.
-    fn set(&self, rt: &HostRuntime, desk: &mut FileDesk) -> Result<(), Failure> {
+    fn set<A: Records>(&self, rt: &HostRuntime, desk: &mut Desk<A>) -> Result<(), Failure> {
         let Some(rules) = &self.rules else {
             return Ok(());
         };
@@ -67,11 +68,7 @@ impl<'a> Filing<'a> {
     }
 
     /// A desk over an archive, with these rules. A failure hands the archive back.
-    pub fn desk(
-        &self,
-        rt: &HostRuntime,
-        archive: FileArchive,
-    ) -> Result<FileDesk, (FileArchive, Failure)> {
+    pub fn desk<A: Records>(&self, rt: &HostRuntime, archive: A) -> Result<Desk<A>, (A, Failure)> {
         let mut desk = match Desk::new(rt.alloc(), archive) {
             Ok(desk) => desk,
             Err(archive) => return Err((archive, Failure::NoMemory)),

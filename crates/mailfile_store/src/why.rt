@@ -1,6 +1,6 @@
 //! `why`: why a record is in its class, and whether the rules of today would file its message there again.
 
-use crate::archive::open;
+use crate::archive::on_archive;
 use crate::choice::read_number;
 use crate::failure::{Failure, Status};
 use crate::list::row_of;
@@ -8,14 +8,14 @@ use crate::output::write_text;
 use clap::ArgMatches;
 use class_plan::{Date, Plan, day_number};
 use filing_commands::Payload;
-use record_store::Entry;
+use record_store::{Entry, Store};
 use rules_folder::{Script, read_rules};
 use run_inquiry::{
     Answer, Form, Inquiry, InquiryFault, ScriptFile, Scripts, answer_to, first_parting,
     is_filed_in, outcome_line, outcome_text, script_of,
 };
 use sieve_meaning::Location;
-use store_files::{FileArchive, close_archive};
+use sqlite::Alter;
 use store_texts::{listed_line, plan_text};
 
 /// The seconds of a day.
@@ -104,9 +104,9 @@ fn read_scripts(rt: &HostRuntime, folder: &str, officer: &str) -> Result<Scripts
 }
 
 /// A record of an archive and its message, which is none where it is destroyed.
-fn read_record(
+fn read_record<S: Alter>(
     rt: &HostRuntime,
-    archive: &mut FileArchive,
+    archive: &mut Store<S>,
     word: &str,
     number: u32,
 ) -> Result<(Entry, Option<Vec<u8>>), Failure> {
@@ -129,19 +129,19 @@ fn read_record(
     }
 }
 
-/// The record that the command line names.
-fn read_captured(rt: &HostRuntime, asked: &ArgMatches<'_>) -> Result<Captured, Failure> {
-    let word = asked.get_str("number").unwrap_or("");
-    let number = read_number(rt, word)?;
-    let mut archive = open(rt, asked)?;
-    let plan = archive.plan().copy();
-    let read = read_record(rt, &mut archive, word, number);
-    close_archive(archive);
-    let (entry, message) = read?;
+/// A record of an archive, with the plan of today.
+fn read_captured<S: Alter>(
+    rt: &HostRuntime,
+    archive: &mut Store<S>,
+    word: &str,
+    number: u32,
+) -> Result<Captured, Failure> {
+    let plan = archive.plan().copy()?;
+    let (entry, message) = read_record(rt, archive, word, number)?;
     Ok(Captured {
         entry,
         message,
-        plan: plan?,
+        plan,
     })
 }
 
@@ -255,7 +255,13 @@ fn explain(
 /// Writes why a record is in its class: the record, a report on the run of today's rules over its message at its day,
 /// and whether that files it there again; with the rules of former times also where their run differs.
 pub fn why(rt: &HostRuntime, asked: &ArgMatches<'_>) -> Result<(), Failure> {
-    let captured = read_captured(rt, asked)?;
+    let word = asked.get_str("number").unwrap_or("");
+    let number = read_number(rt, word)?;
+    let captured = on_archive(
+        rt,
+        asked,
+        |archive| read_captured(rt, archive, word, number),
+    )?;
     match &captured.message {
         Some(message) => explain(rt, asked, &captured, message.as_slice()),
         None => {
