@@ -408,9 +408,9 @@ reports() {
         1 '<th scope="row">finance</th><td>7 years destroy</td><td>yes</td><td class="n">4</td><td class="n">4</td><td class="n">1</td><td class="n">0</td><td class="n">3</td>' \
         1 '<th scope="row">finance/tax</th><td>10 years review</td><td>yes</td><td class="n">1</td><td class="n">1</td><td class="n">0</td><td class="n">0</td><td class="n">0</td>' \
         1 '<th scope="row">staff</th><td>permanent</td><td>no</td><td class="n">0</td>' \
-        1 '<th scope="row">1977</th><td class="n">2</td><td class="n">0</td><td class="n">2</td>' \
-        1 '<th scope="row">2030</th><td class="n">1</td><td class="n">1</td><td class="n">2</td>' \
-        1 '<th scope="row">2033</th><td class="n">0</td><td class="n">1</td><td class="n">1</td>' \
+        1 '<th scope="row">1976 to 1977</th><td class="n">2</td><td class="n">0</td><td class="n">2</td>' \
+        1 '<th scope="row">2030 to 2031</th><td class="n">1</td><td class="n">1</td><td class="n">2</td>' \
+        1 '<th scope="row">2032 to 2033</th><td class="n">0</td><td class="n">1</td><td class="n">1</td>' \
         1 '<th scope="row">audit</th><td class="n">1</td><td>6</td>' \
         1 '<th scope="row" class="n">1</th><td>finance</td><td class="d">2023-11-15</td><td class="d">2030-11-15</td><td>May be destroyed</td><td class="sign"></td>' \
         1 '<th scope="row" class="n">6</th><td>finance</td><td class="d">1970-01-01</td><td class="d">1977-01-01</td><td>Hold: audit</td><td class="sign"></td>'
@@ -589,6 +589,10 @@ if [[ ${BASH_SOURCE[0]} == "$0" ]]; then
     failed=0
     count() { "${@:2}" || { echo "failed: $1"; failed=$((failed + 1)); }; }
     group() { echo "$1: $failed failed"; }
+    root=$PWD self=store
+    # shellcheck source=scripts/build.bash
+    . scripts/build.bash || exit 125
+    ensure_program mailfile_store
     # shellcheck source=scripts/store_files.bash
     . scripts/store_files.bash || exit 125
     # shellcheck source=scripts/copies.bash
