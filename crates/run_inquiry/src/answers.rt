@@ -87,11 +87,11 @@ pub fn open_case(
 }
 
 /// The paths of a set.
-fn paths_in(alloc: Global, open: &BTreeSet<Vec<u8>>) -> Result<Paths, AllocError>
-    ensures { IfOk result (λ p. is_among p ≡ is_in open.now) }
+fn paths_in(alloc: Global, opened: &BTreeSet<Vec<u8>>) -> Result<Paths, AllocError>
+    ensures { IfOk result (λ p. is_among p ≡ is_in opened.now) }
 {
     let mut paths = Paths::new(alloc);
-    for path in open.iter() {
+    for path in opened.iter() {
         paths.insert(alloc, path.as_slice())?;
     }
     Ok(paths)
@@ -106,8 +106,8 @@ fn borrowed_case<'m>(
     ensures { IfOk result
         (λ c. facts_borrowed c ≡ case_of message.now (is_open_in plan.now)) }
 {
-    let open = plan.open_paths(alloc)?;
-    let paths = paths_in(alloc, &open)?;
+    let opened = plan.open_paths(alloc)?;
+    let paths = paths_in(alloc, &opened)?;
     BorrowedCase::read(alloc, message, paths)
 }
 

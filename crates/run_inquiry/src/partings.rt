@@ -54,8 +54,8 @@ pub struct Parting<'e> {
 
 /// Whether two words are the same, or there are none.
 fn are_same(one: Option<&str>, other: Option<&str>) -> bool
-    ensures same { result ≡ true → option_copied one ≡ option_copied other }
-    ensures differ { result ≡ false → option_copied one ≡ option_copied other → ⊥ }
+    ensures same { result ≡ true → option_copied one.entry ≡ option_copied other.entry }
+    ensures differ { result ≡ false → option_copied one.entry ≡ option_copied other.entry → ⊥ }
 {
     match (one, other) {
         (Some(one), Some(other)) => one == other,
