@@ -61,6 +61,53 @@ ends_with_its_reader() {
     [[ $(< "$work/answer") == 'refused 34: '* && ! -s $work/error ]]
 }
 
+# Whether a message with a value of 1,100,000 octets, and one with 17,000 fields, have each field once in a report: in the list of the
+# message's fields, and not again below the tests.
+fields_are_said_once() {
+    printf '%s\n' 'if header :contains ["subject", "x"] "invoice" {' '    keep;' '}' 'if header :is "x" "1" {' '    keep;' '}' \
+        'if header :contains "subject" "aaa" {' '    keep;' '}' > "$work/long.sieve"
+    { printf 'Subject: '; head -c 1100000 /dev/zero | tr '\0' a; printf '\nX: 1\n\n'; } > "$work/long.eml"
+    (cd -- "$work" && "$OLDPWD/mailfile-tool" why long.sieve long.eml --day 2023-11-14) > "$work/answer" || return
+    sed -n '/^long.sieve$/,/^$/p' "$work/answer" > "$work/said"
+    cmp -s - "$work/said" << 'END' && (($(wc -c < "$work/answer") < 1102000)) || return
+long.sieve
+  1:1 if: not taken
+    1:4 header :contains ["subject", "x"] "invoice": false
+      2 of the fields that are listed with the message
+  4:1 if: taken
+    4:4 header :is "x" "1": true
+      field 2 X "1" is "1"
+    5:5 keep: keeps the message in unfiled
+  7:1 if: taken
+    7:4 header :contains "subject" "aaa": true
+      field 1, which is listed with the message, contains "aaa"
+    8:5 keep: keeps the message in unfiled
+
+END
+    { yes X: | head -n 17000; echo; } > "$work/many.eml"
+    (cd -- "$work" && "$OLDPWD/mailfile-tool" why long.sieve many.eml --day 2023-11-14) > "$work/answer" || return
+    grep -q -x '      17000 of the fields that are listed with the message' "$work/answer" &&
+        grep -c '^  field [0-9]* X ""$' "$work/answer" | grep -q -x 17000 && ! grep -q '^      field' "$work/answer"
+}
+
+# Whether a folder with a 33rd script is refused by its path, by compile and by why.
+full_folder_is_named() {
+    local number words
+    mkdir -p -- "$work/full" || return
+    for ((number = 10; number < 43; number++)); do
+        echo 'keep;' > "$work/full/$number.sieve"
+    done
+    for words in "compile main.sieve -o $work/image" 'why main.sieve mail.eml'; do
+        # shellcheck disable=SC2086 # words of a command
+        (cd -- examples/tools && ../../mailfile-tool $words --global "$work/full") > "$work/answer" && return 1
+        [[ $(< "$work/answer") == "$work/full/42.sieve: 96: "* ]] || return
+    done
+    rm -- "$work/full/42.sieve"
+    (cd -- examples/tools && ../../mailfile-tool compile main.sieve --global "$work/full" -o "$work/image") > "$work/answer" &&
+        (cd -- examples/tools && ! ../../mailfile-tool why main.sieve mail.eml --personal "$work/full") > "$work/answer" &&
+        [[ $(< "$work/answer") == 'main.sieve: 96: '* ]]
+}
+
 # A session without counted octets.
 typed_session() {
     (cd -- examples/tools && ../../mailfile-tool frame typed.txt) | ./mailfile > "$work/answer" &&
@@ -105,6 +152,8 @@ tools() {
     count "the numbers of the specification have texts, and no others" numbers_have_texts
     count "a reader that goes away" ends_with_its_reader
     count "a session without counted octets" typed_session
+    count "fields that are said once" fields_are_said_once
+    count "a folder with too many scripts" full_folder_is_named
     group tools
 }
 

@@ -4,7 +4,7 @@ use crate::archive::on_archive;
 use crate::choice::read_number;
 use crate::failure::{Failure, Status};
 use crate::list::row_of;
-use crate::output::write_text;
+use crate::output::{write, write_text};
 use clap::ArgMatches;
 use class_plan::{Date, Plan, day_number};
 use filing_commands::Payload;
@@ -14,7 +14,7 @@ use run_inquiry::{
     Answer, Form, Inquiry, InquiryFault, ScriptFile, Scripts, answer_to, first_parting,
     is_filed_in, outcome_line, outcome_text, script_of,
 };
-use sieve_meaning::Location;
+use sieve_meaning::{Location, Outcome};
 use sqlite::Alter;
 use store_texts::{listed_line, plan_text};
 
@@ -34,6 +34,9 @@ struct Captured {
 fn failure_of(rt: &HostRuntime, fault: InquiryFault) -> Failure {
     match fault {
         InquiryFault::NoMemory => Failure::NoMemory,
+        InquiryFault::Full(path) => {
+            Failure::numbered(rt.alloc(), Status::BadData, path.as_str(), 96)
+        }
         fault => Failure::at(rt.alloc(), Status::BadData, "why", &fault),
     }
 }
@@ -177,27 +180,29 @@ fn answer_by(
     }
 }
 
+/// Writes an outcome in one line, after some words.
+fn write_outcome(rt: &HostRuntime, words: &str, outcome: &Outcome) -> Result<(), Failure> {
+    write_text(rt, words)?;
+    write(rt, &outcome_line(rt.alloc(), outcome)?)?;
+    write_text(rt, "\n")
+}
+
 /// Writes whether the rules of today file a message in the class of its record again.
 fn write_verdict(rt: &HostRuntime, entry: &Entry, answer: &Answer) -> Result<(), Failure> {
     let alloc = rt.alloc();
     let class = entry.path.as_slice().escape_ascii();
-    let line = outcome_line(alloc, &answer.outcome)?;
-    let text = if is_filed_in(&answer.outcome, entry.path.as_slice()) {
-        format!(in alloc; "\nthe rules of today file it in {class} again: {line}\n")?
+    let words = if is_filed_in(&answer.outcome, entry.path.as_slice()) {
+        format!(in alloc; "\nthe rules of today file it in {class} again: ")?
     } else {
-        format!(in alloc; "\nthe rules of today do not file it in {class}: {line}\n")?
+        format!(in alloc; "\nthe rules of today do not file it in {class}: ")?
     };
-    write_text(rt, text.as_str())
+    write_outcome(rt, words.as_str(), &answer.outcome)
 }
 
 /// Writes what the rules of former times make of a message, and where their run parts from that of today.
 fn write_parting(rt: &HostRuntime, today: &Answer, former: &Answer) -> Result<(), Failure> {
     let alloc = rt.alloc();
-    let line = outcome_line(alloc, &former.outcome)?;
-    write_text(
-        rt,
-        format!(in alloc; "the former rules: {line}\n")?.as_str(),
-    )?;
+    write_outcome(rt, "the former rules: ", &former.outcome)?;
     let text = match first_parting(&today.events, &former.events) {
         Some(parting) => {
             let (one, other) = (parting.one, parting.other);
@@ -230,7 +235,7 @@ fn write_answer(rt: &HostRuntime, entry: &Entry, answer: &Answer) -> Result<(), 
     write_entry(rt, entry)?;
     write_text(rt, "\n")?;
     write_text(rt, answer.text.as_str())?;
-    write_text(rt, outcome_text(rt.alloc(), &answer.outcome)?.as_str())?;
+    write(rt, &outcome_text(rt.alloc(), &answer.outcome)?)?;
     write_verdict(rt, entry, answer)
 }
 

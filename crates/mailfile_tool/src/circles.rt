@@ -47,7 +47,7 @@ impl Reached {
             Some(path) => path.as_str() == main,
             None => false,
         };
-        Ok(!is_global && script_name(main).as_bytes() == name)
+        Ok(!is_global && script_name(main) == name)
     }
 
     /// The path of an included script; none where it is not known.

@@ -38,7 +38,7 @@ fn image_of(rt: &HostRuntime, asked: &ArgMatches<'_>) -> Result<Option<Verified>
         return Ok(None);
     };
     let name = script_name(path);
-    let known_as = asked.get_str("personal").map(|_| name.as_bytes());
+    let known_as = asked.get_str("personal").map(|_| name);
     match compile(rt.alloc(), &script.script, known_as, &library) {
         Ok(program) => Ok(Some(program)),
         Err(GenFault::NoMemory) => Err(Failure::NoMemory),

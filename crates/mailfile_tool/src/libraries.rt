@@ -4,8 +4,7 @@ use crate::check::{read_good_script, text_of};
 use crate::failure::Failure;
 use crate::files::write_line;
 use clap::ArgMatches;
-use run_inquiry::{ScriptFile, script_of};
-use script_library::LibraryFault;
+use run_inquiry::{InquiryFault, ScriptFile, script_of};
 use sieve_meaning::Location;
 use std::fs;
 
@@ -82,24 +81,20 @@ pub fn read_folders(
     Ok(Some(scripts))
 }
 
-/// What a library of scripts is; none where it is refused, which is reported. 96 is the refusal of a new name where the
-/// location has thirty-two scripts.
+/// What an inquiry has given; none where a location has no room for a script, which is reported with the path of the
+/// script (96).
 pub fn unless_full<T: Drop>(
     rt: &HostRuntime,
-    library: Result<T, LibraryFault>,
+    given: Result<T, InquiryFault>,
 ) -> Result<Option<T>, Failure> {
-    match library {
-        Ok(library) => Ok(Some(library)),
-        Err(LibraryFault::NoMemory) => Err(Failure::NoMemory),
-        Err(LibraryFault::Full) => {
-            tell_full(rt)?;
+    match given {
+        Ok(given) => Ok(Some(given)),
+        Err(InquiryFault::NoMemory) => Err(Failure::NoMemory),
+        Err(InquiryFault::Full(path)) => {
+            let words = text_of(96);
+            write_line(rt, format!(in rt.alloc(); "{path}: 96: {words}")?)?;
             Ok(None)
         }
+        Err(fault) => Err(Failure::Message(format!(in rt.alloc(); "{fault}")?)),
     }
-}
-
-/// Reports that a folder has more scripts than a session takes (96).
-pub fn tell_full(rt: &HostRuntime) -> Result<(), Failure> {
-    let words = text_of(96);
-    write_line(rt, format!(in rt.alloc(); "96: {words}")?)
 }

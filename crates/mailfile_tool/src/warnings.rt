@@ -73,7 +73,7 @@ fn warning_of(
             name,
             is_global: false,
             ..
-        } if name == script_name(path).as_bytes() => Ok(None),
+        } if name == script_name(path) => Ok(None),
         Named::Script {
             name,
             is_global,

@@ -6,32 +6,14 @@ use crate::compile::tell_too_heavy;
 use crate::dump::read_image;
 use crate::failure::Failure;
 use crate::files::write;
-use crate::libraries::{read_folders, read_script, tell_full};
+use crate::libraries::{read_folders, read_script, unless_full};
 use crate::questions::{Question, message_path, read_question};
 use crate::steps::{show_fields, show_steps};
 use clap::ArgMatches;
 use filing_trace::trace_run;
 use filing_verify::Verified;
-use run_inquiry::{
-    Form, Inquiry, InquiryFault, Scripts, answer_to, compiled, open_case, outcome_text,
-};
+use run_inquiry::{Form, Inquiry, Scripts, answer_to, compiled, open_case, outcome_text};
 use sieve_meaning::Location;
-
-/// What an inquiry has given; none where a folder has too many scripts, which is reported.
-fn unless_full<T: Drop>(
-    rt: &HostRuntime,
-    given: Result<T, InquiryFault>,
-) -> Result<Option<T>, Failure> {
-    match given {
-        Ok(given) => Ok(Some(given)),
-        Err(InquiryFault::NoMemory) => Err(Failure::NoMemory),
-        Err(InquiryFault::Full) => {
-            tell_full(rt)?;
-            Ok(None)
-        }
-        Err(fault) => Err(Failure::Message(format!(in rt.alloc(); "{fault}")?)),
-    }
-}
 
 /// The scripts that the command line names; none where one is refused, which is reported.
 fn read_scripts(rt: &HostRuntime, asked: &ArgMatches<'_>) -> Result<Option<Scripts>, Failure> {
@@ -74,7 +56,7 @@ fn report_script(
     if is_json {
         write(rt, b"\n")?;
     } else {
-        write(rt, outcome_text(alloc, &answer.outcome)?.as_bytes())?;
+        write(rt, &outcome_text(alloc, &answer.outcome)?)?;
     }
     Ok(Verdict::Good)
 }
@@ -90,7 +72,7 @@ fn show_run(rt: &HostRuntime, program: &Verified, question: &Question) -> Result
     show_fields(rt, message, &case)?;
     show_steps(rt, program.image(), &case, &run)?;
     show_classes(rt, program.image(), &question.plan, question.moment, &run)?;
-    write(rt, outcome_text(alloc, &run.outcome)?.as_bytes())?;
+    write(rt, &outcome_text(alloc, &run.outcome)?)?;
     Ok(Verdict::Good)
 }
 

@@ -1,7 +1,7 @@
 //! What becomes of a message by an officer's scripts, and why: a run with its report, and where two runs part.
 //!
 //! - `scripts`: the scripts of a run, with the library that they make;
-//! - `answers`: the run of the main script's image, with the report on it by the evaluator, whose outcome must be the same;
+//! - `answers`: the run of the main script's image, with the report on it by the evaluator, whose outcome is the same;
 //! - `outcomes`: an outcome in the lines of a session;
 //! - `partings`: the first event in which two runs differ.
 #![tactic(auto)]
@@ -16,4 +16,4 @@ pub use answers::{Answer, Form, Inquiry, answer_to, open_case};
 pub use faults::InquiryFault;
 pub use outcomes::{is_filed_in, outcome_line, outcome_text};
 pub use partings::{Parting, first_parting};
-pub use scripts::{ScriptFile, Scripts, add_script, compiled, library_of, script_name, script_of};
+pub use scripts::{ScriptFile, Scripts, compiled, library_of, script_name, script_of};

@@ -1,5 +1,8 @@
 //! Where two runs part.
 
+ghost use Rattle.std.specs.Prelude.{◌≡◌, true, false, IfNone, IfSome, option_copied, slice_get};
+ghost use Rattle.run_inquiry.specs.Partings.{words_of, line_of, IsParting};
+
 use run_report::{Book, Event, Narration, events_of};
 use std::alloc::{AllocError, Global};
 
@@ -21,12 +24,24 @@ impl Events {
         })
     }
 
-    /// The line of an event by its number; where there is none, that the run has ended.
-    fn line(&self, number: usize) -> &str {
-        match self.list.get(number) {
-            Some(event) => event.line.as_str(),
-            None => "the run ends",
+    /// The words of an event by its number; none where there is none.
+    fn words(&self, number: usize) -> Option<&str>
+        ensures { option_copied result ≡ slice_get (words_of self.now) number }
+    {
+        if number >= self.list.len() {
+            return None;
         }
+        Some(self.list[number].words.as_str())
+    }
+
+    /// The line of an event by its number; where there is none, that the run has ended.
+    fn line(&self, number: usize) -> &str
+        ensures { result.now ≡ line_of self.now number }
+    {
+        if number >= self.list.len() {
+            return "the run ends";
+        }
+        self.list[number].line.as_str()
     }
 }
 
@@ -37,21 +52,27 @@ pub struct Parting<'e> {
     pub other: &'e str,
 }
 
-/// Whether two events are the same, wherever they stand.
-fn are_same(one: Option<&Event>, other: Option<&Event>) -> bool {
+/// Whether two words are the same, or there are none.
+fn are_same(one: Option<&str>, other: Option<&str>) -> bool
+    ensures same { result ≡ true → option_copied one.entry ≡ option_copied other.entry }
+    ensures differ { result ≡ false → option_copied one.entry ≡ option_copied other.entry → ⊥ }
+{
     match (one, other) {
-        (Some(one), Some(other)) => one.words.as_str() == other.words.as_str(),
+        (Some(one), Some(other)) => one == other,
         (None, None) => true,
         _ => false,
     }
 }
 
 /// The first event in which two runs differ: a test with its answer, or what a command did. Places don't count. None
-/// where the runs came to the same.
-pub fn first_parting<'e>(one: &'e Events, other: &'e Events) -> Option<Parting<'e>> {
+/// exactly where the runs came to the same.
+pub fn first_parting<'e>(one: &'e Events, other: &'e Events) -> Option<Parting<'e>>
+    ensures same { IfNone result (words_of one.now ≡ words_of other.now) }
+    ensures first { IfSome result (IsParting one.now other.now) }
+{
     let count = one.list.len().max(other.list.len());
     for number in 0..count {
-        if !are_same(one.list.get(number), other.list.get(number)) {
+        if !are_same(one.words(number), other.words(number)) {
             return Some(Parting {
                 one: one.line(number),
                 other: other.line(number),

@@ -1,5 +1,5 @@
 -- The names of one command or test after another.
-use Rattle.std.proofs.Common.{◌≡◌, ℕ, zero, suc, List, [], ◌∷◌, ◌++◌, map, set, get_or, refl, sym, ap, ◌∙◌, append_assoc}
+use Rattle.std.proofs.Common.{◌≡◌, ℕ, zero, suc, List, [], ◌∷◌, ◌++◌, set, get_or, refl, sym, ap, ◌∙◌, append_assoc}
 use Rattle.sieve_syntax.specs.View.{test_of, inner_of, command_of, ending_of}
 use Rattle.sieve_syntax.proofs.Views.{test_of-fields, command_of-fields}
 use Rattle.sieve_syntax.specs.declared.tree.Test.{Test, out-Test}

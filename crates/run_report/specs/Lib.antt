@@ -1,2 +1,4 @@
 pub mod Comparisons
 pub mod Nodes
+pub mod Reports
+pub mod Room

@@ -1,11 +1,14 @@
 //! A report as JSON. Octets are texts as they are shown between quotation marks.
 
+ghost use Rattle.run_report.specs.Reports.{IsOfMessage};
+
 use crate::book::{Book, Mark};
 use crate::details::detail_lines;
 use crate::fields::passed_over;
 use crate::narrator::{Row, Told};
 use crate::nodes::{Node, Thing};
 use crate::report::{Digest, Report};
+use crate::room::Room;
 use crate::schedules::{due_date, schedule_words, stated_by, stated_words};
 use crate::verdict::{Reason, reason_of};
 use crate::way::told_words;
@@ -186,11 +189,12 @@ fn add_told(
     node: Node<'_>,
     row: Row,
     next: Option<&Row>,
+    room: &mut Room,
 ) -> Result<(), AllocError> {
     let alloc = members.alloc;
     if let (Thing::Test(test), Told::Answered(answer)) = (node.thing, row.told) {
         members.value("answer", Value::Bool(answer))?;
-        let lines = detail_lines(alloc, report.case, test, answer)?;
+        let lines = detail_lines(alloc, report.case, test, answer, room)?;
         return members.value("by", lines_data(alloc, lines)?);
     }
     let words = told_words(alloc, report.book, node, row.told, next)?;
@@ -203,22 +207,24 @@ fn row_data(
     report: &Report<'_, '_, '_>,
     row: Row,
     next: Option<&Row>,
+    room: &mut Room,
 ) -> Result<Value, AllocError> {
     let mut members = Members::new(alloc);
     add_mark(&mut members, report.book, row.mark)?;
     members.count("depth", row.depth)?;
     if let Some(node) = report.book.node(row.mark) {
-        add_told(&mut members, report, node, row, next)?;
+        add_told(&mut members, report, node, row, next, room)?;
     }
     Ok(members.into_value())
 }
 
 fn way_data(alloc: Global, report: &Report<'_, '_, '_>) -> Result<Value, AllocError> {
     let rows = report.narration.rows.as_slice();
+    let mut room = Room::new();
     let mut values = Vec::new(alloc);
     for (index, row) in rows.iter().enumerate() {
         let next = rows.get(index.saturating_add(1));
-        values.push(row_data(alloc, report, *row, next)?)?;
+        values.push(row_data(alloc, report, *row, next, &mut room)?)?;
     }
     Ok(Value::Array(values))
 }
@@ -240,7 +246,9 @@ fn digests_data(alloc: Global, digests: &[Digest]) -> Result<Value, AllocError> 
 
 /// The report as one line of JSON, with the members `day`, `fault`, `classes`, `canceller`, `message`, `way` and
 /// `files`. The only error is out of memory.
-pub fn report_json(alloc: Global, report: &Report<'_, '_, '_>) -> Result<String, AllocError> {
+pub fn report_json(alloc: Global, report: &Report<'_, '_, '_>) -> Result<String, AllocError>
+    requires { IsOfMessage report.now }
+{
     let mut members = Members::new(alloc);
     members.value("day", date_data(alloc, day_of(report.moment))?)?;
     members.value("fault", fault_data(alloc, report)?)?;

@@ -1,6 +1,7 @@
 //! What a test was decided by, in lines.
 
 use crate::comparisons::{compared_fields, deciding_field, deciding_key};
+use crate::room::Room;
 use class_paths::Paths;
 use plain_evaluator::{BorrowedCase, BorrowedField};
 use sieve_meaning::reading::{comparator, match_type, next_string_list};
@@ -33,19 +34,34 @@ pub fn field_text(
     format!(in alloc; "field {number} {name} {value}")
 }
 
-/// The field and the key that made a `header` test true.
+/// A field as it is said beside a test, by its number alone where a report has no room for it.
+fn told_field(
+    alloc: Global,
+    case: &BorrowedCase<'_, Paths>,
+    place: usize,
+    room: &mut Room,
+) -> Result<String, AllocError> {
+    if room.take(case.fields.as_slice(), &[place]) {
+        return field_text(alloc, case, place);
+    }
+    let number = place.saturating_add(1);
+    format!(in alloc; "field {number}, which is listed with the message,")
+}
+
+/// The field and the key that made a `header` test true. Where a report has no room for the field, its number alone.
 fn match_line(
     alloc: Global,
     case: &BorrowedCase<'_, Paths>,
     arguments: &[Argument],
     names: &StringList,
     keys: &StringList,
+    room: &mut Room,
 ) -> Result<String, AllocError> {
     let (how, by) = (match_type(arguments), comparator(arguments));
     let Some(place) = deciding_field(case.fields.as_slice(), names, keys, how, by) else {
         return Ok(String::new(alloc));
     };
-    let field = field_text(alloc, case, place)?;
+    let field = told_field(alloc, case, place, room)?;
     let value = case
         .fields
         .get(place)
@@ -57,18 +73,25 @@ fn match_line(
     format!(in alloc; "{field} {verb} {key}")
 }
 
-/// The fields whose values a false `header` test compared.
+/// The fields whose values a false `header` test compared. Where a report has no room for all of them, their number
+/// alone.
 fn compared_lines(
     alloc: Global,
     case: &BorrowedCase<'_, Paths>,
     names: &StringList,
+    room: &mut Room,
 ) -> Result<Vec<String>, AllocError> {
     let mut lines = Vec::new(alloc);
-    for place in compared_fields(alloc, case.fields.as_slice(), names)?.as_slice() {
-        lines.push(field_text(alloc, case, *place)?)?;
-    }
-    if lines.is_empty() {
+    let places = compared_fields(alloc, case.fields.as_slice(), names)?;
+    if places.is_empty() {
         lines.push(String::from_str(alloc, "no field has such a name")?)?;
+    } else if room.take(case.fields.as_slice(), places.as_slice()) {
+        for place in places.as_slice() {
+            lines.push(field_text(alloc, case, *place)?)?;
+        }
+    } else {
+        let count = places.len();
+        lines.push(format!(in alloc; "{count} of the fields that are listed with the message")?)?;
     }
     Ok(lines)
 }
@@ -78,6 +101,7 @@ fn header_lines(
     case: &BorrowedCase<'_, Paths>,
     arguments: &[Argument],
     answer: bool,
+    room: &mut Room,
 ) -> Result<Vec<String>, AllocError> {
     let mut lines = Vec::new(alloc);
     let Some((names, rest)) = next_string_list(arguments) else {
@@ -87,9 +111,9 @@ fn header_lines(
         return Ok(lines);
     };
     if !answer {
-        return compared_lines(alloc, case, names);
+        return compared_lines(alloc, case, names, room);
     }
-    lines.push(match_line(alloc, case, arguments, names, keys)?)?;
+    lines.push(match_line(alloc, case, arguments, names, keys, room)?)?;
     Ok(lines)
 }
 
@@ -133,16 +157,18 @@ fn size_lines(alloc: Global, size: u64) -> Result<Vec<String>, AllocError> {
     Ok(lines)
 }
 
-/// What a test with this answer was decided by, a line each; nothing for a test of tests.
+/// What a test with this answer was decided by, a line each; nothing for a test of tests. Fields are said in full as
+/// long as the report has room for them.
 pub fn detail_lines(
     alloc: Global,
     case: &BorrowedCase<'_, Paths>,
     test: &Test,
     answer: bool,
+    room: &mut Room,
 ) -> Result<Vec<String>, AllocError> {
     let arguments = test.arguments.as_slice();
     match test_word(test.name.as_slice()) {
-        TestWord::Header => header_lines(alloc, case, arguments, answer),
+        TestWord::Header => header_lines(alloc, case, arguments, answer, room),
         TestWord::Exists => exists_lines(alloc, case, arguments),
         TestWord::Size => size_lines(alloc, case.size),
         TestWord::True

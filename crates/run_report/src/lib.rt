@@ -5,11 +5,10 @@
 //!
 //! The modules from the bottom: `nodes` (the commands and tests of a script in one list) and `book` (all scripts of a
 //! run, with places), `narrator` (what a run comes to), `words`,
-//! `comparisons` and `details` (commands, tests and what these looked at), `way`, `fields`, `schedules`, `verdict`
-//! (parts of a report), `report`, `data` (as JSON), `events` (so that two runs can be compared).
+//! `comparisons`, `room` and `details` (commands, tests and what these looked at), `way`, `fields`, `schedules`,
+//! `verdict` (parts of a report), `report`, `data` (as JSON), `events` (so that two runs can be compared).
 #![tactic(auto)]
 
-mod alike;
 mod book;
 mod comparisons;
 mod data;
@@ -20,12 +19,12 @@ mod fields;
 mod narrator;
 mod nodes;
 mod report;
+mod room;
 mod schedules;
 mod verdict;
 mod way;
 mod words;
 
-pub use alike::are_alike;
 pub use book::{Book, Mark, Page, Source};
 pub use comparisons::{compared_fields, deciding_field, deciding_key};
 pub use data::report_json;
@@ -34,3 +33,4 @@ pub use events::{Event, events_of};
 pub use narrator::{Narration, Narrator, Row, Told};
 pub use nodes::{Node, Thing};
 pub use report::{Digest, Report, report_text};
+pub use room::Room;

@@ -1,5 +1,7 @@
 //! A report on a run: why a message is filed where it is.
 
+ghost use Rattle.run_report.specs.Reports.{IsOfMessage};
+
 use crate::book::Book;
 use crate::fields::push_fields;
 use crate::narrator::Narration;
@@ -45,7 +47,9 @@ fn push_digests(alloc: Global, text: &mut String, digests: &[Digest]) -> Result<
 
 /// The report in lines: the verdict, the message as it was read, the way of the run by the source, and the digests. The
 /// way is left out where no run was told. The only error is out of memory.
-pub fn report_text(alloc: Global, report: &Report<'_, '_, '_>) -> Result<String, AllocError> {
+pub fn report_text(alloc: Global, report: &Report<'_, '_, '_>) -> Result<String, AllocError>
+    requires { IsOfMessage report.now }
+{
     let mut text = String::new(alloc);
     push_verdict(alloc, &mut text, report)?;
     push_line(&mut text, 0, "")?;

@@ -5,6 +5,7 @@ use crate::details::detail_lines;
 use crate::narrator::{Row, Told};
 use crate::nodes::{Node, Thing};
 use crate::report::Report;
+use crate::room::Room;
 use crate::words::{label_of, place_text, words_of};
 use plain_evaluator::{Act, Inclusion};
 use sieve_meaning::reading::include;
@@ -125,6 +126,7 @@ fn push_row(
     report: &Report<'_, '_, '_>,
     row: Row,
     next: Option<&Row>,
+    room: &mut Room,
 ) -> Result<(), AllocError> {
     let Some(node) = report.book.node(row.mark) else {
         return Ok(());
@@ -136,7 +138,7 @@ fn push_row(
     let line = format!(in alloc; "{place} {words}{told}")?;
     push_line(text, depth, line.as_str())?;
     if let (Thing::Test(test), Told::Answered(answer)) = (node.thing, row.told) {
-        for line in detail_lines(alloc, report.case, test, answer)?.as_slice() {
+        for line in detail_lines(alloc, report.case, test, answer, room)?.as_slice() {
             push_line(text, depth.saturating_add(1), line.as_str())?;
         }
     }
@@ -150,10 +152,11 @@ pub fn push_way(
     report: &Report<'_, '_, '_>,
 ) -> Result<(), AllocError> {
     push_line(text, 0, label_of(alloc, report.book, 0)?.as_str())?;
+    let mut room = Room::new();
     let rows = report.narration.rows.as_slice();
     for (index, row) in rows.iter().enumerate() {
         let next = rows.get(index.saturating_add(1));
-        push_row(alloc, text, report, *row, next)?;
+        push_row(alloc, text, report, *row, next, &mut room)?;
     }
     Ok(())
 }

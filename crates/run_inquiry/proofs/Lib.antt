@@ -1,0 +1,4 @@
+pub mod PathLemmas
+pub mod OutcomeLemmas
+pub mod PartingLemmas
+pub mod ShelvingLemmas
