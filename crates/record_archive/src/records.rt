@@ -30,13 +30,13 @@ pub trait Records {
     ghost stands: { Self → Archive → Type 0 };
 
     /// What a crash may leave of what is kept.
-    ghost image: { Type 0 };
+    ghost remains: { Type 0 };
 
     /// A crash at this moment may leave this.
-    ghost may_leave: { Self → image → Type 0 };
+    ghost may_leave: { Self → remains → Type 0 };
 
     /// Where a crash has left this, an opening finds this archive.
-    ghost keeps: { image → Archive → Type 0 };
+    ghost keeps: { remains → Archive → Type 0 };
 
     /// The plan that is kept beside the records.
     ghost plan_of: { Self → Listing };

@@ -19,7 +19,7 @@ impl<S: Alter> Records for Store<S> {
 
     ghost stands = { StandsFor S.Store };
 
-    ghost image = { Trees };
+    ghost remains = { Trees };
 
     ghost may_leave = { λ s. (state S.Store s.conn).may_leave };
 
