@@ -41,7 +41,8 @@ pub trait Registry {
     /// Adds a class that is open and has no schedule of its own. Refused with the smallest that applies of 52 (the path
     /// is not well made), 53 (no parent class), 54 (already there) and 56 (4,096 classes are there).
     fn add_class(&mut self, path: &[u8]) -> Result<(), DeskFault>
-        ensures { Calls clean stands may_leave keeps self.old (commands.plain (office.add_class path.now))
+        ensures { Calls clean stands may_leave keeps self.old
+            (commands.plain (office.add_class path.now))
             (answer_of_done result) self.new };
 
     /// Takes over the plan of a text, a TOML document. Refused in this order: 58 for more than 1,048,576 octets, the
@@ -72,7 +73,8 @@ pub trait Registry {
 
     /// Sets no program for an officer. It is never refused.
     fn deactivate(&mut self, officer: &[u8])
-        ensures { Calls clean stands may_leave keeps self.old (commands.plain (office.deactivate officer.now))
+        ensures { Calls clean stands may_leave keeps self.old
+            (commands.plain (office.deactivate officer.now))
             (answer_of_done (Ok tt)) self.new };
 
     /// Sets an image as an officer's program. Refused in this order: by its length (61 for more than 16,777,216
@@ -101,12 +103,14 @@ pub trait Registry {
     /// Places a hold of that name on a record. Refused where there is no such record (80), where the record is
     /// destroyed (84), and where a hold of that name is on it already (86).
     fn hold(&mut self, name: &[u8], number: u64) -> Result<(), DeskFault>
-        ensures { Calls clean stands may_leave keeps self.old (commands.plain (office.hold name.now number))
+        ensures { Calls clean stands may_leave keeps self.old
+            (commands.plain (office.hold name.now number))
             (answer_of_done result) self.new };
 
     /// Ends the hold of that name on a record. Refused where there is no such record (80) or no such hold (85).
     fn release(&mut self, name: &[u8], number: u64) -> Result<(), DeskFault>
-        ensures { Calls clean stands may_leave keeps self.old (commands.plain (office.release name.now number))
+        ensures { Calls clean stands may_leave keeps self.old
+            (commands.plain (office.release name.now number))
             (answer_of_done result) self.new };
 
     /// The records without a hold that are due by a day, ordered by due day and then by number. The caller ensures that
@@ -119,7 +123,8 @@ pub trait Registry {
     /// (81), its schedule's action is not to destroy (83), it is not due by the day (82). The caller ensures that the
     /// day is in the years 1970 to 9999. The message is removed with the last of its records that was not destroyed.
     fn destroy(&mut self, number: u64, day: Date) -> Result<(), DeskFault>
-        ensures { CallsOn clean stands may_leave keeps self.old day (λ n. commands.plain (office.destroy number n))
+        ensures { CallsOn clean stands may_leave keeps self.old day
+            (λ n. commands.plain (office.destroy number n))
             (answer_of_done result) self.new };
 
     /// Begins a capture of a message by an officer's program at a moment, in seconds since 1970-01-01T00:00:00Z.
