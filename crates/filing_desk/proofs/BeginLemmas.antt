@@ -29,9 +29,10 @@ use Rattle.filing_flights.specs.FlightViews.{FlightView, Holds}
 use Rattle.filing_flights.specs.Laws.{AreAsMany, OpenPathsAreClasses}
 use Rattle.filing_officers.specs.Register.{PinsFor, officer_at}
 use Rattle.filing_desk.specs.Beginning.{IsEntered, IsNumbered, KeepsAll, against_begin}
-use Rattle.filing_desk.specs.Standing.{AreOpenPaths, HasPathsOf, IsClean, StandsFor}
+use Rattle.filing_desk.specs.Standing.{AreOpenPaths, HasPathsOf, IsClean, MayLeave, StandsFor}
 use Rattle.filing_desk.specs.declared.desk.Desk.{Desk}
 use Rattle.filing_desk.proofs.FirstLemmas.{RunsEnd, after_begin, begins, first_begun, first_flight}
+use Rattle.filing_desk.proofs.StepLemmas.{untouched}
 use Rattle.filing_desk.proofs.FlightLemmas.{cleans, reflies}
 use Rattle.filing_desk.proofs.ReasonLemmas.{allowed, refused_count, refused_length, refused_ticket}
 
@@ -85,7 +86,8 @@ more_classes : (p : Listing) (fs : List Flight) (f : Flight) → AllByRecursion 
 more_classes p [] f all here = (here, tt)
 more_classes p (x ∷ fs) f all here = (all.0, more_classes p fs f all.1 here)
 
-module _ {A : Type 0} (is_clean : A → Type 0) (stood : A → Archive → Type 0) (plan_of : A
+module _ {A I : Type 0} (is_clean : A → Type 0) (stood : A → Archive → Type 0) (may_leave : A → I → Type 0)
+    (keeps : I → Archive → Type 0) (plan_of : A
     → Listing) (plan_is : (x : A) (a : Archive) → stood x a → plan_of x ≡ a.plan) (as_many : AreAsMany) where
   -- what refuses a beginning at the desk refuses one in the state
   against : (desk : Desk A) (s : Standing) (moment size : ℕ) → StandsFor stood desk s
@@ -97,7 +99,7 @@ module _ {A : Type 0} (is_clean : A → Type 0) (stood : A → Archive → Type 
   -- it is refused with that number
   pub begin_refused : (desk : Desk A) (officer : List ℕ) (moment : ℕ) (message : List ℕ) (f : DeskFault) (a : Answer)
       → IsNumbered f (against_begin desk moment (length message)) → a ≡ refused_by f
-      → Calls (IsClean is_clean) (StandsFor stood) desk (begin officer moment message) a desk
+      → Calls (IsClean is_clean) (StandsFor stood) (MayLeave may_leave) keeps desk (begin officer moment message) a desk
   unfolding Step
   begin_refused desk officer moment message f a h is_told = record {
     was_clean = λ clean. clean;
@@ -107,16 +109,18 @@ module _ {A : Type 0} (is_clean : A → Type 0) (stood : A → Archive → Type 
         (refl, refl, inl (sym (against desk s moment (length message) stands) ∙ h.0)) in
         record { to = s; is_one = subst P (sym (is_told ∙ numbered f _ h)) step; there = stands };
     unchanged = λ from_archive. absurd (false≢true from_archive);
+    crash = untouched is_clean stood may_leave keeps desk desk (begin officer moment message) refl;
+    kept = λ from_archive. absurd (false≢true from_archive);
   }
 
   -- there is no memory
   pub begin_poor : (old new : Desk A) (officer : List ℕ) (moment : ℕ) (message : List ℕ) (f : DeskFault) (a : Answer)
       → against_begin old moment (length message) ≡ None → f ≡ NoMemory → a ≡ refused_by f → KeepsAll old new
       → ((p : Listing) → plan_of old.store ≡ p → AreOpenPaths old.open_paths p → AreOpenPaths new.open_paths p)
-      → Calls (IsClean is_clean) (StandsFor stood) old (begin officer moment message) a new
+      → Calls (IsClean is_clean) (StandsFor stood) (MayLeave may_leave) keeps old (begin officer moment message) a new
   unfolding Step
-  begin_poor old new officer moment message f a permitted none told keeps paths = record {
-    was_clean = cleans is_clean stood old new keeps.store;
+  begin_poor old new officer moment message f a permitted none told same paths = record {
+    was_clean = cleans is_clean stood may_leave keeps old new same.store;
     leads = λ sure s stands.
         let P : Answer → Type 0 = λ x. BeginStep s officer moment message x s in
         let Q : List FlightView → Type 0 = λ xs. AreHeld xs s.flights in
@@ -125,11 +129,13 @@ module _ {A : Type 0} (is_clean : A → Type 0) (stood : A → Archive → Type 
         record {
           to = s;
           is_one = subst P (sym (told ∙ ap (λ x. refused_by x) none)) step;
-          there = reflies is_clean stood old new s s.flights s.last keeps.store keeps.officers (keeps.last
+          there = reflies is_clean stood may_leave keeps old new s s.flights s.last same.store same.officers (same.last
               ∙ stands.last) (paths s.office.archive.plan (plan_is old.store s.office.archive stands.store)
-              stands.open_paths) stands (subst Q (sym keeps.flights) stands.flights) stands.classes;
+              stands.open_paths) stands (subst Q (sym same.flights) stands.flights) stands.classes;
         };
     unchanged = λ from_archive. absurd (false≢true from_archive);
+    crash = untouched is_clean stood may_leave keeps old new (begin officer moment message) same.store;
+    kept = λ from_archive. absurd (false≢true from_archive);
   }
 
   -- what is pinned for an officer of the desk is what is pinned for what stands in the state
@@ -151,10 +157,10 @@ module _ {A : Type 0} (is_clean : A → Type 0) (stood : A → Archive → Type 
       → IsEntered (plan_of old.store) old officer (old.last + 1) message day x) → new.store ≡ mid.store
       → new.officers ≡ mid.officers → Adds mid.flights x new.flights → new.last ≡ old.last + 1
       → new.open_paths ≡ mid.open_paths → a ≡ begun (old.last + 1) x.program.budget
-      → Calls (IsClean is_clean) (StandsFor stood) old (begin officer moment message) a new
+      → Calls (IsClean is_clean) (StandsFor stood) (MayLeave may_leave) keeps old (begin officer moment message) a new
   unfolding Step
-  begin_done are_there ends old mid new officer moment message day x a permitted on keeps paths entered es eo adds el ep told = record {
-    was_clean = cleans is_clean stood old new (es ∙ keeps.store);
+  begin_done are_there ends old mid new officer moment message day x a permitted on same_all paths entered es eo adds el ep told = record {
+    was_clean = cleans is_clean stood may_leave keeps old new (es ∙ same_all.store);
     leads = λ sure s stands.
         let plan = s.office.archive.plan in
         let P : Listing → Type 0 = λ p. AreOpenPaths old.open_paths p in
@@ -181,11 +187,13 @@ module _ {A : Type 0} (is_clean : A → Type 0) (stood : A → Archive → Type 
         record {
           to = to;
           is_one = subst B (sym same) begins_so;
-          there = reflies is_clean stood old new s (s.flights ++ flight ∷ []) (s.last + 1) (es ∙ keeps.store) (eo
-              ∙ keeps.officers) (el
+          there = reflies is_clean stood may_leave keeps old new s (s.flights ++ flight ∷ []) (s.last + 1) (es ∙ same_all.store) (eo
+              ∙ same_all.officers) (el
               ∙ next) (subst T (sym ep) (subst U (plan_is old.store s.office.archive stands.store) (paths there)))
-              stands (adds s.flights flight (subst Q (sym keeps.flights) stands.flights) holds)
+              stands (adds s.flights flight (subst Q (sym same_all.flights) stands.flights) holds)
               (more_classes plan s.flights flight stands.classes (λ q there. are_there plan q there));
         };
     unchanged = λ from_archive. absurd (false≢true from_archive);
+    crash = untouched is_clean stood may_leave keeps old new (begin officer moment message) (es ∙ same_all.store);
+    kept = λ from_archive. absurd (false≢true from_archive);
   }

@@ -1,5 +1,5 @@
 -- Calls of a desk that change nothing.
-use Rattle.std.proofs.Common.{◌≡◌, ℕ, ◌≤◌, List, [], length, None, Result, Ok, Err, Vec, inl, inr, refl, ap, sym, ◌∙◌, subst}
+use Rattle.std.proofs.Common.{◌≡◌, ℕ, ◌≤◌, List, [], length, true, None, Result, Ok, Err, Vec, inl, inr, refl, ap, sym, ◌∙◌, subst}
 use Rattle.std.specs.Result.{IsErr, IsErrAnd}
 use Rattle.std.specs.declared.alloc.Global.{Global}
 use Rattle.std.proofs.lemmas.Bool.{false≢true}
@@ -16,21 +16,22 @@ use Rattle.script_library.specs.Libraries.{Scripts, library_of}
 use Rattle.record_archive.specs.Archive.{Archive}
 use Rattle.record_archive.specs.declared.line.Line.{Line}
 use Rattle.filing_commands.specs.Answers.{Answer, dry_run}
+use Rattle.filing_commands.specs.ArchiveAnswers.{is_of_archive}
 use Rattle.filing_commands.specs.Calls.{Calls}
 use Rattle.filing_commands.specs.Faults.{refused_by}
 use Rattle.filing_commands.specs.Limits.{greatest_image, greatest_message, greatest_script}
 use Rattle.filing_commands.specs.Office.{Office, PlainCommand, OfficeStep, Refuses, GivesUp, LacksMemory, IsFiled, IsTried, file, try_image}
 use Rattle.filing_commands.specs.Parts.{IsGood, IsGoodImage, RefusesImage, RefusesScript}
 use Rattle.filing_commands.specs.Scripts.{library}
-use Rattle.filing_commands.specs.Standing.{Standing, plain}
+use Rattle.filing_commands.specs.Standing.{Standing, is_refusal, plain}
 use Rattle.filing_commands.specs.CallAnswers.{answer_of_lines, answer_of_outcome}
 use Rattle.filing_commands.specs.declared.fault.DeskFault.{DeskFault}
 use Rattle.filing_commands.specs.declared.fault.DeskFault.TheVariants.{NoMemory}
 use Rattle.filing_desk.specs.Judging.{IsFaultOf, IsTooLong}
-use Rattle.filing_desk.specs.Standing.{IsClean, StandsFor}
+use Rattle.filing_desk.specs.Standing.{IsClean, MayLeave, StandsFor}
 use Rattle.filing_desk.specs.declared.desk.Desk.{Desk}
 use Rattle.filing_desk.proofs.ScriptLemmas.{library_meant}
-use Rattle.filing_desk.proofs.StepLemmas.{plain_calls}
+use Rattle.filing_desk.proofs.StepLemmas.{no_stay, plain_calls, refused_so, untouched}
 
 -- the answer to a fault
 pub outcome_fault : (result : Result Outcome DeskFault) (fault : DeskFault) → IsErr result
@@ -59,13 +60,17 @@ lacking s c limit payload f a told is short lacks =
     let P : Answer → Type 0 = λ x. OfficeStep s c x s in
     subst P (sym told) (fault_step s c (λ n. ⊥) limit payload f (λ n r. absurd r) lacks (inr (is, short)))
 
-module _ {A : Type 0} (is_clean : A → Type 0) (stood : A → Archive → Type 0) where
+module _ {A I : Type 0} (is_clean : A → Type 0) (stood : A → Archive → Type 0) (may_leave : A → I → Type 0)
+    (keeps : I → Archive → Type 0) where
   -- a call that leaves the desk as it was
   pub unchanged : (desk : Desk A) (c : PlainCommand) (a : Answer)
+      → (is_of_archive (plain c) a ≡ true → is_refusal a ≡ true)
       → ((s : Standing) → StandsFor stood desk s → OfficeStep s.office c a s.office)
-      → Calls (IsClean is_clean) (StandsFor stood) desk (plain c) a desk
-  unchanged desk c a step = plain_calls is_clean stood desk desk c a (λ clean. clean) (λ sure s stands.
+      → Calls (IsClean is_clean) (StandsFor stood) (MayLeave may_leave) keeps desk (plain c) a desk
+  unchanged desk c a refused step = plain_calls is_clean stood may_leave keeps desk desk c a (λ clean. clean) (λ sure s stands.
       (s.office, step s stands, stands)) (λ refused s stands. stands)
+      (untouched is_clean stood may_leave keeps desk desk (plain c) refl)
+      (λ from_archive other. no_stay is_clean stood may_leave keeps desk desk (plain c) a (refused from_archive) other)
 
   -- the outcome of a script with the global scripts of a desk, in a message's case
   pub file_done : (desk : Desk A) (p : Listing) (lent : Scripts) (tree : CommandTrees) (script message : List ℕ)
@@ -73,8 +78,9 @@ module _ {A : Type 0} (is_clean : A → Type 0) (stood : A → Archive → Type 
       → lent ≡ record { personal = []; global = desk.officers.globals } → IsGood script tree
       → length message ≤ greatest_message → facts ≡ case_of message (is_open_in p)
       → o ≡ meaning.outcome facts (library_of lent) None (program_of tree)
-      → Calls (IsClean is_clean) (StandsFor stood) desk (plain (file script message)) (dry_run o) desk
-  file_done desk p lent tree script message facts o is_plan globals good short case is = unchanged desk (file script message) (dry_run o) (λ s stands.
+      → Calls (IsClean is_clean) (StandsFor stood) (MayLeave may_leave) keeps desk (plain (file script message)) (dry_run o) desk
+  file_done desk p lent tree script message facts o is_plan globals good short case is = unchanged desk (file script message) (dry_run o)
+      (λ e. absurd (false≢true e)) (λ s stands.
       let main = program_of tree in
       let there : facts ≡ case_of message (is_open_in s.office.archive.plan) = case ∙ ap (λ q. case_of message (is_open_in q)) (is_plan s stands) in
       let lib : library_of lent ≡ library [] s.office.globals = library_meant lent desk.officers.globals globals
@@ -92,8 +98,9 @@ module _ {A : Type 0} (is_clean : A → Type 0) (stood : A → Archive → Type 
   pub try_done : (desk : Desk A) (p : Listing) (program : Program) (image message : List ℕ) (facts : Facts) (n : ℕ)
       (o : Outcome) → ((s : Standing) → StandsFor stood desk s → p ≡ s.office.archive.plan) → IsGoodImage image program
       → length message ≤ greatest_message → facts ≡ case_of message (is_open_in p) → HasOutcome program facts n o
-      → Calls (IsClean is_clean) (StandsFor stood) desk (plain (try_image image message)) (dry_run o) desk
-  try_done desk p program image message facts n o is_plan good short case ran = unchanged desk (try_image image message) (dry_run o) (λ s stands.
+      → Calls (IsClean is_clean) (StandsFor stood) (MayLeave may_leave) keeps desk (plain (try_image image message)) (dry_run o) desk
+  try_done desk p program image message facts n o is_plan good short case ran = unchanged desk (try_image image message) (dry_run o)
+      (λ e. absurd (false≢true e)) (λ s stands.
       let there : facts ≡ case_of message (is_open_in s.office.archive.plan) = case ∙ ap (λ q. case_of message (is_open_in q)) (is_plan s stands) in
       let P : Facts → Type 0 = λ f. HasOutcome program f n o in
       let tried : IsTried s.office image message o = record {
@@ -107,16 +114,18 @@ module _ {A : Type 0} (is_clean : A → Type 0) (stood : A → Archive → Type 
 
   pub file_no_script : (desk : Desk A) (script message : List ℕ) (f : DeskFault) (a : Answer) → a ≡ refused_by f
       → IsFaultOf (RefusesScript script) greatest_script script f
-      → Calls (IsClean is_clean) (StandsFor stood) desk (plain (file script message)) a desk
-  file_no_script desk script message f a told h = unchanged desk (file script message) a (λ s stands.
+      → Calls (IsClean is_clean) (StandsFor stood) (MayLeave may_leave) keeps desk (plain (file script message)) a desk
+  file_no_script desk script message f a told h = unchanged desk (file script message) a
+      (λ e. refused_so _ _ told) (λ s stands.
       let P : Answer → Type 0 = λ x. OfficeStep s.office (file script message) x s.office in
       subst P (sym told) (fault_step s.office (file script message) (RefusesScript script) greatest_script script f (λ n r. inl r) (λ n l. l) h))
 
   pub file_no_message : (desk : Desk A) (script message : List ℕ) (tree : CommandTrees) (f : DeskFault) (a : Answer)
       → a ≡ refused_by f → IsGood script tree → length script ≤ greatest_script
       → IsFaultOf (IsTooLong message) greatest_message message f
-      → Calls (IsClean is_clean) (StandsFor stood) desk (plain (file script message)) a desk
-  file_no_message desk script message tree f a told good short h = unchanged desk (file script message) a (λ s stands.
+      → Calls (IsClean is_clean) (StandsFor stood) (MayLeave may_leave) keeps desk (plain (file script message)) a desk
+  file_no_message desk script message tree f a told good short h = unchanged desk (file script message) a
+      (λ e. refused_so _ _ told) (λ s stands.
       let P : Answer → Type 0 = λ x. OfficeStep s.office (file script message) x s.office in
       subst P (sym told) (fault_step s.office (file script message) (IsTooLong message) greatest_message message f
       (λ n long. inr (record { tree = tree; good = good; long = long.0; is_number = long.1 })) (λ n l.
@@ -124,16 +133,18 @@ module _ {A : Type 0} (is_clean : A → Type 0) (stood : A → Archive → Type 
 
   pub try_no_image : (desk : Desk A) (image message : List ℕ) (f : DeskFault) (a : Answer) → a ≡ refused_by f
       → IsFaultOf (RefusesImage image) greatest_image image f
-      → Calls (IsClean is_clean) (StandsFor stood) desk (plain (try_image image message)) a desk
-  try_no_image desk image message f a told h = unchanged desk (try_image image message) a (λ s stands.
+      → Calls (IsClean is_clean) (StandsFor stood) (MayLeave may_leave) keeps desk (plain (try_image image message)) a desk
+  try_no_image desk image message f a told h = unchanged desk (try_image image message) a
+      (λ e. refused_so _ _ told) (λ s stands.
       let P : Answer → Type 0 = λ x. OfficeStep s.office (try_image image message) x s.office in
       subst P (sym told) (fault_step s.office (try_image image message) (RefusesImage image) greatest_image image f (λ n r. inl r) (λ n l. l) h))
 
   pub try_no_message : (desk : Desk A) (image message : List ℕ) (program : Program) (f : DeskFault) (a : Answer)
       → a ≡ refused_by f → IsGoodImage image program → length image ≤ greatest_image
       → IsFaultOf (IsTooLong message) greatest_message message f
-      → Calls (IsClean is_clean) (StandsFor stood) desk (plain (try_image image message)) a desk
-  try_no_message desk image message program f a told good short h = unchanged desk (try_image image message) a (λ s stands.
+      → Calls (IsClean is_clean) (StandsFor stood) (MayLeave may_leave) keeps desk (plain (try_image image message)) a desk
+  try_no_message desk image message program f a told good short h = unchanged desk (try_image image message) a
+      (λ e. refused_so _ _ told) (λ s stands.
       let P : Answer → Type 0 = λ x. OfficeStep s.office (try_image image message) x s.office in
       subst P (sym told) (fault_step s.office (try_image image message) (IsTooLong message) greatest_message message f
       (λ n long. inr (record { program = program; good = good; long = long.0; is_number = long.1 })) (λ n l.
@@ -143,8 +154,8 @@ module _ {A : Type 0} (is_clean : A → Type 0) (stood : A → Archive → Type 
       → Type 0) (limit : ℕ) (payload : List ℕ) (f : DeskFault) (a : Answer)
       → ((s : Office) (n : ℕ) → Rule n → Refuses s c n)
       → ((s : Office) (n : ℕ) → LacksMemory limit payload n → GivesUp s c n) → a ≡ refused_by f
-      → IsFaultOf Rule limit payload f → Calls (IsClean is_clean) (StandsFor stood) desk (plain c) a desk
-  refused_part desk c Rule limit payload f a refuses lacks told h = unchanged desk c a (λ s stands.
+      → IsFaultOf Rule limit payload f → Calls (IsClean is_clean) (StandsFor stood) (MayLeave may_leave) keeps desk (plain c) a desk
+  refused_part desk c Rule limit payload f a refuses lacks told h = unchanged desk c a (λ e. refused_so _ _ told) (λ s stands.
       let P : Answer → Type 0 = λ x. OfficeStep s.office c x s.office in
       subst P (sym told) (fault_step s.office c Rule limit payload f (refuses s.office) (lacks s.office) h))
 
@@ -152,6 +163,6 @@ module _ {A : Type 0} (is_clean : A → Type 0) (stood : A → Archive → Type 
   pub gave_up : (desk : Desk A) (c : PlainCommand) (limit : ℕ) (payload : List ℕ) (f : DeskFault) (a : Answer)
       → a ≡ refused_by f → f ≡ NoMemory → length payload ≤ limit
       → ((s : Office) (n : ℕ) → LacksMemory limit payload n → GivesUp s c n)
-      → Calls (IsClean is_clean) (StandsFor stood) desk (plain c) a desk
+      → Calls (IsClean is_clean) (StandsFor stood) (MayLeave may_leave) keeps desk (plain c) a desk
   gave_up desk c limit payload f a told is short lacks =
-      unchanged desk c a (λ s stands. lacking s.office c limit payload f a told is short (lacks s.office))
+      unchanged desk c a (λ e. refused_so _ _ told) (λ s stands. lacking s.office c limit payload f a told is short (lacks s.office))

@@ -1,5 +1,5 @@
 -- Outcomes that are filed, and captures that are shown.
-use Rattle.std.proofs.Common.{◌≡◌, ◌↔◌, ℕ, List, map, Bool, true, false, if◌then◌else◌, Option, Some, None, Result, Ok}
+use Rattle.std.proofs.Common.{◌≡◌, ◌↔◌, ◌⊎◌, ℕ, List, map, Bool, true, false, if◌then◌else◌, Option, Some, None, Result, Ok}
 use Rattle.std.proofs.Common.{Err, Vec, inl, inr, refl, ap, sym, ◌∙◌, subst}
 use Rattle.std.specs.Prelude.{IfErr, IsTrue}
 use Rattle.std.specs.Result.{IsErr, IsErrAnd}
@@ -10,7 +10,7 @@ use Rattle.sieve_meaning.specs.Case.{Facts}
 use Rattle.filing_machine.specs.Runs.{Stands}
 use Rattle.record_archive.specs.Archive.{Archive, capture, after_capture, capture_lines, has_room, AreClasses}
 use Rattle.record_archive.specs.Lines.{line_view}
-use Rattle.record_archive.specs.Calls.{CarriesOut, Makes}
+use Rattle.record_archive.specs.Calls.{CarriesOut, KeepsMade, Makes}
 use Rattle.record_archive.specs.Faults.{WhereRefused, number_of}
 use Rattle.record_archive.specs.declared.fault.ArchiveFault.{ArchiveFault}
 use Rattle.record_archive.specs.declared.fault.ArchiveFault.TheVariants.{Refused, Database, NoMemory}
@@ -25,7 +25,7 @@ use Rattle.filing_commands.specs.declared.fault.DeskFault.TheVariants as faults
 use Rattle.filing_commands.specs.declared.results.Capture.{Capture}
 use Rattle.filing_flights.specs.Flights.{IsFound}
 use Rattle.filing_flights.specs.FlightViews.{FlightView, facts_in}
-use Rattle.filing_desk.specs.Filing.{Files, IsArchiveFault, IsNotFiled}
+use Rattle.filing_desk.specs.Filing.{Files, FilesSafely, IsArchiveFault, IsNotFiled}
 use Rattle.filing_desk.specs.Standing.{IsShownBy}
 use Rattle.filing_desk.proofs.FlightLemmas.{none_found}
 use Rattle.filing_desk.proofs.ArchiveLemmas.{told}
@@ -63,7 +63,8 @@ reason a body day classes NoMemory refuses = record { number = 99; told = refl; 
 abbrev AreLines : ℕ → List (List ℕ) → Archive → Vec Line Global → Type 0
 AreLines day classes a lines = map line_view lines.items ≡ capture_lines a day classes
 
-module _ {A : Type 0} (is_clean : A → Type 0) (stood : A → Archive → Type 0) where
+module _ {A I : Type 0} (is_clean : A → Type 0) (stood : A → Archive → Type 0) (may_leave : A → I → Type 0)
+    (keeps : I → Archive → Type 0) where
   pub files_fault : (old new : A) (body : List ℕ) (day : ℕ) (classes : List (List ℕ))
       (result : Result (Vec Line Global) DeskFault) (f : DeskFault) → IsErr result → IsErrAnd result (λ x. x ≡ f)
       → Files is_clean stood old new body day classes (Err f) → Files is_clean stood old new body day classes result
@@ -87,7 +88,7 @@ module _ {A : Type 0} (is_clean : A → Type 0) (stood : A → Archive → Type 
 
   pub file_refused : {E : Type 0} (old new : A) (body said : List ℕ) (day on : ℕ) (classes asked : List (List ℕ))
       (f : ArchiveFault E) → said ≡ body → on ≡ day → asked ≡ classes
-      → CarriesOut {E = E} is_clean stood old new (λ a. capture a said on asked) (AreLines on asked) (Err f)
+      → CarriesOut {E = E} is_clean stood may_leave keeps old new (λ a. capture a said on asked) (AreLines on asked) (Err f)
       → Files is_clean stood old new body day classes (Err (archive_fault f))
   file_refused old new body said day on classes asked f b d c call = λ a stands are.
       let h = call.does a stands in
@@ -96,13 +97,49 @@ module _ {A : Type 0} (is_clean : A → Type 0) (stood : A → Archive → Type 
 
   pub file_done : {E : Type 0} (old new : A) (body said : List ℕ) (day on : ℕ) (classes asked : List (List ℕ))
       (lines : Vec Line Global) → said ≡ body → on ≡ day → asked ≡ classes
-      → CarriesOut {E = E} is_clean stood old new (λ a. capture a said on asked) (AreLines on asked) (Ok lines)
+      → CarriesOut {E = E} is_clean stood may_leave keeps old new (λ a. capture a said on asked) (AreLines on asked) (Ok lines)
       → Files is_clean stood old new body day classes (Ok lines)
   file_done old new body said day on classes asked lines b d c call = λ clean a stands.
       let h = call.does clean a stands in
       let same : capture a said on asked ≡ capture a body day classes = λ i. capture a (b i) (d i) (c i) in
       let told_same : capture_lines a on asked ≡ capture_lines a day classes = λ i. capture_lines a (d i) (c i) in
       (subst (Makes (stood new)) same h.0, h.1 ∙ told_same)
+
+  -- nothing was asked of the archive
+  pub safe_same : (store : A) (body : List ℕ) (day : ℕ) (classes : List (List ℕ)) (result : Result (Vec Line Global) DeskFault)
+      → IsErr result → FilesSafely is_clean stood may_leave keeps store store body day classes result
+  safe_same store body day classes (Err e) is = record { crash = λ clean a stands image may. inl may; kept = tt }
+  safe_same store body day classes (Ok v) is = absurd (false≢true is)
+
+  safe_call : {E : Type 0} (old new : A) (body said : List ℕ) (day on : ℕ) (classes asked : List (List ℕ))
+      (asked_result : Result (Vec Line Global) (ArchiveFault E)) → said ≡ body → on ≡ day → asked ≡ classes
+      → CarriesOut {E = E} is_clean stood may_leave keeps old new (λ a. capture a said on asked) (AreLines on asked) asked_result
+      → is_clean new → (a : Archive) → stood old a → (image : I) → may_leave new image
+      → may_leave old image ⊎ KeepsMade keeps image (capture a body day classes)
+  safe_call old new body said day on classes asked asked_result b d c call clean a stands image may =
+      let P : Result Archive ArchiveRefusal → Type 0 = λ r. KeepsMade keeps image r in
+      let same : capture a said on asked ≡ capture a body day classes = λ i. capture a (b i) (d i) (c i) in
+      elim (call.crash clean a stands image may) [ inl before ↦ inl before | inr made ↦ inr (subst P same made) ]
+
+  pub safe_refused : {E : Type 0} (old new : A) (body said : List ℕ) (day on : ℕ) (classes asked : List (List ℕ))
+      (f : ArchiveFault E) (result : Result (Vec Line Global) DeskFault) → IsErr result → said ≡ body → on ≡ day → asked ≡ classes
+      → CarriesOut {E = E} is_clean stood may_leave keeps old new (λ a. capture a said on asked) (AreLines on asked) (Err f)
+      → FilesSafely is_clean stood may_leave keeps old new body day classes result
+  safe_refused old new body said day on classes asked f (Err e) is b d c call =
+      record { crash = safe_call old new body said day on classes asked (Err f) b d c call; kept = tt }
+  safe_refused old new body said day on classes asked f (Ok v) is b d c call = absurd (false≢true is)
+
+  pub safe_done : {E : Type 0} (old new : A) (body said : List ℕ) (day on : ℕ) (classes asked : List (List ℕ))
+      (lines : Vec Line Global) → said ≡ body → on ≡ day → asked ≡ classes
+      → CarriesOut {E = E} is_clean stood may_leave keeps old new (λ a. capture a said on asked) (AreLines on asked) (Ok lines)
+      → FilesSafely is_clean stood may_leave keeps old new body day classes (Ok lines)
+  safe_done old new body said day on classes asked lines b d c call = record {
+    crash = safe_call old new body said day on classes asked (Ok lines) b d c call;
+    kept = λ clean a stands image may.
+        let P : Result Archive ArchiveRefusal → Type 0 = λ r. KeepsMade keeps image r in
+        let same : capture a said on asked ≡ capture a body day classes = λ i. capture a (b i) (d i) (c i) in
+        subst P same (call.kept clean a stands image may);
+  }
 
 -- ---- captures that are shown
 

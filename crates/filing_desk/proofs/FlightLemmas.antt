@@ -11,27 +11,29 @@ use Rattle.class_plan.specs.Plans.{Listing}
 use Rattle.sieve_meaning.specs.declared.outcome.Outcome.{Outcome}
 use Rattle.sieve_meaning.specs.Case.{Facts}
 use Rattle.filing_case.specs.Message.{is_among}
+use Rattle.record_archive.specs.Archive as archives
 use Rattle.record_archive.specs.Archive.{Archive, IsArchive, capture, capture_lines}
 use Rattle.record_archive.specs.Lines.{line_view}
-use Rattle.record_archive.specs.Calls.{Makes}
+use Rattle.record_archive.specs.Calls.{KeepsMade, Makes}
 use Rattle.record_archive.specs.declared.fault.ArchiveRefusal.{ArchiveRefusal}
 use Rattle.record_archive.specs.declared.fault.ArchiveRefusal.TheVariants.{Full}
 use Rattle.record_archive.specs.declared.line.Line.{Line}
 use Rattle.filing_commands.specs.Answers.{Answer, captured, refused}
 use Rattle.filing_commands.specs.ArchiveAnswers.{is_of_archive, is_refused_outside}
-use Rattle.filing_commands.specs.Calls.{Calls}
+use Rattle.filing_commands.specs.Calls.{Calls, KeepsOne}
 use Rattle.filing_commands.specs.Faults.{refused_by}
 use Rattle.filing_commands.specs.Office.{with_archive}
-use Rattle.filing_commands.specs.Standing.{Standing, Flight, Step, FinishStep, flight_of, grant, with_turns, without, turn, finish}
+use Rattle.filing_commands.specs.Standing.{Standing, Flight, Step, FinishStep, flight_of, grant, is_refusal, with_turns, without, turn, finish}
 use Rattle.filing_commands.specs.declared.fault.DeskFault.{DeskFault}
 use Rattle.filing_flights.specs.Flights.{AreHeld, Finds, IsFound, Removes, Turns}
 use Rattle.filing_flights.specs.FlightViews.{FlightView, Holds, IsClass, IsOutcome, TellsEnd}
 use Rattle.filing_flights.specs.Laws.{CapturesHaveClasses, HasOpen}
 use Rattle.filing_officers.specs.Register.{office_of}
-use Rattle.filing_desk.specs.Filing.{Files, IsArchiveFault, IsNotFiled}
-use Rattle.filing_desk.specs.Standing.{AreOpenPaths, HasPathsOf, IsClean, StandsFor}
+use Rattle.filing_desk.specs.Filing.{Files, FilesSafely, IsArchiveFault, IsNotFiled}
+use Rattle.filing_desk.specs.Standing.{AreOpenPaths, HasPathsOf, IsClean, MayLeave, StandsFor}
 use Rattle.filing_desk.specs.declared.desk.Desk.{Desk}
 use Rattle.filing_desk.proofs.ClassLemmas.{captured_plan}
+use Rattle.filing_desk.proofs.StepLemmas.{Crashes, no_stay, refused_so, untouched}
 
 -- ---- flights
 
@@ -88,7 +90,8 @@ early_flag x f b tells holds e = go (nat_lt f.granted f.run_length) (sym (tells 
     go true h = refl
     go false h = absurd cc
 
-module _ {A : Type 0} (is_clean : A → Type 0) (stood : A → Archive → Type 0) where
+module _ {A I : Type 0} (is_clean : A → Type 0) (stood : A → Archive → Type 0) (may_leave : A → I → Type 0)
+    (keeps : I → Archive → Type 0) where
   -- the desk represents the state with other flights
   pub reflies : (old new : Desk A) (s : Standing) (fs : List Flight) (n : ℕ) → new.store ≡ old.store
       → new.officers ≡ old.officers → new.last ≡ n → AreOpenPaths new.open_paths s.office.archive.plan
@@ -111,7 +114,7 @@ module _ {A : Type 0} (is_clean : A → Type 0) (stood : A → Archive → Type 
   -- turns are granted
   pub turned_by : (old new : Desk A) (t k : ℕ) (a : Answer) → new.store ≡ old.store → new.officers ≡ old.officers
       → new.last ≡ old.last → new.open_paths ≡ old.open_paths → Turns old.flights t k a new.flights
-      → Calls (IsClean is_clean) (StandsFor stood) old (turn t k) a new
+      → Calls (IsClean is_clean) (StandsFor stood) (MayLeave may_leave) keeps old (turn t k) a new
   unfolding Step
   turned_by old new t k a es eo el ep turns = record {
     was_clean = cleans old new es;
@@ -126,30 +129,34 @@ module _ {A : Type 0} (is_clean : A → Type 0) (stood : A → Archive → Type 
               (granted_classes s.office.archive.plan t h.made s.flights stands.classes);
         };
     unchanged = λ from_archive. absurd (false≢true from_archive);
+    crash = untouched is_clean stood may_leave keeps old new (turn t k) es;
+    kept = λ from_archive. absurd (false≢true from_archive);
   }
 
   -- nothing is finished
-  finish_same : (desk : Desk A) (t : ℕ) (a : Answer)
+  finish_same : (desk : Desk A) (t : ℕ) (a : Answer) → is_refusal a ≡ true
       → ((s : Standing) → StandsFor stood desk s → FinishStep s t (flight_of t s.flights) a s)
-      → Calls (IsClean is_clean) (StandsFor stood) desk (finish t) a desk
+      → Calls (IsClean is_clean) (StandsFor stood) (MayLeave may_leave) keeps desk (finish t) a desk
   unfolding Step
-  finish_same desk t a step = record {
+  finish_same desk t a is step = record {
     was_clean = λ clean. clean;
     leads = λ sure s stands. record { to = s; is_one = step s stands; there = stands };
     unchanged = λ from_archive refused s stands. stands;
+    crash = untouched is_clean stood may_leave keeps desk desk (finish t) refl;
+    kept = λ from_archive other. no_stay is_clean stood may_leave keeps desk desk (finish t) a is other;
   }
 
   -- no capture in flight has the ticket
   pub finish_none : (desk : Desk A) (t : ℕ) → Finds desk.flights t None
-      → Calls (IsClean is_clean) (StandsFor stood) desk (finish t) (refused 91 None) desk
-  finish_none desk t finds = finish_same desk t (refused 91 None) (λ s stands.
+      → Calls (IsClean is_clean) (StandsFor stood) (MayLeave may_leave) keeps desk (finish t) (refused 91 None) desk
+  finish_none desk t finds = finish_same desk t (refused 91 None) refl (λ s stands.
       let P : Option Flight → Type 0 = λ o. FinishStep s t o (refused 91 None) s in
       subst P (sym (none_found (flight_of t s.flights) (finds s.flights stands.flights))) (refl, refl))
 
   -- a capture that has not come to its end
   pub finish_early : (desk : Desk A) (t : ℕ) (x : FlightView) (b : Bool) → Finds desk.flights t (Some x) → TellsEnd x b
-      → b ≡ false → Calls (IsClean is_clean) (StandsFor stood) desk (finish t) (refused 92 None) desk
-  finish_early desk t x b finds tells e = finish_same desk t (refused 92 None) (λ s stands.
+      → b ≡ false → Calls (IsClean is_clean) (StandsFor stood) (MayLeave may_leave) keeps desk (finish t) (refused 92 None) desk
+  finish_early desk t x b finds tells e = finish_same desk t (refused 92 None) refl (λ s stands.
       let f = some_found (flight_of t s.flights) x (finds s.flights stands.flights) in
       let early = early_flag x f.0 b tells f.2 e in
       rw (f.1, early) (refl, refl))
@@ -157,8 +164,8 @@ module _ {A : Type 0} (is_clean : A → Type 0) (stood : A → Archive → Type 
   -- there is no memory for the outcome
   pub finish_poor : (desk : Desk A) (t : ℕ) (x : FlightView) (b : Bool) (a : Answer) → Finds desk.flights t (Some x)
       → TellsEnd x b → b ≡ true → a ≡ refused 99 None
-      → Calls (IsClean is_clean) (StandsFor stood) desk (finish t) a desk
-  finish_poor desk t x b a finds tells e told = finish_same desk t a (λ s stands.
+      → Calls (IsClean is_clean) (StandsFor stood) (MayLeave may_leave) keeps desk (finish t) a desk
+  finish_poor desk t x b a finds tells e told = finish_same desk t a (ap is_refusal told) (λ s stands.
       let f = some_found (flight_of t s.flights) x (finds s.flights stands.flights) in
       let ended = ended_flag x f.0 b tells f.2 e in
       rw (f.1, ended) (inr (99, inl refl, told, refl)))
@@ -218,17 +225,65 @@ module _ {A : Type 0} (is_clean : A → Type 0) (stood : A → Archive → Type 
       let T : Option Flight → Type 0 = λ y. FinishStep s t y (refused number None) s in
       subst R (sym why.told) (subst T (sym here) step)
 
+  -- the state after a capture was made whole
+  abbrev after_capture_of : Standing → ℕ → Archive → Standing
+  after_capture_of s t now = record { office = with_archive s.office now; flights = without t s.flights; last = s.last }
+
+  -- the capture of a flight that has come to its end is whole
+  filed_step : (s : Standing) (t : ℕ) (x : FlightView) (f : Flight) (b : Bool) (o : Outcome) (now : Archive) (lines : List archives.Line)
+      → flight_of t s.flights ≡ Some f → Holds x f → TellsEnd x b → b ≡ true → IsOutcome x o
+      → capture s.office.archive x.message (number_of_day x.day) o.classes ≡ Ok now
+      → lines ≡ capture_lines s.office.archive (number_of_day x.day) o.classes
+      → Step s (finish t) (captured o.fault lines) (after_capture_of s t now)
+  unfolding Step
+  filed_step s t x f b o now lines here holds tells e alone made told =
+      let ended = ended_flag x f b tells holds e in
+      let was = s.office.archive in
+      let D : ℕ → Type 0 = λ d. (capture was x.message d o.classes ≡ Ok now) × (lines ≡ capture_lines was d o.classes) in
+      let C : List ℕ → Type 0 = λ m. capture was m f.at_begin.day o.classes ≡ Ok now in
+      let dated = subst D (of_flight x f s holds) (made, told) in
+      let answer = captured o.fault lines in
+      let step : FinishStep s t (Some f) answer (after_capture_of s t now) =
+      rw ended (inl (now, (o, alone f holds, refl, subst C holds.message dated.0, dated.1), refl)) in
+      let T : Option Flight → Type 0 = λ y. FinishStep s t y answer (after_capture_of s t now) in
+      subst T (sym here) step
+
+  -- what a crash leaves of the capture keeps the archive that it makes
+  keeps_filed : (s : Standing) (t : ℕ) (x : FlightView) (f : Flight) (b : Bool) (o : Outcome) (image : I) (lines : List archives.Line)
+      → flight_of t s.flights ≡ Some f → Holds x f → TellsEnd x b → b ≡ true → IsOutcome x o
+      → lines ≡ capture_lines s.office.archive (number_of_day x.day) o.classes
+      → KeepsMade keeps image (capture s.office.archive x.message (number_of_day x.day) o.classes)
+      → KeepsOne keeps image (Step s (finish t) (captured o.fault lines))
+  keeps_filed s t x f b o image lines here holds tells e alone told made = record {
+    to = after_capture_of s t made.0;
+    is_one = filed_step s t x f b o made.0 lines here holds tells e alone made.1 told;
+    kept = made.2;
+  }
+
+  crashes_filed : (old new : Desk A) (t : ℕ) (x : FlightView) (b : Bool) (o : Outcome) (result : Result (Vec Line Global) DeskFault)
+      → Finds old.flights t (Some x) → TellsEnd x b → b ≡ true → IsOutcome x o
+      → FilesSafely is_clean stood may_leave keeps old.store new.store x.message (number_of_day x.day) o.classes result
+      → Crashes is_clean stood may_leave keeps old new (finish t)
+  crashes_filed old new t x b o result finds tells e alone safe clean s stands image may =
+      let here = some_found (flight_of t s.flights) x (finds s.flights stands.flights) in
+      let lines = capture_lines s.office.archive (number_of_day x.day) o.classes in
+      elim (safe.crash clean s.office.archive stands.store image may) [
+        | inl before ↦ inl before
+        | inr made ↦ inr (captured o.fault lines, keeps_filed s t x here.0 b o image lines here.1 here.2 tells e alone refl made)
+      ]
+
   -- nothing is filed
   pub finish_refused : CapturesHaveClasses → ((x : A) (a : Archive) → stood x a → IsArchive a)
       → (old new : Desk A) (t : ℕ) (x : FlightView) (b : Bool) (o : Outcome) (f : DeskFault) (a : Answer)
       → Finds old.flights t (Some x) → TellsEnd x b → b ≡ true → IsOutcome x o → IsIncreasing o.classes
       → All (IsClass x) o.classes
       → Files is_clean stood old.store new.store x.message (number_of_day x.day) o.classes (Err f) → IsArchiveFault f
+      → FilesSafely is_clean stood may_leave keeps old.store new.store x.message (number_of_day x.day) o.classes (Err f)
       → (is_clean new.store → is_clean old.store) → new.officers ≡ old.officers → new.flights ≡ old.flights
       → new.last ≡ old.last → new.open_paths ≡ old.open_paths → a ≡ refused_by f
-      → Calls (IsClean is_clean) (StandsFor stood) old (finish t) a new
+      → Calls (IsClean is_clean) (StandsFor stood) (MayLeave may_leave) keeps old (finish t) a new
   unfolding Step
-  finish_refused are_classes is_archive old new t x b o f a finds tells e alone up each files fault falls eo ef el ep told = record {
+  finish_refused are_classes is_archive old new t x b o f a finds tells e alone up each files fault safe falls eo ef el ep told = record {
     was_clean = falls;
     leads = λ sure s stands.
         let here = some_found (flight_of t s.flights) x (finds s.flights stands.flights) in
@@ -239,6 +294,8 @@ module _ {A : Type 0} (is_clean : A → Type 0) (stood : A → Archive → Type 
         let step = not_filed_step s t x here.0 b o f here.1 here.2 tells e alone fault (λ inside. stays.1 (sure (from_archive inside))) in
         record { to = s; is_one = subst R (sym told) step; there = stays.0 };
     unchanged = λ from_archive refused s stands. (finish_stays are_classes is_archive old new t x o f finds up each files eo ef el ep s stands).0;
+    crash = crashes_filed old new t x b o (Err f) finds tells e alone safe;
+    kept = λ from_archive other. no_stay is_clean stood may_leave keeps old new (finish t) a (refused_so _ _ told) other;
   }
 
   becomes : (new : A) (r : Result Archive ArchiveRefusal) → Makes (stood new) r → (b : Archive) × (r ≡ Ok b) × stood new b
@@ -249,31 +306,26 @@ module _ {A : Type 0} (is_clean : A → Type 0) (stood : A → Archive → Type 
   pub finish_done : (old new : Desk A) (t : ℕ) (x : FlightView) (b : Bool) (o : Outcome) (lines : Vec Line Global)
       → Finds old.flights t (Some x) → TellsEnd x b → b ≡ true → IsOutcome x o
       → Files is_clean stood old.store new.store x.message (number_of_day x.day) o.classes (Ok lines)
+      → FilesSafely is_clean stood may_leave keeps old.store new.store x.message (number_of_day x.day) o.classes (Ok lines)
       → (is_clean new.store → is_clean old.store) → new.officers ≡ old.officers → Removes old.flights t new.flights
       → new.last ≡ old.last → new.open_paths ≡ old.open_paths
-      → Calls (IsClean is_clean) (StandsFor stood) old (finish t) (captured o.fault (map line_view lines.items)) new
+      → Calls (IsClean is_clean) (StandsFor stood) (MayLeave may_leave) keeps old (finish t) (captured o.fault (map line_view lines.items)) new
   unfolding Step
-  finish_done old new t x b o lines finds tells e alone files falls eo removes el ep = record {
+  finish_done old new t x b o lines finds tells e alone files safe falls eo removes el ep = record {
     was_clean = falls;
     leads = λ sure s stands.
         let clean : is_clean new.store = sure refl in
         let here = some_found (flight_of t s.flights) x (finds s.flights stands.flights) in
-        let flight = here.0 in
-        let ended = ended_flag x flight b tells here.2 e in
         let was = s.office.archive in
+        let day = number_of_day x.day in
         let h = files clean was stands.store in
-        let D : ℕ → Type 0 = λ d. Makes (stood new.store) (capture was x.message d o.classes)
-        × (map line_view lines.items ≡ capture_lines was d o.classes) in
-        let C : List ℕ → Type 0 = λ m. Makes (stood new.store) (capture was m flight.at_begin.day o.classes) in
-        let dated = subst D (of_flight x flight s here.2) h in
-        let made = becomes new.store (capture was flight.at_begin.message flight.at_begin.day o.classes) (subst C here.2.message dated.0) in
+        let made = becomes new.store (capture was x.message day o.classes) h.0 in
         let now = made.0 in
-        let same : now.plan ≡ was.plan = captured_plan was now flight.at_begin.message flight.at_begin.day o.classes made.1 in
-        let left = without t s.flights in
+        let same : now.plan ≡ was.plan = captured_plan was now x.message day o.classes made.1 in
         let P : Option (List (List ℕ)) → Type 0 = λ y. AreOpenPaths y now.plan in
         let Q : Listing → Type 0 = λ p. AreOpenPaths old.open_paths p in
-        let U : Listing → Type 0 = λ p. AllByRecursion (HasPathsOf p) left in
-        let there : StandsFor stood new (record { office = with_archive s.office now; flights = left; last = s.last }) = record {
+        let U : Listing → Type 0 = λ p. AllByRecursion (HasPathsOf p) (without t s.flights) in
+        let there : StandsFor stood new (after_capture_of s t now) = record {
           store = made.2;
           officers = ap (λ y. office_of now y) eo ∙ ap (λ y. with_archive y now) stands.officers;
           flights = removes s.flights stands.flights;
@@ -281,10 +333,12 @@ module _ {A : Type 0} (is_clean : A → Type 0) (stood : A → Archive → Type 
           open_paths = subst P (sym ep) (subst Q (sym same) stands.open_paths);
           classes = subst U (sym same) (left_classes was.plan t s.flights stands.classes);
         } in
-        let answer = captured o.fault (map line_view lines.items) in
-        let to : Standing = record { office = with_archive s.office now; flights = left; last = s.last } in
-        let step : FinishStep s t (Some flight) answer to = rw ended (inl (now, (o, alone flight here.2, refl, made.1, dated.1), refl)) in
-        let T : Option Flight → Type 0 = λ y. FinishStep s t y answer to in
-        record { to = to; is_one = subst T (sym here.1) step; there = there };
+        let step = filed_step s t x here.0 b o now (map line_view lines.items) here.1 here.2 tells e alone made.1 h.1 in
+        record { to = after_capture_of s t now; is_one = step; there = there };
     unchanged = λ from_archive refused. absurd (false≢true refused);
+    crash = crashes_filed old new t x b o (Ok lines) finds tells e alone safe;
+    kept = λ from_archive told clean s stands image may.
+        let here = some_found (flight_of t s.flights) x (finds s.flights stands.flights) in
+        keeps_filed s t x here.0 b o image (map line_view lines.items) here.1 here.2 tells e alone
+        (files clean s.office.archive stands.store).1 (safe.kept clean s.office.archive stands.store image may);
   }

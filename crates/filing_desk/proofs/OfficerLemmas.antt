@@ -7,6 +7,7 @@ use Rattle.sieve_meaning.specs.Program.{Commands}
 use Rattle.sieve_meaning.specs.Reading.{program_of}
 use Rattle.record_archive.specs.Archive.{Archive}
 use Rattle.filing_commands.specs.Answers.{Answer, done}
+use Rattle.filing_commands.specs.ArchiveAnswers.{is_for_archive, is_of_archive}
 use Rattle.filing_commands.specs.Calls.{Calls}
 use Rattle.filing_commands.specs.Faults.{refused_by}
 use Rattle.filing_commands.specs.Limits.{greatest_script}
@@ -20,9 +21,9 @@ use Rattle.filing_commands.specs.declared.fault.DeskFault.TheVariants.{LibraryFu
 use Rattle.filing_flights.specs.Flights.{AreHeld}
 use Rattle.filing_flights.specs.FlightViews.{FlightView}
 use Rattle.filing_officers.specs.Register.{office_of, officer_at}
-use Rattle.filing_desk.specs.Standing.{AreOpenPaths, HasPathsOf, IsClean, StandsFor}
+use Rattle.filing_desk.specs.Standing.{AreOpenPaths, HasPathsOf, IsClean, MayLeave, StandsFor}
 use Rattle.filing_desk.specs.declared.desk.Desk.{Desk}
-use Rattle.filing_desk.proofs.StepLemmas.{plain_calls}
+use Rattle.filing_desk.proofs.StepLemmas.{plain_calls, untouched}
 
 -- ---- steps of the office
 
@@ -85,7 +86,12 @@ activate_refused s officer name o f same (inr poor) none exact =
     let there : is_some (script_at name o.scripts) ≡ true = has_script (is_some (script_at name o.scripts)) f poor exact in
     subst Q (sym poor) (inr (99, (refl, subst P same there), refl, refl))
 
-module _ {A : Type 0} (is_clean : A → Type 0) (stood : A → Archive → Type 0) where
+-- a command that the archive does not carry out is not answered by it
+not_of_archive : (c : PlainCommand) (a : Answer) → is_for_archive c ≡ false → is_of_archive (plain c) a ≡ false
+not_of_archive c a apart = rw apart refl
+
+module _ {A I : Type 0} (is_clean : A → Type 0) (stood : A → Archive → Type 0) (may_leave : A → I → Type 0)
+    (keeps : I → Archive → Type 0) where
   -- the desk is as it was, except for its officers
   pub record KeepsOthers (old new : Desk A) : Type 0 where
     pub store : new.store ≡ old.store
@@ -117,25 +123,28 @@ module _ {A : Type 0} (is_clean : A → Type 0) (stood : A → Archive → Type 
   cleans old new same clean = let P : A → Type 0 = λ x. is_clean x in subst P same clean
 
   -- something is set
-  pub set_by : (old new : Desk A) (c : PlainCommand) (change : Office → Office) → KeepsOthers old new
+  pub set_by : (old new : Desk A) (c : PlainCommand) (change : Office → Office) → is_for_archive c ≡ false → KeepsOthers old new
       → ((s : Office) → (change s).archive ≡ s.archive)
       → ((a : Archive) → office_of a new.officers ≡ change (office_of a old.officers))
       → ((s : Standing) → StandsFor stood old s → Settles s.office c (change s.office))
-      → Calls (IsClean is_clean) (StandsFor stood) old (plain c) done new
-  set_by old new c change rest keeps is settles = plain_calls is_clean stood old new c done (cleans old new rest.store) (λ sure s stands. (
+      → Calls (IsClean is_clean) (StandsFor stood) (MayLeave may_leave) keeps old (plain c) done new
+  set_by old new c change apart rest same is settles = plain_calls is_clean stood may_leave keeps old new c done (cleans old new rest.store) (λ sure s stands. (
     change s.office,
     inl (settles s stands),
-    resets old new s (change s.office) rest stands (keeps s.office) (is s.office.archive
+    resets old new s (change s.office) rest stands (same s.office) (is s.office.archive
         ∙ ap change stands.officers),
-  )) (λ refused. absurd (false≢true refused))
+  )) (λ refused. absurd (false≢true refused)) (untouched is_clean stood may_leave keeps old new (plain c) rest.store)
+      (λ from_archive. absurd (false≢true (sym (not_of_archive c done apart) ∙ from_archive)))
 
   -- nothing is set
-  pub not_set : (old new : Desk A) (c : PlainCommand) (a : Answer) → KeepsOthers old new → new.officers ≡ old.officers
+  pub not_set : (old new : Desk A) (c : PlainCommand) (a : Answer) → is_for_archive c ≡ false → KeepsOthers old new → new.officers ≡ old.officers
       → ((s : Standing) → StandsFor stood old s → OfficeStep s.office c a s.office)
-      → Calls (IsClean is_clean) (StandsFor stood) old (plain c) a new
-  not_set old new c a rest same step =
-      plain_calls is_clean stood old new c a (cleans old new rest.store) (λ sure s stands.
+      → Calls (IsClean is_clean) (StandsFor stood) (MayLeave may_leave) keeps old (plain c) a new
+  not_set old new c a apart rest same step =
+      plain_calls is_clean stood may_leave keeps old new c a (cleans old new rest.store) (λ sure s stands.
       (s.office, step s stands, stays s stands)) (λ refused s stands. stays s stands)
+      (untouched is_clean stood may_leave keeps old new (plain c) rest.store)
+      (λ from_archive. absurd (false≢true (sym (not_of_archive c a apart) ∙ from_archive)))
     where
       stays : (s : Standing) → StandsFor stood old s → StandsFor stood new s
       stays s stands = resets old new s s.office rest stands refl (ap (λ x. office_of s.office.archive x) same ∙ stands.officers)

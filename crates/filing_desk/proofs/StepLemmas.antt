@@ -1,29 +1,29 @@
 -- Calls of a desk that have nothing to do with captures in flight.
-use Rattle.std.proofs.Common.{◌≡◌, ℕ, List, [], ◌∷◌, Bool, true, false, not, if◌then◌else◌, Option, None, Result, Ok}
+use Rattle.std.proofs.Common.{◌≡◌, ℕ, List, [], ◌∷◌, Bool, true, false, not, if◌then◌else◌, Option, None, Result, Ok, ◌⊎◌}
 use Rattle.std.proofs.Common.{Err, inl, inr, refl, ap, sym, ◌∙◌, subst}
 use Rattle.std.specs.Result.{IsErr, IsErrAnd}
 use Rattle.std.proofs.lemmas.Bool.{false≢true}
 use Rattle.std.specs.List.{AllByRecursion}
 use Rattle.class_plan.specs.Plans.{Listing, has}
 use Rattle.record_archive.specs.Archive.{Archive, IsArchive}
-use Rattle.record_archive.specs.Calls.{CarriesOut, Makes, Quietly}
+use Rattle.record_archive.specs.Calls.{CarriesOut, KeepsMade, Makes, Quietly}
 use Rattle.record_archive.specs.Faults.{WhereRefused, number_of}
 use Rattle.record_archive.specs.declared.fault.ArchiveFault.{ArchiveFault}
 use Rattle.record_archive.specs.declared.fault.ArchiveFault.TheVariants.{Refused, Database, NoMemory}
 use Rattle.record_archive.specs.declared.fault.ArchiveRefusal.{ArchiveRefusal}
 use Rattle.filing_commands.specs.Answers.{Answer, done, refused}
 use Rattle.filing_commands.specs.ArchiveAnswers.{is_for_archive, is_of_archive, is_refused_outside}
-use Rattle.filing_commands.specs.Calls.{Calls}
+use Rattle.filing_commands.specs.Calls.{Calls, KeepsOne}
 use Rattle.filing_commands.specs.Faults.{refused_by, refusal_fault, archive_fault}
 use Rattle.filing_commands.specs.Office.{Office, PlainCommand, OfficeStep, Settles, Refuses, GivesUp, IsMade, IsRefused, IsTrouble, with_archive}
-use Rattle.filing_commands.specs.Standing.{Standing, Flight, Step, plain, is_refusal}
+use Rattle.filing_commands.specs.Standing.{Standing, Command, Flight, Step, plain, is_refusal}
 use Rattle.filing_commands.specs.CallAnswers.{answer_of_done}
 use Rattle.filing_commands.specs.declared.fault.DeskFault.{DeskFault}
 use Rattle.filing_flights.specs.Flights.{AreHeld}
 use Rattle.filing_flights.specs.FlightViews.{FlightView}
 use Rattle.filing_officers.specs.Register.{office_of}
 use Rattle.filing_desk.specs.Filing.{IsArchiveFault}
-use Rattle.filing_desk.specs.Standing.{AreOpenPaths, HasPathsOf, IsClean, StandsFor}
+use Rattle.filing_desk.specs.Standing.{AreOpenPaths, HasPathsOf, IsClean, MayLeave, StandsFor}
 use Rattle.filing_desk.specs.declared.desk.Desk.{Desk}
 use Rattle.filing_desk.proofs.ArchiveLemmas.{fault_told, told, no_place}
 
@@ -81,31 +81,57 @@ either_step : {E : Type 0} (s : Office) (c : PlainCommand) (command : Archive
 either_step s c command f is (inl trouble) refuses = inr (trouble.0, is.gives_up s trouble.0 trouble.1, trouble.2, refl)
 either_step s c command f is (inr inside) refuses = refused_step s c command f is (refuses inside)
 
+-- an answer to a fault is a refusal
+pub refused_so : (a : Answer) (f : DeskFault) → a ≡ refused_by f → is_refusal a ≡ true
+refused_so a f told = ap is_refusal told
+
 -- a plan that drops no class has the classes of flights
 still_classes : (p q : Listing) (fs : List Flight) → ((x : List ℕ) → has p.rows x ≡ true → has q.rows x ≡ true)
     → AllByRecursion (HasPathsOf p) fs → AllByRecursion (HasPathsOf q) fs
 still_classes p q [] keeps all = tt
 still_classes p q (f ∷ fs) keeps all = ((λ x there. keeps x (all.0 x there)), still_classes p q fs keeps all.1)
 
-module _ {A : Type 0} (is_clean : A → Type 0) (stood : A → Archive → Type 0) where
+module _ {A I : Type 0} (is_clean : A → Type 0) (stood : A → Archive → Type 0) (may_leave : A → I → Type 0)
+    (keeps : I → Archive → Type 0) where
   -- the desk is as it was, except for its store and the paths that it keeps
   pub record KeepsRest (old new : Desk A) : Type 0 where
     pub officers : new.officers ≡ old.officers
     pub flights : new.flights ≡ old.flights
     pub last : new.last ≡ old.last
 
+  -- a crash leaves what it might have left before, or the archive that the command makes
+  abbrev pub Crashes : (old new : Desk A) → Command → Type 0
+  Crashes old new c = is_clean new.store → (s : Standing) → StandsFor stood old s → (image : I) → may_leave new.store image
+      → may_leave old.store image ⊎ ((answer : Answer) × KeepsOne keeps image (Step s c answer))
+
+  -- what a crash leaves keeps the archive of a state to which the command leads by this answer
+  abbrev pub Stays : (old new : Desk A) → Command → Answer → Type 0
+  Stays old new c a = is_clean new.store → (s : Standing) → StandsFor stood old s → (image : I) → may_leave new.store image
+      → KeepsOne keeps image (Step s c a)
+
+  -- the archive is not touched
+  pub untouched : (old new : Desk A) (c : Command) → new.store ≡ old.store → Crashes old new c
+  untouched old new c same clean s stands image may = inl (let P : A → Type 0 = λ x. may_leave x image in subst P same may)
+
+  -- it is refused, so that nothing is said of it
+  pub no_stay : (old new : Desk A) (c : Command) (a : Answer) → is_refusal a ≡ true → is_refusal a ≡ false → Stays old new c a
+  no_stay old new c a is other = absurd (false≢true (sym other ∙ is))
+
   pub plain_calls : (old new : Desk A) (c : PlainCommand) (a : Answer) → (is_clean new.store → is_clean old.store)
       → ((is_of_archive (plain c) a ≡ true → is_clean new.store) → (s : Standing) → StandsFor stood old s → (b : Office)
       × OfficeStep s.office c a b × StandsFor stood new (record s { office = b }))
       → (is_refusal a ≡ true → (s : Standing) → StandsFor stood old s → StandsFor stood new s)
-      → Calls (IsClean is_clean) (StandsFor stood) old (plain c) a new
+      → Crashes old new (plain c) → (is_of_archive (plain c) a ≡ true → is_refusal a ≡ false → Stays old new (plain c) a)
+      → Calls (IsClean is_clean) (StandsFor stood) (MayLeave may_leave) keeps old (plain c) a new
   unfolding Step
-  plain_calls old new c a falls leads keeps = record {
+  plain_calls old new c a falls leads holds crashes stays = record {
     was_clean = falls;
     leads = λ sure s stands.
         let l = leads sure s stands in
         record { to = record s { office = l.0 }; is_one = (l.0, l.1, refl); there = l.2 };
-    unchanged = λ from_archive refused. keeps refused;
+    unchanged = λ from_archive refused. holds refused;
+    crash = crashes;
+    kept = stays;
   }
 
   -- the desk represents the state with the archive that its store represents now
@@ -134,12 +160,42 @@ module _ {A : Type 0} (is_clean : A → Type 0) (stood : A → Archive → Type 
   becomes new (Ok b) h = (b, refl, h)
   becomes new (Err f) h = absurd h
 
+  abbrev done_to : Standing → Archive → Standing
+  done_to s b = record s { office = with_archive s.office b }
+
+  done_step : (s : Standing) (c : PlainCommand) (command : Archive → Result Archive ArchiveRefusal) (b : Archive)
+      → IsCommand c command → command s.office.archive ≡ Ok b → Step s (plain c) done (done_to s b)
+  unfolding Step
+  done_step s c command b is e = (
+    with_archive s.office b,
+    inl (is.settles s.office (with_archive s.office b) (made s.office b (command s.office.archive) e)),
+    refl,
+  )
+
+  keeps_done : (s : Standing) (c : PlainCommand) (command : Archive → Result Archive ArchiveRefusal) (image : I)
+      → IsCommand c command → KeepsMade keeps image (command s.office.archive) → KeepsOne keeps image (Step s (plain c) done)
+  keeps_done s c command image is made = record {
+    to = done_to s made.0;
+    is_one = done_step s c command made.0 is made.1;
+    kept = made.2;
+  }
+
+  -- a call of the archive by this command
+  crashes_by : {E X : Type 0} (Answers : Archive → X → Type 0) (result : Result X (ArchiveFault E)) (old new : Desk A)
+      (c : PlainCommand) (command : Archive → Result Archive ArchiveRefusal) → IsCommand c command
+      → CarriesOut {E = E} is_clean stood may_leave keeps old.store new.store command Answers result → Crashes old new (plain c)
+  crashes_by Answers result old new c command is call clean s stands image may =
+      elim (call.crash clean s.office.archive stands.store image may) [
+        | inl before ↦ inl before
+        | inr made ↦ inr (done, keeps_done s c command image is made)
+      ]
+
   -- the archive's command is done
   pub done_by : {E : Type 0} (old new : Desk A) (c : PlainCommand) (command : Archive → Result Archive ArchiveRefusal)
       → IsCommand c command → KeepsRest old new
       → ((a b : Archive) → command a ≡ Ok b → AreOpenPaths old.open_paths a.plan → AreOpenPaths new.open_paths b.plan)
-      → CarriesOut {X = Unit {0}} {E = E} is_clean stood old.store new.store command Quietly (Ok tt)
-      → Calls (IsClean is_clean) (StandsFor stood) old (plain c) done new
+      → CarriesOut {X = Unit {0}} {E = E} is_clean stood may_leave keeps old.store new.store command Quietly (Ok tt)
+      → Calls (IsClean is_clean) (StandsFor stood) (MayLeave may_leave) keeps old (plain c) done new
   done_by old new c command is rest paths call = plain_calls old new c done call.was_clean (λ sure s stands.
       let clean : is_clean new.store = sure (of_archive c done is.for_archive refl) in
       let b = becomes new.store (command s.office.archive) (call.does clean s.office.archive stands.store).0 in
@@ -149,14 +205,16 @@ module _ {A : Type 0} (is_clean : A → Type 0) (stood : A → Archive → Type 
         inl step,
         restands old new s b.0 rest stands b.2 (paths s.office.archive b.0 b.1 stands.open_paths)
             (is.keeps s.office.archive b.0 b.1),
-      )) (λ refused. absurd (false≢true refused))
+      )) (λ refused. absurd (false≢true refused)) (crashes_by Quietly (Ok tt) old new c command is call)
+      (λ from_archive told clean s stands image may.
+      keeps_done s c command image is (call.kept clean s.office.archive stands.store image may))
 
   -- the archive's command is refused, or given up
   pub refused_by_archive : {E : Type 0} (old new : Desk A) (c : PlainCommand) (command : Archive
       → Result Archive ArchiveRefusal) (f : ArchiveFault E) (a : Answer) → IsCommand c command → KeepsRest old new
       → new.open_paths ≡ old.open_paths
-      → CarriesOut {X = Unit {0}} {E = E} is_clean stood old.store new.store command Quietly (Err f)
-      → a ≡ refused_by (archive_fault f) → Calls (IsClean is_clean) (StandsFor stood) old (plain c) a new
+      → CarriesOut {X = Unit {0}} {E = E} is_clean stood may_leave keeps old.store new.store command Quietly (Err f)
+      → a ≡ refused_by (archive_fault f) → Calls (IsClean is_clean) (StandsFor stood) (MayLeave may_leave) keeps old (plain c) a new
   refused_by_archive old new c command f a is rest same call is_told = plain_calls old new c a call.was_clean (λ sure s stands.
       let h = call.does s.office.archive stands.store in
       let P : Answer → Type 0 = λ x. OfficeStep s.office c x s.office in
@@ -165,13 +223,15 @@ module _ {A : Type 0} (is_clean : A → Type 0) (stood : A → Archive → Type 
       h.1 (sure (of_archive c a is.for_archive (ap is_refused_outside is_told ∙ inside)))) in
       (s.office, subst P (sym is_told) step, still_stands old new s rest same stands h.0)) (λ refused s stands.
       still_stands old new s rest same stands (call.does s.office.archive stands.store).0)
+      (crashes_by Quietly (Err f) old new c command is call)
+      (λ from_archive other. no_stay old new (plain c) a (refused_so _ _ is_told) other)
 
   -- no record has the number
   pub refused_by_number : ((x : A) (a : Archive) → stood x a → IsArchive a)
       → (desk : Desk A) (c : PlainCommand) (command : Archive
       → Result Archive ArchiveRefusal) (r : ArchiveRefusal) (a : Answer) → IsCommand c command
       → ((x : Archive) → IsArchive x → command x ≡ Err r) → a ≡ refused_by (refusal_fault r)
-      → Calls (IsClean is_clean) (StandsFor stood) desk (plain c) a desk
+      → Calls (IsClean is_clean) (StandsFor stood) (MayLeave may_leave) keeps desk (plain c) a desk
   refused_by_number is_archive desk c command r a is none is_told = plain_calls desk desk c a (λ clean. clean) (λ sure s stands.
       let P : Answer → Type 0 = λ x. OfficeStep s.office c x s.office in (
         s.office,
@@ -180,4 +240,4 @@ module _ {A : Type 0} (is_clean : A → Type 0) (stood : A → Archive → Type 
             (none s.office.archive (is_archive desk.store s.office.archive stands.store))),
         stands,
       )) (λ refused s stands.
-      stands)
+      stands) (untouched desk desk (plain c) refl) (λ from_archive other. no_stay desk desk (plain c) a (refused_so _ _ is_told) other)

@@ -1,9 +1,9 @@
 -- What the filing of an outcome makes of an archive.
-use Rattle.std.specs.Prelude.{◌≡◌, ◌⊎◌, ℕ, List, map, false, None, Result, Ok, Err, Vec}
+use Rattle.std.specs.Prelude.{◌≡◌, ◌⊎◌, ℕ, List, map, false, None, Result, Ok, Err, OnOk, Vec}
 use Rattle.std.specs.declared.alloc.Global.{Global}
 use Rattle.record_archive.specs.Archive.{Archive, capture, capture_lines, AreClasses}
 use Rattle.record_archive.specs.Lines.{line_view}
-use Rattle.record_archive.specs.Calls.{Makes}
+use Rattle.record_archive.specs.Calls.{KeepsMade, Makes}
 use Rattle.record_archive.specs.declared.fault.ArchiveRefusal.TheVariants.{Full}
 use Rattle.record_archive.specs.declared.line.Line.{Line}
 use Rattle.filing_commands.specs.Answers.{refused}
@@ -32,3 +32,13 @@ Files clean stands old new body day classes (Ok lines) =
 Files clean stands old new body day classes (Err f) =
     (a : Archive) → stands old a → AreClasses a.plan classes → stands new a ×
     (clean new → IsNotFiled a body day classes f)
+
+-- What a crash may leave after the capture is what a crash might have left before, or keeps the archive with it; and
+-- where the capture is made, it keeps that.
+pub record FilesSafely {A I : Type 0} (clean : A → Type 0) (stands : A → Archive → Type 0) (may_leave : A → I → Type 0)
+    (keeps : I → Archive → Type 0) (old new : A) (body : List ℕ) (day : ℕ) (classes : List (List ℕ))
+    (result : Result (Vec Line Global) DeskFault) : Type 0 where
+  pub crash : clean new → (a : Archive) → stands old a → (image : I) → may_leave new image →
+      may_leave old image ⊎ KeepsMade keeps image (capture a body day classes)
+  pub kept : OnOk result (clean new → (a : Archive) → stands old a → (image : I) → may_leave new image →
+      KeepsMade keeps image (capture a body day classes))

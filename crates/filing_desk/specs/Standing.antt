@@ -16,6 +16,10 @@ use Rattle.filing_desk.specs.declared.desk.Desk.{Desk}
 abbrev pub IsClean : {A : Type 0} → (clean : A → Type 0) → Desk A → Type 0
 IsClean clean desk = clean desk.store
 
+-- what a crash may leave of the archive of a desk
+abbrev pub MayLeave : {A I : Type 0} → (may_leave : A → I → Type 0) → Desk A → I → Type 0
+MayLeave may_leave desk = may_leave desk.store
+
 -- the paths that are kept for captures are the open ones of the plan
 abbrev pub AreOpenPaths : Option (List (List ℕ)) → Listing → Type 0
 AreOpenPaths None p = Unit {0}

@@ -11,7 +11,7 @@ ghost use Rattle.filing_commands.specs.Standing as commands;
 ghost use Rattle.filing_commands.specs.Standing.{Standing, flight_of};
 ghost use Rattle.filing_commands.specs.CallAnswers.{answer_of_capture, answer_of_ticket, answer_of_turn};
 ghost use Rattle.filing_desk.specs.Beginning.{IsEntered, IsNumbered, KeepsAll, against_begin};
-ghost use Rattle.filing_desk.specs.Filing.{Files, IsArchiveFault};
+ghost use Rattle.filing_desk.specs.Filing.{Files, FilesSafely, IsArchiveFault};
 ghost use Rattle.filing_desk.specs.Messages.{IsMessageOf, IsShort, whole_message};
 ghost use Rattle.filing_desk.specs.Standing.{AreOpenPaths, IsShownBy};
 
@@ -36,6 +36,8 @@ fn file_outcome<A: Records>(
 ) -> Result<Vec<Line>, DeskFault>
     ensures files { Files A.clean A.stands store.old store.new flight.now.message
         (number_of_day flight.now.day) classes.now result }
+    ensures safe { FilesSafely A.clean A.stands A.may_leave A.keeps store.old store.new
+        flight.now.message (number_of_day flight.now.day) classes.now result }
     ensures fault { IfErr result IsArchiveFault }
     ensures was_clean { A.clean store.new → A.clean store.old }
 {
@@ -49,7 +51,7 @@ fn file_outcome<A: Records>(
 
 impl<A: Records> Desk<A> {
     ghost use Rattle.filing_commands.specs.Calls.{Calls, CallsWith};
-    ghost use Rattle.filing_desk.specs.Standing.{IsClean, StandsFor};
+    ghost use Rattle.filing_desk.specs.Standing.{IsClean, MayLeave, StandsFor};
 
     /// The day of a moment, where one more capture may begin. Else 94, 95, 90 or 97, judged in this order.
     fn judge_begin(&self, moment: u64, message: &Message<'_>) -> Result<Date, DeskFault>
@@ -124,7 +126,8 @@ impl<A: Records> Desk<A> {
         message: Message<'_>,
     ) -> Result<(u32, u32), DeskFault>
         ensures { (m : List ℕ) → IsMessageOf message.entry m
-            → Calls (IsClean A.clean) (StandsFor A.stands) self.old
+            → Calls (IsClean A.clean) (StandsFor A.stands)
+            (MayLeave A.may_leave) A.keeps self.old
             (commands.begin officer.now moment m) (answer_of_ticket result) self.new }
     {
         captures_hold_flights();
@@ -148,7 +151,8 @@ impl<A: Records> Desk<A> {
         moment: u64,
         message: Payload,
     ) -> Result<(u32, u32), DeskFault>
-        ensures { CallsWith (IsClean A.clean) (StandsFor A.stands) self.old greatest_message message
+        ensures { CallsWith (IsClean A.clean) (StandsFor A.stands)
+            (MayLeave A.may_leave) A.keeps self.old greatest_message message
             (λ m. commands.begin officer.now moment m)
             (answer_of_ticket result) self.new }
     {
@@ -164,7 +168,8 @@ impl<A: Records> Desk<A> {
         moment: u64,
         pieces: &[&[u8]],
     ) -> Result<(u32, u32), DeskFault>
-        ensures { Calls (IsClean A.clean) (StandsFor A.stands) self.old
+        ensures { Calls (IsClean A.clean) (StandsFor A.stands)
+            (MayLeave A.may_leave) A.keeps self.old
             (commands.begin officer.now moment (whole_message pieces.now))
             (answer_of_ticket result) self.new }
     {
@@ -174,7 +179,8 @@ impl<A: Records> Desk<A> {
     /// Lets the capture of a ticket make `count` more steps, at most, as `Registry` says. Refused with 91 (no such
     /// ticket). Where there is no memory (99), the steps that were made before are kept.
     pub fn turn(&mut self, ticket: u64, count: u32) -> Result<Turn, DeskFault>
-        ensures { Calls (IsClean A.clean) (StandsFor A.stands) self.old (commands.turn ticket count)
+        ensures { Calls (IsClean A.clean) (StandsFor A.stands)
+            (MayLeave A.may_leave) A.keeps self.old (commands.turn ticket count)
             (answer_of_turn result) self.new }
     {
         self.flights.turn(ticket, count)
@@ -183,7 +189,8 @@ impl<A: Records> Desk<A> {
     /// Makes the records of a capture that has come to its end, and gives its ticket up, as `Registry` says. Refused
     /// with 91 (no such ticket), 92 (not ended) or 87 (numbers of records used up); the ticket is then kept.
     pub fn finish(&mut self, ticket: u64) -> Result<Capture, DeskFault>
-        ensures { Calls (IsClean A.clean) (StandsFor A.stands) self.old (commands.finish ticket)
+        ensures { Calls (IsClean A.clean) (StandsFor A.stands)
+            (MayLeave A.may_leave) A.keeps self.old (commands.finish ticket)
             (answer_of_capture result) self.new }
     {
         captures_hold_flights();

@@ -63,13 +63,14 @@ fn outcome_of<C: Case>(
 
 impl<A: Records> Desk<A> {
     ghost use Rattle.filing_commands.specs.Calls.{CallsWithTwo};
-    ghost use Rattle.filing_desk.specs.Standing.{IsClean, StandsFor};
+    ghost use Rattle.filing_desk.specs.Standing.{IsClean, MayLeave, StandsFor};
 
     /// The outcome of an image's run on a message, as `Registry` says; nothing is stored. Refused with 61 (more than
     /// 16,777,216 octets), 60 (form) or 62 to 66 (code) for the image, then 95 for a message of more than 8,388,608
     /// octets.
     pub fn try_image(&self, image: &Payload, message: &Payload) -> Result<Outcome, DeskFault>
-        ensures { CallsWithTwo (IsClean A.clean) (StandsFor A.stands) self.now
+        ensures { CallsWithTwo (IsClean A.clean) (StandsFor A.stands)
+            (MayLeave A.may_leave) A.keeps self.now
             (greatest_image, greatest_message) image.now message.now
             (λ i m. commands.plain (office.try_image i m)) (answer_of_outcome result) self.now }
     {
@@ -83,7 +84,8 @@ impl<A: Records> Desk<A> {
     /// scripts alone. Refused with 10 to 16, 20 and 21 (text) or 30 to 41 (check) for the script, then 95 for a message
     /// of more than 8,388,608 octets. A script that is too heavy has the outcome fault 5.
     pub fn file(&self, script: &Payload, message: &Payload) -> Result<Outcome, DeskFault>
-        ensures { CallsWithTwo (IsClean A.clean) (StandsFor A.stands) self.now
+        ensures { CallsWithTwo (IsClean A.clean) (StandsFor A.stands)
+            (MayLeave A.may_leave) A.keeps self.now
             (greatest_script, greatest_message) script.now message.now
             (λ s m. commands.plain (office.file s m)) (answer_of_outcome result) self.now }
     {

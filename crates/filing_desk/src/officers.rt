@@ -13,7 +13,7 @@ use record_archive::Records;
 
 impl<A: Records> Desk<A> {
     ghost use Rattle.filing_commands.specs.Calls.{Calls, CallsWith};
-    ghost use Rattle.filing_desk.specs.Standing.{IsClean, StandsFor};
+    ghost use Rattle.filing_desk.specs.Standing.{IsClean, MayLeave, StandsFor};
 
     /// Keeps a script of an officer under a name, as `Registry` says. Refused with 10 to 16, 20 and 21 (text), 30 to 41
     /// (check), or 96 (thirty-two scripts of the officer have other names).
@@ -23,7 +23,8 @@ impl<A: Records> Desk<A> {
         name: &[u8],
         text: &Payload,
     ) -> Result<(), DeskFault>
-        ensures { CallsWith (IsClean A.clean) (StandsFor A.stands) self.old greatest_script text.now
+        ensures { CallsWith (IsClean A.clean) (StandsFor A.stands)
+            (MayLeave A.may_leave) A.keeps self.old greatest_script text.now
             (λ t. commands.plain (office.set_script officer.now name.now t))
             (answer_of_done result) self.new }
     {
@@ -35,7 +36,8 @@ impl<A: Records> Desk<A> {
     /// Keeps a global script under a name, as `Registry` says. Refused with 10 to 16, 20 and 21 (text), 30 to 41
     /// (check), or 96 (thirty-two global scripts have other names).
     pub fn set_global(&mut self, name: &[u8], text: &Payload) -> Result<(), DeskFault>
-        ensures { CallsWith (IsClean A.clean) (StandsFor A.stands) self.old greatest_script text.now
+        ensures { CallsWith (IsClean A.clean) (StandsFor A.stands)
+            (MayLeave A.may_leave) A.keeps self.old greatest_script text.now
             (λ t. commands.plain (office.set_global name.now t)) (answer_of_done result) self.new }
     {
         let script = judge_script(self.alloc, text)?;
@@ -46,7 +48,8 @@ impl<A: Records> Desk<A> {
     /// Sets the script of a name as an officer's program, as `Registry` says. Refused with 93 where the officer has
     /// none of that name.
     pub fn activate(&mut self, officer: &[u8], name: &[u8]) -> Result<(), DeskFault>
-        ensures { Calls (IsClean A.clean) (StandsFor A.stands) self.old (commands.plain
+        ensures { Calls (IsClean A.clean) (StandsFor A.stands)
+            (MayLeave A.may_leave) A.keeps self.old (commands.plain
             (office.activate officer.now name.now)) (answer_of_done result) self.new }
     {
         self.officers.activate(officer, name)?;
@@ -55,7 +58,8 @@ impl<A: Records> Desk<A> {
 
     /// Sets no program for an officer, as `Registry` says. It is never refused.
     pub fn deactivate(&mut self, officer: &[u8])
-        ensures { Calls (IsClean A.clean) (StandsFor A.stands) self.old
+        ensures { Calls (IsClean A.clean) (StandsFor A.stands)
+            (MayLeave A.may_leave) A.keeps self.old
             (commands.plain (office.deactivate officer.now)) (answer_of_done (Ok tt)) self.new }
     {
         self.officers.deactivate(officer);
@@ -64,7 +68,8 @@ impl<A: Records> Desk<A> {
     /// Sets an image as an officer's program, as `Registry` says. Refused with 61 (length), 60 (form) or 62 to 66
     /// (code).
     pub fn set_image(&mut self, officer: &[u8], image: &Payload) -> Result<(), DeskFault>
-        ensures { CallsWith (IsClean A.clean) (StandsFor A.stands) self.old greatest_image image.now
+        ensures { CallsWith (IsClean A.clean) (StandsFor A.stands)
+            (MayLeave A.may_leave) A.keeps self.old greatest_image image.now
             (λ i. commands.plain (office.set_image officer.now i))
             (answer_of_done result) self.new }
     {

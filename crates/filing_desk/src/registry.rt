@@ -9,11 +9,17 @@ use record_archive::{Line, Records};
 use sieve_meaning::Outcome;
 
 impl<A: Records> Registry for Desk<A> {
-    ghost use Rattle.filing_desk.specs.Standing.{IsClean, StandsFor};
+    ghost use Rattle.filing_desk.specs.Standing.{IsClean, MayLeave, StandsFor};
 
     ghost clean = { IsClean A.clean };
 
     ghost stands = { StandsFor A.stands };
+
+    ghost remains = { A.remains };
+
+    ghost may_leave = { MayLeave A.may_leave };
+
+    ghost keeps = { A.keeps };
 
     fn add_class(&mut self, path: &[u8]) -> Result<(), DeskFault> {
         self.add_class(path)

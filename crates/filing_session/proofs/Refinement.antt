@@ -1,5 +1,6 @@
 -- Runs of desks, as runs of the states that they represent.
 use Rattle.std.proofs.Common.{◌≡◌, ◌++◌, ◌∷◌, [], ℕ, List, Bool, true, false, if◌then◌else◌, take, refl, sym, subst}
+use Rattle.record_archive.specs.Archive.{Archive}
 use Rattle.filing_commands.specs.Answers.{Answer}
 use Rattle.filing_commands.specs.Calls.{Calls, Leads}
 use Rattle.filing_commands.specs.Standing.{Standing, Step}
@@ -15,8 +16,9 @@ later_holds : (x y : Bool) → y ≡ true → (if x then true else y) ≡ true
 later_holds true y e = refl
 later_holds false y e = e
 
-module _ {D : Type 0} (clean : D → Type 0) (stands : D → Standing → Type 0) where
-  item_refines : (i : Item) (a : Answer) → Refines clean stands (λ old. ItemStep (Calls clean stands) old i a) (λ s. ItemStep Step s i a)
+module _ {D I : Type 0} (clean : D → Type 0) (stands : D → Standing → Type 0) (may_leave : D → I → Type 0)
+    (keeps : I → Archive → Type 0) where
+  pub item_refines : (i : Item) (a : Answer) → Refines clean stands (λ old. ItemStep (Calls clean stands may_leave keeps) old i a) (λ s. ItemStep Step s i a)
   item_refines (Call c) a old new step ok = (step.was_clean ok, step.leads (λ from_archive. ok))
   item_refines UnknownCommand a old new step ok = (
     subst clean step.1 ok,
@@ -30,7 +32,7 @@ module _ {D : Type 0} (clean : D → Type 0) (stands : D → Standing → Type 0
   )
 
   pub run_refines : (items : List Item) (answers : List Answer)
-      → Refines clean stands (λ old. Run (Calls clean stands) old items answers) (λ s. Run Step s items answers)
+      → Refines clean stands (λ old. Run (Calls clean stands may_leave keeps) old items answers) (λ s. Run Step s items answers)
   run_refines [] [] old new run ok = (
     subst clean run ok,
     λ s there. let P : D → Type 0 = λ d. stands d s in
@@ -48,15 +50,15 @@ module _ {D : Type 0} (clean : D → Type 0) (stands : D → Standing → Type 0
   run_refines [] (a ∷ answers) old new run ok = absurd run
   run_refines (i ∷ items) [] old new run ok = absurd run
 
-  item_sure : (i : Item) (a : Answer) (old new : D) → ItemStep (Calls clean stands) old i a new
-      → (is_item_of_archive i a ≡ true → clean new) → ItemStep (SureCalls clean stands) old i a new
+  item_sure : (i : Item) (a : Answer) (old new : D) → ItemStep (Calls clean stands may_leave keeps) old i a new
+      → (is_item_of_archive i a ≡ true → clean new) → ItemStep (SureCalls clean stands may_leave keeps) old i a new
   item_sure (Call c) a old new step sure = (step, sure)
   item_sure UnknownCommand a old new step sure = step
   item_sure WrongWord a old new step sure = step
 
   pub run_sure : (items : List Item) (answers : List Answer) (old new : D)
-      → Run (Calls clean stands) old items answers new → (some_of_archive items answers ≡ true → clean new)
-      → Run (SureCalls clean stands) old items answers new
+      → Run (Calls clean stands may_leave keeps) old items answers new → (some_of_archive items answers ≡ true → clean new)
+      → Run (SureCalls clean stands may_leave keeps) old items answers new
   run_sure [] [] old new run sure = run
   run_sure (i ∷ items) (a ∷ answers) old new run sure =
       let here = is_item_of_archive i a in
@@ -68,7 +70,7 @@ module _ {D : Type 0} (clean : D → Type 0) (stands : D → Standing → Type 0
   run_sure [] (a ∷ answers) old new run sure = absurd run
   run_sure (i ∷ items) [] old new run sure = absurd run
 
-  item_leads : (i : Item) (a : Answer) (old new : D) → ItemStep (SureCalls clean stands) old i a new → (s : Standing)
+  item_leads : (i : Item) (a : Answer) (old new : D) → ItemStep (SureCalls clean stands may_leave keeps) old i a new → (s : Standing)
       → stands old s → Leads stands new (λ to. ItemStep Step s i a to)
   item_leads (Call c) a old new step s there = step.0.leads step.1 s there
   item_leads UnknownCommand a old new step s there = let P : D → Type 0 = λ d. stands d s in
@@ -77,7 +79,7 @@ module _ {D : Type 0} (clean : D → Type 0) (stands : D → Standing → Type 0
       record { to = s; is_one = (step.0, refl); there = subst P (sym step.1) there }
 
   pub run_leads : (items : List Item) (answers : List Answer) (old new : D)
-      → Run (SureCalls clean stands) old items answers new → (s : Standing) → stands old s
+      → Run (SureCalls clean stands may_leave keeps) old items answers new → (s : Standing) → stands old s
       → Leads stands new (λ to. Run Step s items answers to)
   run_leads [] [] old new run s there = let P : D → Type 0 = λ d. stands d s in record { to = s; is_one = refl; there = subst P (sym run) there }
   run_leads (i ∷ items) (a ∷ answers) old new run s there =
@@ -88,28 +90,28 @@ module _ {D : Type 0} (clean : D → Type 0) (stands : D → Standing → Type 0
   run_leads (i ∷ items) [] old new run s there = absurd run
 
   pub served_refines : (session : Session) (old written : List ℕ)
-      → Refines clean stands (λ desk. IsServed (Calls clean stands) session desk old written) (λ s.
+      → Refines clean stands (λ desk. IsServed (Calls clean stands may_leave keeps) session desk old written) (λ s.
       IsServed Step session s old written)
   served_refines session old written desk new (answers, run, wrote) ok =
       let led = run_refines session.items answers desk new run ok in
       (led.0, λ s there. let l = led.1 s there in record { to = l.to; is_one = (answers, l.is_one, wrote); there = l.there })
 
   pub answered_refines : (session : Session) (old written : List ℕ)
-      → Refines clean stands (λ desk. IsAnswered (Calls clean stands) session desk old written) (λ s.
+      → Refines clean stands (λ desk. IsAnswered (Calls clean stands may_leave keeps) session desk old written) (λ s.
       IsAnswered Step session s old written)
   answered_refines session old written desk new (n, answers, run, wrote) ok =
       let led = run_refines (take n session.items) answers desk new run ok in
       (led.0, λ s there. let l = led.1 s there in record { to = l.to; is_one = (n, answers, l.is_one, wrote); there = l.there })
 
   pub cut_in_answer_refines : (session : Session) (old written : List ℕ)
-      → Refines clean stands (λ desk. IsCutInAnswer (Calls clean stands) session desk old written) (λ s.
+      → Refines clean stands (λ desk. IsCutInAnswer (Calls clean stands may_leave keeps) session desk old written) (λ s.
       IsCutInAnswer Step session s old written)
   cut_in_answer_refines session old written desk new (n, answers, last, run, wrote) ok =
       let led = run_refines (take n session.items) (answers ++ last ∷ []) desk new run ok in
       (led.0, λ s there. let l = led.1 s there in record { to = l.to; is_one = (n, answers, last, l.is_one, wrote); there = l.there })
 
   pub cut_in_ending_refines : (session : Session) (old written : List ℕ)
-      → Refines clean stands (λ desk. IsCutInEnding (Calls clean stands) session desk old written) (λ s.
+      → Refines clean stands (λ desk. IsCutInEnding (Calls clean stands may_leave keeps) session desk old written) (λ s.
       IsCutInEnding Step session s old written)
   cut_in_ending_refines session old written desk new (answers, run, wrote) ok =
       let led = run_refines session.items answers desk new run ok in

@@ -1,5 +1,6 @@
 -- What is done at desks, in terms of the states that the desks represent.
 use Rattle.std.specs.Prelude.{◌≡◌, Bool, true, false, if◌then◌else◌, List, [], ◌∷◌}
+use Rattle.record_archive.specs.Archive.{Archive}
 use Rattle.filing_commands.specs.Answers.{Answer}
 use Rattle.filing_commands.specs.ArchiveAnswers.{is_of_archive}
 use Rattle.filing_commands.specs.Calls.{Calls, Leads}
@@ -27,18 +28,21 @@ some_of_archive [] answers = false
 some_of_archive (i ∷ items) [] = false
 
 -- A call whose answer, where it comes from the archive, is given by a desk that is clean afterwards.
-abbrev pub SureCalls : {D : Type 0} (clean : D → Type 0) (stands : D → Standing → Type 0) → (old : D) → Command →
+abbrev pub SureCalls : {D I : Type 0} (clean : D → Type 0) (stands : D → Standing → Type 0) →
+    (may_leave : D → I → Type 0) → (keeps : I → Archive → Type 0) → (old : D) → Command →
     Answer → (new : D) → Type 0
-SureCalls clean stands old c a new = Calls clean stands old c a new × (is_of_archive c a ≡ true → clean new)
+SureCalls clean stands may_leave keeps old c a new = Calls clean stands may_leave keeps old c a new × (is_of_archive c a ≡ true → clean new)
 
 -- The calls of a run are such calls where the last desk is clean, or no answer comes from the archive.
-abbrev pub RunsAreSure : {D : Type 0} (clean : D → Type 0) (stands : D → Standing → Type 0) → Type 0
-RunsAreSure {D} clean stands = (items : List Item) (answers : List Answer) (old new : D)
-    → Run (Calls clean stands) old items answers new → (some_of_archive items answers ≡ true → clean new)
-    → Run (SureCalls clean stands) old items answers new
+abbrev pub RunsAreSure : {D I : Type 0} (clean : D → Type 0) (stands : D → Standing → Type 0) →
+    (may_leave : D → I → Type 0) → (keeps : I → Archive → Type 0) → Type 0
+RunsAreSure {D} clean stands may_leave keeps = (items : List Item) (answers : List Answer) (old new : D)
+    → Run (Calls clean stands may_leave keeps) old items answers new → (some_of_archive items answers ≡ true → clean new)
+    → Run (SureCalls clean stands may_leave keeps) old items answers new
 
 -- A run of such calls leads from each state that a desk represents to one that the last desk represents.
-abbrev pub RunsLead : {D : Type 0} (clean : D → Type 0) (stands : D → Standing → Type 0) → Type 0
-RunsLead {D} clean stands = (items : List Item) (answers : List Answer) (old new : D)
-    → Run (SureCalls clean stands) old items answers new → (s : Standing) → stands old s
+abbrev pub RunsLead : {D I : Type 0} (clean : D → Type 0) (stands : D → Standing → Type 0) →
+    (may_leave : D → I → Type 0) → (keeps : I → Archive → Type 0) → Type 0
+RunsLead {D} clean stands may_leave keeps = (items : List Item) (answers : List Answer) (old new : D)
+    → Run (SureCalls clean stands may_leave keeps) old items answers new → (s : Standing) → stands old s
     → Leads stands new (λ to. Run Step s items answers to)

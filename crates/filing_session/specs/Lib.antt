@@ -14,3 +14,4 @@ pub mod Done
 pub mod Laws
 pub mod Memory
 pub mod Known
+pub mod Crashes

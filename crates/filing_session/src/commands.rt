@@ -97,7 +97,7 @@ fn reply_of_lines(lines: Result<Vec<Line>, DeskFault>) -> Reply
 
 /// Executes a command without a payload.
 pub fn do_alone<R: Registry>(registry: &mut R, command: &NoPayload<'_>) -> Reply
-    ensures { Calls R.clean R.stands registry.old (command_of command.now)
+    ensures { Calls R.clean R.stands R.may_leave R.keeps registry.old (command_of command.now)
         (answer_of result) registry.new }
 {
     match command {
@@ -140,7 +140,8 @@ pub fn limits_of_two(command: TwoPayloads) -> (usize, usize)
 
 /// Executes a command with one payload. A message is moved into the call, and not copied.
 pub fn do_one<R: Registry>(registry: &mut R, command: OnePayload<'_>, payload: Payload) -> Reply
-    ensures { CallsWith R.clean R.stands registry.old (one_limit command.entry) payload
+    ensures { CallsWith R.clean R.stands R.may_leave R.keeps registry.old
+        (one_limit command.entry) payload
         (one_command command.entry) (answer_of result) registry.new }
 {
     match command {
@@ -163,7 +164,8 @@ pub fn do_two<R: Registry>(
     first: &Payload,
     second: &Payload,
 ) -> Reply
-    ensures { CallsWithTwo R.clean R.stands registry.now (two_limits command) first.now second.now
+    ensures { CallsWithTwo R.clean R.stands R.may_leave R.keeps registry.now
+        (two_limits command) first.now second.now
         (two_command command) (answer_of result) registry.now }
 {
     match command {

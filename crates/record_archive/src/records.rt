@@ -18,6 +18,7 @@ use class_plan::{Date, Plan};
 ///
 /// Each call carries out a command of `Archive` in `specs/`. Besides the refusals of each call, every call that changes
 /// or reads records may be refused with 89 (the keeper, with its cause) and 99 (no memory). A refusal changes nothing.
+/// A crash inside a call leaves what it might have left before, or what the command makes of the archive.
 pub trait Records {
     /// Why the keeper refuses, as the error of a database.
     type Cause: Copy;
@@ -27,6 +28,15 @@ pub trait Records {
 
     /// The archive that is kept.
     ghost stands: { Self → Archive → Type 0 };
+
+    /// What a crash may leave of what is kept.
+    ghost remains: { Type 0 };
+
+    /// A crash at this moment may leave this.
+    ghost may_leave: { Self → remains → Type 0 };
+
+    /// Where a crash has left this, an opening finds this archive.
+    ghost keeps: { remains → Archive → Type 0 };
 
     /// The plan that is kept beside the records.
     ghost plan_of: { Self → Listing };
@@ -38,12 +48,12 @@ pub trait Records {
     /// Adds an open class without a schedule of its own. Refused with the smallest that holds of 52 (no path), 53 (no
     /// parent), 54 (there already) and 56 (4,096 classes).
     fn add_class(&mut self, path: &[u8]) -> Result<(), ArchiveFault<Self::Cause>>
-        ensures { CarriesOut clean stands self.old self.new (λ a. archive.add_class a path.now)
+        ensures { CarriesOut clean stands may_leave keeps self.old self.new (λ a. archive.add_class a path.now)
             Quietly result };
 
     /// Replaces the plan. Refused with 57 where the new plan drops a path of the present one.
     fn revise(&mut self, plan: Plan) -> Result<(), ArchiveFault<Self::Cause>>
-        ensures { CarriesOut clean stands self.old self.new (λ a. archive.revise a plan)
+        ensures { CarriesOut clean stands may_leave keeps self.old self.new (λ a. archive.revise a plan)
             Quietly result };
 
     /// Stores a message, and a record of it for each path. Answers a line for each record. Refused with 87 where the
@@ -58,7 +68,7 @@ pub trait Records {
     ) -> Result<Vec<Line>, ArchiveFault<Self::Cause>>
         requires day { IsCaptureDay day }
         requires paths { AreClasses (plan_of self.old) (path_list paths.now) }
-        ensures { CarriesOut clean stands self.old self.new
+        ensures { CarriesOut clean stands may_leave keeps self.old self.new
             (λ a. archive.capture a body.now (number_of_day day) (path_list paths.now))
             (λ a lines. map line_view lines.items ≡
             capture_lines a (number_of_day day) (path_list paths.now)) result };
@@ -66,23 +76,23 @@ pub trait Records {
     /// Places a hold of that name on a record. Refused with 80 (no such record), 84 (destroyed) or 86 (that hold is
     /// there).
     fn hold(&mut self, name: &[u8], number: u32) -> Result<(), ArchiveFault<Self::Cause>>
-        ensures { CarriesOut clean stands self.old self.new
+        ensures { CarriesOut clean stands may_leave keeps self.old self.new
             (λ a. archive.hold a name.now number) Quietly result };
 
     /// Ends the hold of that name on a record. Refused with 80 (no such record) or 85 (no such hold).
     fn release(&mut self, name: &[u8], number: u32) -> Result<(), ArchiveFault<Self::Cause>>
-        ensures { CarriesOut clean stands self.old self.new
+        ensures { CarriesOut clean stands may_leave keeps self.old self.new
             (λ a. archive.release a name.now number) Quietly result };
 
     /// The due list of a day. Nothing is due by a day before 1970.
     fn due(&mut self, day: Date) -> Result<Vec<Line>, ArchiveFault<Self::Cause>>
-        ensures { CarriesOut clean stands self.old self.new unchanged
+        ensures { CarriesOut clean stands may_leave keeps self.old self.new unchanged
             (λ a lines. map line_view lines.items ≡ due_list_on a (epoch_day day)) result };
 
     /// Destroys a record that is due by a day. Refused with the first that holds of 80 (no such record), 84
     /// (destroyed), 81 (held), 83 (its schedule does not destroy) and 82 (due later).
     fn destroy(&mut self, number: u32, day: Date) -> Result<(), ArchiveFault<Self::Cause>>
-        ensures { CarriesOut clean stands self.old self.new
+        ensures { CarriesOut clean stands may_leave keeps self.old self.new
             (λ a. archive.destroy_on a number (epoch_day day)) Quietly result };
 
     ghost plan_is: { (records : Self) (a : Archive) → stands records a → plan_of records ≡ a.plan };

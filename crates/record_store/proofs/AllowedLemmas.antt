@@ -33,4 +33,4 @@ leaves_allowed g old mid new command Allowed change judged looked opened made a 
     let back : HasCleanDisk (state g new.conn) → HasCleanDisk (state g mid.conn) = λ clean. omega (arith, two.clean, clean) in
     survives_then (state g old.conn) (state g mid.conn) (state g new.conn) _ _ _ (λ _ db none. absurd (none is_open))
     (λ clean trees left. let allowed = j.1 (back clean) in
-    (left.0, change a, allowed.1, left.1 (opened (back clean)) allowed.0, left.2)) (looked a s) two
+    (change a, allowed.1, left (opened (back clean)) allowed.0)) (looked a s) two

@@ -415,6 +415,42 @@ count_captured a body day q qs is m =
 
 -- ---- the tables
 
+filter-both : {X : Type 0} (p : X → Bool) (xs ys : List X) → filter p (xs ++ ys) ≡ filter p xs ++ filter p ys
+filter-both p [] ys = refl
+filter-both p (x ∷ xs) ys = go (p x) (filter-both p xs ys)
+  where
+    go : (b : Bool) → filter p (xs ++ ys) ≡ filter p xs ++ filter p ys
+        → cond b (x ∷ filter p (xs ++ ys)) (filter p (xs ++ ys)) ≡ cond b (x ∷ filter p xs) (filter p xs)
+        ++ filter p ys
+    go true more = ap (λ l. x ∷ l) more
+    go false more = more
+
+-- the due days of the new records come after those that were there
+dues_after : (a : Archive) (body : List ℕ) (day : ℕ) (q : List ℕ) (qs : List (List ℕ))
+    → due_rows a ++ dues_of_lines (lines_of a.plan (next_number a) day (q ∷ qs)) ≡ due_rows (after_capture a body day (q ∷ qs))
+dues_after a body day q qs =
+    let n = next_number a in
+    let rs = new_records a day (q ∷ qs) in
+    ap (λ l. due_rows a ++ l) (sym (dues_are a n n day (q ∷ qs)))
+    ∙ sym (map-append (due_row a) (filter (has_due a) a.records) (filter (has_due a) rs))
+    ∙ ap (map (due_row a)) (sym (filter-both (has_due a) a.records rs))
+
+pub past_captured : (a : Archive) (body : List ℕ) (day : ℕ) (q : List ℕ) (qs : List (List ℕ)) → IsArchive a
+    → (was : Database) → (s : StoresArchive was a)
+    → ArePast (next_number a) (dues_of_lines (lines_of a.plan (next_number a) day (q ∷ qs))) s.tables
+past_captured a body day q qs is was s =
+    let n = next_number a in
+    let b = after_capture a body day (q ∷ qs) in
+    let rs = new_records a day (q ∷ qs) in
+    let ds = dues_of_lines (lines_of a.plan n day (q ∷ qs)) in
+    let rise : AreAscending (due_rows b) = ascending-map (λ (x y : Due). x.number < y.number) (due_row b) (filter (has_due b) b.records)
+    (ascending-filter (λ (x y : Record). x.number < y.number) (has_due b) b.records (records_rise a is body day q qs)) in
+    let after : AreAscending (s.tables.dues ++ ds) = subst AreAscending (sym (ap (λ l. l ++ ds) s.dues ∙ dues_after a body day q qs)) rise in (
+      subst (AllByRecursion (λ (m : Message). m.number < n)) (sym s.keeps.messages) (past_messages a is),
+      subst (AllByRecursion (λ (r : Record). r.number < n)) (sym s.keeps.records) (past 1 a.records),
+      after,
+    )
+
 pub stores_captured : (a : Archive) (body : List ℕ) (day : ℕ) (q : List ℕ) (qs : List (List ℕ)) → IsArchive a
     → (was db : Database) → StoresArchive was a
     → Turns was db (ArePast (next_number a) (dues_of_lines (lines_of a.plan (next_number a) day (q ∷ qs))))
@@ -427,18 +463,7 @@ stores_captured a body day q qs is was db s turns =
     let rs = new_records a day (q ∷ qs) in
     let ds = dues_of_lines (lines_of a.plan n day (q ∷ qs)) in
     let new : Message = record { number = n; body = body } in
-    let dues : due_rows a ++ ds ≡ due_rows b =
-    ap (λ l. due_rows a ++ l) (sym (dues_are a n n day (q ∷ qs)))
-    ∙ sym (map-append (due_row a) (filter (has_due a) a.records) (filter (has_due a) rs))
-    ∙ ap (map (due_row a)) (sym (filter-both (has_due a) a.records rs)) in
-    let rise : AreAscending (due_rows b) = ascending-map (λ (x y : Due). x.number < y.number) (due_row b) (filter (has_due b) b.records)
-    (ascending-filter (λ (x y : Record). x.number < y.number) (has_due b) b.records (records_rise a is body day q qs)) in
-    let after : AreAscending (s.tables.dues ++ ds) = subst AreAscending (sym (ap (λ l. l ++ ds) s.dues ∙ dues)) rise in
-    let made = turns.stored s.tables s.stored s.keyed (
-      subst (AllByRecursion (λ (m : Message). m.number < n)) (sym s.keeps.messages) (past_messages a is),
-      subst (AllByRecursion (λ (r : Record). r.number < n)) (sym s.keeps.records) (past 1 a.records),
-      after,
-    ) in
+    let made = turns.stored s.tables s.stored s.keyed (past_captured a body day q qs is was s) in
     record {
       tables = with_captured new rs ds s.tables;
       stored = made.0;
@@ -451,15 +476,5 @@ stores_captured a body day q qs is was db s turns =
         classes = s.keeps.classes;
         schedules = s.keeps.schedules;
       };
-      dues = ap (λ l. l ++ ds) s.dues ∙ dues;
+      dues = ap (λ l. l ++ ds) s.dues ∙ dues_after a body day q qs;
     }
-  where
-    filter-both : {X : Type 0} (p : X → Bool) (xs ys : List X) → filter p (xs ++ ys) ≡ filter p xs ++ filter p ys
-    filter-both p [] ys = refl
-    filter-both p (x ∷ xs) ys = go (p x) (filter-both p xs ys)
-      where
-        go : (b : Bool) → filter p (xs ++ ys) ≡ filter p xs ++ filter p ys
-            → cond b (x ∷ filter p (xs ++ ys)) (filter p (xs ++ ys)) ≡ cond b (x ∷ filter p xs) (filter p xs)
-            ++ filter p ys
-        go true more = ap (λ l. x ∷ l) more
-        go false more = more

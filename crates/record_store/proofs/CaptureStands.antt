@@ -1,23 +1,23 @@
 -- The store after a capture.
 use Rattle.std.proofs.Common.{◌≡◌, ◌<◌, ◌≤◌, ◌+◌, ◌-◌, ◌^◌, ℕ, true, false, List, [], ◌∷◌, length, Result, Ok, refl}
-use Rattle.std.proofs.Common.{sym, ap, subst, ◌∙◌, arith, IsTrue}
+use Rattle.std.proofs.Common.{sym, ap, subst, subst₂, ◌∙◌, arith, IsTrue}
 use Rattle.sqlite.specs.Store.{Ghosts}
 use Rattle.sqlite.specs.Tree.{Trees}
 use Rattle.sqlite.specs.Effect.{Database}
-use Rattle.sqlite.specs.State.{HasCleanDisk, Survives}
+use Rattle.sqlite.specs.State.{HasCleanDisk, IsLive, Survives}
 use Rattle.sqlite.specs.Held.{Held, state}
 use Rattle.sqlite.proofs.StateLemmas.{survives_weaker}
 use Rattle.record_tables.specs.Rows.{Due}
 use Rattle.record_tables.specs.Changes.{Turns}
-use Rattle.record_archive.specs.Archive.{Archive, Line, next_number, records_of, after_capture, capture_lines, capture, has_room, AreClasses}
+use Rattle.record_archive.specs.Archive.{Archive, Line, next_number, records_of, after_capture, capture_lines, capture, has_room, AreClasses, IsArchive}
 use Rattle.record_store.specs.Captures.{with_captured, ArePast, lines_of, dues_of_lines}
 use Rattle.record_adoption.specs.Counts.{count_at, only_at}
 use Rattle.record_adoption.specs.Keeping.{StoresArchive}
-use Rattle.record_store.specs.Stores.{StandsFor, Becomes, Leaves, LeavesMade}
+use Rattle.record_store.specs.Stores.{StandsFor, Becomes, Leaves, LeavesMade, TreesKeep}
 use Rattle.record_archive.specs.declared.fault.ArchiveRefusal.{ArchiveRefusal}
 use Rattle.record_store.specs.declared.store.Store.{Store}
 use Rattle.record_store.proofs.CommandLemmas.{stands_turned, leaves_turned}
-use Rattle.record_store.proofs.CaptureLemmas.{captured_is_archive, stores_captured, count_captured, next_after, lines_are}
+use Rattle.record_store.proofs.CaptureLemmas.{captured_is_archive, past_captured, stores_captured, count_captured, next_after, lines_are}
 
 -- what a caller gives for a capture
 pub record Given {S : Type 0} (store : Store S) (d n : ℕ) (ps : List (List ℕ)) (ds : List Due) : Type 0 where
@@ -55,6 +55,22 @@ keeps_captured g old a s body day n [] ds given was db kept turns = absurd (omeg
 keeps_captured g old a s body day n (q ∷ qs) ds given was db kept turns =
     stores_captured a body day q qs s.archive was db kept (turns_so g old a s day n (q ∷ qs) ds given was db body turns)
 
+archive_captured : {S : Type 0} (g : Ghosts S) (old : Store S) (a : Archive) → StandsFor g old a
+    → (body : List ℕ) (day n : ℕ) (ps : List (List ℕ)) (ds : List Due) → Given old day n ps ds → IsArchive (after_capture a body day ps)
+archive_captured g old a s body day n [] ds given = absurd (omega (arith, given.some))
+archive_captured g old a s body day n (q ∷ qs) ds given =
+    let classes = subst (λ p. AreClasses p (q ∷ qs)) s.plan given.classes in
+    captured_is_archive a body day q qs s.archive given.day (room_is g old a s day n (q ∷ qs) ds given) classes.classes
+
+past_allowed : {S : Type 0} (g : Ghosts S) (old : Store S) (a : Archive) → StandsFor g old a
+    → (body : List ℕ) (day n : ℕ) (ps : List (List ℕ)) (ds : List Due) → Given old day n ps ds
+    → (was : Database) → (kept : StoresArchive was a) → ArePast n ds kept.tables
+past_allowed g old a s body day n [] ds given was kept = absurd (omega (arith, given.some))
+past_allowed g old a s body day n (q ∷ qs) ds given was kept =
+    let P : ℕ → List Due → Type 0 = λ k l. ArePast k l kept.tables in
+    subst₂ P (sym (numbered g old a s day n (q ∷ qs) ds given)) (sym (by_plan g old a s day n (q ∷ qs) ds given))
+    (past_captured a body day q qs s.archive was kept)
+
 pub stands_captured : {S : Type 0} (g : Ghosts S) (old new : Store S) (a : Archive) → StandsFor g old a
     → (body : List ℕ) (day n : ℕ) (ps : List (List ℕ)) (ds : List Due) → Given old day n ps ds
     → new.conn.in_transaction ≡ false → new.plan ≡ old.plan → new.next ≡ n + length ps
@@ -66,11 +82,10 @@ pub stands_captured : {S : Type 0} (g : Ghosts S) (old new : Store S) (a : Archi
 stands_captured g old new a s body day n [] ds given idle plan next held others falls opened turns = absurd (omega (arith, given.some))
 stands_captured g old new a s body day n (q ∷ qs) ds given idle plan next held others falls opened turns =
     let same = numbered g old a s day n (q ∷ qs) ds given in
-    let classes = subst (λ p. AreClasses p (q ∷ qs)) s.plan given.classes in
     let further : length (q ∷ qs) - 1 ≡ length qs = omega arith in
     stands_turned g old new a (after_capture a body day (q ∷ qs)) (ArePast n ds)
     (with_captured (record { number = n; body = body }) (records_of n n day (q ∷ qs)) ds) s
-    (captured_is_archive a body day q qs s.archive given.day (room_is g old a s day n (q ∷ qs) ds given) classes.classes) idle (plan ∙ s.plan)
+    (archive_captured g old a s body day n (q ∷ qs) ds given) idle (plan ∙ s.plan)
     (next ∙ ap (λ k. k + length (q ∷ qs)) same ∙ sym (next_after a body day q qs))
     (λ m. held m ∙ s.held m)
     (λ m. others m ∙ (λ i. s.others m i + only_at (same i) (further i) m) ∙ sym (count_captured a body day q qs s.archive m))
@@ -81,15 +96,16 @@ Holds a body day ps = ◌≡◌ {A = Result Archive ArchiveRefusal} (Ok (after_c
 
 pub leaves_captured : {S : Type 0} (g : Ghosts S) (old : Store S) (new : Held S) (a : Archive) → StandsFor g old a
     → (body : List ℕ) (day n : ℕ) (ps : List (List ℕ)) (ds : List Due) → Given old day n ps ds
-    → Survives (state g old.conn) (state g new) (λ (trees : Trees). (db : Database)
+    → IsLive (state g old.conn) → Survives (state g old.conn) (state g new) (λ (trees : Trees). (db : Database)
     × Captures (state g old.conn).now db body day n ps ds × (trees ≡ db.trees))
-    → Survives (state g old.conn) (state g new) (λ (trees : Trees). (db : Database)
-    × (IsTrue (state g old.conn).is_open → Holds a body day ps → StoresArchive db (after_capture a body day ps))
-    × (trees ≡ db.trees))
-leaves_captured g old new a s body day n ps ds given made =
+    → Survives (state g old.conn) (state g new)
+    (λ (trees : Trees). IsTrue (state g old.conn).is_open → Holds a body day ps → TreesKeep trees (after_capture a body day ps))
+leaves_captured g old new a s body day n ps ds given live made =
     leaves_turned g old new a (after_capture a body day ps) (Holds a body day ps) (ArePast n ds)
     (with_captured (record { number = n; body = body }) (records_of n n day ps) ds) s
-    (λ was db kept legal turn. keeps_captured g old a s body day n ps ds given was db kept turn) made
+    (λ legal. archive_captured g old a s body day n ps ds given)
+    (λ was kept legal. past_allowed g old a s body day n ps ds given was kept)
+    (λ was db kept legal turn. keeps_captured g old a s body day n ps ds given was db kept turn) live made
 
 -- ---- the command
 
@@ -120,10 +136,8 @@ pub leaves_command : {S : Type 0} (g : Ghosts S) (old new : Store S) (body : Lis
 leaves_command g old new body day ps room made a s is_open =
     survives_weaker (state g old.conn) (state g new.conn) _ _
     (λ clean trees left. (
-      left.0,
       after_capture a body day ps,
       is_captured a body day ps (has_its_room a ps (omega (arith, room, s.next))),
-      left.1 is_open refl,
-      left.2,
+      left is_open refl,
     ))
     (made a s)

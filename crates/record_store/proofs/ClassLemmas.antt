@@ -206,4 +206,4 @@ pub leaves_added : {S : Type 0} (g : Ghosts S) (old new : Store S) (path : List 
     → LeavesMade g old new (λ a. Ok (with_plan a q)) (λ a. with_plan a q) → Leaves g old new (λ a. add_class a path)
 leaves_added g old new path q made left a s is_open =
     survives_weaker (state g old.conn) (state g new.conn) _ _ (λ clean trees it.
-    (it.0, with_plan a q, is_added a old.plan q path s.plan made, it.1 is_open refl, it.2)) (left a s)
+    (with_plan a q, is_added a old.plan q path s.plan made, it is_open refl)) (left a s)

@@ -5,7 +5,7 @@ use Rattle.std.proofs.lemmas.Bool.{false≢true}
 use Rattle.sqlite.specs.Store.{Ghosts}
 use Rattle.sqlite.specs.Tree.{Trees}
 use Rattle.sqlite.specs.Effect.{Database}
-use Rattle.sqlite.specs.State.{HasCleanDisk, Survives}
+use Rattle.sqlite.specs.State.{HasCleanDisk, IsLive, Survives}
 use Rattle.sqlite.specs.Held.{Held, state}
 use Rattle.sqlite.specs.declared.error.Error.{Error}
 use Rattle.sqlite.specs.declared.error.Error.TheVariants.{SqliteFailure}
@@ -20,7 +20,7 @@ use Rattle.record_store.specs.Faults.{StoreFault, fault_of}
 use Rattle.record_archive.specs.Faults.{WhereRefused, is_trouble}
 use Rattle.class_plan.specs.Plans.{Listing}
 use Rattle.record_adoption.specs.Keeping.{StoresArchive, live_count, hold_count}
-use Rattle.record_store.specs.Stores.{StandsFor, Becomes, Obeys, Leaves, LeavesAll, LeavesMade}
+use Rattle.record_store.specs.Stores.{StandsFor, Becomes, Obeys, Leaves, LeavesAll, LeavesMade, TreesKeep}
 use Rattle.record_archive.specs.declared.fault.ArchiveRefusal.{ArchiveRefusal}
 use Rattle.record_store.specs.declared.store.Store.{Store}
 
@@ -77,7 +77,7 @@ leaves_done g old mid new command change judged looked opened made a s is_open =
     let two = made a j.0 in
     let back : HasCleanDisk (state g new.conn) → HasCleanDisk (state g mid.conn) = λ clean. omega (arith, two.clean, clean) in
     survives_then (state g old.conn) (state g mid.conn) (state g new.conn) _ _ _ (λ _ db none. absurd (none is_open))
-    (λ clean trees left. let e = j.1 (back clean) in (left.0, change a, e, left.1 (opened (back clean)) e, left.2)) (looked a s) two
+    (λ clean trees left. let e = j.1 (back clean) in (change a, e, left (opened (back clean)) e)) (looked a s) two
 
 -- the command is refused by its judge
 pub leaves_refused : {S : Type 0} (g : Ghosts S) (old new : Store S) (command : Archive → Result Archive ArchiveRefusal)
@@ -161,18 +161,22 @@ stands_refused g old new a s idle plan next held others falls opened same = reco
 
 -- what a crash leaves of a transaction
 pub leaves_turned : {S : Type 0} (g : Ghosts S) (old : Store S) (new : Held S) (a b : Archive) (Legal : Type 0)
-    (Allows : Tables → Type 0) (change : Tables → Tables) → StandsFor g old a
+    (Allows : Tables → Type 0) (change : Tables → Tables) → StandsFor g old a → (Legal → IsArchive b)
+    → ((was : Database) → (kept : StoresArchive was a) → Legal → Allows kept.tables)
     → ((was db : Database) → StoresArchive was a → Legal → Turns was db Allows change → StoresArchive db b)
-    → Survives (state g old.conn) (state g new) (λ (trees : Trees). (db : Database)
+    → IsLive (state g old.conn) → Survives (state g old.conn) (state g new) (λ (trees : Trees). (db : Database)
     × Turns (state g old.conn).now db Allows change × (trees ≡ db.trees))
-    → Survives (state g old.conn) (state g new) (λ (trees : Trees). (db : Database)
-    × (IsTrue (state g old.conn).is_open → Legal → StoresArchive db b) × (trees ≡ db.trees))
-leaves_turned g old new a b Legal Allows change s stores made =
+    → Survives (state g old.conn) (state g new) (λ (trees : Trees). IsTrue (state g old.conn).is_open → Legal → TreesKeep trees b)
+leaves_turned g old new a b Legal Allows change s archive allows stores live made =
     survives_weaker (state g old.conn) (state g new) _ _
-    (λ clean trees left. (
-      left.0,
-      (λ is_open legal.
-          stores (state g old.conn).now left.0 (s.rows (omega (arith, made.clean, clean)) is_open) legal left.1),
-      left.2,
-    ))
+    (λ clean trees left is_open legal.
+    let was = (state g old.conn).now in
+    let kept = s.rows (omega (arith, made.clean, clean)) is_open in
+    record {
+      db = left.0;
+      same = left.2;
+      sound = left.1.sound (live is_open).0 kept.tables kept.stored kept.keyed (allows was kept legal);
+      stored = stores was left.0 kept legal left.1;
+      archive = archive legal;
+    })
     made

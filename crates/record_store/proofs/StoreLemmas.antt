@@ -1,8 +1,12 @@
--- A store over tables that were just created.
-use Rattle.std.proofs.Common.{◌≡◌, ℕ, List, false, subst}
+-- A store over tables that were just created, and one that was only asked whether its connection is open.
+use Rattle.std.proofs.Common.{◌≡◌, ◌⊎◌, inl, inr, ℕ, List, [], false, subst, Result, Ok, Err}
+use Rattle.std.specs.Prelude.{IfErr, IfOk}
 use Rattle.class_plan.specs.Plans.{first_plan, IsPlan}
 use Rattle.sqlite.specs.Store.{Ghosts}
-use Rattle.sqlite.specs.State.{HasCleanDisk}
+use Rattle.sqlite.specs.Order.{Row}
+use Rattle.sqlite.specs.State.{State, HasCleanDisk, IsNotRun, IsRolledBack, IsUnchanged}
+use Rattle.sqlite.specs.declared.error.Error.{Error}
+use Rattle.sqlite.specs.declared.statement.Statement.{Statement}
 use Rattle.sqlite.specs.Held.{Held, state}
 use Rattle.record_tables.specs.Tables.{no_schema}
 use Rattle.record_tables.specs.Changes.{ClassEntry, Rule}
@@ -33,3 +37,11 @@ stands_laid g old new rules classes is same_rules same_classes idle plan next he
       (subst (λ c. IsLaid (rules_of first_plan) c (state g old).now (state g new.conn).now) same_classes (subst (λ r.
       IsLaid r classes (state g old).now (state g new.conn).now) same_rules (laid clean)));
 }
+
+-- a statement that is prepared changes nothing, or rolls back
+pub prepared_still : (sql : List ℕ) (old new : State) (result : Result Statement Error)
+    → IfOk result (λ s. (s.text ≡ sql) × IsUnchanged old new)
+    → IfErr result (λ e. (params : Row) → IsNotRun old new sql params e) → IsUnchanged old new ⊎ IsRolledBack old new
+unfolding IsNotRun
+prepared_still sql old new (Ok s) ok err = inl ok.1
+prepared_still sql old new (Err e) ok err = elim (err []) [ inl h ↦ inl h.1 | inr h ↦ inr h.3 ]

@@ -1,11 +1,12 @@
 -- Which archive a store represents, and what its calls promise.
 use Rattle.std.specs.Prelude.{◌≡◌, ◌-◌, ℕ, false, None, Result, Ok, Err, OnOk, IfErr, IsTrue}
 use Rattle.sqlite.specs.Store.{Ghosts}
-use Rattle.sqlite.specs.Effect.{Database}
+use Rattle.sqlite.specs.Effect.{Database, IsDatabase}
 use Rattle.sqlite.specs.State.{HasCleanDisk, Survives}
 use Rattle.sqlite.specs.Tree.{Trees}
 use Rattle.sqlite.specs.Held.{Held, state}
 use Rattle.record_archive.specs.Archive.{Archive, IsArchive, next_number, record_at}
+use Rattle.record_archive.specs.Calls.{KeepsMade}
 use Rattle.record_archive.specs.Faults.{WhereRefused}
 use Rattle.record_archive.specs.declared.fault.ArchiveRefusal.{ArchiveRefusal}
 use Rattle.record_archive.specs.declared.fault.ArchiveRefusal.TheVariants.{NoRecord}
@@ -61,34 +62,43 @@ Tells g old new (Err f) Answers Refuses = (a : Archive) → StandsFor g old a �
 abbrev pub IsNeverOwn : {S X : Type 0} → Ghosts S → (old new : Store S) → Result X StoreFault → Type 0
 IsNeverOwn g old new result = (a : Archive) → StandsFor g old a → HasCleanDisk (state g new.conn) → IfErr result (λ f. is_own f ≡ false)
 
+-- these trees are those of a sound database that stores the archive
+pub record TreesKeep (trees : Trees) (a : Archive) : Type 0 where
+  pub db : Database
+  pub same : trees ≡ db.trees
+  pub sound : IsDatabase db
+  pub stored : StoresArchive db a
+  pub archive : IsArchive a
+
+-- while the connection is open, whatever a crash at this moment leaves keeps the archive that the store represents
+abbrev pub LeavesNow : {S : Type 0} → Ghosts S → Store S → Type 0
+LeavesNow g store = HasCleanDisk (state g store.conn) → IsTrue (state g store.conn).is_open → (a : Archive) →
+    StandsFor g store a → (trees : Trees) → (state g store.conn).may_leave trees → TreesKeep trees a
+
 -- what a crash in a call on an open connection may leave: what a crash might have left before it, or the command's
 -- archive
 abbrev pub Leaves : {S : Type 0} → Ghosts S → (old new : Store S) → (Archive → Result Archive ArchiveRefusal) → Type 0
 Leaves g old new command = (a : Archive) → StandsFor g old a → IsTrue (state g old.conn).is_open →
     Survives (state g old.conn) (state g new.conn)
-    (λ (trees : Trees). (db : Database) × (b : Archive) × (command a ≡ Ok b) × StoresArchive db b × (trees ≡ db.trees))
+    (λ (trees : Trees). KeepsMade TreesKeep trees (command a))
 
 -- what a crash in a call that reads on an open connection may leave: what a crash might have left before it
 abbrev pub LeavesAll : {S : Type 0} → Ghosts S → (old new : Store S) → Type 0
 LeavesAll g old new = (a : Archive) → StandsFor g old a →
     Survives (state g old.conn) (state g new.conn) (λ _. IsTrue (state g old.conn).is_open → ⊥)
 
--- what a crash may leave while a command is carried out on an open connection: what a crash might have left before
--- it, or the changed archive, where the archive's command makes that change
-abbrev pub LeavesMade : {S : Type 0} → Ghosts S → (old new : Store S) → (Archive → Result Archive ArchiveRefusal) →
-    (Archive → Archive) → Type 0
-LeavesMade g old new command change = (a : Archive) → StandsFor g old a → Survives (state g old.conn) (state g new.conn)
-    (λ (trees : Trees). (db : Database) ×
-    (IsTrue (state g old.conn).is_open → command a ≡ Ok (change a) → StoresArchive db (change a)) ×
-    (trees ≡ db.trees))
-
--- the same for a change that is allowed by a condition in place of the command
+-- what a crash may leave while a change is made on an open connection: what a crash might have left before it, or the
+-- changed archive, where the change is allowed by a condition
 abbrev pub LeavesAllowed : {S : Type 0} → Ghosts S → (old new : Store S) → (Archive → Type 0) → (Archive → Archive) →
     Type 0
 LeavesAllowed g old new Allowed change = (a : Archive) → StandsFor g old a →
     Survives (state g old.conn) (state g new.conn)
-    (λ (trees : Trees). (db : Database) ×
-    (IsTrue (state g old.conn).is_open → Allowed a → StoresArchive db (change a)) × (trees ≡ db.trees))
+    (λ (trees : Trees). IsTrue (state g old.conn).is_open → Allowed a → TreesKeep trees (change a))
+
+-- the same for a change that is allowed where the archive's command makes it
+abbrev pub LeavesMade : {S : Type 0} → Ghosts S → (old new : Store S) → (Archive → Result Archive ArchiveRefusal) →
+    (Archive → Archive) → Type 0
+LeavesMade g old new command change = LeavesAllowed g old new (λ a. command a ≡ Ok (change a)) change
 
 -- a disk that is clean after the call was clean before it
 abbrev pub Falls : {S : Type 0} → Ghosts S → (old new : Store S) → Type 0
@@ -122,6 +132,11 @@ LeavesChange g old new change = LeavesMade g old new (λ a. Ok (change a)) chang
 -- where the call succeeds, the connection is open
 abbrev pub IsOpenOnOk : {S X : Type 0} → Ghosts S → (new : Store S) → Result X StoreFault → Type 0
 IsOpenOnOk g new result = HasCleanDisk (state g new.conn) → OnOk result (IsTrue (state g new.conn).is_open)
+
+-- where the call succeeds on an open connection, it stays open
+abbrev pub StaysOpenOnOk : {S X : Type 0} → Ghosts S → (old new : Store S) → Result X StoreFault → Type 0
+StaysOpenOnOk g old new result = (a : Archive) → StandsFor g old a → HasCleanDisk (state g new.conn) →
+    IsTrue (state g old.conn).is_open → OnOk result (IsTrue (state g new.conn).is_open)
 
 -- the archive has no record of this number, and that is the refusal
 abbrev pub LacksRecord : ℕ → Archive → ArchiveRefusal → Type 0

@@ -147,6 +147,7 @@ impl<S: Alter> Store<S> {
         ensures trouble { IfErr result (λ f. is_trouble f ≡ true) }
         ensures falls { Falls S.Store self.old self.new }
         ensures cause { IsNeverOwn S.Store self.old self.new result }
+        ensures open { IsOpenOnOk S.Store self.new result }
         ensures crash { LeavesAllowed S.Store self.old self.new
             (λ a. IsFree a number (record_of row.now))
             (λ a. archive.without a (record_of row.now)) }
@@ -181,6 +182,7 @@ impl<S: Alter> Store<S> {
             (λ a. archive.destroy_on a number (epoch_day day)) Quietly }
         ensures falls { Falls S.Store self.old self.new }
         ensures cause { IsNeverOwn S.Store self.old self.new result }
+        ensures open { IsOpenOnOk S.Store self.new result }
         ensures crash { Leaves S.Store self.old self.new
             (λ a. archive.destroy_on a number (epoch_day day)) }
     {

@@ -9,7 +9,7 @@ ghost use Rattle.record_store.specs.Dues.{due_records, due_line, is_unheld, IsDa
 ghost use Rattle.record_archive.specs.Lines.{line_view};
 ghost use Rattle.record_archive.specs.Faults.{is_trouble};
 ghost use Rattle.record_store.specs.Faults.{is_own};
-ghost use Rattle.record_store.specs.Stores.{Tells, LeavesAll, Falls, IsNeverOwn};
+ghost use Rattle.record_store.specs.Stores.{Tells, LeavesAll, Falls, StaysOpenOnOk, IsNeverOwn};
 
 use crate::fault::{LOST, StoreFault, lost_or};
 use crate::store::Store;
@@ -53,6 +53,7 @@ impl<S: Alter> Store<S> {
             (λ a rows. map due_record_of rows.items ≡ due_records a day) (λ a f. ⊥) }
         ensures falls { Falls S.Store self.old self.new }
         ensures cause { IsNeverOwn S.Store self.old self.new result }
+        ensures open { StaysOpenOnOk S.Store self.old self.new result }
         ensures crash { LeavesAll S.Store self.old self.new }
     {
         match due_records_by(self.alloc, &mut self.conn, day) {
@@ -86,6 +87,7 @@ impl<S: Alter> Store<S> {
             (λ a lines. map line_view lines.items ≡ due_list_on a (epoch_day day)) (λ a f. ⊥) }
         ensures falls { Falls S.Store self.old self.new }
         ensures cause { IsNeverOwn S.Store self.old self.new result }
+        ensures open { StaysOpenOnOk S.Store self.old self.new result }
         ensures crash { LeavesAll S.Store self.old self.new }
     {
         let Some(day) = number_from_1970(day) else {

@@ -43,6 +43,7 @@ impl<S: Alter> Store<S> {
         ensures trouble { IfErr result (λ f. is_trouble f ≡ true) }
         ensures falls { Falls S.Store self.old self.new }
         ensures cause { IsNeverOwn S.Store self.old self.new result }
+        ensures open { IsOpenOnOk S.Store self.new result }
         ensures crash { LeavesMade S.Store self.old self.new (λ a. archive.hold a name.now number)
             (λ a. archive.with_hold a name.now number) }
     {
@@ -70,6 +71,7 @@ impl<S: Alter> Store<S> {
             (λ a. archive.hold a name.now number) Quietly }
         ensures falls { Falls S.Store self.old self.new }
         ensures cause { IsNeverOwn S.Store self.old self.new result }
+        ensures open { IsOpenOnOk S.Store self.new result }
         ensures crash { Leaves S.Store self.old self.new (λ a. archive.hold a name.now number) }
     {
         self.judge_hold(name, number)?;
@@ -103,6 +105,7 @@ impl<S: Alter> Store<S> {
         ensures trouble { IfErr result (λ f. is_trouble f ≡ true) }
         ensures falls { Falls S.Store self.old self.new }
         ensures cause { IsNeverOwn S.Store self.old self.new result }
+        ensures open { IsOpenOnOk S.Store self.new result }
         ensures crash { LeavesMade S.Store self.old self.new
             (λ a. archive.release a name.now number) (λ a. archive.without_hold a name.now number) }
     {
@@ -127,6 +130,7 @@ impl<S: Alter> Store<S> {
             (λ a. archive.release a name.now number) Quietly }
         ensures falls { Falls S.Store self.old self.new }
         ensures cause { IsNeverOwn S.Store self.old self.new result }
+        ensures open { IsOpenOnOk S.Store self.new result }
         ensures crash { Leaves S.Store self.old self.new (λ a. archive.release a name.now number) }
     {
         self.judge_release(name, number)?;

@@ -1,8 +1,10 @@
-//! The store as `Records`, over which a desk is made. Each call is the store's own of the same name.
+//! The store as `Records`, over which a desk is made. Each call first finds the connection open, and then is the store's
+//! own of the same name. So nothing is done any more on a connection that a fault of the disk has shut.
 
 ghost use Rattle.sqlite.specs.State.{HasCleanDisk};
 ghost use Rattle.sqlite.specs.Held.{state};
-ghost use Rattle.record_store.specs.Stores.{StandsFor};
+ghost use Rattle.sqlite.specs.Tree.{Trees};
+ghost use Rattle.record_store.specs.Stores.{StandsFor, TreesKeep};
 
 use crate::fault::{Cause, StoreFault};
 use crate::store::Store;
@@ -17,6 +19,12 @@ impl<S: Alter> Records for Store<S> {
 
     ghost stands = { StandsFor S.Store };
 
+    ghost remains = { Trees };
+
+    ghost may_leave = { λ s. (state S.Store s.conn).may_leave };
+
+    ghost keeps = { TreesKeep };
+
     ghost plan_of = { λ s. s.plan };
 
     fn plan(&self) -> &Plan {
@@ -24,11 +32,17 @@ impl<S: Alter> Records for Store<S> {
     }
 
     fn add_class(&mut self, path: &[u8]) -> Result<(), StoreFault> {
-        self.add_class(path)
+        self.ensure_open()?;
+        let done = self.add_class(path);
+        let _idle = self.is_idle();
+        done
     }
 
     fn revise(&mut self, plan: Plan) -> Result<(), StoreFault> {
-        self.revise(plan)
+        self.ensure_open()?;
+        let done = self.revise(plan);
+        let _idle = self.is_idle();
+        done
     }
 
     fn capture(
@@ -37,23 +51,38 @@ impl<S: Alter> Records for Store<S> {
         day: Date,
         paths: &[Vec<u8>],
     ) -> Result<Vec<Line>, StoreFault> {
-        self.capture(body, day, paths)
+        self.ensure_open()?;
+        let lines = self.capture(body, day, paths);
+        let _idle = self.is_idle();
+        lines
     }
 
     fn hold(&mut self, name: &[u8], number: u32) -> Result<(), StoreFault> {
-        self.hold(name, number)
+        self.ensure_open()?;
+        let done = self.hold(name, number);
+        let _idle = self.is_idle();
+        done
     }
 
     fn release(&mut self, name: &[u8], number: u32) -> Result<(), StoreFault> {
-        self.release(name, number)
+        self.ensure_open()?;
+        let done = self.release(name, number);
+        let _idle = self.is_idle();
+        done
     }
 
     fn due(&mut self, day: Date) -> Result<Vec<Line>, StoreFault> {
-        self.due(day)
+        self.ensure_open()?;
+        let lines = self.due(day);
+        let _idle = self.is_idle();
+        lines
     }
 
     fn destroy(&mut self, number: u32, day: Date) -> Result<(), StoreFault> {
-        self.destroy(number, day)
+        self.ensure_open()?;
+        let done = self.destroy(number, day);
+        let _idle = self.is_idle();
+        done
     }
 
     ghost plan_is = { λ s a stands. stands.plan };

@@ -81,6 +81,7 @@ impl<S: Alter> Store<S> {
         ensures trouble { IfErr result (λ f. is_trouble f ≡ true) }
         ensures falls { Falls S.Store self.old self.new }
         ensures cause { IsNeverOwn S.Store self.old self.new result }
+        ensures open { IsOpenOnOk S.Store self.new result }
         ensures crash { LeavesAllowed S.Store self.old self.new
             (λ a. IsRevision a plan (map due_of dues.now)) (λ a. with_plan a plan) }
     {
@@ -107,6 +108,7 @@ impl<S: Alter> Store<S> {
             (λ a. archive.revise a plan) Quietly }
         ensures falls { Falls S.Store self.old self.new }
         ensures cause { IsNeverOwn S.Store self.old self.new result }
+        ensures open { IsOpenOnOk S.Store self.new result }
         ensures crash { Leaves S.Store self.old self.new (λ a. archive.revise a plan) }
     {
         let kept = self.judge_revision(plan)?;

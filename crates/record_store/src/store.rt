@@ -10,8 +10,8 @@ ghost use Rattle.record_archive.specs.Archive.{Archive, empty_archive};
 ghost use Rattle.record_adoption.specs.Adoption.{FindsNothing, LeavesArchive};
 ghost use Rattle.record_archive.specs.Faults.{is_trouble};
 ghost use Rattle.record_store.specs.Faults.{is_own};
-ghost use Rattle.record_store.specs.Stores.{StandsFor, Tells, LeavesAll, Falls, IsOpenOnOk, IsNeverOwn, LacksRecord};
-ghost use Rattle.record_tables.specs.Steps.{IsUntouched};
+ghost use Rattle.record_store.specs.Stores.{StandsFor, Tells, LeavesAll, LeavesNow, Falls, IsOpenOnOk, IsNeverOwn, LacksRecord};
+ghost use Rattle.record_tables.specs.Steps.{CommitsNothing, IsUntouched};
 
 use crate::fault::{StoreFault, fault_of, lost_or};
 use class_plan::Plan;
@@ -76,6 +76,34 @@ impl<S: Alter> Store<S> {
             }),
             Err(error) => Err((fault_of(error), conn)),
         }
+    }
+
+    /// Finds that the connection is open. It is open until a fault of the disk shuts it; from then on each call is
+    /// refused with 89 (`sqlite`). Lack of memory (99) refuses this too. Nothing is read or written.
+    pub fn ensure_open(&mut self) -> Result<(), StoreFault>
+        ensures stands { (a : Archive) → StandsFor S.Store self.old a →
+            StandsFor S.Store self.new a }
+        ensures plan { self.new.plan ≡ self.old.plan }
+        ensures falls { Falls S.Store self.old self.new }
+        ensures open { IsOpenOnOk S.Store self.new result }
+        ensures trouble { IfErr result (λ f. is_trouble f ≡ true) }
+        ensures crash { CommitsNothing S.Store self.old.conn self.new.conn }
+    {
+        let _settled = self.conn.is_autocommit();
+        match self.conn.prepare("SELECT 1") {
+            Ok(_) => Ok(()),
+            Err(error) => Err(fault_of(error)),
+        }
+    }
+
+    /// Whether no transaction is open, as between any two calls. While the connection is open, all that a crash may then
+    /// leave keeps the archive that the store represents.
+    pub fn is_idle(&self) -> bool
+        ensures value { (a : Archive) → StandsFor S.Store self.now a → result ≡ true }
+        ensures left { LeavesNow S.Store self.now }
+    {
+        let _live = self.conn.schema();
+        self.conn.is_autocommit()
     }
 
     /// The record with a number; refused with 80 where there is none.

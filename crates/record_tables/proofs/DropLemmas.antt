@@ -85,6 +85,7 @@ pub drops_dues : (old new : State) (count : ℕ) → IsTrue old.in_transaction
 drops_dues old new count inside h = record {
   schema = λ has. (dropped_first old new count h has).0;
   kept = λ has. (dropped_first old new count h has).1;
+  sound = λ has. (runs_as drop_dues [] old new first_schema_with_dues has (DropTable 5) drop_dues_is.is drop_dues_is.plain count h.0).sound;
   committed = h.1.committed_is;
   mode = h.1.mode ∙ sym inside;
   is_open = h.1.is_open ∙ sym h.1.was_open;
@@ -95,6 +96,7 @@ pub drops_last : (old new : State) (count : ℕ) → IsTrue old.in_transaction
 drops_last old new count inside h = record {
   schema = λ has. (dropped_last old new count h has).0;
   kept = λ has. (dropped_last old new count h has).1;
+  sound = λ has. (runs_as drop_dues [] old new archive_schema has (DropTable 6) drop_last_is.is drop_last_is.plain count h.0).sound;
   committed = h.1.committed_is;
   mode = h.1.mode ∙ sym inside;
   is_open = h.1.is_open ∙ sym h.1.was_open;
@@ -126,6 +128,7 @@ emptied old mid new d l = record {
           dues = tt;
         },
       );
+  sound = λ t s keyed has. l.sound (d.schema has);
   committed = l.committed ∙ d.committed;
   mode = l.mode ∙ d.mode;
   is_open = l.is_open ∙ d.is_open;
@@ -138,6 +141,10 @@ renewed old mid new change same tells e p = record {
   stored = λ t s keyed allowed.
       let none_left = e.stored t s keyed (tells refl s.schema) in
       subst (StoresKeyed new.now) (same t) (p.stored (without_dues t) none_left.0 none_left.1 tt);
+  sound = λ h t s keyed allowed.
+      let alone = tells refl s.schema in
+      let none_left = e.stored t s keyed alone in
+      p.sound (e.sound t s keyed alone) (without_dues t) none_left.0 none_left.1 tt;
   committed = p.committed ∙ e.committed;
   mode = p.mode ∙ e.mode;
   is_open = p.is_open ∙ e.is_open;

@@ -28,17 +28,21 @@ lays_table old new schema text table count d inside h = record {
   schema = λ has. (made has).0;
   empty = λ has. ((made has).1.0, tt);
   kept = λ has. (made has).1.1;
+  sound = λ has. (write has).sound;
   committed = h.1.committed_is;
   mode = h.1.mode ∙ sym inside;
   is_open = h.1.is_open ∙ sym h.1.was_open;
 }
   where
+    write : old.now.schema ≡ schema → Writes old new None CreateTable text [] count
+    write has =
+        subst (λ t. Writes old new None CreateTable t [] count) d.whole
+        (runs_as text [] old new schema has CreateTable d.creates d.plain count h.0)
+
     made : old.now.schema ≡ schema → (new.now.schema ≡ created schema table)
         × ((new.now.trees (next_tree schema) ≡ []) × KeepsRows schema.tables old.now.trees new.now.trees)
     made has =
-        let w = subst (λ t. Writes old new None CreateTable t [] count) d.whole
-        (runs_as text [] old new schema has CreateTable d.creates d.plain count h.0) in
-        let all = went w.changed in
+        let all = went (write has).changed in
         let first = went all.1 in
         let made = first.1 in
         let both : Ok made.table ≡ Ok table = sym made.defined ∙ d.defined in
@@ -62,15 +66,20 @@ lays_index old new schema text at table index count d inside h = record {
   schema = λ has. (made has).0;
   empty = λ has. tt;
   kept = λ has. (made has).1;
+  sound = λ has. (write has).sound;
   committed = h.1.committed_is;
   mode = h.1.mode ∙ sym inside;
   is_open = h.1.is_open ∙ sym h.1.was_open;
 }
   where
+    write : old.now.schema ≡ schema → Writes old new None (CreateIndex at) text [] count
+    write has =
+        subst (λ t. Writes old new None (CreateIndex at) t [] count) d.whole
+        (runs_as text [] old new schema has (CreateIndex at) d.creates d.plain count h.0)
+
     made : old.now.schema ≡ schema → (new.now.schema ≡ indexed schema table index) × KeepsRows schema.tables old.now.trees new.now.trees
     made has =
-        let w = subst (λ t. Writes old new None (CreateIndex at) t [] count) d.whole
-        (runs_as text [] old new schema has (CreateIndex at) d.creates d.plain count h.0) in
+        let w = write has in
         let whole = subst (λ s.
         Does old.step_limit (mode_of old) [] (record old.now { schema = s }) text None (CreateIndex at)
         (Ok (w.tally, new.now))) has w.changed in
@@ -113,6 +122,7 @@ lays_then a b c s0 s1 s2 xs ys are one two = record {
       let kept = all_front (λ (t : Table). c.now.trees t.tree ≡ b.now.trees t.tree) s0.tables xs (subst (λ ts.
       KeepsRows ts b.now.trees c.now.trees) are (two.kept (one.schema has))) in
       rows_then s0.tables a.now.trees b.now.trees c.now.trees (one.kept has) kept.0;
+  sound = λ has. two.sound (one.schema has);
   committed = two.committed ∙ one.committed;
   mode = two.mode ∙ one.mode;
   is_open = two.is_open ∙ one.is_open;

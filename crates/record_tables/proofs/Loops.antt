@@ -20,6 +20,9 @@ pub puts_then : (a b c : State) (A B : Tables → Type 0) (f h : Tables → Tabl
     → Puts a b A f → Puts b c B h → Puts a c A (λ t. h (f t))
 puts_then a b c A B f h fits one two = record {
   stored = λ t s keyed allowed. let mid = one.stored t s keyed allowed in two.stored (f t) mid.0 mid.1 (fits t allowed);
+  sound = λ h t s keyed allowed.
+      let mid = one.stored t s keyed allowed in
+      two.sound (one.sound h t s keyed allowed) (f t) mid.0 mid.1 (fits t allowed);
   committed = two.committed ∙ one.committed;
   mode = two.mode ∙ one.mode;
   is_open = two.is_open ∙ one.is_open;
@@ -30,17 +33,19 @@ pub puts_as : (a b : State) (A B : Tables → Type 0) (f h : Tables → Tables) 
     → ((t : Tables) → B t → f t ≡ h t) → Puts a b A f → Puts a b B h
 puts_as a b A B f h fits same one = record {
   stored = λ t s keyed allowed. let to = one.stored t s keyed (fits t allowed) in subst (StoresKeyed b.now) (same t allowed) to;
+  sound = λ h t s keyed allowed. one.sound h t s keyed (fits t allowed);
   committed = one.committed;
   mode = one.mode;
   is_open = one.is_open;
 }
 
 pub turned : (a b : State) (A : Tables → Type 0) (f : Tables → Tables) → Puts a b A f → Turns a.now b.now A f
-turned a b A f one = record { stored = one.stored }
+turned a b A f one = record { stored = one.stored; sound = one.sound }
 
 pub nothing_yet : (a : State) (A : Tables → Type 0) (f : Tables → Tables) → ((t : Tables) → A t → t ≡ f t) → Puts a a A f
 nothing_yet a A f same = record {
   stored = λ t s keyed allowed. subst (StoresKeyed a.now) (same t allowed) (s, keyed);
+  sound = λ h t s keyed allowed. h;
   committed = refl;
   mode = refl;
   is_open = refl;

@@ -11,7 +11,7 @@ use Rattle.sqlite.specs.Term.{Term, holds as passes}
 use Rattle.sqlite.specs.Tree.{Trees, put_row, rowid}
 use Rattle.sqlite.specs.Edit.{edit_of, edited, id_in}
 use Rattle.sqlite.specs.Rowids.TheVariants.{Chosen, Given}
-use Rattle.sqlite.specs.Effect.{value_rows}
+use Rattle.sqlite.specs.Effect.{value_rows, IsDatabase}
 use Rattle.sqlite.specs.Source.TheVariants.{Values}
 use Rattle.sqlite.specs.State.{State, ExecutesInside}
 use Rattle.sqlite.specs.Command.TheVariants.{Insert, Delete}
@@ -79,9 +79,11 @@ next_is key to_row same (x ∷ xs) a =
 -- a statement in a transaction, which continues
 puts_by : (old new : State) (text : List ℕ) (params : Row) (count : ℕ) (Allows : Tables → Type 0) (change : Tables
     → Tables) → IsTrue old.in_transaction → ExecutesInside 0 text params old new (Ok count)
-    → ((t : Tables) → Stores old.now t → AreKeyed t → Allows t → StoresKeyed new.now (change t)) → Puts old new Allows change
-puts_by old new text params count Allows change inside h stored = record {
-  stored = stored;
+    → ((t : Tables) → Stores old.now t → AreKeyed t → Allows t → StoresKeyed new.now (change t) × IsDatabase new.now)
+    → Puts old new Allows change
+puts_by old new text params count Allows change inside h made = record {
+  stored = λ t s keyed allowed. (made t s keyed allowed).0;
+  sound = λ sound t s keyed allowed. (made t s keyed allowed).1;
   committed = h.1.committed_is;
   mode = h.1.mode ∙ sym inside;
   is_open = h.1.is_open ∙ sym h.1.was_open;
@@ -109,7 +111,7 @@ module _ {X : Type 0} (d : Described X) (text : List ℕ) (params : Row) where
       let rows = ins.1.rows ∙ edit old.now.trees t has ∙ ap (put_row (d.to_row (one t))) has
       ∙ puts-map d.key d.to_row d.keyed (one t ∷ []) (d.rows t) ∙ ap (map d.to_row) at_end in
       let up = subst (IsKeyedBy d.key) at_end (IsKeyedBy-insert_by d.key (d.rows t) (one t) (d.ordered t keyed)) in
-      changed d old.now new.now t _ s keyed ins.0 ins.1.tables rows up)
+      (changed d old.now new.now t _ s keyed ins.0 ins.1.tables rows up, w.sound))
 
   -- the same under the next rowid
   inserts_next : (terms : List Term) (width : ℕ) (means : (f : Foreign)
@@ -139,9 +141,9 @@ module _ {X : Type 0} (d : Described X) (text : List ℕ) (params : Row) where
       let has = d.stored old.now t s in
       let left = deleted_rows d.key d.to_row d.keyed (overlay old.now.trees []) d.table.tree (d.rows t)
       (d.seen old.now.trees ∙ has) (d.ordered t keyed) tests params p test done.1.0 (done.1.1.answer Null) in
-      changed d old.now new.now t _ s keyed done.0 done.1.2.tables (done.1.2.rows
+      (changed d old.now new.now t _ s keyed done.0 done.1.2.tables (done.1.2.rows
       ∙ ap (λ l. without_all l (ids_of done.1.0)) (sym (d.seen old.now.trees))
-      ∙ left) (IsKeyedBy-delete_where d.key _ (d.rows t) (d.ordered t keyed)))
+      ∙ left) (IsKeyedBy-delete_where d.key _ (d.rows t) (d.ordered t keyed)), w.sound))
 
 all_gone : {X : Type 0} (xs : List X) → delete_where (λ _. true) xs ≡ []
 all_gone xs = filter_none _ xs (all_of _ (λ _. refl) xs)
@@ -156,6 +158,7 @@ clears d text means old new count inside h =
     record {
       stored = λ t s keyed allowed.
           subst (λ xs. StoresKeyed new.now (d.with_rows xs t)) (all_gone (d.rows t)) (gone.stored t s keyed allowed);
+      sound = gone.sound;
       committed = gone.committed;
       mode = gone.mode;
       is_open = gone.is_open;
@@ -336,4 +339,4 @@ destroys old new n count inside h = puts_by old new Texts.set_destroyed (Int (po
     ∙ update_edit old.now.trees ys few
     ∙ ap (λ l. put_all (without_all l (map record_key ys)) (map (λ y. record_row (destruction_of y)) ys)) s.records
     ∙ changed_rows record_key record_row (λ x. refl) (pos n) destruction_of (λ x. refl) t.records keyed.records ys refl few in
-    changed records old.now new.now t _ s keyed done.0 done.1.2.tables tree (keyed_destroyed n t.records keyed.records))
+    (changed records old.now new.now t _ s keyed done.0 done.1.2.tables tree (keyed_destroyed n t.records keyed.records), w.sound))

@@ -6,14 +6,15 @@ use Rattle.std.specs.Ordering.{nat_cmp, is_eq, int_eq}
 use Rattle.sqlite_keyed.specs.Keyed.{next_key}
 use Rattle.sqlite_keyed.specs.Lists.{delete_where, update_where}
 use Rattle.sqlite.specs.State.{State}
-use Rattle.sqlite.specs.Effect.{Database}
+use Rattle.sqlite.specs.Effect.{Database, IsDatabase}
 use Rattle.sqlite_trees.specs.Tree.{IsAscending}
 use Rattle.record_archive.specs.Archive.{Message, Record}
 use Rattle.record_tables.specs.Rows.{Tables, Hold, Setting, Class, Schedule, Due, Stores, StoresKeyed, AreKeyed, hold_key, setting_key, class_key, schedule_key}
 
--- a statement in a transaction, which continues
+-- a statement in a transaction, which continues; a database that is sound stays so
 pub record Puts (old new : State) (Allows : Tables → Type 0) (change : Tables → Tables) : Type 0 where
   pub stored : (t : Tables) → Stores old.now t → AreKeyed t → Allows t → StoresKeyed new.now (change t)
+  pub sound : IsDatabase old.now → (t : Tables) → Stores old.now t → AreKeyed t → Allows t → IsDatabase new.now
   pub committed : new.committed ≡ old.committed
   pub mode : new.in_transaction ≡ old.in_transaction
   pub is_open : new.is_open ≡ old.is_open
@@ -101,9 +102,10 @@ without_due n t = record t { dues = delete_where (λ (d : Due). int_eq (pos d.nu
 
 -- ---- whole transactions
 
--- what a whole transaction makes of the database
+-- what a whole transaction makes of the database, which stays sound
 pub record Turns (old new : Database) (Allows : Tables → Type 0) (change : Tables → Tables) : Type 0 where
   pub stored : (t : Tables) → Stores old t → AreKeyed t → Allows t → StoresKeyed new (change t)
+  pub sound : IsDatabase old → (t : Tables) → Stores old t → AreKeyed t → Allows t → IsDatabase new
 
 -- a class as it is listed, without its rowid
 pub record ClassEntry : Type 0 where

@@ -11,7 +11,7 @@ use Rattle.sqlite.proofs.Callers.{IsPlain, command_of, statement_of}
 use Rattle.sqlite_schema.specs.declared.schema.Index.{Index}
 use Rattle.sqlite.specs.Schema.{Schema}
 use Rattle.sqlite.specs.Tree.{Trees}
-use Rattle.sqlite.specs.Effect.{Database}
+use Rattle.sqlite.specs.Effect.{Database, IsDatabase}
 use Rattle.sqlite.specs.Store.{Ghosts}
 use Rattle.sqlite.specs.State.{State, HasCleanDisk}
 use Rattle.sqlite.specs.Held.{Held, state}
@@ -35,6 +35,7 @@ pub record Lays (old new : State) (before : Schema) (laid : List Table) (after :
   pub schema : old.now.schema ≡ before → new.now.schema ≡ after
   pub empty : old.now.schema ≡ before → AreEmpty laid new.now.trees
   pub kept : old.now.schema ≡ before → KeepsRows before.tables old.now.trees new.now.trees
+  pub sound : old.now.schema ≡ before → IsDatabase new.now
   pub committed : new.committed ≡ old.committed
   pub mode : new.in_transaction ≡ old.in_transaction
   pub is_open : new.is_open ≡ old.is_open
@@ -56,6 +57,7 @@ module _ {S : Type 0} (g : Ghosts S) (old new : Held S) where
 pub record Drops (old new : State) (before after : Schema) : Type 0 where
   pub schema : old.now.schema ≡ before → new.now.schema ≡ after
   pub kept : old.now.schema ≡ before → KeepsRows after.tables old.now.trees new.now.trees
+  pub sound : old.now.schema ≡ before → IsDatabase new.now
   pub committed : new.committed ≡ old.committed
   pub mode : new.in_transaction ≡ old.in_transaction
   pub is_open : new.is_open ≡ old.is_open
@@ -69,6 +71,7 @@ pub record TellsDues (schema : Schema) (has_dues : Bool) : Type 0 where
 pub record Empties (old new : State) : Type 0 where
   pub stored : (t : Tables) → Stores old.now t → AreKeyed t → old.now.schema ≡ archive_schema →
       StoresKeyed new.now (without_dues t)
+  pub sound : (t : Tables) → Stores old.now t → AreKeyed t → old.now.schema ≡ archive_schema → IsDatabase new.now
   pub committed : new.committed ≡ old.committed
   pub mode : new.in_transaction ≡ old.in_transaction
   pub is_open : new.is_open ≡ old.is_open

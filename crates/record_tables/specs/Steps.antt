@@ -78,6 +78,10 @@ module _ {S : Type 0} (g : Ghosts S) (old new : Held S) where
   abbrev pub WasOpenOnOk : {T E : Type 0} → Result T E → Type 0
   WasOpenOnOk result = HasCleanDisk (state g new) → OnOk result (IsTrue (state g old).is_open)
 
+  -- where it succeeds, the connection is open afterwards
+  abbrev pub IsOpenOnOk : {T E : Type 0} → Result T E → Type 0
+  IsOpenOnOk result = HasCleanDisk (state g new) → OnOk result (IsTrue (state g new).is_open)
+
   -- while the connection is open, the rows and what is committed are as they were before
   abbrev pub IsUntouched : Type 0
   IsUntouched = HasCleanDisk (state g new) → IsTrue (state g new).is_open

@@ -3,9 +3,10 @@
 ghost use Rattle.std.specs.Prelude.{◌≡◌, OnOk, false, map};
 ghost use Rattle.record_tables.specs.Changes.{Always, HasNoClasses, HasNoSchedules, HasNoDues, IsPastDues, AreAscending, with_due, with_dues, with_classes, with_schedules, with_version, IsRevised, with_class_entry};
 ghost use Rattle.sqlite.specs.Held.{state};
+ghost use Rattle.sqlite.specs.State.{IsLive};
 ghost use Rattle.record_tables.specs.Layouts.{TellsAlone};
 ghost use Rattle.record_tables.specs.CodeRows.{due_of, class_entry_of, rule_of, with_plan_rows};
-ghost use Rattle.record_tables.specs.Steps.{PutsIn, KeepsIn, CommitsNothing, CommitsWhole, Makes, IsCommitted, IsUndone, WasOpen};
+ghost use Rattle.record_tables.specs.Steps.{PutsIn, KeepsIn, CommitsNothing, CommitsWhole, Makes, IsCommitted, IsOpenOnOk, IsUndone, WasOpen};
 
 use crate::lay::empty_dues;
 use crate::layout::is_alone;
@@ -217,6 +218,8 @@ pub fn replace_plan<S: Alter>(
     ensures was_open { WasOpen S.Store conn.old conn.new }
     ensures crash { CommitsWhole S.Store conn.old conn.new (IsRevised (map rule_of schedules.now)
         (map class_entry_of classes.now) (map due_of dues.now)) }
+    ensures live { IsLive (state S.Store conn.old) }
+    ensures open { IsOpenOnOk S.Store conn.old conn.new result }
 {
     let is_alone = is_alone(conn.schema());
     transact(

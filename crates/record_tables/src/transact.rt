@@ -3,8 +3,9 @@
 ghost use Rattle.std.specs.Prelude.{◌≡◌, OnOk, false};
 ghost use Rattle.sqlite.specs.Effect.{Database};
 ghost use Rattle.sqlite.specs.Held.{state};
+ghost use Rattle.sqlite.specs.State.{IsLive};
 ghost use Rattle.record_tables.specs.Layouts.{GoesOnIn};
-ghost use Rattle.record_tables.specs.Steps.{KeepsIn, CommitsNothing, CommitsWhole, Makes, MakesIn, IsCommitted, IsUndone, WasOpen};
+ghost use Rattle.record_tables.specs.Steps.{KeepsIn, CommitsNothing, CommitsWhole, Makes, MakesIn, IsCommitted, IsOpenOnOk, IsUndone, WasOpen};
 
 use sqlite::{Alter, Connection, Error, Transaction};
 
@@ -39,8 +40,11 @@ pub fn transact<S: Alter, C: Change>(conn: &mut Connection<S>, change: C) -> Res
     ensures err { IsUndone S.Store conn.old conn.new result }
     ensures was_open { WasOpen S.Store conn.old conn.new }
     ensures crash { CommitsWhole S.Store conn.old conn.new (C.makes change) }
+    ensures live { IsLive (state S.Store conn.old) }
+    ensures open { IsOpenOnOk S.Store conn.old conn.new result }
 {
     let _settled = conn.is_autocommit();
+    let _live = conn.schema();
     let mut tx = conn.transaction();
     change.make(&mut tx)?;
     tx.commit()?;

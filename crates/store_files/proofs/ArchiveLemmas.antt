@@ -13,7 +13,7 @@ use Rattle.record_store.specs.declared.store.Store.{Store}
 use Rattle.store_files.specs.Closing.{HoldsBy, HoldsNow}
 use Rattle.store_files.specs.Files.{KeepsAt}
 use Rattle.store_files.specs.declared.closing.Closing.{Closing}
-use Rattle.store_files.specs.declared.closing.Closing.TheVariants.{Copied, Logged, Shut}
+use Rattle.store_files.specs.declared.closing.Closing.TheVariants.{Copied, Logged, Shut, Cut}
 
 module _ {D : Type 0} {g : Ghosts D} (store : Store (FileStore D g)) (conn : Held (FileStore D g)) (same : conn ≡ store.conn) (a : Archive)
     (stands : StandsFor over_files store a) where
@@ -37,3 +37,4 @@ pub holds_alike : (closing : Closing) (P Q : Image → Type 0) → ((image : Ima
 holds_alike Copied P Q each image h = (each image h.0, each _ h.1)
 holds_alike Logged P Q each image h = each image h
 holds_alike Shut P Q each image h = tt
+holds_alike Cut P Q each image h = tt

@@ -9,7 +9,7 @@ ghost use Rattle.sqlite.specs.Files.{file_state};
 ghost use Rattle.sqlite_store.specs.FileStore.{view, log_frames, HasSpilled};
 ghost use Rattle.sqlite_store.specs.Calls.{IsQuietCall};
 ghost use Rattle.sqlite_trees.specs.View.{IsClean};
-ghost use Rattle.store_files.specs.Closing.{HoldsBy, HoldsNow};
+ghost use Rattle.store_files.specs.Closing.{HasCause, HoldsBy, HoldsLeft, HoldsNow, IsTold, LeavesBy};
 
 use sqlite::{Connection, FileStore, Files};
 use sqlite_disk::Disk;
@@ -22,25 +22,34 @@ pub enum Closing {
     Copied,
     /// The two files together. The log could not be copied, and the next opening finds what it has.
     Logged,
-    /// A fault of the disk has shut the store, so that it could neither read nor write. What had been committed before
-    /// the fault is what the next opening finds.
+    /// A fault of the disk had shut the store before, so that it could neither read nor write. Nothing was copied: the
+    /// two files keep what was committed before the fault, or what the call in which it fell was to commit.
     Shut,
+    /// A fault of the disk fell while the log was copied. What the copy leaves of the files is not promised.
+    Cut,
 }
 
-/// Copies what the log has into the database file.
+/// Copies what the log has into the database file. Where a fault has shut the store, nothing is touched.
 fn copy_log<D: Disk>(store: &mut FileStore<D>) -> Closing
     ensures quiet { IsQuietCall store.old store.new }
-    ensures open { IsClean (view store.new) → result ≢ Closing.Shut
-        → IsTrue (view store.new).is_open }
+    ensures open { IsClean (view store.new) → IsTold result → IsTrue (view store.new).is_open }
+    ensures shut { result ≡ Closing.Shut → store.new ≡ store.old }
+    ensures broken { IsClean (view store.new) → result ≡ Closing.Shut
+        → IsTrue (view store.old).is_broken }
+    ensures cut { IsClean (view store.new) → result ≡ Closing.Cut
+        → IsTrue (view store.new).is_broken }
     ensures same { IsTrue (view store.new).is_open → view store.new ≡ view store.old }
     ensures moved { result ≡ Closing.Copied → (HasSpilled store.old → ⊥)
         → log_frames store.new ≡ 0 }
 {
+    if store.is_broken() {
+        return Closing::Shut;
+    }
     match store.checkpoint() {
         Ok(()) => Closing::Copied,
         Err(_) => {
             if store.is_broken() {
-                Closing::Shut
+                Closing::Cut
             } else {
                 Closing::Logged
             }
@@ -54,6 +63,11 @@ pub fn close<D: Disk + Drop>(conn: Connection<FileStore<D>>) -> (Files<D>, Closi
     ensures holds { AreClean D.Disk result.0.log result.0.db → conn.in_transaction ≡ false
         → (image : Image) → outcomes D.Disk result.0.log result.0.db image
         → HoldsBy result.1 (HoldsNow (file_state conn)) image }
+    ensures leaves { AreClean D.Disk result.0.log result.0.db → (image : Image)
+        → outcomes D.Disk result.0.log result.0.db image
+        → LeavesBy result.1 (HoldsLeft (file_state conn) image) }
+    ensures cause { AreClean D.Disk result.0.log result.0.db → IsTrue (file_state conn).is_open
+        → HasCause D.Disk (file_state conn).faults result.0 result.1 }
 {
     let _settled = conn.is_autocommit();
     let _live = conn.schema();

@@ -1,15 +1,17 @@
 //! A store over files.
 
-ghost use Rattle.std.specs.Prelude.{◌≡◌, false, IfOk, IfErr};
+ghost use Rattle.std.specs.Prelude.{◌≡◌, false, IfOk, IfErr, IsTrue};
 ghost use Rattle.sqlite.specs.State.{HasCleanDisk};
 ghost use Rattle.sqlite.specs.Held.{state};
 ghost use Rattle.sqlite.specs.WalReads.{AreClean};
-ghost use Rattle.sqlite.specs.WalFiles.{image_at};
+ghost use Rattle.sqlite.specs.WalFiles.{image_at, outcomes};
+ghost use Rattle.sqlite.specs.Recovery.{Image};
 ghost use Rattle.sqlite.specs.Files.{file_state, over_files};
 ghost use Rattle.record_tables.specs.Tables.{no_schema};
 ghost use Rattle.record_archive.specs.Archive.{Archive, empty_archive};
 ghost use Rattle.record_adoption.specs.Adoption.{Finds};
 ghost use Rattle.record_store.specs.Stores.{StandsFor};
+ghost use Rattle.store_files.specs.Closing.{HasCause, HoldsLeft, LeavesBy};
 ghost use Rattle.store_files.specs.Files.{FindsAt, KeepsFiles};
 
 use crate::closing::{Closing, close, leave};
@@ -95,12 +97,20 @@ pub fn lay_archive<S: Alter>(
 }
 
 /// Ends a store, and gives its files back. They keep the archive that the store represents: the database file alone where
-/// its log could be copied, and otherwise the two files together.
+/// its log could be copied, and otherwise the two files together. A fault that shut the store before is told (`Shut`);
+/// the files then hold one of the databases that a crash at that moment may leave. `Shut` and `Cut` are told of an open
+/// store only where the disk fails.
 pub fn close_store<D: Disk + Drop>(store: Store<FileStore<D>>) -> (Files<D>, Closing)
     ensures clean { AreClean D.Disk result.0.log result.0.db
         → HasCleanDisk (file_state store.conn) }
     ensures keeps { AreClean D.Disk result.0.log result.0.db → (a : Archive)
         → StandsFor over_files store a → KeepsFiles D.Disk result.1 result.0 a }
+    ensures leaves { AreClean D.Disk result.0.log result.0.db → (image : Image)
+        → outcomes D.Disk result.0.log result.0.db image
+        → LeavesBy result.1 (HoldsLeft (file_state store.conn) image) }
+    ensures cause { AreClean D.Disk result.0.log result.0.db
+        → IsTrue (file_state store.conn).is_open
+        → HasCause D.Disk (file_state store.conn).faults result.0 result.1 }
 {
     close(store.into_connection())
 }

@@ -10,10 +10,14 @@ use Rattle.sqlite.specs.Closing.{HoldsAlone}
 use Rattle.sqlite.specs.Held.{AreDatabases}
 use Rattle.sqlite.specs.Files.{file_state}
 use Rattle.sqlite.proofs.Theorems.{copied}
-use Rattle.store_files.specs.Closing.{HoldsNow}
+use Rattle.store_files.specs.Closing.{HoldsLeft, HoldsNow, IsTold}
+use Rattle.store_files.specs.declared.closing.Closing.{Closing}
 use Rattle.store_files.specs.declared.closing.Closing.TheVariants.{Copied, Shut}
-use Rattle.store_files.proofs.ClosingLemmas.{by_closing, holds_now, left_now}
+use Rattle.store_files.proofs.ClosingLemmas.{by_cause, by_closing, by_leaving, holds_now, left_now, left_some}
 use Rattle.store_files.proofs.closing.close.Goals as goal
+
+told_so : (closing : Closing) → closing ≡ Copied → IsTold closing
+told_so closing is = subst IsTold (sym is) tt
 
 pub returns-clause-clean : goal.returns-clause-clean
 returns-clause-clean g c honest =
@@ -54,7 +58,48 @@ returns-clause-holds g c honest idle image may =
     (λ ready. let on = done.open none ready in
     left_now conn (was_open on) c.schema-live.ensures.live (settled on) stays last (numbered on) sound
     (λ db found. made.quiet.outcomes db (undone.quiet.outcomes db (done.quiet.outcomes db found))) image may_be)
-    (λ is. let on = done.open none (λ shut. let e = sym is ∙ shut in cc) in
+    (λ is. let on = done.open none (told_so c.copy_log-closing.result is) in
     holds_now conn (was_open on) c.schema-live.ensures.live (settled on) _
     (subst (HoldsAlone image) (committed on)
     (copied last stays on (numbered on) sound (done.moved is (undone.logged (second.was_open (mid_open on)))) image may_be)).alone)
+
+pub returns-clause-leaves : goal.returns-clause-leaves
+returns-clause-leaves g c honest image may =
+    let conn = c.args.conn in
+    let mid = c.rollback.new.self in
+    let last = c.copy_log-closing.new.store in
+    let made = c.into_store-store.ensures in
+    let undone = c.rollback.ensures in
+    let done = c.copy_log-closing.ensures in
+    let sure = subst (λ p. AreClean g.D.Disk p.0 p.1) c.close.ensures honest in
+    let none : IsClean (view last) = no_doubt _ (clean_is last.pool ∙ sure) in
+    let clean : IsClean (view mid) = omega (arith, done.quiet.clean) in
+    let early : IsClean (view c.into_store-store.result) = omega (arith, undone.quiet.clean) in
+    let numbered_mid : IsTrue (view mid).is_numbered = subst IsTrue (sym undone.undone.numbered) (made.numbered early) in
+    let may_be : (state last).may_leave image =
+    may_leave_is last.pool image sure (subst (λ p. outcomes g.D.Disk p.0 p.1 image) c.close.ensures may) in
+    let sound : AreDatabases (recovers last) = λ db found. made.sound early db (undone.quiet.outcomes db (done.quiet.outcomes db found)) in
+    let left = λ (numbered : IsTrue (view last).is_numbered).
+    left_some conn last numbered sound (λ db found.
+    made.quiet.outcomes db (undone.quiet.outcomes db (done.quiet.outcomes db found))) image may_be in
+    by_leaving c.copy_log-closing.result (HoldsLeft (file_state conn) image)
+    (λ told. left (subst IsTrue (sym (ap (λ (v : View). v.is_numbered) (done.same (done.open none told)))) numbered_mid))
+    (λ is. left (subst IsTrue (ap (λ it. (view it).is_numbered) (sym (done.shut is))) numbered_mid))
+
+pub returns-clause-cause : goal.returns-clause-cause
+returns-clause-cause g c honest on =
+    let conn = c.args.conn in
+    let back = c.into_store-store.result in
+    let mid = c.rollback.new.self in
+    let last = c.copy_log-closing.new.store in
+    let made = c.into_store-store.ensures in
+    let undone = c.rollback.ensures in
+    let done = c.copy_log-closing.ensures in
+    let sure = subst (λ p. AreClean g.D.Disk p.0 p.1) c.close.ensures honest in
+    let none : IsClean (view last) = no_doubt _ (clean_is last.pool ∙ sure) in
+    let clean : IsClean (view mid) = omega (arith, done.quiet.clean) in
+    let early : IsClean (view back) = omega (arith, undone.quiet.clean) in
+    by_cause g.D.Disk conn back mid last c.copy_log-closing.result c.close.result (sym c.close.ensures)
+    (made.quiet.closes early on) (undone.quiet.closes clean) (done.quiet.closes none) undone.quiet.counts done.quiet.counts
+    made.quiet.counts (λ here. (undone.undone.undone here).1)
+    (λ here. ap (λ (v : View). v.is_broken) (done.same here)) (done.broken none) (done.cut none)

@@ -1,5 +1,6 @@
+use Rattle.std.proofs.Common.{IsTrue, subst, sym}
 use Rattle.sqlite.specs.Files.{file_state}
-use Rattle.store_files.specs.Closing.{HoldsNow}
+use Rattle.store_files.specs.Closing.{HasCause, HoldsLeft, HoldsNow, LeavesBy}
 use Rattle.store_files.specs.Files.{KeepsAt}
 use Rattle.store_files.proofs.ArchiveLemmas.{holds_alike, is_idle, keeps_now}
 use Rattle.store_files.proofs.opening.close_store.Goals as goal
@@ -12,3 +13,15 @@ returns-clause-keeps g c honest a stands image may =
     holds_alike c.close.result.1 (HoldsNow (file_state conn)) (KeepsAt a)
     (keeps_now store conn same a stands (c.close.ensures.clean honest)) image
     (c.close.ensures.holds honest (is_idle store conn same a stands) image may)
+
+pub returns-clause-leaves : goal.returns-clause-leaves
+returns-clause-leaves g c honest image may =
+    let P : _ → Type 0 = λ conn. LeavesBy c.close.result.1 (HoldsLeft (file_state conn) image) in
+    subst P c.into_connection.ensures (c.close.ensures.leaves honest image may)
+
+pub returns-clause-cause : goal.returns-clause-cause
+returns-clause-cause g c honest on =
+    let P : _ → Type 0 = λ conn. HasCause g.D.Disk (file_state conn).faults c.close.result.0 c.close.result.1 in
+    let Q : _ → Type 0 = λ conn. IsTrue (file_state conn).is_open in
+    let same = c.into_connection.ensures in
+    subst P same (c.close.ensures.cause honest (subst Q (sym same) on))

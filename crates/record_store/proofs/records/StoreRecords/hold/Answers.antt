@@ -1,5 +1,15 @@
-use Rattle.record_store.proofs.RecordsLemmas.{carried_out_rows}
+use Rattle.record_store.proofs.RecordsLemmas.{carried_out, done_rows, not_open}
 use Rattle.record_store.proofs.records.StoreRecords.hold.Goals as goal
 
+pub returns-in_err-ensure_open : goal.returns-in_err-ensure_open
+returns-in_err-ensure_open g c =
+    let opened = c.ensure_open.ensures in
+    not_open g.S.Store c.args.self.now c.ensure_open.new.self _ _ _ c.in_err-ensure_open.field-0.0 c.from_residual.ensures.0
+    c.from_residual.ensures.1 opened.stands opened.falls c.in_err-ensure_open.ensures.trouble opened.crash
+
 pub returns : goal.returns
-returns g c = carried_out_rows g.S.Store c.args.self.now c.hold.new.self _ _ c.hold.result c.hold.ensures.falls c.hold.ensures.obeys
+returns g c =
+    let opened = c.ensure_open.ensures in
+    carried_out g.S.Store c.args.self.now c.ensure_open.new.self c.hold-done.new.self _ _ opened.stands opened.falls
+    c.in_ok-ensure_open.ensures.open opened.crash c.hold-done.ensures.falls c.hold-done.ensures.crash c.is_idle-idle.ensures.left _
+    (done_rows g.S.Store c.ensure_open.new.self c.hold-done.new.self _ _ c.hold-done.result c.hold-done.ensures.obeys) (λ a s clean on. c.hold-done.ensures.open clean)

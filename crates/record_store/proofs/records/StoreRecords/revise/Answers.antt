@@ -1,5 +1,15 @@
-use Rattle.record_store.proofs.RecordsLemmas.{carried_out_rows}
+use Rattle.record_store.proofs.RecordsLemmas.{carried_out, done_rows, not_open}
 use Rattle.record_store.proofs.records.StoreRecords.revise.Goals as goal
 
+pub returns-in_err-ensure_open : goal.returns-in_err-ensure_open
+returns-in_err-ensure_open g c =
+    let opened = c.ensure_open.ensures in
+    not_open g.S.Store c.args.self.now c.ensure_open.new.self _ _ _ c.in_err-ensure_open.field-0.0 c.from_residual.ensures.0
+    c.from_residual.ensures.1 opened.stands opened.falls c.in_err-ensure_open.ensures.trouble opened.crash
+
 pub returns : goal.returns
-returns g c = carried_out_rows g.S.Store c.args.self.now c.revise.new.self _ _ c.revise.result c.revise.ensures.falls c.revise.ensures.obeys
+returns g c =
+    let opened = c.ensure_open.ensures in
+    carried_out g.S.Store c.args.self.now c.ensure_open.new.self c.revise-done.new.self _ _ opened.stands opened.falls
+    c.in_ok-ensure_open.ensures.open opened.crash c.revise-done.ensures.falls c.revise-done.ensures.crash c.is_idle-idle.ensures.left _
+    (done_rows g.S.Store c.ensure_open.new.self c.revise-done.new.self _ _ c.revise-done.result c.revise-done.ensures.obeys) (λ a s clean on. c.revise-done.ensures.open clean)

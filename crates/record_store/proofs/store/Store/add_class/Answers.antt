@@ -52,7 +52,8 @@ returns-in-Ok-clause-crash g c =
     (λ (a : Archive) s.
     leaves_turned g.S.Store c.args.self.now c.transact.new.conn a (with_plan a q) (◌≡◌ {A =
     Result Archive ArchiveRefusal} (Ok (with_plan a q)) (Ok (with_plan a q))) Always (with_class path true None) s
-    (λ was db kept legal turns. keeps_added a p q path s.plan made s.archive was db kept turns) c.transact.ensures.crash)
+    (λ legal. added_archive a p q path s.plan made s.archive c.in_ok-plan_class.ensures.plans.1) (λ was kept legal. tt)
+    (λ was db kept legal turns. keeps_added a p q path s.plan made s.archive was db kept turns) c.transact.ensures.live c.transact.ensures.crash)
 
 pub returns-in-Err-clause-crash : goal.returns-in-Err-clause-crash
 returns-in-Err-clause-crash g c =
@@ -64,7 +65,8 @@ returns-in-Err-clause-crash g c =
     (λ (a : Archive) s.
     leaves_turned g.S.Store c.args.self.now c.transact.new.conn a (with_plan a q) (◌≡◌ {A =
     Result Archive ArchiveRefusal} (Ok (with_plan a q)) (Ok (with_plan a q))) Always (with_class path true None) s
-    (λ was db kept legal turns. keeps_added a p q path s.plan made s.archive was db kept turns) c.transact.ensures.crash)
+    (λ legal. added_archive a p q path s.plan made s.archive c.in_ok-plan_class.ensures.plans.1) (λ was kept legal. tt)
+    (λ was db kept legal turns. keeps_added a p q path s.plan made s.archive was db kept turns) c.transact.ensures.live c.transact.ensures.crash)
 
 pub returns-in-Err-clause-obeys : goal.returns-in-Err-clause-obeys
 returns-in-Err-clause-obeys g c = λ (a : Archive) s.

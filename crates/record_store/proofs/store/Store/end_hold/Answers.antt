@@ -29,7 +29,8 @@ returns-in-Ok-clause-crash g c = λ (a : Archive) s.
     let n = c.args.number in
     leaves_turned g.S.Store c.args.self.now c.transact.new.conn a (archive.without_hold a name n)
     (archive.release a name n ≡ Ok (archive.without_hold a name n)) Always (tables.without_hold name n) s
-    (λ was db kept legal turns. stores_released name n a was db kept turns) c.transact.ensures.crash
+    (λ legal. released_is_archive a name n s.archive) (λ was kept legal. tt)
+    (λ was db kept legal turns. stores_released name n a was db kept turns) c.transact.ensures.live c.transact.ensures.crash
 
 pub returns-in-Err-clause-crash : goal.returns-in-Err-clause-crash
 returns-in-Err-clause-crash g c = λ (a : Archive) s.
@@ -37,7 +38,8 @@ returns-in-Err-clause-crash g c = λ (a : Archive) s.
     let n = c.args.number in
     leaves_turned g.S.Store c.args.self.now c.transact.new.conn a (archive.without_hold a name n)
     (archive.release a name n ≡ Ok (archive.without_hold a name n)) Always (tables.without_hold name n) s
-    (λ was db kept legal turns. stores_released name n a was db kept turns) c.transact.ensures.crash
+    (λ legal. released_is_archive a name n s.archive) (λ was kept legal. tt)
+    (λ was db kept legal turns. stores_released name n a was db kept turns) c.transact.ensures.live c.transact.ensures.crash
 
 pub returns-then-not-is_autocommit-clause-cause : goal.returns-then-not-is_autocommit-clause-cause
 returns-then-not-is_autocommit-clause-cause g c = λ (a : Archive) s clean.

@@ -49,7 +49,8 @@ returns-in-Ok-transact-clause-crash g c = λ (a : Archive) s.
       day = c.requires.day;
       dues = c.requires.dues;
     } in
-    leaves_captured g.S.Store c.args.self.now c.transact.new.conn a s c.args.body.now c.args.day c.args.first ps ds given c.transact.ensures.crash
+    leaves_captured g.S.Store c.args.self.now c.transact.new.conn a s c.args.body.now c.args.day c.args.first ps ds given
+    c.transact.ensures.live c.transact.ensures.crash
 
 pub returns-in-Err-clause-crash : goal.returns-in-Err-clause-crash
 returns-in-Err-clause-crash g c = λ (a : Archive) s.
@@ -66,7 +67,8 @@ returns-in-Err-clause-crash g c = λ (a : Archive) s.
       day = c.requires.day;
       dues = c.requires.dues;
     } in
-    leaves_captured g.S.Store c.args.self.now c.transact.new.conn a s c.args.body.now c.args.day c.args.first ps ds given c.transact.ensures.crash
+    leaves_captured g.S.Store c.args.self.now c.transact.new.conn a s c.args.body.now c.args.day c.args.first ps ds given
+    c.transact.ensures.live c.transact.ensures.crash
 
 pub returns-then-not-is_autocommit-clause-cause : goal.returns-then-not-is_autocommit-clause-cause
 returns-then-not-is_autocommit-clause-cause g c = λ (a : Archive) s clean.

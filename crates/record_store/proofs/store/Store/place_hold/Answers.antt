@@ -29,16 +29,18 @@ returns-in-Ok-transact-clause-crash g c = λ (a : Archive) s.
     let name = c.args.name.now in
     let n = c.args.number in
     leaves_turned g.S.Store c.args.self.now c.transact.new.conn a (archive.with_hold a name n) (archive.hold a name n
-    ≡ Ok (archive.with_hold a name n)) Always (tables.with_hold name n) s (λ was db kept legal turns.
-    stores_held name n a was db kept turns) c.transact.ensures.crash
+    ≡ Ok (archive.with_hold a name n)) Always (tables.with_hold name n) s (held_is_archive a name n s.archive)
+    (λ was kept legal. tt) (λ was db kept legal turns. stores_held name n a was db kept turns) c.transact.ensures.live
+    c.transact.ensures.crash
 
 pub returns-in-Err-clause-crash : goal.returns-in-Err-clause-crash
 returns-in-Err-clause-crash g c = λ (a : Archive) s.
     let name = c.args.name.now in
     let n = c.args.number in
     leaves_turned g.S.Store c.args.self.now c.transact.new.conn a (archive.with_hold a name n) (archive.hold a name n
-    ≡ Ok (archive.with_hold a name n)) Always (tables.with_hold name n) s (λ was db kept legal turns.
-    stores_held name n a was db kept turns) c.transact.ensures.crash
+    ≡ Ok (archive.with_hold a name n)) Always (tables.with_hold name n) s (held_is_archive a name n s.archive)
+    (λ was kept legal. tt) (λ was db kept legal turns. stores_held name n a was db kept turns) c.transact.ensures.live
+    c.transact.ensures.crash
 
 pub returns-then-not-is_autocommit-clause-cause : goal.returns-then-not-is_autocommit-clause-cause
 returns-then-not-is_autocommit-clause-cause g c = λ (a : Archive) s clean.

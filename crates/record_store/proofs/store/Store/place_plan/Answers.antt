@@ -39,7 +39,9 @@ returns-in-Ok-clause-crash g c = λ (a : Archive) s.
     let same_rules : rs ≡ rows.rules_of p = ap (map rule_of) c.as_slice.ensures.value ∙ c.in_ok-rules.ensures in
     let same_classes : cs ≡ rows.classes_of p = ap (map class_entry_of) c.as_slice-2.ensures.value ∙ c.in_ok-classes.ensures in
     leaves_turned g.S.Store c.args.self.now c.replace_plan.new.conn a (with_plan a p) (IsRevision a p ds) Always (tables.with_plan rs cs ds) s
-    (λ was db kept is turns. stores_revised a p rs cs ds same_rules same_classes is.dues was db kept turns) c.replace_plan.ensures.crash
+    (λ is. let plan : IsPlan p = search rules in revised_is_archive a p s.archive plan is.kept) (λ was kept is. tt)
+    (λ was db kept is turns. stores_revised a p rs cs ds same_rules same_classes is.dues was db kept turns)
+    c.replace_plan.ensures.live c.replace_plan.ensures.crash
 
 pub returns-in-Err-clause-crash : goal.returns-in-Err-clause-crash
 returns-in-Err-clause-crash g c = λ (a : Archive) s.
@@ -50,7 +52,9 @@ returns-in-Err-clause-crash g c = λ (a : Archive) s.
     let same_rules : rs ≡ rows.rules_of p = ap (map rule_of) c.as_slice.ensures.value ∙ c.in_ok-rules.ensures in
     let same_classes : cs ≡ rows.classes_of p = ap (map class_entry_of) c.as_slice-2.ensures.value ∙ c.in_ok-classes.ensures in
     leaves_turned g.S.Store c.args.self.now c.replace_plan.new.conn a (with_plan a p) (IsRevision a p ds) Always (tables.with_plan rs cs ds) s
-    (λ was db kept is turns. stores_revised a p rs cs ds same_rules same_classes is.dues was db kept turns) c.replace_plan.ensures.crash
+    (λ is. let plan : IsPlan p = search rules in revised_is_archive a p s.archive plan is.kept) (λ was kept is. tt)
+    (λ was db kept is turns. stores_revised a p rs cs ds same_rules same_classes is.dues was db kept turns)
+    c.replace_plan.ensures.live c.replace_plan.ensures.crash
 
 pub returns-then-not-is_autocommit-clause-cause : goal.returns-then-not-is_autocommit-clause-cause
 returns-then-not-is_autocommit-clause-cause g c = λ (a : Archive) s clean.

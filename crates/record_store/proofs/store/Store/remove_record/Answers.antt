@@ -31,9 +31,9 @@ returns-in-Ok-clause-crash g c = λ (a : Archive) s.
     let r = record_of c.args.row.now in
     let last = c.last_body-last.result in
     leaves_turned g.S.Store c.args.self.now c.transact.new.conn a (archive.without a r) (IsFree a n r) Always (with_destruction n last) s
-    (λ was db kept free turns.
+    (destroyed_archive a n r s.archive) (λ was kept free. tt) (λ was db kept free turns.
     keeps_destroyed g.S.Store c.args.self.now a s n r last free c.last_body-last.ensures was db kept turns)
-    c.transact.ensures.crash
+    c.transact.ensures.live c.transact.ensures.crash
 
 pub returns-in-Err-clause-crash : goal.returns-in-Err-clause-crash
 returns-in-Err-clause-crash g c = λ (a : Archive) s.
@@ -41,9 +41,9 @@ returns-in-Err-clause-crash g c = λ (a : Archive) s.
     let r = record_of c.args.row.now in
     let last = c.last_body-last.result in
     leaves_turned g.S.Store c.args.self.now c.transact.new.conn a (archive.without a r) (IsFree a n r) Always (with_destruction n last) s
-    (λ was db kept free turns.
+    (destroyed_archive a n r s.archive) (λ was kept free. tt) (λ was db kept free turns.
     keeps_destroyed g.S.Store c.args.self.now a s n r last free c.last_body-last.ensures was db kept turns)
-    c.transact.ensures.crash
+    c.transact.ensures.live c.transact.ensures.crash
 
 pub returns-then-not-is_autocommit-clause-cause : goal.returns-then-not-is_autocommit-clause-cause
 returns-then-not-is_autocommit-clause-cause g c = λ (a : Archive) s clean.
