@@ -13,6 +13,7 @@ use Rattle.sqlite_value.specs.declared.keys.Key.{Key}
 use Rattle.sqlite_value.specs.declared.keys.Collation.{Collation}
 use Rattle.sqlite_ast.specs.declared.Expr.{Expr, out-Expr}
 use Rattle.sqlite_ast.specs.declared.Rows.{Rows}
+use Rattle.sqlite_ast.specs.declared.Shown.{Shown, out-Shown}
 use Rattle.sqlite_ast.specs.declared.Select.{Select, out-Select}
 use Rattle.sqlite_ast.specs.declared.Source.{Source, out-Source}
 use Rattle.sqlite_ast.specs.declared.Core.{Core, out-Core}
@@ -26,7 +27,7 @@ use Rattle.sqlite_schema.specs.declared.command.Source.{Source as Rowed}
 use Rattle.sqlite_schema.specs.declared.command.Command.{Command}
 use Rattle.sqlite_schema.specs.declared.command.Command.TheVariants.{Select as Reads, Insert, Update, Delete}
 use Rattle.sqlite_schema.specs.Names.{table_named}
-use Rattle.sqlite_draft.specs.declared.query.Draft.{Draft}
+pub use Rattle.sqlite_draft.specs.declared.query.Draft.{Draft}
 use Rattle.sqlite_draft.specs.Query.{query_of}
 use Rattle.sqlite_draft.specs.declared.join.Step.TheVariants.{Inner}
 use Rattle.sqlite_typing.specs.Types.{accepts_program, accepts_after, is_count, filled, table_classes, row_classes}
@@ -408,49 +409,54 @@ module _ (schema : Schema) (t : Table) (is : Stands schema t) where
 
 -- ---- queries
 
--- a SELECT over a schema of these tables alone, whose places and trees in the schema are given
-pub record Asks (schema small : Schema) (place tree : ℕ → ℕ) (are : AreAt schema small place tree) (s : Select) (d : Draft) (names : List Name) : Type 0 where
-  pub with : (out-Select s).with ≡ []
-  pub others : (out-Select s).others ≡ []
-  pub page : Term × Term
-  pub how : List (Option Collation)
-  pub paged : select.paging schema s ≡ Ok page
-  pub tables : AreTables schema (out-Core (out-Select s).first).from
-  pub core : queries.IsPlainCore schema small place tree are (out-Select s).first
-  pub sorts : AllByRecursion (queries.IsPlainSort schema small place tree are) (out-Select s).order
-  pub named : queries.renamed schema small place tree are (out-Select s).first (out-Select s).order page ≡ Ok (d, names, how)
+-- without LIMIT and OFFSET
+abbrev pub no_page : Term × Term
+no_page = (lit (Int (negsuc 0)), lit (Int (pos 0)))
 
-module _ (schema small : Schema) (place tree : ℕ → ℕ) (are : AreAt schema small place tree) where
-  abbrev pub IsQuery : Statement → Draft → List Name → Type 0
-  IsQuery (written.Select s) d names = Asks schema small place tree are s d names
-  IsQuery _ d names = ⊥
+module _ (schema small : Schema) (place tree : ℕ → ℕ) (are : AreAt schema small place tree) (page : Term × Term) (d : Draft) (names : List Name)
+    (how : List (Option Collation)) where
+  -- a SELECT of plain expressions over a schema of these tables alone, whose places and trees in the schema are given
+  abbrev pub IsQuery : Statement → Type 0
+  IsQuery (written.Select s) = ((out-Select s).with ≡ []) × ((out-Select s).others ≡ []) × (select.paging schema s ≡ Ok page)
+      × AreTables schema (out-Core (out-Select s).first).from
+      × AllByRecursion (queries.IsNamed schema small place tree are) (out-Core (out-Select s).first).from
+      × AllByRecursion (queries.IsPlainOn schema small place tree are) (out-Core (out-Select s).first).from
+      × AllByRecursion (λ x. queries.IsPlainShown (out-Shown x)) (out-Core (out-Select s).first).shown
+      × IsPlainIfAny (out-Core (out-Select s).first).filter
+      × ((out-Core (out-Select s).first).group ≡ []) × ((out-Core (out-Select s).first).having ≡ None)
+      × AllByRecursion (queries.IsPlainSort schema small place tree are) (out-Select s).order
+      × (queries.renamed schema small place tree are (out-Select s).first (out-Select s).order page ≡ Ok (d, names, how))
+  IsQuery _ = ⊥
 
-  means_query : (text : List ℕ) (d : Draft) (names : List Name) → IsRead text → accepts_program schema [] (query_of d) [] ≡ true
-      → IsQuery (parsed_from text).statement d names → Means schema text (Reads (program_of d) names)
-  means_query text d names it accepted = go (parsed_from text).statement refl
+  means_query : (text : List ℕ) → IsRead text → accepts_program schema [] (query_of d) [] ≡ true
+      → IsQuery (parsed_from text).statement → Means schema text (Reads (program_of d) names)
+  means_query text it accepted = go (parsed_from text).statement refl
     where
-      go : (w : Statement) → (parsed_from text).statement ≡ w → IsQuery w d names → Means schema text (Reads (program_of d) names)
+      go : (w : Statement) → (parsed_from text).statement ≡ w → IsQuery w → Means schema text (Reads (program_of d) names)
       go (written.Select s) e h = means schema text (parsed_from text) (Reads (program_of d) names)
-          (compiles_query schema text (parsed_from text) s h.page d names h.how (record { read = it.0; is = e; bare = it.1 })
-          (record { with = h.with; others = h.others }) h.paged h.tables
-          (queries.named schema small place tree are (out-Select s).first (out-Select s).order h.page h.core h.sorts ∙ h.named) accepted)
+          (compiles_query schema text (parsed_from text) s page d names how (record { read = it.0; is = e; bare = it.1 })
+          (record { with = h.0; others = h.1 }) h.2 h.3
+          (queries.named schema small place tree are (out-Select s).first (out-Select s).order page
+          (record { from = h.4; on = h.5; shown = h.6; filter = h.7; group = h.8; having = h.9 }) h.10 ∙ h.11) accepted)
       go _ e h = absurd h
 
-module _ (schema : Schema) (t : Table) (is : Stands schema t) where
-  abbrev pub IsQueryOne : List ℕ → Draft → List Name → Type 0
-  IsQueryOne text = IsQuery schema (of_one t) (place_of_one schema is.place) (tree_of_one schema is.tree) (one_is_at schema t is) (parsed_from text).statement
+module _ (schema : Schema) (t : Table) (is : Stands schema t) (page : Term × Term) (d : Draft) (names : List Name) (how : List (Option Collation)) where
+  abbrev pub IsQueryOne : Statement → Type 0
+  IsQueryOne = IsQuery schema (of_one t) (place_of_one schema is.place) (tree_of_one schema is.tree) (one_is_at schema t is) page d names how
 
-  pub means_query_one : (text : List ℕ) (d : Draft) (names : List Name) → IsRead text → (query_of d).from ≡ inner is.tree end
-      → IsTyped (t ∷ []) (query_of d) → IsQueryOne text d names → Means schema text (Reads (program_of d) names)
-  means_query_one text d names it from typed = means_query schema (of_one t) (place_of_one schema is.place) (tree_of_one schema is.tree)
-      (one_is_at schema t is) text d names it (accepts_one schema t is (query_of d) from typed)
+  pub means_query_one : (text : List ℕ) → IsRead text → (query_of d).from ≡ inner is.tree end
+      → IsTyped (t ∷ []) (query_of d) → IsQueryOne (parsed_from text).statement → Means schema text (Reads (program_of d) names)
+  means_query_one text it from typed = means_query schema (of_one t) (place_of_one schema is.place) (tree_of_one schema is.tree)
+      (one_is_at schema t is) page d names how text it (accepts_one schema t is (query_of d) from typed)
 
-module _ (schema : Schema) (t u : Table) (is : Stands schema t) (next : Stands schema u) where
-  abbrev pub IsQueryTwo : List ℕ → Draft → List Name → Type 0
-  IsQueryTwo text = IsQuery schema (of_two t u) (place_of_two schema is.place next.place) (tree_of_two schema is.tree next.tree)
-      (two_are_at schema t u is next) (parsed_from text).statement
+module _ (schema : Schema) (t u : Table) (is : Stands schema t) (next : Stands schema u) (page : Term × Term) (d : Draft) (names : List Name)
+    (how : List (Option Collation)) where
+  abbrev pub IsQueryTwo : Statement → Type 0
+  IsQueryTwo = IsQuery schema (of_two t u) (place_of_two schema is.place next.place) (tree_of_two schema is.tree next.tree)
+      (two_are_at schema t u is next) page d names how
 
-  pub means_query_two : (text : List ℕ) (d : Draft) (names : List Name) → IsRead text → (query_of d).from ≡ inner is.tree (inner next.tree end)
-      → IsTyped (t ∷ u ∷ []) (query_of d) → IsQueryTwo text d names → Means schema text (Reads (program_of d) names)
-  means_query_two text d names it from typed = means_query schema (of_two t u) (place_of_two schema is.place next.place)
-      (tree_of_two schema is.tree next.tree) (two_are_at schema t u is next) text d names it (accepts_two schema t u is next (query_of d) from typed)
+  pub means_query_two : (text : List ℕ) → IsRead text → (query_of d).from ≡ inner is.tree (inner next.tree end)
+      → IsTyped (t ∷ u ∷ []) (query_of d) → IsQueryTwo (parsed_from text).statement → Means schema text (Reads (program_of d) names)
+  means_query_two text it from typed = means_query schema (of_two t u) (place_of_two schema is.place next.place)
+      (tree_of_two schema is.tree next.tree) (two_are_at schema t u is next) page d names how text it
+      (accepts_two schema t u is next (query_of d) from typed)
