@@ -6,9 +6,10 @@ use Rattle.sqlite.specs.Effect.{Database}
 use Rattle.sqlite.specs.State.{State, HasCleanDisk, IsUnchanged}
 use Rattle.sqlite.specs.Held.{Held, state}
 use Rattle.sqlite.proofs.StateLemmas.{survives_then, survives_weaker}
-use Rattle.record_tables.specs.Tables.{schedules_and_dues_beside, none, first_dues, HasCommonTables, IsArchiveSchema}
+use Rattle.record_tables.specs.Tables.{Foreign, none, first_dues, common_beside, HasCommonTables, IsArchiveSchema}
 use Rattle.record_tables.specs.Tables.{first_schema, first_schema_with_dues}
 use Rattle.record_tables.specs.Rows.{Tables, Stores, StoresFirst, StoresCommon}
+use Rattle.record_tables.proofs.Standing.{common_is}
 use Rattle.record_archive.specs.Archive.{Archive}
 use Rattle.std.proofs.lemmas.List.Elements.{All-from_recursion, recursion_from_All}
 use Rattle.std.proofs.lemmas.List.Sorted.{IsPermutation-sym, length_permutation, All-permutation}
@@ -61,15 +62,15 @@ sees_as g Are More old new to one = record {
 }
 
 pub archive_common : (schema : Schema) → IsArchiveSchema schema → HasCommonTables schema
-archive_common schema h = record { foreign = schedules_and_dues_beside h.foreign; is = h.is }
+archive_common schema h = h.common
 
 pub first_common : (schema : Schema) → (schema ≡ first_schema) ⊎ (schema ≡ first_schema_with_dues) → HasCommonTables schema
-first_common schema (inl e) = record { foreign = none; is = e }
-first_common schema (inr e) = record { foreign = first_dues; is = e }
+first_common schema (inl e) = subst HasCommonTables (sym e) (common_is none)
+first_common schema (inr e) = subst HasCommonTables (sym e) (common_is first_dues)
 
 pub stores_common : (db : Database) (t : Tables) → Stores db t → StoresCommon db t
 stores_common db t h = record {
-  schema = archive_common db.schema h.schema;
+  schema = h.schema.common;
   messages = h.messages;
   records = h.records;
   holds = h.holds;
@@ -78,14 +79,21 @@ stores_common db t h = record {
 }
 
 pub stores_first_common : (db : Database) (t : Tables) → StoresFirst db t → StoresCommon db t
-stores_first_common db t h = record {
-  schema = first_common db.schema h.schema;
-  messages = h.messages;
-  records = h.records;
-  holds = h.holds;
-  settings = h.settings;
-  classes = h.classes;
-}
+stores_first_common db t h = by_schema h.schema
+  where
+    among : (f : Foreign) → db.schema ≡ common_beside f → StoresCommon db t
+    among f e = subst (λ schema. StoresCommon (record { schema = schema; trees = db.trees }) t) (sym e) (record {
+      schema = common_is f;
+      messages = h.messages;
+      records = h.records;
+      holds = h.holds;
+      settings = h.settings;
+      classes = h.classes;
+    })
+
+    by_schema : (db.schema ≡ first_schema) ⊎ (db.schema ≡ first_schema_with_dues) → StoresCommon db t
+    by_schema (inl e) = among none e
+    by_schema (inr e) = among first_dues e
 
 pub reads_after : (old new : State) (t : Tables) (ps : List Pair) (rs : List Rule) (cs : List ClassEntry)
     → ReadsSecond old.now t ps rs cs → IsUnchanged old new → ReadsSecond new.now t ps rs cs
@@ -139,14 +147,7 @@ first_told db t ps cs r p d told tells = record {
 }
 
 pub second_stores : (db : Database) (a : Archive) (h : FindsSecond db a) → StoresCommon db h.tables
-second_stores db a h = record {
-  schema = archive_common db.schema h.stored.schema;
-  messages = h.stored.messages;
-  records = h.stored.records;
-  holds = h.stored.holds;
-  settings = h.stored.settings;
-  classes = h.stored.classes;
-}
+second_stores db a h = stores_common db h.tables h.stored
 
 pub second_common : (db : Database) (a : Archive) → FindsSecond db a → FindsCommon db a
 second_common db a h = record {
@@ -159,14 +160,7 @@ second_common db a h = record {
 }
 
 pub first_stores : (db : Database) (a : Archive) (h : FindsFirst db a) → StoresCommon db h.tables
-first_stores db a h = record {
-  schema = first_common db.schema h.stored.schema;
-  messages = h.stored.messages;
-  records = h.stored.records;
-  holds = h.stored.holds;
-  settings = h.stored.settings;
-  classes = h.stored.classes;
-}
+first_stores db a h = stores_first_common db h.tables h.stored
 
 pub first_found : (db : Database) (a : Archive) → FindsFirst db a → FindsCommon db a
 first_found db a h = record {

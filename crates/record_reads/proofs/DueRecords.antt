@@ -1,5 +1,5 @@
 -- What the query of due records shows of the tables.
-use Rattle.std.proofs.Common.{◌≡◌, ◌≤◌, ℕ, pos, List, [], ◌∷◌, ◌++◌, map, filter, flat_map, length, Bool, true, false}
+use Rattle.std.proofs.Common.{◌≡◌, ◌≤◌, ℕ, pos, List, [], ◌∷◌, ◌++◌, map, filter, flat_map, length, Bool, true, false, None, Some}
 use Rattle.std.proofs.Common.{cond, ◌&&◌, codes, refl, sym, ap, ap₂, subst, ◌∙◌, Ordering, Less, Equal, Greater, is_gt}
 use Rattle.std.proofs.Common.{is_eq, int_cmp, true≢false, IsPermutation, arith}
 use Rattle.std.specs.List.{AllByRecursion}
@@ -34,13 +34,15 @@ use Rattle.sqlite_keyed.proofs.SortLemmas.{sorted_unique, IsPermutation-sort_by}
 use Rattle.sqlite_keyed.proofs.RuleLemmas.{at_most_one}
 use Rattle.sqlite_typed.proofs.AnswerLemmas.{last_table, next_table, at_end, matches_are, no_tie, no_tie_after}
 use Rattle.sqlite_typed.proofs.TestLemmas.{last_key, then_key, last_term, then_term, at_ints}
-use Rattle.record_tables.specs.Tables.{Foreign, archive_beside}
+use Rattle.sqlite.specs.Schema.{Schema}
+use Rattle.record_tables.specs.Tables.{IsArchiveSchema, record_table, due_table}
+use Rattle.record_tables.proofs.Described.{seen}
+use Rattle.record_tables.proofs.Compiling.{Draft, Means, no_page, draft_of, means_query_two}
 use Rattle.record_archive.specs.Archive.{Record}
 use Rattle.record_tables.specs.Rows.{Tables, Stores, AreKeyed, record_key, record_row, Due, due_key, due_row}
 use Rattle.record_tables.specs.Reads.{is_by, due_cmp, dues_by}
 use Rattle.record_reads.specs.DueRecords.{DueRecord, due_record, is_of, with_records, due_records_by, due_record_values}
 use Rattle.record_reads.specs.DueRecords.{ReadsDueRecord, FitsDueRecord}
-use Rattle.record_reads.proofs.Queries.{Asks}
 use Rattle.record_tables.proofs.Texts.{on_table, alone}
 
 abbrev pub select_due_records : List ℕ
@@ -50,17 +52,25 @@ select_due_records =
 abbrev due_record_test : List Term
 due_record_test = op2 (Compare Eq Binary) (col 2 0) (col 1 0) ∷ op2 (Compare Le Binary) (col 1 2) (col 0 0) ∷ []
 
-abbrev pub due_records_query : Query
-due_records_query = record (on_table 10 due_record_test (col 1 0 ∷ col 1 2 ∷ col 2 3 ∷ [])) {
-  from = inner 10 (inner 1 end);
+abbrev due_records_draft : (dues records : ℕ) → Draft
+due_records_draft dues records = draft_of (inner dues (inner records end)) due_record_test (col 1 0 ∷ col 1 2 ∷ col 2 3 ∷ [])
+    ((col 1 2, ascending Binary) ∷ (col 1 0, ascending Binary) ∷ [])
+
+abbrev pub due_records_query : (dues records : ℕ) → Query
+due_records_query dues records = record (on_table dues due_record_test (col 1 0 ∷ col 1 2 ∷ col 2 3 ∷ [])) {
+  from = inner dues (inner records end);
   order = (col 1 2, ascending Binary) ∷ (col 1 0, ascending Binary) ∷ [];
 }
 
-pub select_due_records_is : (f : Foreign)
-    → Asks (archive_beside f) select_due_records (Select (alone due_records_query) (codes "record" ∷ codes "day"
+pub select_due_records_is : (schema : Schema) (has : IsArchiveSchema schema)
+    → Means schema select_due_records (Select (alone (due_records_query has.dues.tree has.common.records.tree)) (codes "record" ∷ codes "day"
     ∷ codes "path" ∷ []))
-unfolding understood everything
-select_due_records_is f = record { is = refl; plain = (refl, refl); unlisted = refl }
+unfolding everything
+select_due_records_is schema has =
+    means_query_two schema due_table record_table has.dues has.common.records no_page (due_records_draft has.dues.tree has.common.records.tree)
+    (codes "record" ∷ codes "day" ∷ codes "path" ∷ []) (None ∷ Some Binary ∷ Some Binary ∷ []) select_due_records (refl, refl) refl refl
+    (refl, refl, refl, (tt, (tt, tt)), ((0, refl, has.dues.named), ((1, refl, has.common.records.named), tt)), (tt, ((tt, tt, tt), tt)),
+    (tt, (tt, (tt, tt))), (tt, tt, tt), refl, refl, (tt, (tt, tt)), refl)
 
 -- ---- due days in their order
 
@@ -181,16 +191,15 @@ shown_joined rs ds =
 pub shows_due_records : (old new : State) (rows : List Row) (day : ℕ) (t : Tables) → Stores old.now t → AreKeyed t
     → Shown select_due_records (Int (pos day) ∷ []) old new rows → rows ≡ map due_record_values (due_records_by day t)
 shows_due_records old new rows day t s keyed h =
-    let f = s.schema.foreign in
-    let is = select_due_records_is f in
+    let is = select_due_records_is old.now.schema s.schema in
     let params : Row = Int (pos day) ∷ [] in
-    let read = reads_as select_due_records params old new (archive_beside f) s.schema.is _ is.is is.plain is.unlisted rows h in
-    let q = due_records_query in
+    let read = reads_as select_due_records params old new old.now.schema refl _ is.is is.plain is.unlisted rows h in
+    let q = due_records_query s.schema.dues.tree s.schema.common.records.tree in
     let db = overlay old.now.trees [] in
     let answer : IsAnswer q db params rows = read.answer Null in
     let source =
-    next_table db 10 due_row due_key t.dues s.dues keyed.dues
-    (last_table db 1 record_row record_key t.records s.records keyed.records (at_end db)) in
+    next_table db s.schema.dues.tree due_row due_key t.dues (seen old.now.trees _ ∙ s.dues) keyed.dues
+    (last_table db s.schema.common.records.tree record_row record_key t.records (seen old.now.trees _ ∙ s.records) keyed.records (at_end db)) in
     let out : Pair → Output = λ a. output q (params ∷ due_row a.0 ∷ record_row a.1 ∷ []) in
     let matched =
     matches_are q db params source (is_asked day) (λ a.

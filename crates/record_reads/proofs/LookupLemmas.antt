@@ -1,4 +1,5 @@
 -- What the looks by keys answer of the tables.
+use Rattle.sqlite.specs.Query.{inner, end}
 use Rattle.std.proofs.Common.{◌≡◌, ◌≤◌, ◌==◌, ℕ, ℤ, pos, List, [], ◌∷◌, map, filter, find, length, Bool, true, false}
 use Rattle.std.proofs.Common.{cond, not, ◌||◌, Option, Some, None, option_map, codes, refl, sym, ap, subst, ◌∙◌, arith}
 use Rattle.std.proofs.Common.{int_eq, IsTrue, slice_get}
@@ -8,6 +9,7 @@ use Rattle.std.proofs.lemmas.List.{length-map}
 use Rattle.std.proofs.lemmas.List.Sorted.{length_permutation}
 use Rattle.sqlite.specs.declared.types.Value.TheVariants.{Null, Int, Text, Blob}
 use Rattle.sqlite.specs.Order.{Row, column}
+use Rattle.sqlite.specs.Collation.TheVariants.{Binary}
 use Rattle.sqlite.specs.Schema.{Schema}
 use Rattle.sqlite.specs.Term.{Term, col, holds}
 use Rattle.sqlite.specs.Command.TheVariants.{Select}
@@ -23,44 +25,55 @@ use Rattle.sqlite_sql.specs.declared.ops.CompareOp.TheVariants.{Eq}
 use Rattle.sqlite_keyed.proofs.ListLemmas.{all-filter}
 use Rattle.sqlite_keyed.proofs.RuleLemmas.{at_most_one}
 use Rattle.sqlite_typed.proofs.TestLemmas.{at_texts, at_ints, then_term, last_term}
-use Rattle.record_tables.specs.Tables.{Foreign, IsArchiveSchema, archive_beside}
+use Rattle.record_tables.specs.Tables.{IsArchiveSchema, message_table, record_table, hold_table}
+use Rattle.record_tables.proofs.Described.{seen}
+use Rattle.record_tables.proofs.Compiling.{Draft, Means, no_page, draft_of, means_query_one}
 use Rattle.record_archive.specs.Archive.{Message, Record}
 use Rattle.record_tables.specs.Rows.{Tables, Stores, AreKeyed, message_key, message_row, record_key, record_row, Hold, hold_key, hold_row}
 use Rattle.record_tables.specs.Changes.{is_hold}
 use Rattle.record_tables.specs.Reads.{record_values, ReadsRecord, FitsRecord}
 use Rattle.record_reads.specs.Lookups.{record_with, body_with, has_hold_of}
-use Rattle.record_reads.proofs.Queries.{Asks}
 use Rattle.record_reads.proofs.TypedLemmas.{one_record, can_record}
 use Rattle.record_tables.proofs.Texts.{on_table, alone, key_test, hold_test}
 use Rattle.record_tables.proofs.AnswerLemmas.{row_alone, rows_permuted}
 
 -- ---- the texts
 
-abbrev pub select_record : List ℕ
-select_record = codes "SELECT number, message, path, day, destroyed FROM record WHERE number = ?1"
-
 abbrev record_columns : List Term
 record_columns = col 1 0 ∷ col 1 2 ∷ col 1 3 ∷ col 1 4 ∷ col 1 5 ∷ []
 
-pub select_record_is : (f : Foreign)
-    → Asks (archive_beside f) select_record (Select (alone (on_table 1 key_test record_columns)) (codes "number"
-    ∷ codes "message" ∷ codes "path" ∷ codes "day" ∷ codes "destroyed" ∷ []))
-unfolding understood everything
-select_record_is f = record { is = refl; plain = (refl, refl); unlisted = refl }
+abbrev pub select_record : List ℕ
+select_record = codes "SELECT number, message, path, day, destroyed FROM record WHERE number = ?1"
+
+pub select_record_is : (schema : Schema) (has : IsArchiveSchema schema)
+    → Means schema select_record (Select (alone (on_table has.common.records.tree key_test (record_columns))) (codes "number" ∷ codes "message" ∷ codes "path" ∷ codes "day" ∷ codes "destroyed" ∷ []))
+unfolding everything
+select_record_is schema has =
+    means_query_one schema record_table has.common.records no_page (draft_of (inner has.common.records.tree end) key_test (record_columns) []) (codes "number" ∷ codes "message" ∷ codes "path" ∷ codes "day" ∷ codes "destroyed" ∷ [])
+    (None ∷ Some Binary ∷ Some Binary ∷ Some Binary ∷ Some Binary ∷ []) select_record (refl, refl) refl refl
+    (refl, refl, refl, (tt, tt), ((0, refl, has.common.records.named), tt), (tt, tt), (tt, (tt, (tt, (tt, (tt, tt))))), (tt, tt, tt), refl, refl, tt, refl)
 
 abbrev pub select_body : List ℕ
 select_body = codes "SELECT body FROM message WHERE number = ?1"
 
-pub select_body_is : (f : Foreign) → Asks (archive_beside f) select_body (Select (alone (on_table 0 key_test (col 1 2 ∷ []))) (codes "body" ∷ []))
-unfolding understood everything
-select_body_is f = record { is = refl; plain = (refl, refl); unlisted = refl }
+pub select_body_is : (schema : Schema) (has : IsArchiveSchema schema)
+    → Means schema select_body (Select (alone (on_table has.common.messages.tree key_test (col 1 2 ∷ []))) (codes "body" ∷ []))
+unfolding everything
+select_body_is schema has =
+    means_query_one schema message_table has.common.messages no_page (draft_of (inner has.common.messages.tree end) key_test (col 1 2 ∷ []) []) (codes "body" ∷ [])
+    (Some Binary ∷ []) select_body (refl, refl) refl refl
+    (refl, refl, refl, (tt, tt), ((0, refl, has.common.messages.named), tt), (tt, tt), (tt, tt), (tt, tt, tt), refl, refl, tt, refl)
 
 abbrev pub select_hold : List ℕ
 select_hold = codes "SELECT record FROM hold WHERE name = ?1 AND record = ?2"
 
-pub select_hold_is : (f : Foreign) → Asks (archive_beside f) select_hold (Select (alone (on_table 2 hold_test (col 1 2 ∷ []))) (codes "record" ∷ []))
-unfolding understood everything
-select_hold_is f = record { is = refl; plain = (refl, refl); unlisted = refl }
+pub select_hold_is : (schema : Schema) (has : IsArchiveSchema schema)
+    → Means schema select_hold (Select (alone (on_table has.common.holds.tree hold_test (col 1 2 ∷ []))) (codes "record" ∷ []))
+unfolding everything
+select_hold_is schema has =
+    means_query_one schema hold_table has.common.holds no_page (draft_of (inner has.common.holds.tree end) hold_test (col 1 2 ∷ []) []) (codes "record" ∷ [])
+    (Some Binary ∷ []) select_hold (refl, refl) refl refl
+    (refl, refl, refl, (tt, tt), ((0, refl, has.common.holds.named), tt), (tt, tt), (tt, tt), (tt, (tt, tt, tt), (tt, tt, tt)), refl, refl, tt, refl)
 
 -- ---- what they show
 
@@ -93,13 +106,13 @@ records_asked n t = filter (λ (r : Record). int_eq (pos r.number) (pos n)) t.re
 pub shows_record : (old new : State) (rows : List Row) (n : ℕ) (t : Tables) → Stores old.now t → AreKeyed t
     → Shown select_record (Int (pos n) ∷ []) old new rows → rows ≡ map record_values (records_asked n t)
 shows_record old new rows n t s keyed h =
-    let is = select_record_is s.schema.foreign in
+    let is = select_record_is old.now.schema s.schema in
     let params : Row = Int (pos n) ∷ [] in
-    let read = reads_as select_record params old new (archive_beside s.schema.foreign) s.schema.is _ is.is is.plain is.unlisted rows h in
+    let read = reads_as select_record params old new old.now.schema refl _ is.is is.plain is.unlisted rows h in
     let few : length (records_asked n t) ≤ 1 =
     at_most_one record_key (pos n) (λ (r : Record). int_eq (pos r.number) (pos n)) (λ x e.
     e) t.records keyed.records in
-    row_alone record_key record_row (overlay old.now.trees []) 1 t.records s.records keyed.records key_test
+    row_alone record_key record_row (overlay old.now.trees []) s.schema.common.records.tree t.records (seen old.now.trees _ ∙ s.records) keyed.records key_test
     record_columns params (λ (r : Record). int_eq (pos r.number) (pos n)) (λ x.
     test_key n x.number) rows (read.answer Null) (records_asked n t) refl few
 
@@ -112,13 +125,13 @@ shown_body m = Blob m.body ∷ []
 pub shows_body : (old new : State) (rows : List Row) (n : ℕ) (t : Tables) → Stores old.now t → AreKeyed t
     → Shown select_body (Int (pos n) ∷ []) old new rows → rows ≡ map shown_body (messages_asked n t)
 shows_body old new rows n t s keyed h =
-    let is = select_body_is s.schema.foreign in
+    let is = select_body_is old.now.schema s.schema in
     let params : Row = Int (pos n) ∷ [] in
-    let read = reads_as select_body params old new (archive_beside s.schema.foreign) s.schema.is _ is.is is.plain is.unlisted rows h in
+    let read = reads_as select_body params old new old.now.schema refl _ is.is is.plain is.unlisted rows h in
     let few : length (messages_asked n t) ≤ 1 =
     at_most_one message_key (pos n) (λ (m : Message). int_eq (pos m.number) (pos n)) (λ x e.
     e) t.messages keyed.messages in
-    row_alone message_key message_row (overlay old.now.trees []) 0 t.messages s.messages keyed.messages key_test
+    row_alone message_key message_row (overlay old.now.trees []) s.schema.common.messages.tree t.messages (seen old.now.trees _ ∙ s.messages) keyed.messages key_test
     (col 1 2 ∷ []) params (λ (m : Message). int_eq (pos m.number) (pos n)) (λ x.
     test_key n x.number) rows (read.answer Null) (messages_asked n t) refl few
 
@@ -134,11 +147,11 @@ any_filter p (x ∷ xs) = go (p x) (any_filter p xs)
 pub shows_hold : (old new : State) (rows : List Row) (name : List ℕ) (n : ℕ) (t : Tables) → Stores old.now t
     → AreKeyed t → Shown select_hold (hold_params name n) old new rows → not (length rows == 0) ≡ has_hold_of name n t
 shows_hold old new rows name n t s keyed h =
-    let is = select_hold_is s.schema.foreign in
+    let is = select_hold_is old.now.schema s.schema in
     let params = hold_params name n in
-    let read = reads_as select_hold params old new (archive_beside s.schema.foreign) s.schema.is _ is.is is.plain is.unlisted rows h in
+    let read = reads_as select_hold params old new old.now.schema refl _ is.is is.plain is.unlisted rows h in
     let permuted =
-    rows_permuted hold_key hold_row (overlay old.now.trees []) 2 t.holds s.holds keyed.holds hold_test (col 1 2
+    rows_permuted hold_key hold_row (overlay old.now.trees []) s.schema.common.holds.tree t.holds (seen old.now.trees _ ∙ s.holds) keyed.holds hold_test (col 1 2
     ∷ []) params (is_hold name n) (test_hold name n) rows (read.answer Null) in
     let count : length rows ≡ length (filter (is_hold name n) t.holds) = length_permutation _ rows permuted
     ∙ length-map (filter (is_hold name n) t.holds) (λ x.
@@ -213,17 +226,13 @@ body_readable n t rows row is first = go (messages_asked n t) (first ∙ ap (λ 
 
 -- ---- the connection after a look
 
-pub plain_under : (sql : List ℕ) (schema : Schema) → ((f : Foreign) → IsPlain (understood (archive_beside f) sql))
-    → IsArchiveSchema schema → IsPlain (understood schema sql)
-plain_under sql schema plain has = subst (λ s. IsPlain (understood s sql)) (sym has.is) (plain has.foreign)
-
 -- a query of the tables writes nothing
 pub looks_alone : (sql : List ℕ) (params : Row) (old new : State)
-    → ((f : Foreign) → IsPlain (understood (archive_beside f) sql)) → Survives old new (CommitsShowing sql params old)
+    → ((schema : Schema) → IsArchiveSchema schema → IsPlain (understood schema sql)) → Survives old new (CommitsShowing sql params old)
     → Survives old new (λ _. IsArchiveSchema old.now.schema → ⊥)
 looks_alone sql params old new plain =
     survives_weaker old new _ _ (λ _ db may has.
-    never_commits sql params old db (plain_under sql old.now.schema plain has) may)
+    never_commits sql params old db (plain old.now.schema has) may)
 
 pub shown_open_now : (sql : List ℕ) (params : Row) (old new : State) (rows : List Row) → Shown sql params old new rows → IsTrue new.is_open
 unfolding Shown

@@ -1,5 +1,5 @@
 -- What the queries of a page show of the tables.
-use Rattle.std.proofs.Common.{◌≡◌, ◌<◌, ◌^◌, ◌&&◌, ℕ, pos, Bool, true, false, cond, List, [], ◌∷◌, map, map-id, filter}
+use Rattle.std.proofs.Common.{◌≡◌, ◌<◌, ◌^◌, ◌&&◌, ℕ, pos, Bool, true, false, cond, List, [], ◌∷◌, map, map-id, filter, None, Some}
 use Rattle.std.proofs.Common.{take, codes, int_le, refl, sym, ap, subst, ◌∙◌, arith, Less, IsPermutation, true≢false}
 use Rattle.std.specs.List.{AllByRecursion}
 use Rattle.std.proofs.lemmas.Int.{ints}
@@ -7,8 +7,8 @@ use Rattle.std.proofs.lemmas.List.{take-map}
 use Rattle.std.proofs.lemmas.List.Sorted.{IsPermutation-map, IsPermutation-trans, IsPermutation-sym}
 use Rattle.sqlite.specs.declared.types.Value.TheVariants.{Null, Int, Text}
 use Rattle.sqlite.specs.Order.{Row}
-use Rattle.sqlite.specs.Term.{Term, col, op2}
-use Rattle.sqlite.specs.Query.{Query, IsAnswer, Output, output, output_cmp}
+use Rattle.sqlite.specs.Term.{Term, col, op2, lit}
+use Rattle.sqlite.specs.Query.{Query, IsAnswer, Output, output, output_cmp, inner, end}
 use Rattle.sqlite.specs.Command.TheVariants.{Select}
 use Rattle.sqlite.specs.Listing.{understood}
 use Rattle.sqlite.specs.State.{State, Shown}
@@ -25,12 +25,14 @@ use Rattle.sqlite_keyed.proofs.ListLemmas.{IsPermutation-filter, ascending-map, 
 use Rattle.sqlite_keyed.proofs.SortLemmas.{sorted_unique}
 use Rattle.sqlite_typed.proofs.AnswerLemmas.{last_table, at_end, answer_by_keys, matches_are}
 use Rattle.sqlite_typed.proofs.TestLemmas.{last_key, then_key, last_term, then_term, at_ints}
-use Rattle.record_tables.specs.Tables.{Foreign, archive_beside}
+use Rattle.sqlite.specs.Schema.{Schema}
+use Rattle.record_tables.specs.Tables.{IsArchiveSchema, hold_table, record_table}
+use Rattle.record_tables.proofs.Described.{seen}
+use Rattle.record_tables.proofs.Compiling.{Draft, Means, no_page, draft_of, means_query_one}
 use Rattle.record_archive.specs.Archive.{Record}
 use Rattle.record_tables.specs.Rows.{Tables, Hold, Stores, AreKeyed, record_key, record_row, hold_key, hold_row}
 use Rattle.record_tables.specs.Reads.{HoldEntry, hold_entry, hold_values, AreHolds, FitsHold, record_values}
 use Rattle.record_reads.specs.Pages.{is_from, records_from, is_between}
-use Rattle.record_reads.proofs.Queries.{Asks}
 use Rattle.record_tables.proofs.Texts.{on_table, alone}
 
 -- ---- records
@@ -38,30 +40,32 @@ use Rattle.record_tables.proofs.Texts.{on_table, alone}
 abbrev pub select_from : List ℕ
 select_from = codes "SELECT number, message, path, day, destroyed FROM record WHERE number >= ?1 ORDER BY number LIMIT ?2"
 
-abbrev from_query : Query
-from_query =
-    record (on_table 1 (op2 (Compare Ge Binary) (col 1 0) (col 0 0) ∷ []) (col 1 0 ∷ col 1 2 ∷ col 1 3 ∷ col 1 4
-    ∷ col 1 5 ∷ [])) { order = (col 1 0, ascending Binary) ∷ []; limit = col 0 1 }
+abbrev from_draft : ℕ → Draft
+from_draft tree = record (draft_of (inner tree end) (op2 (Compare Ge Binary) (col 1 0) (col 0 0) ∷ []) (col 1 0 ∷ col 1 2 ∷ col 1 3 ∷ col 1 4 ∷ col 1 5 ∷ []) ((col 1 0, ascending Binary) ∷ [])) { limit = col 0 1 }
 
-pub select_from_is : (f : Foreign)
-    → Asks (archive_beside f) select_from (Select (alone from_query) (codes "number" ∷ codes "message" ∷ codes "path"
-    ∷ codes "day" ∷ codes "destroyed" ∷ []))
-unfolding understood everything
-select_from_is f = record { is = refl; plain = (refl, refl); unlisted = refl }
+abbrev pub from_query : ℕ → Query
+from_query tree = record (on_table tree (op2 (Compare Ge Binary) (col 1 0) (col 0 0) ∷ []) (col 1 0 ∷ col 1 2 ∷ col 1 3 ∷ col 1 4 ∷ col 1 5 ∷ [])) { order = (col 1 0, ascending Binary) ∷ []; limit = col 0 1 }
+
+pub select_from_is : (schema : Schema) (has : IsArchiveSchema schema)
+    → Means schema select_from (Select (alone (from_query has.common.records.tree)) (codes "number" ∷ codes "message" ∷ codes "path" ∷ codes "day" ∷ codes "destroyed" ∷ []))
+unfolding everything
+select_from_is schema has =
+    means_query_one schema record_table has.common.records (col 0 1, lit (Int (pos 0))) (from_draft has.common.records.tree) (codes "number" ∷ codes "message" ∷ codes "path" ∷ codes "day" ∷ codes "destroyed" ∷ [])
+    (None ∷ Some Binary ∷ Some Binary ∷ Some Binary ∷ Some Binary ∷ []) select_from (refl, refl) refl refl
+    (refl, refl, refl, (tt, tt), ((0, refl, has.common.records.named), tt), (tt, tt), (tt, (tt, (tt, (tt, (tt, tt))))), (tt, tt, tt), refl, refl, (tt, tt), refl)
 
 -- the records from a number on are answered in the order of their numbers, up to the limit
 pub shows_from : (old new : State) (rows : List Row) (from most : ℕ) (t : Tables) → Stores old.now t → AreKeyed t
     → Shown select_from (Int (pos from) ∷ Int (pos most) ∷ []) old new rows
     → rows ≡ map record_values (take most (records_from from t))
 shows_from old new rows from most t s keyed h =
-    let f = s.schema.foreign in
-    let is = select_from_is f in
+    let is = select_from_is old.now.schema s.schema in
     let params : Row = Int (pos from) ∷ Int (pos most) ∷ [] in
-    let read = reads_as select_from params old new (archive_beside f) s.schema.is _ is.is is.plain is.unlisted rows h in
+    let read = reads_as select_from params old new old.now.schema refl _ is.is is.plain is.unlisted rows h in
     let db = overlay old.now.trees [] in
-    let answer : IsAnswer from_query db params rows = read.answer Null in
-    let source = last_table db 1 record_row record_key t.records s.records keyed.records (at_end db) in
-    let all = answer_by_keys from_query db params source (is_from from) (λ r.
+    let answer : IsAnswer (from_query s.schema.common.records.tree) db params rows = read.answer Null in
+    let source = last_table db s.schema.common.records.tree record_row record_key t.records (seen old.now.trees _ ∙ s.records) keyed.records (at_end db) in
+    let all = answer_by_keys (from_query s.schema.common.records.tree) db params source (is_from from) (λ r.
     last_term (at_ints false Ge (pos r.number) (pos from))) (λ r. r) record_values (λ r. refl) refl refl (λ x y.
     last_key (value_cmp-Int (record_key x) (record_key y))) rows answer in
     sym (map-id rows) ∙ all ∙ take-map record_values most (records_from from t)
@@ -74,26 +78,32 @@ select_between = codes "SELECT name, record FROM hold WHERE record >= ?1 AND rec
 abbrev between_test : List Term
 between_test = op2 (Compare Ge Binary) (col 1 2) (col 0 0) ∷ op2 (Compare Le Binary) (col 1 2) (col 0 1) ∷ []
 
-abbrev between_query : Query
-between_query = record (on_table 2 between_test (col 1 1 ∷ col 1 2 ∷ [])) { order = (col 1 2, ascending Binary) ∷ (col 1 1, ascending Binary) ∷ [] }
+abbrev between_draft : ℕ → Draft
+between_draft tree = draft_of (inner tree end) between_test (col 1 1 ∷ col 1 2 ∷ []) ((col 1 2, ascending Binary) ∷ (col 1 1, ascending Binary) ∷ [])
 
-pub select_between_is : (f : Foreign) → Asks (archive_beside f) select_between (Select (alone between_query) (codes "name" ∷ codes "record" ∷ []))
-unfolding understood everything
-select_between_is f = record { is = refl; plain = (refl, refl); unlisted = refl }
+abbrev pub between_query : ℕ → Query
+between_query tree = record (on_table tree between_test (col 1 1 ∷ col 1 2 ∷ [])) { order = (col 1 2, ascending Binary) ∷ (col 1 1, ascending Binary) ∷ [] }
+
+pub select_between_is : (schema : Schema) (has : IsArchiveSchema schema)
+    → Means schema select_between (Select (alone (between_query has.common.holds.tree)) (codes "name" ∷ codes "record" ∷ []))
+unfolding everything
+select_between_is schema has =
+    means_query_one schema hold_table has.common.holds no_page (between_draft has.common.holds.tree) (codes "name" ∷ codes "record" ∷ [])
+    (Some Binary ∷ Some Binary ∷ []) select_between (refl, refl) refl refl
+    (refl, refl, refl, (tt, tt), ((0, refl, has.common.holds.named), tt), (tt, tt), (tt, (tt, tt)), (tt, (tt, tt, tt), (tt, tt, tt)), refl, refl, (tt, (tt, tt)), refl)
 
 -- the holds between two numbers are answered by record and then by name
 pub shows_between : (old new : State) (rows : List Row) (first last : ℕ) (t : Tables) (hs : List HoldEntry)
     → Stores old.now t → AreKeyed t → AreHolds t hs
     → Shown select_between (Int (pos first) ∷ Int (pos last) ∷ []) old new rows → rows ≡ map hold_values (filter (is_between first last) hs)
 shows_between old new rows first last t hs s keyed are h =
-    let f = s.schema.foreign in
-    let is = select_between_is f in
+    let is = select_between_is old.now.schema s.schema in
     let params : Row = Int (pos first) ∷ Int (pos last) ∷ [] in
-    let read = reads_as select_between params old new (archive_beside f) s.schema.is _ is.is is.plain is.unlisted rows h in
-    let q = between_query in
+    let read = reads_as select_between params old new old.now.schema refl _ is.is is.plain is.unlisted rows h in
+    let q = (between_query s.schema.common.holds.tree) in
     let db = overlay old.now.trees [] in
     let answer : IsAnswer q db params rows = read.answer Null in
-    let source = last_table db 2 hold_row hold_key t.holds s.holds keyed.holds (at_end db) in
+    let source = last_table db s.schema.common.holds.tree hold_row hold_key t.holds (seen old.now.trees _ ∙ s.holds) keyed.holds (at_end db) in
     let p = is_between first last in
     let asked : Hold → Bool = λ x. p (hold_entry x) in
     let out : HoldEntry → Output = λ x. (Int (pos x.number) ∷ Text x.name ∷ [], hold_values x) in

@@ -18,7 +18,10 @@ use Rattle.sqlite_typed.specs.Columns.{or_null}
 use Rattle.sqlite_keyed.proofs.ListLemmas.{map-map, all_unmap}
 use Rattle.sqlite_typed.proofs.AnswerLemmas.{last_table, at_end, matches_are, unfiltered}
 use Rattle.record_archive.specs.Archive.{Message, Record}
-use Rattle.record_tables.specs.Tables.{common_beside, archive_beside, HasCommonTables, IsArchiveSchema}
+use Rattle.record_tables.specs.Tables.{HasCommonTables, IsArchiveSchema, message_table, record_table, hold_table}
+use Rattle.record_tables.specs.Tables.{class_table, schedule_table}
+use Rattle.record_tables.proofs.Described.{seen}
+use Rattle.record_tables.proofs.Standing.{one_tree}
 use Rattle.record_tables.specs.Rows.{Hold, Class, Schedule, as_flag}
 use Rattle.record_tables.specs.Changes.{ClassEntry, Rule}
 use Rattle.record_tables.specs.Reads.{HoldEntry, ReadsNumber, ReadsRecord, ReadsHold, ReadsClass, ReadsRule}
@@ -87,11 +90,11 @@ one_message m n h =
 pub typed_messages : {V : Type 0} (of : V → ℕ) (old new : State) (rows : List Row) (all : List V)
     → HasCommonTables old.now.schema → Shown Queries.select_numbers [] old new rows
     → AllZip (λ row v. ReadsNumber row (of v)) rows all → AreTypedMessages old.now
-typed_messages of old new rows all has h read = λ rs stored keyed.
-    let f = has.foreign in
-    let is = Queries.select_numbers_is f in
-    let asked = reads_as Queries.select_numbers [] old new (common_beside f) has.is _ is.is is.plain is.unlisted rows h in
-    let same = all_permuted (λ (m : RawMessage). m.number) raw_message_row (overlay old.now.trees []) 0 rs stored keyed
+typed_messages of old new rows all has h read = λ stands rs stored keyed.
+    let is = Queries.select_numbers_is old.now.schema has in
+    let asked = reads_as Queries.select_numbers [] old new old.now.schema refl _ is.is is.plain is.unlisted rows h in
+    let same = all_permuted (λ (m : RawMessage). m.number) raw_message_row (overlay old.now.trees []) has.messages.tree rs
+    (seen old.now.trees _ ∙ ap old.now.trees (one_tree _ _ message_table refl has.messages stands) ∙ stored) keyed
     _ _ rows (asked.answer Null) in
     typed_from raw_message (λ (m : RawMessage). Int m.number ∷ []) (λ row v. ReadsNumber row (of v)) (λ m v.
     one_message m (of v)) rs rows all same read
@@ -111,11 +114,11 @@ one_record r q h =
 pub typed_records : {V : Type 0} (of : V → Record) (old new : State) (rows : List Row) (all : List V)
     → HasCommonTables old.now.schema → Shown Queries.select_records [] old new rows
     → AllZip (λ row v. ReadsRecord row (of v)) rows all → AreTypedRecords old.now
-typed_records of old new rows all has h read = λ rs stored keyed.
-    let f = has.foreign in
-    let is = Queries.select_records_is f in
-    let asked = reads_as Queries.select_records [] old new (common_beside f) has.is _ is.is is.plain is.unlisted rows h in
-    let same = all_permuted (λ (r : RawRecord). r.number) raw_record_row (overlay old.now.trees []) 1 rs stored keyed _ _ rows (asked.answer Null) in
+typed_records of old new rows all has h read = λ stands rs stored keyed.
+    let is = Queries.select_records_is old.now.schema has in
+    let asked = reads_as Queries.select_records [] old new old.now.schema refl _ is.is is.plain is.unlisted rows h in
+    let same = all_permuted (λ (r : RawRecord). r.number) raw_record_row (overlay old.now.trees []) has.records.tree rs
+    (seen old.now.trees _ ∙ ap old.now.trees (one_tree _ _ record_table refl has.records stands) ∙ stored) keyed _ _ rows (asked.answer Null) in
     typed_from raw_record (λ (r : RawRecord). Int r.number ∷ Int r.message ∷ Words r.path ∷ Int r.day ∷ Int r.destroyed
     ∷ []) (λ row v. ReadsRecord row (of v)) (λ r v. one_record r (of v)) rs rows all same read
 
@@ -127,11 +130,11 @@ one_hold r q h =
 pub typed_holds : {V : Type 0} (of : V → HoldEntry) (old new : State) (rows : List Row) (all : List V)
     → HasCommonTables old.now.schema → Shown Queries.select_holds [] old new rows
     → AllZip (λ row v. ReadsHold row (of v)) rows all → AreTypedHolds old.now
-typed_holds of old new rows all has h read = λ rs stored keyed.
-    let f = has.foreign in
-    let is = Queries.select_holds_is f in
-    let asked = reads_as Queries.select_holds [] old new (common_beside f) has.is _ is.is is.plain is.unlisted rows h in
-    let same = all_permuted (λ (r : RawHold). r.id) raw_hold_row (overlay old.now.trees []) 2 rs stored keyed _ _ rows (asked.answer Null) in
+typed_holds of old new rows all has h read = λ stands rs stored keyed.
+    let is = Queries.select_holds_is old.now.schema has in
+    let asked = reads_as Queries.select_holds [] old new old.now.schema refl _ is.is is.plain is.unlisted rows h in
+    let same = all_permuted (λ (r : RawHold). r.id) raw_hold_row (overlay old.now.trees []) has.holds.tree rs
+    (seen old.now.trees _ ∙ ap old.now.trees (one_tree _ _ hold_table refl has.holds stands) ∙ stored) keyed _ _ rows (asked.answer Null) in
     typed_from raw_hold (λ (r : RawHold). Words r.name ∷ Int r.number ∷ []) (λ row v. ReadsHold row (of v)) (λ r v.
     one_hold r (of v)) rs rows all same read
 
@@ -149,11 +152,11 @@ one_class r q h =
 pub typed_classes : {V : Type 0} (of : V → ClassEntry) (old new : State) (rows : List Row) (all : List V)
     → HasCommonTables old.now.schema → Shown Queries.select_classes [] old new rows
     → AllZip (λ row v. ReadsClass row (of v)) rows all → AreTypedClasses old.now
-typed_classes of old new rows all has h read = λ rs stored keyed.
-    let f = has.foreign in
-    let is = Queries.select_classes_is f in
-    let asked = reads_as Queries.select_classes [] old new (common_beside f) has.is _ is.is is.plain is.unlisted rows h in
-    let same = all_permuted (λ (r : RawClass). r.id) raw_class_row (overlay old.now.trees []) 6 rs stored keyed _ _ rows (asked.answer Null) in
+typed_classes of old new rows all has h read = λ stands rs stored keyed.
+    let is = Queries.select_classes_is old.now.schema has in
+    let asked = reads_as Queries.select_classes [] old new old.now.schema refl _ is.is is.plain is.unlisted rows h in
+    let same = all_permuted (λ (r : RawClass). r.id) raw_class_row (overlay old.now.trees []) has.classes.tree rs
+    (seen old.now.trees _ ∙ ap old.now.trees (one_tree _ _ class_table refl has.classes stands) ∙ stored) keyed _ _ rows (asked.answer Null) in
     typed_from raw_class shown_class (λ row v. ReadsClass row (of v)) (λ r v. one_class r (of v)) rs rows all same read
 
 abbrev shown_schedule : RawSchedule → Row
@@ -172,9 +175,9 @@ one_schedule r q h =
 pub typed_schedules : {V : Type 0} (of : V → Rule) (old new : State) (rows : List Row) (all : List V)
     → IsArchiveSchema old.now.schema → Shown Queries.select_schedules [] old new rows
     → AllZip (λ row v. ReadsRule row (of v)) rows all → AreTypedSchedules old.now
-typed_schedules of old new rows all has h read = λ rs stored keyed.
-    let f = has.foreign in
-    let is = Queries.select_schedules_is f in
-    let asked = reads_as Queries.select_schedules [] old new (archive_beside f) has.is _ is.is is.plain is.unlisted rows h in
-    let same = all_permuted (λ (r : RawSchedule). r.id) raw_schedule_row (overlay old.now.trees []) 8 rs stored keyed _ _ rows (asked.answer Null) in
+typed_schedules of old new rows all has h read = λ stands rs stored keyed.
+    let is = Queries.select_schedules_is old.now.schema has in
+    let asked = reads_as Queries.select_schedules [] old new old.now.schema refl _ is.is is.plain is.unlisted rows h in
+    let same = all_permuted (λ (r : RawSchedule). r.id) raw_schedule_row (overlay old.now.trees []) has.schedules.tree rs
+    (seen old.now.trees _ ∙ ap old.now.trees (one_tree _ _ schedule_table refl has.schedules stands) ∙ stored) keyed _ _ rows (asked.answer Null) in
     typed_from raw_schedule shown_schedule (λ row v. ReadsRule row (of v)) (λ r v. one_schedule r (of v)) rs rows all same read

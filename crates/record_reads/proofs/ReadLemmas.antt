@@ -23,7 +23,7 @@ use Rattle.sqlite_keyed.proofs.ListLemmas.{ascending-map, ascending_weaker, map-
 use Rattle.sqlite_keyed.proofs.SortLemmas.{sorted_unique}
 use Rattle.sqlite_typed.proofs.AnswerLemmas.{last_table, at_end, answer_by_keys, unfiltered}
 use Rattle.sqlite_typed.proofs.TestLemmas.{last_key, then_key}
-use Rattle.record_tables.specs.Tables.{common_beside, archive_beside}
+use Rattle.record_tables.proofs.Described.{seen}
 use Rattle.record_archive.specs.Archive.{Message}
 use Rattle.record_tables.specs.Rows.{Tables, Stores, StoresCommon, AreKeyed, message_key, message_row, record_key}
 use Rattle.record_tables.specs.Rows.{record_row, hold_key, hold_row, setting_key, setting_row, class_key, class_row}
@@ -37,26 +37,24 @@ use Rattle.record_reads.proofs.Queries
 pub shows_records : (old new : State) (rows : List Row) (t : Tables) → StoresCommon old.now t → AreKeyed t
     → Shown Queries.select_records [] old new rows → rows ≡ map record_values t.records
 shows_records old new rows t s keyed h =
-    let f = s.schema.foreign in
-    let is = Queries.select_records_is f in
-    let read = reads_as Queries.select_records [] old new (common_beside f) s.schema.is _ is.is is.plain is.unlisted rows h in
+    let is = Queries.select_records_is old.now.schema s.schema in
+    let read = reads_as Queries.select_records [] old new old.now.schema refl _ is.is is.plain is.unlisted rows h in
     let db = overlay old.now.trees [] in
-    let answer : IsAnswer Queries.records_query db [] rows = read.answer Null in
-    let source = last_table db 1 record_row record_key t.records s.records keyed.records (at_end db) in
-    let all = answer_by_keys Queries.records_query db [] source (λ _. true) (λ r. refl) (λ r. r) record_values (λ r.
+    let answer : IsAnswer (Queries.records_query s.schema.records.tree) db [] rows = read.answer Null in
+    let source = last_table db s.schema.records.tree record_row record_key t.records (seen old.now.trees _ ∙ s.records) keyed.records (at_end db) in
+    let all = answer_by_keys (Queries.records_query s.schema.records.tree) db [] source (λ _. true) (λ r. refl) (λ r. r) record_values (λ r.
     refl) refl refl (λ x y. last_key (value_cmp-Int (record_key x) (record_key y))) rows answer in
     sym (map-id rows) ∙ all ∙ ap (map record_values) (unfiltered t.records refl)
 
 pub shows_numbers : (old new : State) (rows : List Row) (t : Tables) → StoresCommon old.now t → AreKeyed t
     → Shown Queries.select_numbers [] old new rows → rows ≡ map number_values (numbers_of t)
 shows_numbers old new rows t s keyed h =
-    let f = s.schema.foreign in
-    let is = Queries.select_numbers_is f in
-    let read = reads_as Queries.select_numbers [] old new (common_beside f) s.schema.is _ is.is is.plain is.unlisted rows h in
+    let is = Queries.select_numbers_is old.now.schema s.schema in
+    let read = reads_as Queries.select_numbers [] old new old.now.schema refl _ is.is is.plain is.unlisted rows h in
     let db = overlay old.now.trees [] in
-    let answer : IsAnswer Queries.numbers_query db [] rows = read.answer Null in
-    let source = last_table db 0 message_row message_key t.messages s.messages keyed.messages (at_end db) in
-    let all = answer_by_keys Queries.numbers_query db [] source (λ _. true) (λ r. refl) (λ r. r) (λ (m : Message).
+    let answer : IsAnswer (Queries.numbers_query s.schema.messages.tree) db [] rows = read.answer Null in
+    let source = last_table db s.schema.messages.tree message_row message_key t.messages (seen old.now.trees _ ∙ s.messages) keyed.messages (at_end db) in
+    let all = answer_by_keys (Queries.numbers_query s.schema.messages.tree) db [] source (λ _. true) (λ r. refl) (λ r. r) (λ (m : Message).
     number_values m.number) (λ r. refl) refl refl (λ x y. last_key (value_cmp-Int (message_key x) (message_key y)))
     rows answer in
     sym (map-id rows) ∙ all ∙ ap (map (λ (m : Message). number_values m.number)) (unfiltered t.messages refl)
@@ -91,65 +89,61 @@ module _ {X Y : Type 0} (q : Query) (db : Trees) (params : Row) (key : X → ℤ
 pub shows_classes : (old new : State) (rows : List Row) (t : Tables) (cs : List ClassEntry) → StoresCommon old.now t
     → AreKeyed t → AreClasses t cs → Shown Queries.select_classes [] old new rows → rows ≡ map class_values cs
 shows_classes old new rows t cs s keyed are h =
-    let f = s.schema.foreign in
-    let is = Queries.select_classes_is f in
-    let read = reads_as Queries.select_classes [] old new (common_beside f) s.schema.is _ is.is is.plain is.unlisted rows h in
+    let is = Queries.select_classes_is old.now.schema s.schema in
+    let read = reads_as Queries.select_classes [] old new old.now.schema refl _ is.is is.plain is.unlisted rows h in
     let db = overlay old.now.trees [] in
-    let answer : IsAnswer Queries.classes_query db [] rows = read.answer Null in
+    let answer : IsAnswer (Queries.classes_query s.schema.classes.tree) db [] rows = read.answer Null in
     let out : ClassEntry → Output = λ c. (Text c.path ∷ [], class_values c) in
-    let rises = ascending_weaker _ (λ x y. output_cmp Queries.classes_query (out x) (out y) ≡ Less) (λ x y less.
+    let rises = ascending_weaker _ (λ x y. output_cmp (Queries.classes_query s.schema.classes.tree) (out x) (out y) ≡ Less) (λ x y less.
     last_key (value_cmp-Text x.path y.path) ∙ less) cs are.in_order in
     let ordered =
-    ordered_is Queries.classes_query db [] class_key class_row 6 t.classes s.classes keyed.classes refl refl refl
+    ordered_is (Queries.classes_query s.schema.classes.tree) db [] class_key class_row s.schema.classes.tree t.classes (seen old.now.trees _ ∙ s.classes) keyed.classes refl refl refl
     refl class_entry out (λ x. refl) rows answer cs are.same rises in
     answer.shown ∙ ap (map (λ (o : Output). o.1)) ordered ∙ map-map (λ (o : Output). o.1) out cs
 
 pub shows_schedules : (old new : State) (rows : List Row) (t : Tables) (rs : List Rule) → Stores old.now t → AreKeyed t
     → AreRules t rs → Shown Queries.select_schedules [] old new rows → rows ≡ map rule_values rs
 shows_schedules old new rows t rs s keyed are h =
-    let f = s.schema.foreign in
-    let is = Queries.select_schedules_is f in
-    let read = reads_as Queries.select_schedules [] old new (archive_beside f) s.schema.is _ is.is is.plain is.unlisted rows h in
+    let is = Queries.select_schedules_is old.now.schema s.schema in
+    let read = reads_as Queries.select_schedules [] old new old.now.schema refl _ is.is is.plain is.unlisted rows h in
     let db = overlay old.now.trees [] in
-    let answer : IsAnswer Queries.schedules_query db [] rows = read.answer Null in
+    let answer : IsAnswer (Queries.schedules_query s.schema.schedules.tree) db [] rows = read.answer Null in
     let out : Rule → Output = λ r. (Text r.path ∷ [], rule_values r) in
-    let rises = ascending_weaker _ (λ x y. output_cmp Queries.schedules_query (out x) (out y) ≡ Less) (λ x y less.
+    let rises = ascending_weaker _ (λ x y. output_cmp (Queries.schedules_query s.schema.schedules.tree) (out x) (out y) ≡ Less) (λ x y less.
     last_key (value_cmp-Text x.path y.path) ∙ less) rs are.in_order in
     let ordered =
-    ordered_is Queries.schedules_query db [] schedule_key schedule_row 8 t.schedules s.schedules keyed.schedules
+    ordered_is (Queries.schedules_query s.schema.schedules.tree) db [] schedule_key schedule_row s.schema.schedules.tree t.schedules (seen old.now.trees _ ∙ s.schedules) keyed.schedules
     refl refl refl refl rule out (λ x. refl) rows answer rs are.same rises in
     answer.shown ∙ ap (map (λ (o : Output). o.1)) ordered ∙ map-map (λ (o : Output). o.1) out rs
 
 pub shows_holds : (old new : State) (rows : List Row) (t : Tables) (hs : List HoldEntry) → StoresCommon old.now t
     → AreKeyed t → AreHolds t hs → Shown Queries.select_holds [] old new rows → rows ≡ map hold_values hs
 shows_holds old new rows t hs s keyed are h =
-    let f = s.schema.foreign in
-    let is = Queries.select_holds_is f in
-    let read = reads_as Queries.select_holds [] old new (common_beside f) s.schema.is _ is.is is.plain is.unlisted rows h in
+    let is = Queries.select_holds_is old.now.schema s.schema in
+    let read = reads_as Queries.select_holds [] old new old.now.schema refl _ is.is is.plain is.unlisted rows h in
     let db = overlay old.now.trees [] in
-    let answer : IsAnswer Queries.holds_query db [] rows = read.answer Null in
+    let answer : IsAnswer (Queries.holds_query s.schema.holds.tree) db [] rows = read.answer Null in
     let out : HoldEntry → Output = λ x. (Int (pos x.number) ∷ Text x.name ∷ [], hold_values x) in
-    let rises = ascending_weaker _ (λ x y. output_cmp Queries.holds_query (out x) (out y) ≡ Less) (λ x y less.
+    let rises = ascending_weaker _ (λ x y. output_cmp (Queries.holds_query s.schema.holds.tree) (out x) (out y) ≡ Less) (λ x y less.
     then_key (value_cmp-Int (pos x.number) (pos y.number)) (last_key (value_cmp-Text x.name y.name))
     ∙ less) hs are.in_order in
     let ordered =
-    ordered_is Queries.holds_query db [] hold_key hold_row 2 t.holds s.holds keyed.holds refl refl refl refl
+    ordered_is (Queries.holds_query s.schema.holds.tree) db [] hold_key hold_row s.schema.holds.tree t.holds (seen old.now.trees _ ∙ s.holds) keyed.holds refl refl refl refl
     hold_entry out (λ x. refl) rows answer hs are.same rises in
     answer.shown ∙ ap (map (λ (o : Output). o.1)) ordered ∙ map-map (λ (o : Output). o.1) out hs
 
 pub shows_settings : (old new : State) (rows : List Row) (t : Tables) (ps : List Pair) → StoresCommon old.now t
     → AreKeyed t → ArePairs t ps → Shown Queries.select_settings [] old new rows → rows ≡ map pair_values ps
 shows_settings old new rows t ps s keyed are h =
-    let f = s.schema.foreign in
-    let is = Queries.select_settings_is f in
-    let read = reads_as Queries.select_settings [] old new (common_beside f) s.schema.is _ is.is is.plain is.unlisted rows h in
+    let is = Queries.select_settings_is old.now.schema s.schema in
+    let read = reads_as Queries.select_settings [] old new old.now.schema refl _ is.is is.plain is.unlisted rows h in
     let db = overlay old.now.trees [] in
-    let answer : IsAnswer Queries.settings_query db [] rows = read.answer Null in
+    let answer : IsAnswer (Queries.settings_query s.schema.settings.tree) db [] rows = read.answer Null in
     let out : Pair → Output = λ x. (Text x.key ∷ [], pair_values x) in
-    let rises = ascending_weaker _ (λ x y. output_cmp Queries.settings_query (out x) (out y) ≡ Less) (λ x y less.
+    let rises = ascending_weaker _ (λ x y. output_cmp (Queries.settings_query s.schema.settings.tree) (out x) (out y) ≡ Less) (λ x y less.
     last_key (value_cmp-Text x.key y.key) ∙ less) ps are.in_order in
     let ordered =
-    ordered_is Queries.settings_query db [] setting_key setting_row 4 t.settings s.settings keyed.settings refl refl
+    ordered_is (Queries.settings_query s.schema.settings.tree) db [] setting_key setting_row s.schema.settings.tree t.settings (seen old.now.trees _ ∙ s.settings) keyed.settings refl refl
     refl refl pair out (λ x. refl) rows answer ps are.same rises in
     answer.shown ∙ ap (map (λ (o : Output). o.1)) ordered ∙ map-map (λ (o : Output). o.1) out ps
 

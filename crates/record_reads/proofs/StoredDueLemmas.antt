@@ -1,12 +1,12 @@
 -- Due days that rows show.
-use Rattle.std.proofs.Common.{◌≡◌, ◌==◌, ◌&&◌, ℕ, Bool, true, false, List, [], ◌∷◌, map, map-id, codes, refl, sym, ap, ◌∙◌, arith}
+use Rattle.std.proofs.Common.{◌≡◌, ◌==◌, ◌&&◌, ℕ, Bool, true, false, List, [], ◌∷◌, map, map-id, codes, refl, sym, ap, ◌∙◌, arith, None, Some}
 use Rattle.std.proofs.lemmas.Bool.Decides.{nat_tests}
 use Rattle.std.specs.Bool.{Decides}
 use Rattle.std.specs.Cmp.Lexicographic.{pointwise}
 use Rattle.sqlite.specs.declared.types.Value.TheVariants.{Null}
 use Rattle.sqlite.specs.Order.{Row}
 use Rattle.sqlite.specs.Term.{col}
-use Rattle.sqlite.specs.Query.{Query, IsAnswer}
+use Rattle.sqlite.specs.Query.{Query, IsAnswer, inner, end}
 use Rattle.sqlite.specs.Command.TheVariants.{Select}
 use Rattle.sqlite.specs.Collation.TheVariants.{Binary}
 use Rattle.sqlite.specs.State.{State, Shown}
@@ -18,11 +18,13 @@ use Rattle.sqlite_value.specs.Keys.{ascending}
 use Rattle.sqlite_value.proofs.OrderLemmas.{value_cmp-Int}
 use Rattle.sqlite_typed.proofs.AnswerLemmas.{last_table, at_end, answer_by_keys, unfiltered}
 use Rattle.sqlite_typed.proofs.TestLemmas.{last_key}
-use Rattle.record_tables.specs.Tables.{Foreign, archive_beside}
+use Rattle.sqlite.specs.Schema.{Schema}
+use Rattle.record_tables.specs.Tables.{IsArchiveSchema, record_table, due_table}
+use Rattle.record_tables.proofs.Described.{seen}
+use Rattle.record_tables.proofs.Compiling.{Draft, Means, no_page, draft_of, means_query_one}
 use Rattle.record_tables.specs.Rows.{Tables, Stores, AreKeyed, Due, due_key, due_row}
 use Rattle.record_tables.specs.Reads.{due_values}
 use Rattle.record_reads.specs.StoredDues.{shows_due}
-use Rattle.record_reads.proofs.Queries.{Asks}
 use Rattle.record_tables.proofs.Texts.{alone, on_table}
 
 -- ---- the query
@@ -30,24 +32,29 @@ use Rattle.record_tables.proofs.Texts.{alone, on_table}
 abbrev pub select_stored : List ℕ
 select_stored = codes "SELECT record, day FROM due_day ORDER BY record"
 
-abbrev pub stored_query : Query
-stored_query = record (on_table 10 [] (col 1 0 ∷ col 1 2 ∷ [])) { order = (col 1 0, ascending Binary) ∷ [] }
+abbrev stored_draft : ℕ → Draft
+stored_draft tree = draft_of (inner tree end) [] (col 1 0 ∷ col 1 2 ∷ []) ((col 1 0, ascending Binary) ∷ [])
 
-pub select_stored_is : (foreign : Foreign)
-    → Asks (archive_beside foreign) select_stored (Select (alone stored_query) (codes "record" ∷ codes "day" ∷ []))
-unfolding understood everything
-select_stored_is foreign = record { is = refl; plain = (refl, refl); unlisted = refl }
+abbrev pub stored_query : ℕ → Query
+stored_query tree = record (on_table tree [] (col 1 0 ∷ col 1 2 ∷ [])) { order = (col 1 0, ascending Binary) ∷ [] }
+
+pub select_stored_is : (schema : Schema) (has : IsArchiveSchema schema)
+    → Means schema select_stored (Select (alone (stored_query has.dues.tree)) (codes "record" ∷ codes "day" ∷ []))
+unfolding everything
+select_stored_is schema has =
+    means_query_one schema due_table has.dues no_page (stored_draft has.dues.tree) (codes "record" ∷ codes "day" ∷ [])
+    (None ∷ Some Binary ∷ []) select_stored (refl, refl) refl refl
+    (refl, refl, refl, (tt, tt), ((0, refl, has.dues.named), tt), (tt, tt), (tt, (tt, tt)), tt, refl, refl, (tt, tt), refl)
 
 pub shows_stored : (old new : State) (rows : List Row) (t : Tables) → Stores old.now t → AreKeyed t
     → Shown select_stored [] old new rows → rows ≡ map due_values t.dues
 shows_stored old new rows t s keyed h =
-    let f = s.schema.foreign in
-    let is = select_stored_is f in
-    let read = reads_as select_stored [] old new (archive_beside f) s.schema.is _ is.is is.plain is.unlisted rows h in
+    let is = select_stored_is old.now.schema s.schema in
+    let read = reads_as select_stored [] old new old.now.schema refl _ is.is is.plain is.unlisted rows h in
     let db = overlay old.now.trees [] in
-    let answer : IsAnswer stored_query db [] rows = read.answer Null in
-    let source = last_table db 10 due_row due_key t.dues s.dues keyed.dues (at_end db) in
-    let all = answer_by_keys stored_query db [] source (λ _. true) (λ r. refl) (λ r. r) due_values (λ r.
+    let answer : IsAnswer (stored_query s.schema.dues.tree) db [] rows = read.answer Null in
+    let source = last_table db s.schema.dues.tree due_row due_key t.dues (seen old.now.trees _ ∙ s.dues) keyed.dues (at_end db) in
+    let all = answer_by_keys (stored_query s.schema.dues.tree) db [] source (λ _. true) (λ r. refl) (λ r. r) due_values (λ r.
     refl) refl refl (λ x y. last_key (value_cmp-Int (due_key x) (due_key y))) rows answer in
     sym (map-id rows) ∙ all ∙ ap (map due_values) (unfiltered t.dues refl)
 

@@ -6,6 +6,7 @@ use Rattle.sqlite.specs.Effect.{Database}
 use Rattle.sqlite_typed.specs.Columns.{or_null}
 use Rattle.sqlite_keyed.specs.Keyed.{IsKeyedBy}
 use Rattle.record_archive.specs.Archive.{Message, Record}
+use Rattle.record_tables.specs.Tables.{Stands, message_table, record_table, hold_table, class_table, schedule_table}
 use Rattle.record_tables.specs.Rows.{Hold, Class, Schedule, as_flag}
 
 pub record RawMessage : Type 0 where
@@ -72,17 +73,23 @@ raw_schedule_row s = Int s.id ∷ Words s.path ∷ Int s.count ∷ Int s.unit �
 abbrev pub AreTyped : {X R : Type 0} → (raw : X → R) → (key : R → ℤ) → (row : R → Row) → List Row → Type 0
 AreTyped {X} {R} raw key row rows = (rs : List R) → rows ≡ map row rs → IsKeyedBy key rs → (xs : List X) × (rs ≡ map raw xs)
 
+-- those of each table, where it stands in the schema
 abbrev pub AreTypedMessages : Database → Type 0
-AreTypedMessages db = AreTyped raw_message (λ (m : RawMessage). m.number) raw_message_row (db.trees 0)
+AreTypedMessages db = (is : Stands db.schema message_table) →
+    AreTyped raw_message (λ (m : RawMessage). m.number) raw_message_row (db.trees is.tree)
 
 abbrev pub AreTypedRecords : Database → Type 0
-AreTypedRecords db = AreTyped raw_record (λ (r : RawRecord). r.number) raw_record_row (db.trees 1)
+AreTypedRecords db = (is : Stands db.schema record_table) →
+    AreTyped raw_record (λ (r : RawRecord). r.number) raw_record_row (db.trees is.tree)
 
 abbrev pub AreTypedHolds : Database → Type 0
-AreTypedHolds db = AreTyped raw_hold (λ (h : RawHold). h.id) raw_hold_row (db.trees 2)
+AreTypedHolds db = (is : Stands db.schema hold_table) →
+    AreTyped raw_hold (λ (h : RawHold). h.id) raw_hold_row (db.trees is.tree)
 
 abbrev pub AreTypedClasses : Database → Type 0
-AreTypedClasses db = AreTyped raw_class (λ (c : RawClass). c.id) raw_class_row (db.trees 6)
+AreTypedClasses db = (is : Stands db.schema class_table) →
+    AreTyped raw_class (λ (c : RawClass). c.id) raw_class_row (db.trees is.tree)
 
 abbrev pub AreTypedSchedules : Database → Type 0
-AreTypedSchedules db = AreTyped raw_schedule (λ (s : RawSchedule). s.id) raw_schedule_row (db.trees 8)
+AreTypedSchedules db = (is : Stands db.schema schedule_table) →
+    AreTyped raw_schedule (λ (s : RawSchedule). s.id) raw_schedule_row (db.trees is.tree)

@@ -10,7 +10,8 @@ ghost use Rattle.sqlite.specs.Held.{state};
 ghost use Rattle.sqlite.specs.Values.{bound};
 ghost use Rattle.sqlite.specs.Listing.{understood};
 ghost use Rattle.sqlite.proofs.Callers.{IsPlain};
-ghost use Rattle.record_tables.specs.Tables.{Foreign, archive_beside};
+ghost use Rattle.sqlite.specs.Schema.{Schema};
+ghost use Rattle.record_tables.specs.Tables.{IsArchiveSchema};
 ghost use Rattle.record_tables.specs.Rows.{Tables, Stores, AreKeyed};
 ghost use Rattle.record_tables.specs.Reads.{FitsRecord};
 ghost use Rattle.record_reads.specs.Lookups.{Looks, WasOpenOnNoArchive, record_with, body_with, has_hold_of};
@@ -30,7 +31,7 @@ fn look<S: Alter>(
     sql: &str,
     params: &[ValueRef<'_>],
 ) -> Result<Vec<Row>, Error>
-    requires { (f : Foreign) → IsPlain (understood (archive_beside f) sql.now) }
+    requires { (schema : Schema) → IsArchiveSchema schema → IsPlain (understood schema sql.now) }
     ensures shown { ShowsOnOk S.Store conn.old conn.new result sql.now (bound params.now) }
     ensures open { HasCleanDisk (state S.Store conn.new) → OnOk result
         (IsTrue (state S.Store conn.old).is_open × IsTrue (state S.Store conn.new).is_open) }

@@ -16,7 +16,7 @@ use Rattle.class_plan.specs.Plans as plans
 use Rattle.class_plan.specs.Plans.{Listing, IsPlan, keeps, has}
 use Rattle.record_reads.specs.Lookups.{Looks}
 use Rattle.record_reads.specs.Quiet.{IsQuiet}
-use Rattle.record_tables.specs.Tables.{HasCommonTables, IsArchiveSchema, schedules_and_dues_beside}
+use Rattle.record_tables.specs.Tables.{HasCommonTables, IsArchiveSchema}
 use Rattle.record_archive.specs.Archive.{Record, Archive, IsArchive, revise}
 use Rattle.record_tables.specs.Rows.{Tables, Due, Stores, StoresCommon}
 use Rattle.record_tables.specs.Changes.{ClassEntry, Rule, IsRevised, AreAscending}
@@ -93,12 +93,9 @@ stores_revised a p rules classes dues same_rules same_classes same_dues was db s
 
 -- ---- the tables that both versions have
 
-pub common_schema : (schema : Rattle.sqlite.specs.Schema.Schema) → IsArchiveSchema schema → HasCommonTables schema
-common_schema schema is = record { foreign = schedules_and_dues_beside is.foreign; is = is.is }
-
 pub common_of : (db : Database) (t : Tables) → Stores db t → StoresCommon db t
 common_of db t s = record {
-  schema = common_schema db.schema s.schema;
+  schema = s.schema.common;
   messages = s.messages;
   records = s.records;
   holds = s.holds;
@@ -115,7 +112,7 @@ looks_common g old new idle falls quiet survives = record {
   idle = idle;
   falls = falls;
   still = λ was _. quiet was;
-  survives = survives_weaker (state g old) (state g new) _ _ (λ clean db none is. none (common_schema (state g old).now.schema is)) survives;
+  survives = survives_weaker (state g old) (state g new) _ _ (λ clean db none is. none is.common) survives;
 }
 
 -- ---- the command

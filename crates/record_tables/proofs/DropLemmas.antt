@@ -9,13 +9,14 @@ use Rattle.sqlite.specs.Listing.{understood}
 use Rattle.sqlite.specs.State.{State, ExecutesInside, mode_of}
 use Rattle.sqlite.proofs.Callers.{runs_as, statement_of}
 use Rattle.sqlite_tied.specs.Compute.{everything}
-use Rattle.record_tables.specs.Tables.{none, first_schema, first_schema_with_dues, archive_schema, schedule_table, due_table}
+use Rattle.record_tables.specs.Tables.{first_schema, first_schema_with_dues, archive_schema, schedule_table, due_table}
 use Rattle.record_tables.specs.Rows.{Tables, Stores, StoresFirst, StoresKeyed}
 use Rattle.record_tables.specs.Changes.{Puts, Always, without_dues}
 use Rattle.record_tables.specs.Shapes.{schema_6}
 use Rattle.record_tables.specs.Layouts.{Drops, Lays, Empties, TellsDues, TellsAlone}
 use Rattle.record_tables.proofs.LayLemmas.{laid_beside}
-use Rattle.record_tables.proofs.Texts.{Means}
+use Rattle.record_tables.proofs.Compiling.{Means}
+use Rattle.record_tables.proofs.Standing.{to_stores, from_stores}
 use Rattle.record_tables.proofs.WriteLemmas.{went, same_value}
 
 abbrev pub drop_dues : List ℕ
@@ -23,11 +24,11 @@ drop_dues = codes "DROP TABLE due_day"
 
 pub drop_dues_is : Means first_schema_with_dues drop_dues (DropTable 5)
 unfolding understood everything
-drop_dues_is = record { is = refl; plain = (refl, refl) }
+drop_dues_is = record { is = refl; plain = (refl, refl); unlisted = refl }
 
 pub drop_last_is : Means archive_schema drop_dues (DropTable 6)
 unfolding understood everything
-drop_last_is = record { is = refl; plain = (refl, refl) }
+drop_last_is = record { is = refl; plain = (refl, refl); unlisted = refl }
 
 -- without the due days, the schema is that from before their creation, so they may be created again in their place
 pub left_is : without_table first_schema_with_dues 8 ≡ first_schema
@@ -107,17 +108,17 @@ pub emptied : (old mid new : State) → Drops old mid archive_schema schema_6 �
 emptied old mid new d l = record {
   stored = λ t s keyed has.
       let k = d.kept has in
-      let m = l.kept (d.schema has) in (
-        record {
-          schema = record { foreign = none; is = l.schema (d.schema has); apart = tt };
-          messages = m.0 ∙ k.0 ∙ s.messages;
-          records = m.1.0 ∙ k.1.0 ∙ s.records;
-          holds = m.1.1.0 ∙ k.1.1.0 ∙ s.holds;
-          settings = m.1.1.1.0 ∙ k.1.1.1.0 ∙ s.settings;
-          classes = m.1.1.1.1.0 ∙ k.1.1.1.1.0 ∙ s.classes;
-          schedules = m.1.1.1.1.1.0 ∙ k.1.1.1.1.1.0 ∙ s.schedules;
+      let m = l.kept (d.schema has) in
+      let r = from_stores old.now t has s in (
+        to_stores new.now (without_dues t) (l.schema (d.schema has)) (record {
+          messages = m.0 ∙ k.0 ∙ r.messages;
+          records = m.1.0 ∙ k.1.0 ∙ r.records;
+          holds = m.1.1.0 ∙ k.1.1.0 ∙ r.holds;
+          settings = m.1.1.1.0 ∙ k.1.1.1.0 ∙ r.settings;
+          classes = m.1.1.1.1.0 ∙ k.1.1.1.1.0 ∙ r.classes;
+          schedules = m.1.1.1.1.1.0 ∙ k.1.1.1.1.1.0 ∙ r.schedules;
           dues = (l.empty (d.schema has)).0;
-        },
+        }),
         record {
           messages = keyed.messages;
           records = keyed.records;
@@ -139,7 +140,7 @@ pub renewed : (old mid new : State) (change : Tables → Tables) → ((t : Table
     → TellsAlone old.now.schema true → Empties old mid → Puts mid new Always change → Puts old new Always change
 renewed old mid new change same tells e p = record {
   stored = λ t s keyed allowed.
-      let none_left = e.stored t s keyed (tells refl s.schema) in
+      let none_left = e.stored t s keyed (tells refl) in
       subst (StoresKeyed new.now) (same t) (p.stored (without_dues t) none_left.0 none_left.1 tt);
   sound = λ h t s keyed allowed.
       let alone = tells refl s.schema in

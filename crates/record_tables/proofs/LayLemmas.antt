@@ -14,11 +14,12 @@ use Rattle.sqlite.specs.Listing.{understood}
 use Rattle.sqlite.specs.State.{State, Writes, ExecutesInside, mode_of}
 use Rattle.sqlite.proofs.Callers.{runs_as}
 use Rattle.sqlite_tied.specs.Compute.{everything}
-use Rattle.record_tables.specs.Tables.{none, no_schema, first_schema, archive_schema, message_table, record_table}
+use Rattle.record_tables.specs.Tables.{no_schema, first_schema, archive_schema, message_table, record_table}
 use Rattle.record_tables.specs.Tables.{hold_table, meta_table, class_table, schedule_table, due_table, due_index}
 use Rattle.record_tables.specs.Rows.{Tables, Stores, StoresFirst, StoresKeyed, schedule_row, due_row}
 use Rattle.record_tables.specs.Layouts.{Lays, AreEmpty, no_rows, Defines, DefinesIndex}
 use Rattle.record_tables.specs.Shapes.{schema_1, schema_2, schema_3, schema_4, schema_6, schema_7, archive_tables}
+use Rattle.record_tables.proofs.Standing.{to_stores}
 use Rattle.record_tables.proofs.WriteLemmas.{went, same_value}
 
 pub lays_table : (old new : State) (schema : Schema) (text : List ℕ) (table : Table) (count : ℕ)
@@ -193,8 +194,7 @@ defines_index = record { creates = refl; whole = refl; plain = (refl, refl); lis
 pub laid_empty : (old new : State) → Lays old new no_schema archive_tables archive_schema → old.now.schema ≡ no_schema → StoresKeyed new.now no_rows
 laid_empty old new l has =
     let e = l.empty has in (
-      record {
-        schema = record { foreign = none; is = l.schema has; apart = tt };
+      to_stores new.now no_rows (l.schema has) (record {
         messages = e.0;
         records = e.1.0;
         holds = e.1.1.0;
@@ -202,7 +202,7 @@ laid_empty old new l has =
         classes = e.1.1.1.1.0;
         schedules = e.1.1.1.1.1.0;
         dues = e.1.1.1.1.1.1.0;
-      },
+      }),
       record { messages = tt; records = tt; holds = tt; settings = tt; classes = tt; schedules = tt; dues = tt },
     )
 
@@ -212,8 +212,7 @@ pub laid_beside : (old new : State) (t : Tables)
 laid_beside old new t l has s =
     let k = l.kept has in
     let e = l.empty has in
-    record {
-      schema = record { foreign = none; is = l.schema has; apart = tt };
+    to_stores new.now t (l.schema has) (record {
       messages = k.0 ∙ s.messages;
       records = k.1.0 ∙ s.records;
       holds = k.1.1.0 ∙ s.holds;
@@ -221,4 +220,4 @@ laid_beside old new t l has s =
       classes = k.1.1.1.1.0 ∙ s.classes;
       schedules = e.0 ∙ sym (ap (map schedule_row) s.schedules);
       dues = e.1.0 ∙ sym (ap (map due_row) s.dues);
-    }
+    })

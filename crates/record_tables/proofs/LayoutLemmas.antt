@@ -1,12 +1,13 @@
 -- A schema of a version has the tables of that version alone.
-use Rattle.std.proofs.Common.{◌≡◌, ◌↔◌, Bool, true, false, not, IsTrue, codes, refl, subst, sym}
+use Rattle.std.proofs.Common.{◌≡◌, ◌↔◌, Bool, true, false, not, IsTrue, codes, refl, ap, subst, sym, ◌∙◌, option_and_then, slice_get}
 use Rattle.sqlite.specs.Schema.{Schema}
 use Rattle.sqlite_tied.specs.Compute.{everything}
 use Rattle.record_tables.specs.Tables.{Foreign, none, first_dues, no_schema, first_schema, first_schema_with_dues}
-use Rattle.record_tables.specs.Tables.{common_beside, archive_beside, IsArchiveSchema, schedule_table, due_table}
-use Rattle.record_tables.specs.Tables.{message_table}
+use Rattle.record_tables.specs.Tables.{common_beside, Stands, HasCommonTables, IsArchiveSchema, message_table}
+use Rattle.record_tables.specs.Tables.{record_table, hold_table, meta_table, class_table, schedule_table, due_table}
+use Rattle.sqlite.specs.Table.{Table}
 use Rattle.record_tables.specs.Layouts.{TellsDues}
-use Rattle.record_tables.specs.Layout.{HasNone, HasCommon, HasTable, IsLayout, Lacks}
+use Rattle.record_tables.specs.Layout.{HasNone, HasCommon, HasTable, IsTableIfAny, IsLayout, Lacks}
 use Rattle.record_tables.specs.declared.layout.Layout.{Layout}
 use Rattle.record_tables.specs.declared.layout.Layout.TheVariants.{Empty, First, FirstWithDues, Second, Other}
 
@@ -18,13 +19,20 @@ has_message : (f : Foreign) → Lacks (common_beside f) (codes "message") → �
 unfolding everything
 has_message f h = cc
 
-has_second : (f : Foreign) → HasTable (archive_beside f) schedule_table × HasTable (archive_beside f) due_table
-unfolding everything
-has_second f = (refl, refl)
+has_table : (schema : Schema) (t : Table) → Stands schema t → HasTable schema t
+has_table schema t is = subst (IsTableIfAny t) (sym (ap (option_and_then (slice_get schema.tables)) is.named ∙ is.listed)) refl
 
-has_schedule : (f : Foreign) → Lacks (archive_beside f) (codes "schedule") → ⊥
-unfolding everything
-has_schedule f h = cc
+not_lacking : (schema : Schema) (t : Table) → Stands schema t → Lacks schema t.name → ⊥
+not_lacking schema t is h = let one = sym h ∙ ap (option_and_then (slice_get schema.tables)) is.named ∙ is.listed in absurd cc
+
+all_common : (schema : Schema) → HasCommonTables schema → HasCommon schema
+all_common schema has = record {
+  messages = has_table schema message_table has.messages;
+  records = has_table schema record_table has.records;
+  holds = has_table schema hold_table has.holds;
+  settings = has_table schema meta_table has.settings;
+  classes = has_table schema class_table has.classes;
+}
 
 first_lacks : Lacks first_schema (codes "schedule") × Lacks first_schema (codes "due_day")
 unfolding everything
@@ -55,13 +63,6 @@ none_has = record { messages = refl; records = refl; holds = refl; settings = re
 
 none_message : HasTable no_schema message_table → ⊥
 none_message h = h
-
-of_second : (f : Foreign) (r : Layout) → IsLayout (archive_beside f) r → r ≡ Second
-of_second f Empty h = absurd (has_schedule f h.schedules)
-of_second f First h = absurd (has_schedule f h.1)
-of_second f FirstWithDues h = absurd (has_schedule f h.1)
-of_second f Second h = refl
-of_second f Other h = let two = has_second f in absurd (h.3 (has_common _, two.0, two.1))
 
 of_first : (r : Layout) → IsLayout first_schema r → r ≡ First
 of_first Empty h = absurd (has_message none h.messages)
@@ -94,7 +95,15 @@ pub is_dated : (schema : Schema) (r : Layout) → IsLayout schema r → schema �
 is_dated schema r h e = of_dated r (subst (λ s. IsLayout s r) e h)
 
 pub is_second : (schema : Schema) (r : Layout) → IsLayout schema r → IsArchiveSchema schema → r ≡ Second
-is_second schema r h s = of_second s.foreign r (subst (λ x. IsLayout x r) s.is h)
+is_second schema Empty h has = absurd (not_lacking schema schedule_table has.schedules h.schedules)
+is_second schema First h has = absurd (not_lacking schema schedule_table has.schedules h.1)
+is_second schema FirstWithDues h has = absurd (not_lacking schema schedule_table has.schedules h.1)
+is_second schema Second h has = refl
+is_second schema Other h has = absurd (h.3 (
+  all_common schema has.common,
+  has_table schema schedule_table has.schedules,
+  has_table schema due_table has.dues,
+))
 
 -- version 1 has due days exactly where `due_day` is not lacking
 pub tells : (schema : Schema) (b : Bool) → (IsTrue b ↔ Lacks schema (codes "due_day")) → TellsDues schema (not b)

@@ -1,3 +1,7 @@
+pub mod SameNames
+pub mod SameQueries
+pub mod Compiling
+pub mod Standing
 pub mod Texts
 pub mod Shapes
 pub mod WriteLemmas

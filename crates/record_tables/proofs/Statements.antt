@@ -30,8 +30,8 @@ use Rattle.sqlite_typed.proofs.RowLemmas.{puts-map}
 use Rattle.sqlite_typed.proofs.TestLemmas.{at_texts, at_ints, then_term, last_term}
 use Rattle.sqlite_sql.specs.declared.ops.CompareOp.TheVariants.{Eq}
 use Rattle.sqlite_sql.specs.Program.{overlay}
-use Rattle.record_tables.specs.Tables.{Foreign, archive_beside, message_table, record_table, hold_table, meta_table}
-use Rattle.record_tables.specs.Tables.{class_table, schedule_table, due_table}
+use Rattle.sqlite.specs.Schema.{Schema}
+use Rattle.record_tables.specs.Tables.{IsArchiveSchema, in_tree, record_table}
 use Rattle.record_archive.specs.Archive.{Message, Record}
 use Rattle.record_tables.specs.Rows.{Tables, message_row, record_key, record_row, Hold, hold_row, Setting, setting_row}
 use Rattle.record_tables.specs.Rows.{Class, class_row, Schedule, schedule_row, Due, due_row, Stores, StoresKeyed}
@@ -42,12 +42,14 @@ use Rattle.record_tables.specs.Changes.{with_schedule, without_dues, without_cla
 use Rattle.record_tables.specs.Changes.{without_settings, without_due, without_message, without_hold, is_hold}
 use Rattle.record_tables.specs.Changes.{destruction_of, with_destruction}
 use Rattle.record_tables.proofs.Texts
-use Rattle.record_tables.proofs.Texts.{Means, deleting, alone}
+use Rattle.record_tables.proofs.Compiling.{Means}
+use Rattle.record_tables.proofs.Texts.{deleting, alone, on_table}
 use Rattle.record_tables.proofs.WriteLemmas.{inserts, cast_int, cast_null}
 use Rattle.record_tables.proofs.DeleteLemmas.{deletes, deleted_rows}
 use Rattle.record_tables.proofs.AnswerLemmas.{row_alone}
 use Rattle.record_tables.proofs.UpdateLemmas.{updates, changed as changed_rows}
-use Rattle.record_tables.proofs.Described.{Described, messages, records, holds, settings, classes, schedules, dues, quiet, changed}
+use Rattle.record_tables.proofs.Described.{Described, messages, records, holds, settings, classes, schedules, dues}
+use Rattle.record_tables.proofs.Described.{place, tree, table, quiet, seen, changed}
 
 -- ---- a row after the others
 
@@ -91,66 +93,69 @@ puts_by old new text params count Allows change inside h made = record {
 
 module _ {X : Type 0} (d : Described X) (text : List ℕ) (params : Row) where
   -- a row that an INSERT of values puts after the others
-  inserts_row : (terms : List Term) (width : ℕ) (means : (f : Foreign)
-      → Means (archive_beside f) text (Insert d.place (Values terms width))) (Allows : Tables → Type 0) (one : Tables
+  inserts_row : (terms : List Term) (width : ℕ) (means : (schema : Schema) (has : IsArchiveSchema schema)
+      → Means schema text (Insert (place d schema has) (Values terms width))) (Allows : Tables → Type 0) (one : Tables
       → X)
-      (edit : (db : Trees) (t : Tables) → db d.table.tree ≡ map d.to_row (d.rows t)
-      → edited db (edit_of db d.table [] Chosen 0 (value_rows params width (length terms / width) terms))
-      ≡ put_row (d.to_row (one t)) (db d.table.tree))
+      (edit : (db : Trees) (tree : ℕ) (t : Tables) → db tree ≡ map d.to_row (d.rows t)
+      → edited db (edit_of db (in_tree tree d.table) [] Chosen 0 (value_rows params width (length terms / width) terms))
+      ≡ put_row (d.to_row (one t)) (db tree))
       (last : (t : Tables) → AreKeyed t → Allows t → insert_by d.key (d.rows t) (one t) ≡ d.rows t ++ one t ∷ [])
       (old new : State) (count : ℕ) → IsTrue old.in_transaction → ExecutesInside 0 text params old new (Ok count)
       → Puts old new Allows (λ t. d.with_rows (d.rows t ++ one t ∷ []) t)
   inserts_row terms width means Allows one edit last old new count inside h =
       puts_by old new text params count Allows _ inside h (λ t s keyed allowed.
-      let f = s.schema.foreign in
-      let is = means f in
-      let w = runs_as text params old new (archive_beside f) s.schema.is _ is.is is.plain count h.0 in
-      let ins = inserts (archive_beside f) d.place d.table (quiet d f s.schema.apart) old new _ terms width params count s.schema.is w in
-      let has = d.stored old.now t s in
+      let schema = old.now.schema in
+      let has = s.schema in
+      let is = means schema has in
+      let w = runs_as text params old new schema refl _ is.is is.plain count h.0 in
+      let ins = inserts schema (place d schema has) (table d schema has) (quiet d schema has) old new _ terms width params count refl w in
+      let rows_are = d.stored old.now t s in
       let at_end = last t keyed allowed in
-      let rows = ins.1.rows ∙ edit old.now.trees t has ∙ ap (put_row (d.to_row (one t))) has
+      let rows = ins.1.rows ∙ edit old.now.trees (tree d schema has) t rows_are ∙ ap (put_row (d.to_row (one t))) rows_are
       ∙ puts-map d.key d.to_row d.keyed (one t ∷ []) (d.rows t) ∙ ap (map d.to_row) at_end in
       let up = subst (IsKeyedBy d.key) at_end (IsKeyedBy-insert_by d.key (d.rows t) (one t) (d.ordered t keyed)) in
       (changed d old.now new.now t _ s keyed ins.0 ins.1.tables rows up, w.sound))
 
   -- the same under the next rowid
-  inserts_next : (terms : List Term) (width : ℕ) (means : (f : Foreign)
-      → Means (archive_beside f) text (Insert d.place (Values terms width))) (one : ℤ → X) (under : (id : ℤ)
+  inserts_next : (terms : List Term) (width : ℕ) (means : (schema : Schema) (has : IsArchiveSchema schema)
+      → Means schema text (Insert (place d schema has) (Values terms width))) (one : ℤ → X) (under : (id : ℤ)
       → d.key (one id) ≡ id)
-      (edit : (db : Trees)
-      → edited db (edit_of db d.table [] Chosen 0 (value_rows params width (length terms / width) terms))
-      ≡ put_row (d.to_row (one (next_rowid (db d.table.tree)))) (db d.table.tree))
+      (edit : (db : Trees) (tree : ℕ)
+      → edited db (edit_of db (in_tree tree d.table) [] Chosen 0 (value_rows params width (length terms / width) terms))
+      ≡ put_row (d.to_row (one (next_rowid (db tree)))) (db tree))
       (old new : State) (count : ℕ) → IsTrue old.in_transaction → ExecutesInside 0 text params old new (Ok count)
       → Puts old new Always (λ t. d.with_rows (d.rows t ++ one (next_key d.key (d.rows t)) ∷ []) t)
   inserts_next terms width means one under edit = inserts_row terms width means Always (λ t. one (next_key d.key (d.rows t)))
-      (λ db t has. edit db ∙ ap (λ id. put_row (d.to_row (one id)) (db d.table.tree)) (ap next_rowid has
+      (λ db tree t has. edit db tree ∙ ap (λ id. put_row (d.to_row (one id)) (db tree)) (ap next_rowid has
       ∙ next_is d.key d.to_row (λ x. ap id_in (d.keyed x)) (d.rows t) (pos 1)))
       (λ t keyed _. insert_next d.key (d.rows t) (one (next_key d.key (d.rows t))) (d.ordered t keyed) (under _))
 
   -- a DELETE by a test
-  removes : (tests : List Term) (means : (f : Foreign) → Means (archive_beside f) text (Delete d.place (deleting d.table.tree tests))) (p : X → Bool)
+  removes : (tests : List Term) (means : (schema : Schema) (has : IsArchiveSchema schema)
+      → Means schema text (Delete (place d schema has) (deleting (tree d schema has) tests))) (p : X → Bool)
       (test : (x : X) → list_all (passes (params ∷ d.to_row x ∷ [])) tests ≡ p x) (old new : State) (count : ℕ)
       → IsTrue old.in_transaction → ExecutesInside 0 text params old new (Ok count)
       → Puts old new Always (λ t. d.with_rows (delete_where p (d.rows t)) t)
   removes tests means p test old new count inside h = puts_by old new text params count Always _ inside h (λ t s keyed _.
-      let f = s.schema.foreign in
-      let is = means f in
-      let w = runs_as text params old new (archive_beside f) s.schema.is _ is.is is.plain count h.0 in
-      let done = deletes (archive_beside f) d.place d.table (quiet d f s.schema.apart) old new _
-      (deleting d.table.tree tests) params count s.schema.is w in
-      let has = d.stored old.now t s in
-      let left = deleted_rows d.key d.to_row d.keyed (overlay old.now.trees []) d.table.tree (d.rows t)
-      (d.seen old.now.trees ∙ has) (d.ordered t keyed) tests params p test done.1.0 (done.1.1.answer Null) in
+      let schema = old.now.schema in
+      let has = s.schema in
+      let is = means schema has in
+      let w = runs_as text params old new schema refl _ is.is is.plain count h.0 in
+      let at = tree d schema has in
+      let done = deletes schema (place d schema has) (table d schema has) (quiet d schema has) old new _
+      (deleting at tests) params count refl w in
+      let left = deleted_rows d.key d.to_row d.keyed (overlay old.now.trees []) at (d.rows t)
+      (seen old.now.trees at ∙ d.stored old.now t s) (d.ordered t keyed) tests params p test done.1.0 (done.1.1.answer Null) in
       (changed d old.now new.now t _ s keyed done.0 done.1.2.tables (done.1.2.rows
-      ∙ ap (λ l. without_all l (ids_of done.1.0)) (sym (d.seen old.now.trees))
+      ∙ ap (λ l. without_all l (ids_of done.1.0)) (sym (seen old.now.trees at))
       ∙ left) (IsKeyedBy-delete_where d.key _ (d.rows t) (d.ordered t keyed)), w.sound))
 
 all_gone : {X : Type 0} (xs : List X) → delete_where (λ _. true) xs ≡ []
 all_gone xs = filter_none _ xs (all_of _ (λ _. refl) xs)
 
 -- a DELETE of all rows
-clears : {X : Type 0} (d : Described X) (text : List ℕ) (means : (f : Foreign)
-    → Means (archive_beside f) text (Delete d.place (deleting d.table.tree []))) (old new : State) (count : ℕ)
+clears : {X : Type 0} (d : Described X) (text : List ℕ) (means : (schema : Schema) (has : IsArchiveSchema schema)
+    → Means schema text (Delete (place d schema has) (deleting (tree d schema has) []))) (old new : State) (count : ℕ)
     → IsTrue old.in_transaction
     → ExecutesInside 0 text [] old new (Ok count) → Puts old new Always (d.with_rows [])
 clears d text means old new count inside h =
@@ -174,7 +179,7 @@ pub puts_message : (old new : State) (m : Message) (count : ℕ) → IsTrue old.
     → Puts old new (IsPastMessages m.number) (with_message m)
 puts_message old new m =
     inserts_row messages Texts.insert_message (message_params m) Texts.message_terms 3 Texts.insert_message_is
-    (IsPastMessages m.number) (λ _. m) (λ db t has. rw (cast_null, cast_int (pos m.number)))
+    (IsPastMessages m.number) (λ _. m) (λ db tree t has. rw (cast_null, cast_int (pos m.number)))
     (λ t keyed past. above_last (λ (x : Message). x.number) t.messages m past) old new
 
 abbrev pub record_params : Record → Row
@@ -186,7 +191,7 @@ pub puts_record : (old new : State) (r : Record) (count : ℕ) → r.destroyed �
 puts_record old new r count live =
     inserts_row records Texts.insert_record (record_params r) Texts.record_terms 6 Texts.insert_record_is
     (IsPastRecords r.number) (λ _. r)
-    (λ db t has. rw (live, cast_null, cast_int (pos r.number), cast_int (pos r.message), cast_int (pos r.day), cast_int (pos 0)))
+    (λ db tree t has. rw (live, cast_null, cast_int (pos r.number), cast_int (pos r.message), cast_int (pos r.day), cast_int (pos 0)))
     (λ t keyed past. above_last (λ (x : Record). x.number) t.records r past) old new count
 
 abbrev pub due_params : Due → Row
@@ -197,7 +202,7 @@ pub puts_due : (old new : State) (d : Due) (count : ℕ) → IsTrue old.in_trans
     → Puts old new (IsPastDues d.number) (with_due d)
 puts_due old new d =
     inserts_row dues Texts.insert_due (due_params d) Texts.message_terms 3 Texts.insert_due_is (IsPastDues d.number)
-    (λ _. d) (λ db t has. rw (cast_null, cast_int (pos d.number), cast_int (pos d.day)))
+    (λ _. d) (λ db tree t has. rw (cast_null, cast_int (pos d.number), cast_int (pos d.day)))
     (λ t keyed past. above_last (λ (x : Due). x.number) t.dues d past) old new
 
 -- ---- rows under the next rowid
@@ -211,7 +216,7 @@ pub puts_hold : (old new : State) (name : List ℕ) (n : ℕ) (count : ℕ) → 
 puts_hold old new name n =
     inserts_next holds Texts.insert_hold (hold_params name n) Texts.two_terms 3 Texts.insert_hold_is (λ id.
     record { id = id; name = name; number = n }) (λ id. refl)
-    (λ db. rw (cast_null, cast_int (pos n))) old new
+    (λ db tree. rw (cast_null, cast_int (pos n))) old new
 
 abbrev pub setting_params : List ℕ → List ℕ → Row
 setting_params key value = Text key ∷ Text value ∷ []
@@ -222,7 +227,7 @@ pub puts_setting : (old new : State) (key value : List ℕ) (count : ℕ) → Is
 puts_setting old new key value =
     inserts_next settings Texts.insert_setting (setting_params key value) Texts.two_terms 3 Texts.insert_setting_is
     (λ id. record { id = id; key = key; value = value }) (λ id. refl)
-    (λ db. rw cast_null) old new
+    (λ db tree. rw cast_null) old new
 
 abbrev pub class_params : List ℕ → Bool → Option (List ℕ) → Row
 class_params path is_open schedule = Text path ∷ Int (as_flag is_open) ∷ or_null Text schedule ∷ []
@@ -237,7 +242,7 @@ pub puts_class : (old new : State) (path : List ℕ) (is_open : Bool) (schedule 
 puts_class old new path is_open schedule =
     inserts_next classes Texts.insert_class (class_params path is_open schedule) Texts.three_terms 4
     Texts.insert_class_is
-    (λ id. record { id = id; path = path; is_open = is_open; schedule = schedule }) (λ id. refl) (λ db.
+    (λ id. record { id = id; path = path; is_open = is_open; schedule = schedule }) (λ id. refl) (λ db tree.
     rw (cast_null, cast_int (as_flag is_open), cast_text schedule)) old new
 
 abbrev pub schedule_params : Rule → Row
@@ -249,7 +254,7 @@ pub puts_schedule : (old new : State) (r : Rule) (count : ℕ) → IsTrue old.in
 puts_schedule old new r =
     inserts_next schedules Texts.insert_schedule (schedule_params r) Texts.five_terms 6 Texts.insert_schedule_is (λ id.
     schedule_at id r) (λ id. refl)
-    (λ db. rw (cast_null, cast_int (pos r.count), cast_int (pos r.unit), cast_int (pos r.action), cast_int (pos r.year_end))) old new
+    (λ db tree. rw (cast_null, cast_int (pos r.count), cast_int (pos r.unit), cast_int (pos r.action), cast_int (pos r.year_end))) old new
 
 -- ---- rows that go
 
@@ -303,12 +308,12 @@ asked n r = int_eq (pos r.number) (pos n)
 abbrev pub given_row : Record → Row
 given_row r = Int (pos r.number) ∷ Int (pos r.number) ∷ Null ∷ Int (pos r.message) ∷ Text r.path ∷ Int (pos r.day) ∷ Int (pos 1) ∷ []
 
-update_edit : (db : Trees) (ys : List Record) → length ys ≤ 1
-    → edited db (edit_of db record_table (ids_of (map given_row ys)) Given 1 (map given_row ys))
-    ≡ put_all (without_all (db 1) (map record_key ys)) (map (λ y. record_row (destruction_of y)) ys)
-update_edit db [] few = refl
-update_edit db (y ∷ []) few = rw (cast_null, cast_int (pos y.number), cast_int (pos y.message), cast_int (pos y.day), cast_int (pos 1))
-update_edit db (y ∷ z ∷ zs) few = absurd (omega arith)
+update_edit : (db : Trees) (tree : ℕ) (ys : List Record) → length ys ≤ 1
+    → edited db (edit_of db (in_tree tree record_table) (ids_of (map given_row ys)) Given 1 (map given_row ys))
+    ≡ put_all (without_all (db tree) (map record_key ys)) (map (λ y. record_row (destruction_of y)) ys)
+update_edit db tree [] few = refl
+update_edit db tree (y ∷ []) few = rw (cast_null, cast_int (pos y.number), cast_int (pos y.message), cast_int (pos y.day), cast_int (pos 1))
+update_edit db tree (y ∷ z ∷ zs) few = absurd (omega arith)
 
 keyed_destroyed : (n : ℕ) (xs : List Record) → IsKeyedBy record_key xs → IsKeyedBy record_key (update_where (asked n) destruction_of xs)
 keyed_destroyed n xs up =
@@ -323,20 +328,22 @@ pub destroys : (old new : State) (n : ℕ) (count : ℕ) → IsTrue old.in_trans
     → ExecutesInside 0 Texts.set_destroyed (Int (pos n) ∷ []) old new (Ok count)
     → Puts old new Always (with_destruction n)
 destroys old new n count inside h = puts_by old new Texts.set_destroyed (Int (pos n) ∷ []) count Always _ inside h (λ t s keyed _.
-    let f = s.schema.foreign in
-    let is = Texts.set_destroyed_is f in
+    let schema = old.now.schema in
+    let has = s.schema in
+    let is = Texts.set_destroyed_is schema has in
     let params : Row = Int (pos n) ∷ [] in
-    let w = runs_as Texts.set_destroyed params old new (archive_beside f) s.schema.is _ is.is is.plain count h.0 in
-    let done = updates (archive_beside f) 1 record_table (quiet records f s.schema.apart) old new _
-    (alone Texts.destroyed_query) params count s.schema.is w in
+    let at = tree records schema has in
+    let w = runs_as Texts.set_destroyed params old new schema refl _ is.is is.plain count h.0 in
+    let done = updates schema (place records schema has) (table records schema has) (quiet records schema has) old new _
+    (alone (on_table at Texts.key_test Texts.destroyed_columns)) params count refl w in
     let ys = filter (asked n) t.records in
     let few : length ys ≤ 1 = at_most_one record_key (pos n) (asked n) (λ x e. e) t.records keyed.records in
     let rows : done.1.0 ≡ map given_row ys =
-    row_alone record_key record_row (overlay old.now.trees []) 1 t.records s.records keyed.records Texts.key_test _
+    row_alone record_key record_row (overlay old.now.trees []) at t.records (seen old.now.trees at ∙ s.records) keyed.records Texts.key_test _
     params (asked n) (λ x. test_key n x.number) done.1.0 (done.1.1.answer Null) ys refl few in
-    let tree = done.1.2.rows
-    ∙ ap (λ l. edited old.now.trees (edit_of old.now.trees record_table (ids_of l) Given 1 l)) rows
-    ∙ update_edit old.now.trees ys few
+    let written = done.1.2.rows
+    ∙ ap (λ l. edited old.now.trees (edit_of old.now.trees (in_tree at record_table) (ids_of l) Given 1 l)) rows
+    ∙ update_edit old.now.trees at ys few
     ∙ ap (λ l. put_all (without_all l (map record_key ys)) (map (λ y. record_row (destruction_of y)) ys)) s.records
     ∙ changed_rows record_key record_row (λ x. refl) (pos n) destruction_of (λ x. refl) t.records keyed.records ys refl few in
-    (changed records old.now new.now t _ s keyed done.0 done.1.2.tables tree (keyed_destroyed n t.records keyed.records), w.sound))
+    (changed records old.now new.now t _ s keyed done.0 done.1.2.tables written (keyed_destroyed n t.records keyed.records), w.sound))

@@ -1,11 +1,10 @@
--- The meaning of each SQL text under the tables.
+-- The meaning of each SQL text under any schema that has the tables.
 use Rattle.std.proofs.Common.{◌≡◌, ℕ, pos, negsuc, List, [], ◌∷◌, codes, false, None, refl}
 use Rattle.sqlite.specs.declared.types.Value.TheVariants.{Null, Int}
 use Rattle.sqlite.specs.Schema.{Schema}
 use Rattle.sqlite.specs.Term.{Term, lit, col, op2}
 use Rattle.sqlite.specs.Query.{Query, inner, end}
 use Rattle.sqlite.specs.Source.TheVariants.{Values}
-use Rattle.sqlite.specs.Command.{Command}
 use Rattle.sqlite.specs.Command.TheVariants.{Insert, Update, Delete, Select}
 use Rattle.sqlite_value.specs.Keys.{ascending}
 use Rattle.sqlite.specs.Collation.TheVariants.{Binary}
@@ -13,9 +12,10 @@ use Rattle.sqlite_sql.specs.declared.ops.BinaryOp.TheVariants.{Compare}
 use Rattle.sqlite_sql.specs.declared.ops.CompareOp.TheVariants.{Eq}
 use Rattle.sqlite_schema.specs.declared.program.Program.{Program}
 use Rattle.sqlite_tied.specs.Compute.{everything}
-use Rattle.sqlite.specs.Listing.{understood, reads_listing}
-use Rattle.sqlite.proofs.Callers.{IsPlain, command_of}
-use Rattle.record_tables.specs.Tables.{Foreign, common_beside, archive_beside}
+use Rattle.sqlite.specs.Listing.{understood}
+use Rattle.record_tables.specs.Tables.{IsArchiveSchema, message_table, record_table, hold_table, meta_table}
+use Rattle.record_tables.specs.Tables.{class_table, schedule_table, due_table}
+use Rattle.record_tables.proofs.Compiling.{Means, draft_of, means_insert, means_delete, means_update}
 
 -- a query on one table
 abbrev pub on_table : ℕ → List Term → List Term → Query
@@ -33,11 +33,6 @@ on_table tree tests columns = record {
 
 abbrev pub alone : Query → Program
 alone q = record { lets = []; body = q }
-
--- the text is this command
-pub record Means (schema : Schema) (text : List ℕ) (command : Command) : Type 0 where
-  pub is : command_of (understood schema text) ≡ command
-  pub plain : IsPlain (understood schema text)
 
 abbrev pub insert_message : List ℕ
 insert_message = codes "INSERT INTO message (number, body) VALUES (?1, ?2)"
@@ -75,33 +70,47 @@ three_terms = lit Null ∷ col 0 0 ∷ col 0 1 ∷ col 0 2 ∷ []
 abbrev pub five_terms : List Term
 five_terms = lit Null ∷ col 0 0 ∷ col 0 1 ∷ col 0 2 ∷ col 0 3 ∷ col 0 4 ∷ []
 
-pub insert_message_is : (foreign : Foreign) → Means (archive_beside foreign) insert_message (Insert 0 (Values message_terms 3))
+pub insert_message_is : (schema : Schema) (has : IsArchiveSchema schema)
+    → Means schema insert_message (Insert has.common.messages.place (Values message_terms 3))
 unfolding understood everything
-insert_message_is foreign = record { is = refl; plain = (refl, refl) }
+insert_message_is schema has =
+    means_insert schema message_table has.common.messages insert_message (Values message_terms 3) (refl, refl) refl (refl, refl, refl, refl, refl)
 
-pub insert_record_is : (foreign : Foreign) → Means (archive_beside foreign) insert_record (Insert 1 (Values record_terms 6))
+pub insert_record_is : (schema : Schema) (has : IsArchiveSchema schema)
+    → Means schema insert_record (Insert has.common.records.place (Values record_terms 6))
 unfolding understood everything
-insert_record_is foreign = record { is = refl; plain = (refl, refl) }
+insert_record_is schema has =
+    means_insert schema record_table has.common.records insert_record (Values record_terms 6) (refl, refl) refl (refl, refl, refl, refl, refl)
 
-pub insert_hold_is : (foreign : Foreign) → Means (archive_beside foreign) insert_hold (Insert 2 (Values two_terms 3))
+pub insert_hold_is : (schema : Schema) (has : IsArchiveSchema schema)
+    → Means schema insert_hold (Insert has.common.holds.place (Values two_terms 3))
 unfolding understood everything
-insert_hold_is foreign = record { is = refl; plain = (refl, refl) }
+insert_hold_is schema has =
+    means_insert schema hold_table has.common.holds insert_hold (Values two_terms 3) (refl, refl) refl (refl, refl, refl, refl, refl)
 
-pub insert_setting_is : (foreign : Foreign) → Means (archive_beside foreign) insert_setting (Insert 3 (Values two_terms 3))
+pub insert_setting_is : (schema : Schema) (has : IsArchiveSchema schema)
+    → Means schema insert_setting (Insert has.common.settings.place (Values two_terms 3))
 unfolding understood everything
-insert_setting_is foreign = record { is = refl; plain = (refl, refl) }
+insert_setting_is schema has =
+    means_insert schema meta_table has.common.settings insert_setting (Values two_terms 3) (refl, refl) refl (refl, refl, refl, refl, refl)
 
-pub insert_class_is : (foreign : Foreign) → Means (archive_beside foreign) insert_class (Insert 4 (Values three_terms 4))
+pub insert_class_is : (schema : Schema) (has : IsArchiveSchema schema)
+    → Means schema insert_class (Insert has.common.classes.place (Values three_terms 4))
 unfolding understood everything
-insert_class_is foreign = record { is = refl; plain = (refl, refl) }
+insert_class_is schema has =
+    means_insert schema class_table has.common.classes insert_class (Values three_terms 4) (refl, refl) refl (refl, refl, refl, refl, refl)
 
-pub insert_schedule_is : (foreign : Foreign) → Means (archive_beside foreign) insert_schedule (Insert 5 (Values five_terms 6))
+pub insert_schedule_is : (schema : Schema) (has : IsArchiveSchema schema)
+    → Means schema insert_schedule (Insert has.schedules.place (Values five_terms 6))
 unfolding understood everything
-insert_schedule_is foreign = record { is = refl; plain = (refl, refl) }
+insert_schedule_is schema has =
+    means_insert schema schedule_table has.schedules insert_schedule (Values five_terms 6) (refl, refl) refl (refl, refl, refl, refl, refl)
 
-pub insert_due_is : (foreign : Foreign) → Means (archive_beside foreign) insert_due (Insert 6 (Values message_terms 3))
+pub insert_due_is : (schema : Schema) (has : IsArchiveSchema schema)
+    → Means schema insert_due (Insert has.dues.place (Values message_terms 3))
 unfolding understood everything
-insert_due_is foreign = record { is = refl; plain = (refl, refl) }
+insert_due_is schema has =
+    means_insert schema due_table has.dues insert_due (Values message_terms 3) (refl, refl) refl (refl, refl, refl, refl, refl)
 
 -- ---- deletes
 
@@ -135,42 +144,66 @@ hold_test = op2 (Compare Eq Binary) (col 1 1) (col 0 0) ∷ op2 (Compare Eq Bina
 abbrev pub deleting : ℕ → List Term → Program
 deleting tree tests = alone (on_table tree tests (col 1 0 ∷ []))
 
-pub clear_dues_is : (foreign : Foreign) → Means (archive_beside foreign) clear_dues (Delete 6 (deleting 10 []))
+pub clear_dues_is : (schema : Schema) (has : IsArchiveSchema schema)
+    → Means schema clear_dues (Delete has.dues.place (deleting has.dues.tree []))
 unfolding understood everything
-clear_dues_is foreign = record { is = refl; plain = (refl, refl) }
+clear_dues_is schema has =
+    means_delete schema due_table has.dues clear_dues (draft_of (inner has.dues.tree end) [] (col 1 0 ∷ []) [])
+    (refl, refl) refl refl (refl, refl, tt, refl)
 
-pub clear_classes_is : (foreign : Foreign) → Means (archive_beside foreign) clear_classes (Delete 4 (deleting 6 []))
+pub clear_classes_is : (schema : Schema) (has : IsArchiveSchema schema)
+    → Means schema clear_classes (Delete has.common.classes.place (deleting has.common.classes.tree []))
 unfolding understood everything
-clear_classes_is foreign = record { is = refl; plain = (refl, refl) }
+clear_classes_is schema has =
+    means_delete schema class_table has.common.classes clear_classes (draft_of (inner has.common.classes.tree end) [] (col 1 0 ∷ []) [])
+    (refl, refl) refl refl (refl, refl, tt, refl)
 
-pub clear_schedules_is : (foreign : Foreign) → Means (archive_beside foreign) clear_schedules (Delete 5 (deleting 8 []))
+pub clear_schedules_is : (schema : Schema) (has : IsArchiveSchema schema)
+    → Means schema clear_schedules (Delete has.schedules.place (deleting has.schedules.tree []))
 unfolding understood everything
-clear_schedules_is foreign = record { is = refl; plain = (refl, refl) }
+clear_schedules_is schema has =
+    means_delete schema schedule_table has.schedules clear_schedules (draft_of (inner has.schedules.tree end) [] (col 1 0 ∷ []) [])
+    (refl, refl) refl refl (refl, refl, tt, refl)
 
-pub clear_settings_is : (foreign : Foreign) → Means (archive_beside foreign) clear_settings (Delete 3 (deleting 4 []))
+pub clear_settings_is : (schema : Schema) (has : IsArchiveSchema schema)
+    → Means schema clear_settings (Delete has.common.settings.place (deleting has.common.settings.tree []))
 unfolding understood everything
-clear_settings_is foreign = record { is = refl; plain = (refl, refl) }
+clear_settings_is schema has =
+    means_delete schema meta_table has.common.settings clear_settings (draft_of (inner has.common.settings.tree end) [] (col 1 0 ∷ []) [])
+    (refl, refl) refl refl (refl, refl, tt, refl)
 
-pub delete_due_is : (foreign : Foreign) → Means (archive_beside foreign) delete_due (Delete 6 (deleting 10 key_test))
+pub delete_due_is : (schema : Schema) (has : IsArchiveSchema schema)
+    → Means schema delete_due (Delete has.dues.place (deleting has.dues.tree key_test))
 unfolding understood everything
-delete_due_is foreign = record { is = refl; plain = (refl, refl) }
+delete_due_is schema has =
+    means_delete schema due_table has.dues delete_due (draft_of (inner has.dues.tree end) key_test (col 1 0 ∷ []) [])
+    (refl, refl) refl refl (refl, refl, (tt, tt, tt), refl)
 
-pub delete_message_is : (foreign : Foreign) → Means (archive_beside foreign) delete_message (Delete 0 (deleting 0 key_test))
+pub delete_message_is : (schema : Schema) (has : IsArchiveSchema schema)
+    → Means schema delete_message (Delete has.common.messages.place (deleting has.common.messages.tree key_test))
 unfolding understood everything
-delete_message_is foreign = record { is = refl; plain = (refl, refl) }
+delete_message_is schema has =
+    means_delete schema message_table has.common.messages delete_message (draft_of (inner has.common.messages.tree end) key_test (col 1 0 ∷ []) [])
+    (refl, refl) refl refl (refl, refl, (tt, tt, tt), refl)
 
-pub delete_hold_is : (foreign : Foreign) → Means (archive_beside foreign) delete_hold (Delete 2 (deleting 2 hold_test))
+pub delete_hold_is : (schema : Schema) (has : IsArchiveSchema schema)
+    → Means schema delete_hold (Delete has.common.holds.place (deleting has.common.holds.tree hold_test))
 unfolding understood everything
-delete_hold_is foreign = record { is = refl; plain = (refl, refl) }
+delete_hold_is schema has =
+    means_delete schema hold_table has.common.holds delete_hold (draft_of (inner has.common.holds.tree end) hold_test (col 1 0 ∷ []) [])
+    (refl, refl) refl refl (refl, refl, (tt, (tt, tt, tt), (tt, tt, tt)), refl)
 
 -- ---- an update
 
 abbrev pub set_destroyed : List ℕ
 set_destroyed = codes "UPDATE record SET destroyed = 1 WHERE number = ?1"
 
-abbrev pub destroyed_query : Query
-destroyed_query = on_table 1 key_test (col 1 0 ∷ col 1 0 ∷ lit Null ∷ col 1 2 ∷ col 1 3 ∷ col 1 4 ∷ lit (Int (pos 1)) ∷ [])
+abbrev pub destroyed_columns : List Term
+destroyed_columns = col 1 0 ∷ col 1 0 ∷ lit Null ∷ col 1 2 ∷ col 1 3 ∷ col 1 4 ∷ lit (Int (pos 1)) ∷ []
 
-pub set_destroyed_is : (foreign : Foreign) → Means (archive_beside foreign) set_destroyed (Update 1 (alone destroyed_query))
+pub set_destroyed_is : (schema : Schema) (has : IsArchiveSchema schema)
+    → Means schema set_destroyed (Update has.common.records.place (alone (on_table has.common.records.tree key_test destroyed_columns)))
 unfolding understood everything
-set_destroyed_is foreign = record { is = refl; plain = (refl, refl) }
+set_destroyed_is schema has =
+    means_update schema record_table has.common.records set_destroyed (draft_of (inner has.common.records.tree end) key_test destroyed_columns [])
+    (refl, refl) refl refl (refl, refl, (tt, tt), (tt, tt, tt), refl)

@@ -16,7 +16,7 @@ use Rattle.sqlite.specs.Store.{Ghosts}
 use Rattle.sqlite.specs.State.{State, HasCleanDisk}
 use Rattle.sqlite.specs.Held.{Held, state}
 use Rattle.sqlite_catalog.specs.Change.{KeepsRows}
-use Rattle.record_tables.specs.Tables.{no_schema, first_schema, first_schema_with_dues, archive_schema, IsArchiveSchema}
+use Rattle.record_tables.specs.Tables.{no_schema, first_schema, first_schema_with_dues, archive_schema}
 use Rattle.record_tables.specs.Rows.{Tables, Due, Stores, StoresFirst, StoresKeyed, AreKeyed}
 use Rattle.record_tables.specs.Changes.{ClassEntry, Rule, with_version, with_plan, without_dues}
 use Rattle.record_tables.specs.Steps.{Inside}
@@ -76,9 +76,9 @@ pub record Empties (old new : State) : Type 0 where
   pub mode : new.in_transaction ≡ old.in_transaction
   pub is_open : new.is_open ≡ old.is_open
 
--- where the flag is true, a schema of version 2 has no other tables
+-- where the flag is true, the schema is that of version 2 without other tables
 abbrev pub TellsAlone : Schema → Bool → Type 0
-TellsAlone schema is_alone = is_alone ≡ true → IsArchiveSchema schema → schema ≡ archive_schema
+TellsAlone schema is_alone = is_alone ≡ true → schema ≡ archive_schema
 
 -- the tables are created where there were none, and have this plan and no other row
 pub record IsLaid (schedules : List Rule) (classes : List ClassEntry) (old new : Database) : Type 0 where

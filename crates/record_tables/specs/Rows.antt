@@ -98,22 +98,22 @@ due_row d = Int (pos d.number) ∷ Null ∷ Int (pos d.day) ∷ []
 -- the rows of a database of version 2 are these
 pub record Stores (db : Database) (t : Tables) : Type 0 where
   pub schema : IsArchiveSchema db.schema
-  pub messages : db.trees 0 ≡ map message_row t.messages
-  pub records : db.trees 1 ≡ map record_row t.records
-  pub holds : db.trees 2 ≡ map hold_row t.holds
-  pub settings : db.trees 4 ≡ map setting_row t.settings
-  pub classes : db.trees 6 ≡ map class_row t.classes
-  pub schedules : db.trees 8 ≡ map schedule_row t.schedules
-  pub dues : db.trees 10 ≡ map due_row t.dues
+  pub messages : db.trees schema.common.messages.tree ≡ map message_row t.messages
+  pub records : db.trees schema.common.records.tree ≡ map record_row t.records
+  pub holds : db.trees schema.common.holds.tree ≡ map hold_row t.holds
+  pub settings : db.trees schema.common.settings.tree ≡ map setting_row t.settings
+  pub classes : db.trees schema.common.classes.tree ≡ map class_row t.classes
+  pub schedules : db.trees schema.schedules.tree ≡ map schedule_row t.schedules
+  pub dues : db.trees schema.dues.tree ≡ map due_row t.dues
 
 -- the rows of the five tables that both versions have; nothing is said about other tables
 pub record StoresCommon (db : Database) (t : Tables) : Type 0 where
   pub schema : HasCommonTables db.schema
-  pub messages : db.trees 0 ≡ map message_row t.messages
-  pub records : db.trees 1 ≡ map record_row t.records
-  pub holds : db.trees 2 ≡ map hold_row t.holds
-  pub settings : db.trees 4 ≡ map setting_row t.settings
-  pub classes : db.trees 6 ≡ map class_row t.classes
+  pub messages : db.trees schema.messages.tree ≡ map message_row t.messages
+  pub records : db.trees schema.records.tree ≡ map record_row t.records
+  pub holds : db.trees schema.holds.tree ≡ map hold_row t.holds
+  pub settings : db.trees schema.settings.tree ≡ map setting_row t.settings
+  pub classes : db.trees schema.classes.tree ≡ map class_row t.classes
 
 -- the rows of a database of version 1, with any due days or without the table of them
 pub record StoresFirst (db : Database) (t : Tables) : Type 0 where

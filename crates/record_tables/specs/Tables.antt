@@ -1,12 +1,13 @@
 -- The tables of a store, and the schemas that have them.
 use Rattle.sqlite.specs.Collation.TheVariants.{Binary}
-use Rattle.std.specs.Prelude.{◌≡◌, ℕ, Bool, true, false, List, [], ◌∷◌, Some, None, codes}
+use Rattle.std.specs.Prelude.{◌≡◌, ◌<◌, ◌^◌, ◌==◌, ℕ, Bool, true, false, List, [], ◌∷◌, Some, None, slice_get, find, codes}
 use Rattle.std.specs.List.{AllByRecursion}
 use Rattle.sqlite.specs.declared.types.Value.TheVariants.{Null}
 use Rattle.sqlite.specs.Table.{Table}
 use Rattle.sqlite.specs.Schema.{Schema}
 use Rattle.sqlite.specs.Kind.{Kind}
 use Rattle.sqlite.specs.Kind.TheVariants.{Integer, Text, Blob}
+use Rattle.sqlite_schema.specs.Names.{table_named}
 use Rattle.sqlite_schema.specs.declared.schema.Column.{Column}
 use Rattle.sqlite_schema.specs.declared.schema.Index.{Index}
 use Rattle.sqlite_schema.specs.declared.schema.View.{View}
@@ -98,6 +99,38 @@ due_index_at tree table = record { name = codes "due_by_day"; tree = tree; table
 abbrev pub due_index : Index
 due_index = due_index_at 11 10
 
+-- ---- a schema that has the tables, wherever they stand among others
+
+-- the table with its rows in this tree
+abbrev pub in_tree : ℕ → Table → Table
+in_tree tree table = record table { tree = tree }
+
+-- the table stands at this place of the schema and has its rows in this tree, and no earlier table has its name or its tree
+pub record Stands (schema : Schema) (table : Table) : Type 0 where
+  pub place : ℕ
+  pub tree : ℕ
+  pub named : table_named schema table.name ≡ Some place
+  pub listed : slice_get schema.tables place ≡ Some (in_tree tree table)
+  pub own : find (λ t. t.tree == tree) schema.tables ≡ Some (in_tree tree table)
+  pub small : tree < 2 ^ 31
+
+-- the five tables of both versions
+pub record HasCommonTables (schema : Schema) : Type 0 where
+  pub messages : Stands schema message_table
+  pub records : Stands schema record_table
+  pub holds : Stands schema hold_table
+  pub settings : Stands schema meta_table
+  pub classes : Stands schema class_table
+
+-- the tables of version 2, and no table with a foreign key
+pub record IsArchiveSchema (schema : Schema) : Type 0 where
+  pub common : HasCommonTables schema
+  pub schedules : Stands schema schedule_table
+  pub dues : Stands schema due_table
+  pub apart : AllByRecursion (λ (t : Table). t.references ≡ []) schema.tables
+
+-- ---- the schemas that this crate creates
+
 -- what a schema has after the tables in question
 pub record Foreign : Type 0 where
   pub tables : List Table
@@ -149,14 +182,3 @@ first_schema_with_dues = common_beside first_dues
 -- none of these tables has a foreign key
 abbrev pub HasNoReferences : Foreign → Type 0
 HasNoReferences f = AllByRecursion (λ (t : Table). t.references ≡ []) f.tables
-
--- version 2, and after its tables any others that have no foreign key
-pub record IsArchiveSchema (schema : Schema) : Type 0 where
-  pub foreign : Foreign
-  pub is : schema ≡ archive_beside foreign
-  pub apart : HasNoReferences foreign
-
--- the five tables of both versions, and after them any others
-pub record HasCommonTables (schema : Schema) : Type 0 where
-  pub foreign : Foreign
-  pub is : schema ≡ common_beside foreign

@@ -2,7 +2,7 @@
 
 ghost use Rattle.std.specs.Prelude.{◌≡◌, ◌↔◌, IsTrue, [], ◌∷◌, Some, None, option_map, drop};
 ghost use Rattle.record_tables.specs.Tables.{strict_column, keyed_table, uniquely_keyed_table, message_table, record_table, hold_table, meta_table, class_table, schedule_table, due_table, no_schema, first_schema, first_schema_with_dues, IsArchiveSchema};
-ghost use Rattle.record_tables.specs.Layouts.{TellsDues, TellsAlone};
+ghost use Rattle.record_tables.specs.Layouts.{TellsDues};
 ghost use Rattle.record_tables.specs.Layout.{IsTable, HasTable, Lacks, HasNone, HasCommon, IsLayout, table_of};
 
 use sqlite_items::Items;
@@ -73,7 +73,7 @@ fn is_keyed_table(table: &Table, name: &[u8]) -> bool
         && !table.is_counted
 }
 
-fn is_key(columns: &Items<usize>, key: &[usize]) -> bool
+pub(crate) fn is_key(columns: &Items<usize>, key: &[usize]) -> bool
     ensures { IsTrue result ↔ (columns.now ≡ key.now) }
 {
     columns.as_slice() == key
@@ -211,47 +211,47 @@ fn is_due_columns(columns: &[Column]) -> bool
     }
 }
 
-fn is_message_table(table: &Table) -> bool
+pub(crate) fn is_message_table(table: &Table) -> bool
     ensures { IsTrue result ↔ IsTable message_table table.now }
 {
     is_keyed_table(table, b"message") && is_message_columns(table.columns.as_slice())
 }
 
-fn is_record_table(table: &Table) -> bool
+pub(crate) fn is_record_table(table: &Table) -> bool
     ensures { IsTrue result ↔ IsTable record_table table.now }
 {
     is_keyed_table(table, b"record") && is_record_columns(table.columns.as_slice())
 }
 
-fn is_hold_table(table: &Table) -> bool
+pub(crate) fn is_hold_table(table: &Table) -> bool
     ensures { IsTrue result ↔ IsTable hold_table table.now }
 {
     is_uniquely_keyed_table(table, b"hold", [1, 2].as_slice())
         && is_hold_columns(table.columns.as_slice())
 }
 
-fn is_meta_table(table: &Table) -> bool
+pub(crate) fn is_meta_table(table: &Table) -> bool
     ensures { IsTrue result ↔ IsTable meta_table table.now }
 {
     is_uniquely_keyed_table(table, b"meta", [1].as_slice())
         && is_meta_columns(table.columns.as_slice())
 }
 
-fn is_class_table(table: &Table) -> bool
+pub(crate) fn is_class_table(table: &Table) -> bool
     ensures { IsTrue result ↔ IsTable class_table table.now }
 {
     is_uniquely_keyed_table(table, b"class", [1].as_slice())
         && is_class_columns(table.columns.as_slice())
 }
 
-fn is_schedule_table(table: &Table) -> bool
+pub(crate) fn is_schedule_table(table: &Table) -> bool
     ensures { IsTrue result ↔ IsTable schedule_table table.now }
 {
     is_uniquely_keyed_table(table, b"schedule", [1].as_slice())
         && is_schedule_columns(table.columns.as_slice())
 }
 
-fn is_due_table(table: &Table) -> bool
+pub(crate) fn is_due_table(table: &Table) -> bool
     ensures { IsTrue result ↔ IsTable due_table table.now }
 {
     is_keyed_table(table, b"due_day") && is_due_columns(table.columns.as_slice())
@@ -363,13 +363,6 @@ pub(crate) fn has_dues(schema: &Schema) -> bool
 {
     let lacks_dues = lacks(schema, b"due_day");
     !lacks_dues
-}
-
-/// Whether a database of version 2 has no tables but its own.
-pub(crate) fn is_alone(schema: &Schema) -> bool
-    ensures { TellsAlone schema.now result }
-{
-    schema.tables.len() == 7 && schema.indexes.len() == 5 && schema.views.is_empty()
 }
 
 fn layout_in(schema: &Schema) -> Layout

@@ -2,6 +2,7 @@
 //! them, and one that makes a change in a transaction.
 #![tactic(auto)]
 
+pub mod alone;
 pub mod fault;
 pub mod lay;
 pub mod layout;

@@ -8,8 +8,8 @@ ghost use Rattle.record_tables.specs.Layouts.{TellsAlone};
 ghost use Rattle.record_tables.specs.CodeRows.{due_of, class_entry_of, rule_of, with_plan_rows};
 ghost use Rattle.record_tables.specs.Steps.{PutsIn, KeepsIn, CommitsNothing, CommitsWhole, Makes, IsCommitted, IsOpenOnOk, IsUndone, WasOpen};
 
+use crate::alone::is_alone;
 use crate::lay::empty_dues;
-use crate::layout::is_alone;
 use crate::rows::{ClassRow, DueRow, ScheduleRow};
 use crate::transact::{Change, transact};
 use crate::writes::{

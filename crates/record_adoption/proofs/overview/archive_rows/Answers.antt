@@ -4,15 +4,21 @@ use Rattle.sqlite.specs.State.{HasCleanDisk}
 use Rattle.sqlite.specs.Held.{state}
 use Rattle.record_tables.specs.Tables.{HasCommonTables}
 use Rattle.record_archive.specs.Archive.{Message, Archive}
-use Rattle.record_tables.specs.Reads.{FitsNumber}
+use Rattle.record_tables.specs.Reads.{FitsNumber, FitsRecord}
 use Rattle.record_adoption.specs.Adoption.{Sees, sorted_holds}
 use Rattle.record_adoption.proofs.AdoptReads.{sees_then, kept_then, common_after}
-use Rattle.record_adoption.proofs.AdoptRows.{numbers_fit, holds_fit}
+use Rattle.record_adoption.proofs.AdoptRows.{records_fit, numbers_fit, holds_fit}
 use Rattle.record_adoption.proofs.AdoptHolds.{are_named}
 use Rattle.record_adoption.proofs.AdoptSettled.{handed_on}
 use Rattle.sqlite.specs.Effect.{Database}
 use Rattle.record_reads.specs.RawRows.{AreTypedMessages, AreTypedHolds}
 use Rattle.record_adoption.proofs.overview.archive_rows.Goals as goal
+
+pub returns-in_err-records-clause-none : goal.returns-in_err-records-clause-none
+returns-in_err-records-clause-none g c clean is = λ (a : Archive) h archive.
+    let e = handed_on c.from_residual.result c.in_err-records.field-0.0 c.from_residual.ensures.1 is in
+    c.in_err-records.ensures.none clean (ap (λ f. Err f) e) h.tables h.stored h.keyed
+    (subst (AllByRecursion FitsRecord) (sym h.records) (records_fit a archive))
 
 pub returns-in_err-messages-clause-none : goal.returns-in_err-messages-clause-none
 returns-in_err-messages-clause-none g c clean is = λ (a : Archive) h archive.

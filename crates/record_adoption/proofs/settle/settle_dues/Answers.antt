@@ -6,7 +6,7 @@ use Rattle.record_tables.specs.Tables.{IsArchiveSchema}
 use Rattle.record_tables.specs.Changes.{IsRevised}
 use Rattle.record_tables.specs.CodeRows.{rule_of, class_entry_of, due_of}
 use Rattle.record_archive.specs.Archive.{Archive}
-use Rattle.record_adoption.specs.Keeping.{due_rows}
+use Rattle.record_adoption.specs.Keeping.{StoresArchive, due_rows}
 use Rattle.record_adoption.specs.Adoption.{FindsSecond, TellsPlan}
 use Rattle.record_adoption.proofs.AdoptReads.{second_after}
 use Rattle.record_adoption.proofs.AdoptSettled.{stores_settled, leaves_read, leaves_after}
@@ -70,3 +70,14 @@ returns-in_err-are_stored-clause-crash g c =
     leaves_read g.S.Store c.args.conn.now c.are_dues.new.conn IsArchiveSchema
     (λ (a : Archive). FindsSecond (state g.S.Store c.args.conn.now).now a × TellsPlan c.args.plan.now a.plan
     × (map due_of c.args.dues.now ≡ due_rows a)) (λ a is. is.0.stored.schema) c.are_dues.ensures.survives
+
+pub returns-then-are_stored-clause-ok : goal.returns-then-are_stored-clause-ok
+returns-then-are_stored-clause-ok g c clean = λ (a : Archive) h tells same.
+    let told = c.in_ok-are_stored.ensures.are clean h.tables h.stored h.keyed in
+    subst (λ (db : Database). StoresArchive db a) (sym (c.in_ok-are_stored.ensures.same clean h.stored.schema).0.now_is) (record {
+      tables = h.tables;
+      stored = h.stored;
+      keyed = h.keyed;
+      keeps = h.keeps;
+      dues = told.0 c.if-are_stored.true ∙ same;
+    })

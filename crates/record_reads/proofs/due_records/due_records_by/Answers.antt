@@ -11,7 +11,7 @@ use Rattle.record_reads.proofs.TypedLemmas.{on_ok, if_ok, if_err_is, never_none,
 use Rattle.record_reads.proofs.due_records.due_records_by.Goals as goal
 
 plain : (schema : _) → IsArchiveSchema schema → IsPlain (understood schema select_due_records)
-plain schema has = subst (λ s. IsPlain (understood s select_due_records)) (sym has.is) (select_due_records_is has.foreign).plain
+plain schema has = (select_due_records_is schema has).plain
 
 pub returns-clause-all : goal.returns-clause-all
 returns-clause-all g c clean =

@@ -5,7 +5,7 @@ use Rattle.sqlite.specs.Held.{state}
 use Rattle.record_reads.proofs.lookup.has_hold.Goals as goal
 
 pub look-requires : goal.look-requires
-look-requires g c = λ f. (select_hold_is f).plain
+look-requires g c = λ schema has. (select_hold_is schema has).plain
 
 pub returns-clause-there : goal.returns-clause-there
 returns-clause-there g c clean = λ (t : Tables) s keyed.

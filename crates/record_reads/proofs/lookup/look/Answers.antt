@@ -1,7 +1,7 @@
 use Rattle.std.proofs.Common.{not, ap, ◌∙◌, ◌≡◌, true, arith}
 use Rattle.sqlite.specs.Held.{state}
 use Rattle.record_reads.proofs.ReadLemmas.{reads_only, shown_open, failed_still, still_seen}
-use Rattle.record_reads.proofs.LookupLemmas.{looks_alone, shown_open_now, plain_under}
+use Rattle.record_reads.proofs.LookupLemmas.{looks_alone, shown_open_now}
 use Rattle.record_reads.proofs.lookup.look.Goals as goal
 
 pub returns-clause-open : goal.returns-clause-open
@@ -21,8 +21,7 @@ returns-clause-looks g c = record {
       let was = shown_open c.args.sql.now _ (state g.S.Store c.args.conn.now) (state g.S.Store c.query_all.new.self)
       c.in_ok-rows.rows.items (c.in_ok-rows.ensures.ok clean) in
       let same = reads_only c.args.sql.now _ (state g.S.Store c.args.conn.now) (state g.S.Store c.query_all.new.self)
-      c.in_ok-rows.rows.items (plain_under c.args.sql.now (state g.S.Store c.args.conn.now).now.schema c.requires
-      (has was)) (c.in_ok-rows.ensures.ok clean) in
+      c.in_ok-rows.rows.items (c.requires (state g.S.Store c.args.conn.now).now.schema (has was)) (c.in_ok-rows.ensures.ok clean) in
       (was, same.0.now_is);
   survives = looks_alone c.args.sql.now _ (state g.S.Store c.args.conn.now) (state g.S.Store c.query_all.new.self)
       c.requires c.query_all.ensures.survives;

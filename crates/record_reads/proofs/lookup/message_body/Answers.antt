@@ -7,7 +7,7 @@ use Rattle.sqlite.specs.Held.{state}
 use Rattle.record_reads.proofs.lookup.message_body.Goals as goal
 
 pub look-requires : goal.look-requires
-look-requires g c = λ f. (select_body_is f).plain
+look-requires g c = λ schema has. (select_body_is schema has).plain
 
 pub returns-in-Some-clause-body : goal.returns-in-Some-clause-body
 returns-in-Some-clause-body g c clean = λ (t : Tables) s keyed.

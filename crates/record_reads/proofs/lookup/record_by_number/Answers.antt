@@ -8,7 +8,7 @@ use Rattle.sqlite.specs.Held.{state}
 use Rattle.record_reads.proofs.lookup.record_by_number.Goals as goal
 
 pub look-requires : goal.look-requires
-look-requires g c = λ f. (select_record_is f).plain
+look-requires g c = λ schema has. (select_record_is schema has).plain
 
 pub returns-in-Some-clause-record : goal.returns-in-Some-clause-record
 returns-in-Some-clause-record g c clean = λ (t : Tables) s keyed.

@@ -13,7 +13,7 @@ use Rattle.record_reads.proofs.TypedLemmas.{on_ok, if_ok, if_err_is, never_none,
 use Rattle.record_reads.proofs.pages.holds_between.Goals as goal
 
 plain : (schema : _) → IsArchiveSchema schema → IsPlain (understood schema select_between)
-plain schema has = subst (λ s. IsPlain (understood s select_between)) (sym has.is) (select_between_is has.foreign).plain
+plain schema has = (select_between_is schema has).plain
 
 pub returns-clause-all : goal.returns-clause-all
 returns-clause-all g c clean =

@@ -12,7 +12,7 @@ use Rattle.record_reads.proofs.TypedLemmas.{on_ok, if_ok, if_err_is, never_none,
 use Rattle.record_reads.proofs.placed_holds.placed_holds.Goals as goal
 
 plain : (schema : _) → IsArchiveSchema schema → IsPlain (understood schema select_placed)
-plain schema has = subst (λ s. IsPlain (understood s select_placed)) (sym has.is) (select_placed_is has.foreign).plain
+plain schema has = (select_placed_is schema has).plain
 
 pub returns-clause-all : goal.returns-clause-all
 returns-clause-all g c clean =

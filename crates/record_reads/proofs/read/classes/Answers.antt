@@ -14,7 +14,7 @@ use Rattle.record_reads.proofs.RawLemmas.{typed_classes}
 use Rattle.record_reads.proofs.read.classes.Goals as goal
 
 plain : (schema : _) → HasCommonTables schema → IsPlain (understood schema select_classes)
-plain schema has = subst (λ s. IsPlain (understood s select_classes)) (sym has.is) (select_classes_is has.foreign).plain
+plain schema has = (select_classes_is schema has).plain
 
 pub returns-clause-all : goal.returns-clause-all
 returns-clause-all g c clean =

@@ -14,7 +14,7 @@ use Rattle.record_reads.proofs.RawLemmas.{typed_holds}
 use Rattle.record_reads.proofs.read.holds.Goals as goal
 
 plain : (schema : _) → HasCommonTables schema → IsPlain (understood schema select_holds)
-plain schema has = subst (λ s. IsPlain (understood s select_holds)) (sym has.is) (select_holds_is has.foreign).plain
+plain schema has = (select_holds_is schema has).plain
 
 pub returns-clause-all : goal.returns-clause-all
 returns-clause-all g c clean =

@@ -13,7 +13,7 @@ use Rattle.record_reads.proofs.RawLemmas.{typed_messages}
 use Rattle.record_reads.proofs.read.message_numbers.Goals as goal
 
 plain : (schema : _) → HasCommonTables schema → IsPlain (understood schema select_numbers)
-plain schema has = subst (λ s. IsPlain (understood s select_numbers)) (sym has.is) (select_numbers_is has.foreign).plain
+plain schema has = (select_numbers_is schema has).plain
 
 pub returns-clause-all : goal.returns-clause-all
 returns-clause-all g c clean =

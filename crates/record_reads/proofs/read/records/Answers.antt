@@ -14,7 +14,7 @@ use Rattle.record_reads.proofs.RawLemmas.{typed_records}
 use Rattle.record_reads.proofs.read.records.Goals as goal
 
 plain : (schema : _) → HasCommonTables schema → IsPlain (understood schema select_records)
-plain schema has = subst (λ s. IsPlain (understood s select_records)) (sym has.is) (select_records_is has.foreign).plain
+plain schema has = (select_records_is schema has).plain
 
 pub returns-clause-all : goal.returns-clause-all
 returns-clause-all g c clean =

@@ -14,7 +14,7 @@ use Rattle.record_reads.proofs.RawLemmas.{typed_schedules}
 use Rattle.record_reads.proofs.read.schedules.Goals as goal
 
 plain : (schema : _) → IsArchiveSchema schema → IsPlain (understood schema select_schedules)
-plain schema has = subst (λ s. IsPlain (understood s select_schedules)) (sym has.is) (select_schedules_is has.foreign).plain
+plain schema has = (select_schedules_is schema has).plain
 
 pub returns-clause-all : goal.returns-clause-all
 returns-clause-all g c clean =

@@ -13,7 +13,7 @@ use Rattle.record_reads.proofs.Quiet.{quiet_settings}
 use Rattle.record_reads.proofs.read.settings.Goals as goal
 
 plain : (schema : _) → HasCommonTables schema → IsPlain (understood schema select_settings)
-plain schema has = subst (λ s. IsPlain (understood s select_settings)) (sym has.is) (select_settings_is has.foreign).plain
+plain schema has = (select_settings_is schema has).plain
 
 pub returns-clause-all : goal.returns-clause-all
 returns-clause-all g c clean =

@@ -14,7 +14,7 @@ use Rattle.record_reads.proofs.Quiet.{quiet_stored}
 use Rattle.record_reads.proofs.stored_dues.are_dues.Goals as goal
 
 plain : (schema : _) → IsArchiveSchema schema → IsPlain (understood schema select_stored)
-plain schema has = subst (λ s. IsPlain (understood s select_stored)) (sym has.is) (select_stored_is has.foreign).plain
+plain schema has = (select_stored_is schema has).plain
 
 pub returns-clause-are : goal.returns-clause-are
 returns-clause-are g c clean t s keyed =

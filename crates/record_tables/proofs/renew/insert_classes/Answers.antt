@@ -1,8 +1,16 @@
-use Rattle.std.proofs.Common.{arith, rules, ◌∙◌}
+use Rattle.std.proofs.Common.{refl, [], arith, rules, ◌∙◌}
 use Rattle.sqlite.specs.Held.{state}
+use Rattle.record_tables.specs.Changes.{HasNoClasses, with_classes}
 use Rattle.record_tables.specs.CodeRows.{class_entry_of}
-use Rattle.record_tables.proofs.Loops.{classes_next}
+use Rattle.record_tables.proofs.Loops.{nothing_yet, classes_next}
 use Rattle.record_tables.proofs.renew.insert_classes.Goals as goal
+
+pub loop-class-init : goal.loop-class-init
+loop-class-init g c = record {
+  same_reference = refl;
+  puts = λ clean inside. nothing_yet (state g.S.Store c.args.tx.now.conn.now) HasNoClasses (with_classes []) (λ t none. λ i. record t { classes = none i });
+  survives = search rules;
+}
 
 pub loop-class-preserved : goal.loop-class-preserved
 loop-class-preserved g c =

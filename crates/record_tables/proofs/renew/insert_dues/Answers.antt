@@ -1,9 +1,17 @@
-use Rattle.std.proofs.Common.{arith, rules, ◌∙◌, get_or}
+use Rattle.std.proofs.Common.{refl, [], arith, rules, ◌∙◌, get_or}
 use Rattle.sqlite.specs.Held.{state}
+use Rattle.record_tables.specs.Changes.{HasNoDues, with_dues}
 use Rattle.record_tables.specs.CodeRows.{due_of}
 use Rattle.record_tables.specs.declared.rows.DueRow.{DueRow}
-use Rattle.record_tables.proofs.Loops.{dues_next, get_or_any}
+use Rattle.record_tables.proofs.Loops.{nothing_yet, dues_next, get_or_any}
 use Rattle.record_tables.proofs.renew.insert_dues.Goals as goal
+
+pub loop-due-init : goal.loop-due-init
+loop-due-init g c = record {
+  same_reference = refl;
+  puts = λ clean inside. nothing_yet (state g.S.Store c.args.tx.now.conn.now) HasNoDues (with_dues []) (λ t none. λ i. record t { dues = none i });
+  survives = search rules;
+}
 
 pub loop-due-preserved : goal.loop-due-preserved
 loop-due-preserved g c =

@@ -1,8 +1,16 @@
-use Rattle.std.proofs.Common.{arith, rules, ◌∙◌}
+use Rattle.std.proofs.Common.{refl, [], arith, rules, ◌∙◌}
 use Rattle.sqlite.specs.Held.{state}
+use Rattle.record_tables.specs.Changes.{HasNoSchedules, with_schedules}
 use Rattle.record_tables.specs.CodeRows.{rule_of}
-use Rattle.record_tables.proofs.Loops.{schedules_next}
+use Rattle.record_tables.proofs.Loops.{nothing_yet, schedules_next}
 use Rattle.record_tables.proofs.renew.insert_schedules.Goals as goal
+
+pub loop-schedule-init : goal.loop-schedule-init
+loop-schedule-init g c = record {
+  same_reference = refl;
+  puts = λ clean inside. nothing_yet (state g.S.Store c.args.tx.now.conn.now) HasNoSchedules (with_schedules []) (λ t none. λ i. record t { schedules = none i });
+  survives = search rules;
+}
 
 pub loop-schedule-preserved : goal.loop-schedule-preserved
 loop-schedule-preserved g c =

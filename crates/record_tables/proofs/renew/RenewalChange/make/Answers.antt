@@ -20,3 +20,8 @@ returns-in_ok-put_plan-clause-ok g c clean inside =
     (with_plan (map rule_of c.args.self.schedules.now) (map class_entry_of c.args.self.classes.now)
     (map due_of c.args.self.dues.now)) (λ t. refl) tells gone (c.in_ok-put_plan.ensures.ok clean (gone.mode
     ∙ inside)))
+
+pub returns-in_ok-put_plan-2-clause-ok : goal.returns-in_ok-put_plan-2-clause-ok
+returns-in_ok-put_plan-2-clause-ok g c clean inside =
+    turned (state g.S.Store c.args.tx.now.conn.now) (state g.S.Store c.put_plan-else-self.new.tx.conn.now) Always _
+    (c.in_ok-put_plan-2.ensures.ok clean inside)
