@@ -143,7 +143,7 @@ renewed old mid new change same tells e p = record {
       let none_left = e.stored t s keyed (tells refl) in
       subst (StoresKeyed new.now) (same t) (p.stored (without_dues t) none_left.0 none_left.1 tt);
   sound = λ h t s keyed allowed.
-      let alone = tells refl s.schema in
+      let alone = tells refl in
       let none_left = e.stored t s keyed alone in
       p.sound (e.sound t s keyed alone) (without_dues t) none_left.0 none_left.1 tt;
   committed = p.committed ∙ e.committed;
