@@ -27,6 +27,7 @@ readonly SERVER=$work/postfix SENT=$work/sent
 has_postfix() {
     ((EUID == 0)) || return
     if [[ ${1-} == install ]] && ! command -v postfix > "$work/said"; then
+        apt-get update > "$work/said" 2>&1
         DEBIAN_FRONTEND=noninteractive apt-get install -y --no-install-recommends postfix > "$work/said" 2>&1
     fi
     command -v postfix > "$work/said"

@@ -110,6 +110,7 @@ is_completed() {
 start_intake() {
     local user=()
     ((EUID > 0)) || user=(setpriv --reuid=65534 --regid=65534 --clear-groups)
+    rm -f -- "$work/told"
     "${user[@]}" "$work/mailfile-store" intake --store "$TAKEN" --rules "$work/rules" ann "$BOX" > "$work/told" 2> "$work/lost" &
     process=$!
 }
@@ -164,16 +165,37 @@ intake_survives_a_limit() {
     ((status == 75)) && is_between && is_completed
 }
 
-# Whether a delivery that meets such a limit ends by 75, and leaves the archive as it is.
+# Delivers by a command, and sets `kept` to the list of the archive before that, and `status`.
+deliver_by() {
+    status=0
+    kept=$(on_store list)
+    "$@" > "$work/said" 2> "$work/error" || status=$?
+}
+
+# Whether the last delivery has ended by 75, told why, and captured nothing.
+has_captured_nothing() {
+    ((status == 75)) && [[ ! -s $work/said && -s $work/error && $(on_store list) == "$kept" ]]
+}
+
+# Whether the last delivery has ended by 0, and its record has the next number.
+has_captured_one() {
+    ((status == 0)) && grep -q "^record $(($(grep -c . <<< "$kept") + 1)) " "$work/said" && [[ $(on_store list | head -n -1) == "$kept" ]]
+}
+
+# Whether each delivery that meets such a limit is captured or ends by 75. The log and the file reach it in turn, so one that ended by 75
+# may be followed by others that do not.
 delivery_survives_a_limit() {
-    local kept turn
+    local kept status turn
     lay_store || return
-    for ((turn = 0; turn < 100; turn++)); do
-        kept=$(on_store list)
-        limited "$1" deliver_long > "$work/said" 2> "$work/error" || break
+    for ((turn = 0; turn < 40; turn++)); do
+        deliver_by limited "$1" deliver_long
+        if has_captured_nothing; then
+            echo "$1" >> "$work/refused"
+        elif ! has_captured_one; then
+            return 1
+        fi
     done
-    ends_by 75 '' limited "$1" deliver_long && [[ ! -s $work/said && -s $work/error && $(on_store list) == "$kept" ]] && deliver_long > "$work/said" &&
-        grep -q "^record $(($(grep -c . <<< "$kept") + 1)) " "$work/said"
+    deliver_by deliver_long && has_captured_one
 }
 
 # Lays the store on a disk of a number of kilobytes.
@@ -185,30 +207,31 @@ grow_disk() {
     mount -o remount,size=64m "$PLACE"
 }
 
-# Whether an intake on a full disk ends by 75 and loses nothing, and goes on where the disk has room again.
-intake_survives_a_full_disk() {
+# Takes a Maildir over on a full disk.
+fills_the_disk() {
     local twice status=0
-    mount_disk "$1" && lay_maildir || return
+    lay_maildir || return
     take_over > "$work/told" 2> "$work/error" || status=$?
     ((status == 75)) && grow_disk && is_between && is_completed
-    status=$?
-    umount "$PLACE"
-    return "$status"
 }
 
-# Whether a delivery on a full disk ends by 75 and leaves the archive as it is.
-delivery_survives_a_full_disk() {
-    local kept turn status
-    mount_disk "$1" && lay_store || return
+# Delivers until the disk is full.
+delivers_to_a_full_disk() {
+    local kept status turn
+    lay_store || return
     for ((turn = 0; turn < 100; turn++)); do
-        deliver_long >> "$work/delivered" 2> "$work/error" || break
+        deliver_by deliver_long
+        has_captured_one || break
     done
-    kept=$(grep -c '^record ' "$work/delivered")
-    ends_by 75 '' deliver_long && [[ ! -s $work/said && -s $work/error ]] && grow_disk && [[ $(records_there) -eq $kept ]] &&
-        deliver_long > "$work/said" && grep -q "^record $((kept + 1)) " "$work/said"
-    status=$?
+    grow_disk && has_captured_nothing && deliver_by deliver_long && has_captured_one
+}
+
+# Does this with the store on a disk of a number of kilobytes.
+on_small_disk() {
+    local status=0
+    mount_disk "$1" || return
+    "$2" || status=$?
     umount "$PLACE"
-    rm -f -- "$work/delivered"
     return "$status"
 }
 
@@ -216,13 +239,14 @@ intake_limits() {
     local size
     for size in 150 200 300 400; do
         count "an intake with files of $size kilobytes" intake_survives_a_limit "$size"
-        count "a delivery with files of $size kilobytes" delivery_survives_a_limit "$size"
+        count "deliveries with files of $size kilobytes" delivery_survives_a_limit "$size"
     done
+    count "deliveries that such a limit refuses" test -s "$work/refused"
     mkdir -p -- "$PLACE"
     if ((EUID == 0)) && mount_disk 64 2> "$work/said" && umount "$PLACE"; then
-        for size in 200 300 400 500 700; do
-            count "an intake on a disk of $size kilobytes" intake_survives_a_full_disk "$size"
-            count "a delivery on a disk of $size kilobytes" delivery_survives_a_full_disk "$size"
+        for size in 330 400 500 600 700; do
+            count "an intake on a disk of $size kilobytes" on_small_disk "$size" fills_the_disk
+            count "deliveries on a disk of $size kilobytes" on_small_disk "$size" delivers_to_a_full_disk
         done
     else
         echo "no disk was filled: that takes the rights of root"

@@ -29,7 +29,7 @@ browse() {
 
 # A store at a path, with a record of the class of each hold, and these holds.
 make_held() {
-    local store=$1 folder=$work/rules/ann number
+    local store=$1 folder=$work/rules/ann name number
     mkdir -p -- "$folder" "$work/browser" && : > "$folder/main.sieve" || return
     printf 'root = "1 years destroy"\n\n[[class]]\npath = "script-alert-1--script"\n\n[[class]]\npath = "script-alert-1--script/onload-1"\n' > "$work/plan.toml"
     ./mailfile-store create --store "$store" --plan "$work/plan.toml" || return
