@@ -1,0 +1,13 @@
+require "include";
+include :global "one";
+include :global "one";
+include :global "one";
+include :global "one";
+include :global "one";
+include :global "one";
+include :global "one";
+include :global "one";
+include :global "one";
+include :global "one";
+include :global "one";
+include :global "one";
