@@ -93,12 +93,3 @@ pub fn deliver<A: Records>(
     let capture = desk.finish(u64::from(ticket))?;
     Ok(Delivery::Captured(capture))
 }
-
-/// A desk over the same archive, with no script, no program and no capture in flight. The only error is no memory (99), and
-/// it hands the archive back.
-pub fn renewed<A: Records>(alloc: Global, desk: Desk<A>) -> Result<Desk<A>, A>
-    ensures { IfOk result (λ d. (s : Standing) → StandsFor A.stands desk s
-        → StandsFor A.stands d (opening s.office.archive)) }
-{
-    Desk::new(alloc, desk.into_store())
-}
