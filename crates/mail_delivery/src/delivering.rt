@@ -1,10 +1,9 @@
 //! One message through a desk.
 
-ghost use Rattle.std.specs.Prelude.{◌≡◌, ℕ, List, IfOk, IfErr};
+ghost use Rattle.std.specs.Prelude.{◌≡◌, ℕ, List, IfErr};
 ghost use Rattle.filing_commands.specs.Limits.{greatest_message};
 ghost use Rattle.filing_commands.specs.Payloads.{IsOf};
 ghost use Rattle.filing_commands.specs.declared.fault.DeskFault.TheVariants.{NoMemory};
-ghost use Rattle.filing_commands.specs.Standing.{Standing, opening};
 ghost use Rattle.filing_desk.specs.Standing.{IsClean, StandsFor};
 ghost use Rattle.mail_delivery.specs.Deliveries.{Begins, Delivers};
 
@@ -12,7 +11,7 @@ use filing_commands::{Capture, DeskFault, Payload};
 use filing_desk::Desk;
 use record_archive::Records;
 use sieve_meaning::RunFault;
-use std::alloc::{AllocError, Global};
+use std::alloc::AllocError;
 
 /// What is done with a message whose run ends with a fault.
 #[derive(Clone, Copy)]
@@ -92,13 +91,4 @@ pub fn deliver<A: Records>(
     }
     let capture = desk.finish(u64::from(ticket))?;
     Ok(Delivery::Captured(capture))
-}
-
-/// A desk over the same archive, with no script, no program and no capture in flight. The only error is no memory (99), and
-/// it hands the archive back.
-pub fn renewed<A: Records>(alloc: Global, desk: Desk<A>) -> Result<Desk<A>, A>
-    ensures { IfOk result (λ d. (s : Standing) → StandsFor A.stands desk s
-        → StandsFor A.stands d (opening s.office.archive)) }
-{
-    Desk::new(alloc, desk.into_store())
 }

@@ -5,4 +5,4 @@
 
 mod delivering;
 
-pub use delivering::{Delivery, OnFault, deliver, renewed};
+pub use delivering::{Delivery, OnFault, deliver};

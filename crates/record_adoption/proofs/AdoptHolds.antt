@@ -1,5 +1,5 @@
 -- Holds in order, and sums over lists that have the same elements.
-use Rattle.std.proofs.Common.{◌≡◌, ◌+◌, ◌==◌, ◌&&◌, ◌||◌, ◌<◌, ℕ, pos, Bool, true, false, cond, List, [], ◌∷◌, map}
+use Rattle.std.proofs.Common.{◌≡◌, ◌+◌, ◌==◌, ◌&&◌, ◌<◌, ℕ, pos, Bool, true, false, cond, List, [], ◌∷◌, map}
 use Rattle.std.proofs.Common.{Ordering, Less, Equal, Greater, int_cmp, nat_cmp, is_eq, refl, sym, ap, subst, ◌∙◌, arith}
 use Rattle.std.proofs.Common.{IsPermutation}
 use Rattle.std.proofs.lemmas.Int.{ints}

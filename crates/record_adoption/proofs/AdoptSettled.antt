@@ -1,5 +1,5 @@
 -- What transactions make of the rows that were found, and the store over them.
-use Rattle.std.proofs.Common.{◌≡◌, ◌-◌, ◌+◌, ◌≤◌, ℕ, List, [], ◌∷◌, pos, inl, refl, sym, ap, subst, ◌∙◌, arith, false}
+use Rattle.std.proofs.Common.{◌≡◌, ℕ, List, [], ◌∷◌, pos, inl, refl, sym, ap, subst, ◌∙◌, arith}
 pub use Rattle.record_reads.proofs.TypedLemmas.{handed_on}
 use Rattle.sqlite.specs.Store.{Ghosts}
 use Rattle.sqlite.specs.Schema.{Schema}
@@ -16,10 +16,8 @@ use Rattle.record_tables.specs.Reads.{Pair}
 use Rattle.record_tables.specs.Steps.{CommitsNothingOf}
 use Rattle.record_rows.specs.Rules.{rules_of, classes_of}
 use Rattle.record_archive.specs.Archive.{Archive, IsArchive}
-use Rattle.record_adoption.specs.Adoption.{FindsSecond, FindsFirst, FindsNothing, IsOverview, IsKeyed, LeavesArchive, first_pairs}
-use Rattle.record_adoption.specs.Counts.{count_at}
+use Rattle.record_adoption.specs.Adoption.{FindsSecond, FindsFirst, FindsNothing, IsKeyed, LeavesArchive, first_pairs}
 use Rattle.record_adoption.specs.Keeping.{StoresArchive, due_rows}
-use Rattle.record_adoption.specs.declared.overview.Overview.{Overview}
 use Rattle.record_adoption.proofs.LaidLemmas.{listed-numbered, rules-numbered, same_list, stores_laid}
 
 first_value : List Pair → List ℕ

@@ -4,7 +4,6 @@ ghost use Rattle.std.specs.Prelude.{◌≡◌, false, map, Err, OnOk};
 ghost use Rattle.sqlite.specs.State.{HasCleanDisk};
 ghost use Rattle.sqlite.specs.Held.{state};
 ghost use Rattle.record_archive.specs.Archive.{Archive, IsArchive};
-ghost use Rattle.record_tables.specs.Layouts.{TellsAlone};
 ghost use Rattle.record_tables.specs.Changes.{AreAscending, IsRevised};
 ghost use Rattle.record_tables.specs.CodeRows.{due_of};
 ghost use Rattle.record_tables.specs.Steps.{Makes, IsCommitted, WasOpen, WasOpenOnOk};
@@ -18,18 +17,11 @@ use crate::fill::fill;
 use crate::source::read_source;
 use class_plan::Plan;
 use record_rows::{classes_of, rules_of};
+use record_tables::alone::is_alone;
 use record_tables::renew::replace_plan;
 use record_tables::rows::DueRow;
 use sqlite::{Alter, Connection};
-use sqlite_schema::schema::Schema;
 use std::alloc::Global;
-
-/// Whether a database that has the tables of an archive has no others.
-fn is_alone(schema: &Schema) -> bool
-    ensures { TellsAlone schema.now result }
-{
-    schema.tables.len() == 7 && schema.indexes.len() == 5 && schema.views.is_empty()
-}
 
 /// Replaces the plan of an archive without records, and writes the due days of records that are yet to be written.
 fn place_plan<T: Alter>(

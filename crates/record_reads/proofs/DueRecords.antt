@@ -13,7 +13,6 @@ use Rattle.sqlite.specs.Order.{Row}
 use Rattle.sqlite.specs.Term.{Term, col, op2}
 use Rattle.sqlite.specs.Query.{Query, inner, end, IsAnswer, Output, output, output_cmp}
 use Rattle.sqlite.specs.Command.TheVariants.{Select}
-use Rattle.sqlite.specs.Listing.{understood}
 use Rattle.sqlite.specs.State.{State, Shown}
 use Rattle.sqlite.proofs.Callers.{reads_as}
 use Rattle.sqlite_tied.specs.Compute.{everything}
@@ -68,9 +67,20 @@ pub select_due_records_is : (schema : Schema) (has : IsArchiveSchema schema)
 unfolding everything
 select_due_records_is schema has =
     means_query_two schema due_table record_table has.dues has.common.records no_page (due_records_draft has.dues.tree has.common.records.tree)
-    (codes "record" ∷ codes "day" ∷ codes "path" ∷ []) (None ∷ Some Binary ∷ Some Binary ∷ []) select_due_records (refl, refl) refl refl
-    (refl, refl, refl, (tt, (tt, tt)), ((0, refl, has.dues.named), ((1, refl, has.common.records.named), tt)), (tt, ((tt, tt, tt), tt)),
-    (tt, (tt, (tt, tt))), (tt, tt, tt), refl, refl, (tt, (tt, tt)), refl)
+    (codes "record" ∷ codes "day" ∷ codes "path" ∷ []) (None ∷ Some Binary ∷ Some Binary ∷ []) select_due_records (refl, refl) refl refl (
+      refl,
+      refl,
+      refl,
+      (tt, (tt, tt)),
+      ((0, refl, has.dues.named), ((1, refl, has.common.records.named), tt)),
+      (tt, ((tt, tt, tt), tt)),
+      (tt, (tt, (tt, tt))),
+      (tt, tt, tt),
+      refl,
+      refl,
+      (tt, (tt, tt)),
+      refl,
+    )
 
 -- ---- due days in their order
 

@@ -1,6 +1,6 @@
 -- What the looks by keys answer of the tables.
 use Rattle.sqlite.specs.Query.{inner, end}
-use Rattle.std.proofs.Common.{◌≡◌, ◌≤◌, ◌==◌, ℕ, ℤ, pos, List, [], ◌∷◌, map, filter, find, length, Bool, true, false}
+use Rattle.std.proofs.Common.{◌≡◌, ◌≤◌, ◌==◌, ℕ, pos, List, [], ◌∷◌, map, filter, find, length, Bool, true, false}
 use Rattle.std.proofs.Common.{cond, not, ◌||◌, Option, Some, None, option_map, codes, refl, sym, ap, subst, ◌∙◌, arith}
 use Rattle.std.proofs.Common.{int_eq, IsTrue, slice_get}
 use Rattle.std.specs.List.{AllByRecursion, list_any, list_all}
@@ -27,7 +27,7 @@ use Rattle.sqlite_keyed.proofs.RuleLemmas.{at_most_one}
 use Rattle.sqlite_typed.proofs.TestLemmas.{at_texts, at_ints, then_term, last_term}
 use Rattle.record_tables.specs.Tables.{IsArchiveSchema, message_table, record_table, hold_table}
 use Rattle.record_tables.proofs.Described.{seen}
-use Rattle.record_tables.proofs.Compiling.{Draft, Means, no_page, draft_of, means_query_one}
+use Rattle.record_tables.proofs.Compiling.{Means, no_page, draft_of, means_query_one}
 use Rattle.record_archive.specs.Archive.{Message, Record}
 use Rattle.record_tables.specs.Rows.{Tables, Stores, AreKeyed, message_key, message_row, record_key, record_row, Hold, hold_key, hold_row}
 use Rattle.record_tables.specs.Changes.{is_hold}
@@ -46,12 +46,26 @@ abbrev pub select_record : List ℕ
 select_record = codes "SELECT number, message, path, day, destroyed FROM record WHERE number = ?1"
 
 pub select_record_is : (schema : Schema) (has : IsArchiveSchema schema)
-    → Means schema select_record (Select (alone (on_table has.common.records.tree key_test (record_columns))) (codes "number" ∷ codes "message" ∷ codes "path" ∷ codes "day" ∷ codes "destroyed" ∷ []))
+    → Means schema select_record (Select (alone (on_table has.common.records.tree key_test (record_columns))) (codes "number" ∷ codes "message" ∷
+    codes "path" ∷ codes "day" ∷ codes "destroyed" ∷ []))
 unfolding everything
 select_record_is schema has =
-    means_query_one schema record_table has.common.records no_page (draft_of (inner has.common.records.tree end) key_test (record_columns) []) (codes "number" ∷ codes "message" ∷ codes "path" ∷ codes "day" ∷ codes "destroyed" ∷ [])
-    (None ∷ Some Binary ∷ Some Binary ∷ Some Binary ∷ Some Binary ∷ []) select_record (refl, refl) refl refl
-    (refl, refl, refl, (tt, tt), ((0, refl, has.common.records.named), tt), (tt, tt), (tt, (tt, (tt, (tt, (tt, tt))))), (tt, tt, tt), refl, refl, tt, refl)
+    means_query_one schema record_table has.common.records no_page (draft_of (inner has.common.records.tree end) key_test (record_columns) [])
+    (codes "number" ∷ codes "message" ∷ codes "path" ∷ codes "day" ∷ codes "destroyed" ∷ [])
+    (None ∷ Some Binary ∷ Some Binary ∷ Some Binary ∷ Some Binary ∷ []) select_record (refl, refl) refl refl (
+      refl,
+      refl,
+      refl,
+      (tt, tt),
+      ((0, refl, has.common.records.named), tt),
+      (tt, tt),
+      (tt, (tt, (tt, (tt, (tt, tt))))),
+      (tt, tt, tt),
+      refl,
+      refl,
+      tt,
+      refl,
+    )
 
 abbrev pub select_body : List ℕ
 select_body = codes "SELECT body FROM message WHERE number = ?1"
@@ -60,7 +74,8 @@ pub select_body_is : (schema : Schema) (has : IsArchiveSchema schema)
     → Means schema select_body (Select (alone (on_table has.common.messages.tree key_test (col 1 2 ∷ []))) (codes "body" ∷ []))
 unfolding everything
 select_body_is schema has =
-    means_query_one schema message_table has.common.messages no_page (draft_of (inner has.common.messages.tree end) key_test (col 1 2 ∷ []) []) (codes "body" ∷ [])
+    means_query_one schema message_table has.common.messages no_page (draft_of (inner has.common.messages.tree end) key_test (col 1 2 ∷ []) [])
+    (codes "body" ∷ [])
     (Some Binary ∷ []) select_body (refl, refl) refl refl
     (refl, refl, refl, (tt, tt), ((0, refl, has.common.messages.named), tt), (tt, tt), (tt, tt), (tt, tt, tt), refl, refl, tt, refl)
 
@@ -71,7 +86,8 @@ pub select_hold_is : (schema : Schema) (has : IsArchiveSchema schema)
     → Means schema select_hold (Select (alone (on_table has.common.holds.tree hold_test (col 1 2 ∷ []))) (codes "record" ∷ []))
 unfolding everything
 select_hold_is schema has =
-    means_query_one schema hold_table has.common.holds no_page (draft_of (inner has.common.holds.tree end) hold_test (col 1 2 ∷ []) []) (codes "record" ∷ [])
+    means_query_one schema hold_table has.common.holds no_page (draft_of (inner has.common.holds.tree end) hold_test (col 1 2 ∷ []) []) (codes
+    "record" ∷ [])
     (Some Binary ∷ []) select_hold (refl, refl) refl refl
     (refl, refl, refl, (tt, tt), ((0, refl, has.common.holds.named), tt), (tt, tt), (tt, tt), (tt, (tt, tt, tt), (tt, tt, tt)), refl, refl, tt, refl)
 
@@ -112,7 +128,8 @@ shows_record old new rows n t s keyed h =
     let few : length (records_asked n t) ≤ 1 =
     at_most_one record_key (pos n) (λ (r : Record). int_eq (pos r.number) (pos n)) (λ x e.
     e) t.records keyed.records in
-    row_alone record_key record_row (overlay old.now.trees []) s.schema.common.records.tree t.records (seen old.now.trees _ ∙ s.records) keyed.records key_test
+    row_alone record_key record_row (overlay old.now.trees []) s.schema.common.records.tree t.records (seen old.now.trees _
+    ∙ s.records) keyed.records key_test
     record_columns params (λ (r : Record). int_eq (pos r.number) (pos n)) (λ x.
     test_key n x.number) rows (read.answer Null) (records_asked n t) refl few
 
@@ -131,7 +148,8 @@ shows_body old new rows n t s keyed h =
     let few : length (messages_asked n t) ≤ 1 =
     at_most_one message_key (pos n) (λ (m : Message). int_eq (pos m.number) (pos n)) (λ x e.
     e) t.messages keyed.messages in
-    row_alone message_key message_row (overlay old.now.trees []) s.schema.common.messages.tree t.messages (seen old.now.trees _ ∙ s.messages) keyed.messages key_test
+    row_alone message_key message_row (overlay old.now.trees []) s.schema.common.messages.tree t.messages (seen old.now.trees _
+    ∙ s.messages) keyed.messages key_test
     (col 1 2 ∷ []) params (λ (m : Message). int_eq (pos m.number) (pos n)) (λ x.
     test_key n x.number) rows (read.answer Null) (messages_asked n t) refl few
 
@@ -151,7 +169,8 @@ shows_hold old new rows name n t s keyed h =
     let params = hold_params name n in
     let read = reads_as select_hold params old new old.now.schema refl _ is.is is.plain is.unlisted rows h in
     let permuted =
-    rows_permuted hold_key hold_row (overlay old.now.trees []) s.schema.common.holds.tree t.holds (seen old.now.trees _ ∙ s.holds) keyed.holds hold_test (col 1 2
+    rows_permuted hold_key hold_row (overlay old.now.trees []) s.schema.common.holds.tree t.holds (seen old.now.trees _
+    ∙ s.holds) keyed.holds hold_test (col 1 2
     ∷ []) params (is_hold name n) (test_hold name n) rows (read.answer Null) in
     let count : length rows ≡ length (filter (is_hold name n) t.holds) = length_permutation _ rows permuted
     ∙ length-map (filter (is_hold name n) t.holds) (λ x.

@@ -1,6 +1,6 @@
 -- What the queries of a page show of the tables.
 use Rattle.std.proofs.Common.{◌≡◌, ◌<◌, ◌^◌, ◌&&◌, ℕ, pos, Bool, true, false, cond, List, [], ◌∷◌, map, map-id, filter, None, Some}
-use Rattle.std.proofs.Common.{take, codes, int_le, refl, sym, ap, subst, ◌∙◌, arith, Less, IsPermutation, true≢false}
+use Rattle.std.proofs.Common.{take, codes, int_le, refl, sym, ap, subst, ◌∙◌, arith, Less, IsPermutation}
 use Rattle.std.specs.List.{AllByRecursion}
 use Rattle.std.proofs.lemmas.Int.{ints}
 use Rattle.std.proofs.lemmas.List.{take-map}
@@ -10,7 +10,6 @@ use Rattle.sqlite.specs.Order.{Row}
 use Rattle.sqlite.specs.Term.{Term, col, op2, lit}
 use Rattle.sqlite.specs.Query.{Query, IsAnswer, Output, output, output_cmp, inner, end}
 use Rattle.sqlite.specs.Command.TheVariants.{Select}
-use Rattle.sqlite.specs.Listing.{understood}
 use Rattle.sqlite.specs.State.{State, Shown}
 use Rattle.sqlite.proofs.Callers.{reads_as}
 use Rattle.sqlite_tied.specs.Compute.{everything}
@@ -41,18 +40,36 @@ abbrev pub select_from : List ℕ
 select_from = codes "SELECT number, message, path, day, destroyed FROM record WHERE number >= ?1 ORDER BY number LIMIT ?2"
 
 abbrev from_draft : ℕ → Draft
-from_draft tree = record (draft_of (inner tree end) (op2 (Compare Ge Binary) (col 1 0) (col 0 0) ∷ []) (col 1 0 ∷ col 1 2 ∷ col 1 3 ∷ col 1 4 ∷ col 1 5 ∷ []) ((col 1 0, ascending Binary) ∷ [])) { limit = col 0 1 }
+from_draft tree = record (draft_of (inner tree end) (op2 (Compare Ge Binary) (col 1 0) (col 0 0) ∷ []) (col 1 0 ∷ col 1 2 ∷ col 1 3 ∷ col 1 4 ∷ col
+    1 5 ∷ []) ((col 1 0, ascending Binary) ∷ [])) { limit = col 0 1 }
 
 abbrev pub from_query : ℕ → Query
-from_query tree = record (on_table tree (op2 (Compare Ge Binary) (col 1 0) (col 0 0) ∷ []) (col 1 0 ∷ col 1 2 ∷ col 1 3 ∷ col 1 4 ∷ col 1 5 ∷ [])) { order = (col 1 0, ascending Binary) ∷ []; limit = col 0 1 }
+from_query tree = record (on_table tree (op2 (Compare Ge Binary) (col 1 0) (col 0 0) ∷ []) (col 1 0 ∷ col 1 2 ∷ col 1 3 ∷ col 1 4 ∷ col 1 5 ∷ [])) {
+  order = (col 1 0, ascending Binary) ∷ [];
+  limit = col 0 1;
+}
 
 pub select_from_is : (schema : Schema) (has : IsArchiveSchema schema)
-    → Means schema select_from (Select (alone (from_query has.common.records.tree)) (codes "number" ∷ codes "message" ∷ codes "path" ∷ codes "day" ∷ codes "destroyed" ∷ []))
+    → Means schema select_from (Select (alone (from_query has.common.records.tree)) (codes "number" ∷ codes "message" ∷ codes "path" ∷ codes "day" ∷
+    codes "destroyed" ∷ []))
 unfolding everything
 select_from_is schema has =
-    means_query_one schema record_table has.common.records (col 0 1, lit (Int (pos 0))) (from_draft has.common.records.tree) (codes "number" ∷ codes "message" ∷ codes "path" ∷ codes "day" ∷ codes "destroyed" ∷ [])
-    (None ∷ Some Binary ∷ Some Binary ∷ Some Binary ∷ Some Binary ∷ []) select_from (refl, refl) refl refl
-    (refl, refl, refl, (tt, tt), ((0, refl, has.common.records.named), tt), (tt, tt), (tt, (tt, (tt, (tt, (tt, tt))))), (tt, tt, tt), refl, refl, (tt, tt), refl)
+    means_query_one schema record_table has.common.records (col 0 1, lit (Int (pos 0))) (from_draft has.common.records.tree) (codes "number" ∷ codes
+    "message" ∷ codes "path" ∷ codes "day" ∷ codes "destroyed" ∷ [])
+    (None ∷ Some Binary ∷ Some Binary ∷ Some Binary ∷ Some Binary ∷ []) select_from (refl, refl) refl refl (
+      refl,
+      refl,
+      refl,
+      (tt, tt),
+      ((0, refl, has.common.records.named), tt),
+      (tt, tt),
+      (tt, (tt, (tt, (tt, (tt, tt))))),
+      (tt, tt, tt),
+      refl,
+      refl,
+      (tt, tt),
+      refl,
+    )
 
 -- the records from a number on are answered in the order of their numbers, up to the limit
 pub shows_from : (old new : State) (rows : List Row) (from most : ℕ) (t : Tables) → Stores old.now t → AreKeyed t
@@ -64,7 +81,8 @@ shows_from old new rows from most t s keyed h =
     let read = reads_as select_from params old new old.now.schema refl _ is.is is.plain is.unlisted rows h in
     let db = overlay old.now.trees [] in
     let answer : IsAnswer (from_query s.schema.common.records.tree) db params rows = read.answer Null in
-    let source = last_table db s.schema.common.records.tree record_row record_key t.records (seen old.now.trees _ ∙ s.records) keyed.records (at_end db) in
+    let source = last_table db s.schema.common.records.tree record_row record_key t.records (seen old.now.trees _
+    ∙ s.records) keyed.records (at_end db) in
     let all = answer_by_keys (from_query s.schema.common.records.tree) db params source (is_from from) (λ r.
     last_term (at_ints false Ge (pos r.number) (pos from))) (λ r. r) record_values (λ r. refl) refl refl (λ x y.
     last_key (value_cmp-Int (record_key x) (record_key y))) rows answer in
@@ -82,15 +100,33 @@ abbrev between_draft : ℕ → Draft
 between_draft tree = draft_of (inner tree end) between_test (col 1 1 ∷ col 1 2 ∷ []) ((col 1 2, ascending Binary) ∷ (col 1 1, ascending Binary) ∷ [])
 
 abbrev pub between_query : ℕ → Query
-between_query tree = record (on_table tree between_test (col 1 1 ∷ col 1 2 ∷ [])) { order = (col 1 2, ascending Binary) ∷ (col 1 1, ascending Binary) ∷ [] }
+between_query tree = record (on_table tree between_test (col 1 1 ∷ col 1 2 ∷ [])) {
+  order = (col 1 2, ascending Binary) ∷ (
+    col 1 1,
+    ascending
+        Binary,
+  ) ∷ [];
+}
 
 pub select_between_is : (schema : Schema) (has : IsArchiveSchema schema)
     → Means schema select_between (Select (alone (between_query has.common.holds.tree)) (codes "name" ∷ codes "record" ∷ []))
 unfolding everything
 select_between_is schema has =
     means_query_one schema hold_table has.common.holds no_page (between_draft has.common.holds.tree) (codes "name" ∷ codes "record" ∷ [])
-    (Some Binary ∷ Some Binary ∷ []) select_between (refl, refl) refl refl
-    (refl, refl, refl, (tt, tt), ((0, refl, has.common.holds.named), tt), (tt, tt), (tt, (tt, tt)), (tt, (tt, tt, tt), (tt, tt, tt)), refl, refl, (tt, (tt, tt)), refl)
+    (Some Binary ∷ Some Binary ∷ []) select_between (refl, refl) refl refl (
+      refl,
+      refl,
+      refl,
+      (tt, tt),
+      ((0, refl, has.common.holds.named), tt),
+      (tt, tt),
+      (tt, (tt, tt)),
+      (tt, (tt, tt, tt), (tt, tt, tt)),
+      refl,
+      refl,
+      (tt, (tt, tt)),
+      refl,
+    )
 
 -- the holds between two numbers are answered by record and then by name
 pub shows_between : (old new : State) (rows : List Row) (first last : ℕ) (t : Tables) (hs : List HoldEntry)

@@ -1,11 +1,10 @@
 -- What the query of holds in the order of their rowids shows of the tables.
-use Rattle.std.proofs.Common.{◌≡◌, ℕ, List, [], ◌∷◌, map, map-id, true, codes, refl, sym, ap, ◌∙◌, None, Some}
+use Rattle.std.proofs.Common.{◌≡◌, ℕ, List, [], ◌∷◌, map, map-id, true, codes, refl, sym, ap, ◌∙◌, Some}
 use Rattle.sqlite.specs.declared.types.Value.TheVariants.{Null}
 use Rattle.sqlite.specs.Order.{Row}
 use Rattle.sqlite.specs.Term.{col}
 use Rattle.sqlite.specs.Query.{Query, IsAnswer, inner, end}
 use Rattle.sqlite.specs.Command.TheVariants.{Select}
-use Rattle.sqlite.specs.Listing.{understood}
 use Rattle.sqlite.specs.State.{State, Shown}
 use Rattle.sqlite.specs.Collation.TheVariants.{Binary}
 use Rattle.sqlite.proofs.Callers.{reads_as}
@@ -17,7 +16,7 @@ use Rattle.sqlite_keyed.proofs.ListLemmas.{map-map}
 use Rattle.sqlite_typed.proofs.AnswerLemmas.{last_table, at_end, answer_by_keys, unfiltered}
 use Rattle.sqlite_typed.proofs.TestLemmas.{last_key}
 use Rattle.sqlite.specs.Schema.{Schema}
-use Rattle.record_tables.specs.Tables.{IsArchiveSchema, hold_table, record_table}
+use Rattle.record_tables.specs.Tables.{IsArchiveSchema, hold_table}
 use Rattle.record_tables.proofs.Described.{seen}
 use Rattle.record_tables.proofs.Compiling.{Draft, Means, no_page, draft_of, means_query_one}
 use Rattle.record_tables.specs.Rows.{Tables, Hold, Stores, AreKeyed, hold_key, hold_row}

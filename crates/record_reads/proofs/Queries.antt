@@ -1,5 +1,5 @@
 -- The meaning of each query under any schema that has the tables.
-use Rattle.std.proofs.Common.{◌≡◌, List, [], ◌∷◌, ℕ, codes, None, Some, refl}
+use Rattle.std.proofs.Common.{List, [], ◌∷◌, ℕ, codes, None, Some, refl}
 use Rattle.sqlite.specs.Schema.{Schema}
 use Rattle.sqlite.specs.Term.{col}
 use Rattle.sqlite.specs.Query.{Query, inner, end}
@@ -22,10 +22,12 @@ abbrev pub records_query : ℕ → Query
 records_query tree = record (on_table tree [] (col 1 0 ∷ col 1 2 ∷ col 1 3 ∷ col 1 4 ∷ col 1 5 ∷ [])) { order = (col 1 0, ascending Binary) ∷ [] }
 
 pub select_records_is : (schema : Schema) (has : HasCommonTables schema)
-    → Means schema select_records (Select (alone (records_query has.records.tree)) (codes "number" ∷ codes "message" ∷ codes "path" ∷ codes "day" ∷ codes "destroyed" ∷ []))
+    → Means schema select_records (Select (alone (records_query has.records.tree)) (codes "number" ∷ codes "message" ∷ codes "path" ∷ codes "day" ∷
+    codes "destroyed" ∷ []))
 unfolding everything
 select_records_is schema has =
-    means_query_one schema record_table has.records no_page (records_draft has.records.tree) (codes "number" ∷ codes "message" ∷ codes "path" ∷ codes "day" ∷ codes "destroyed" ∷ [])
+    means_query_one schema record_table has.records no_page (records_draft has.records.tree) (codes "number" ∷ codes "message" ∷ codes "path" ∷
+    codes "day" ∷ codes "destroyed" ∷ [])
     (None ∷ Some Binary ∷ Some Binary ∷ Some Binary ∷ Some Binary ∷ []) select_records (refl, refl) refl refl
     (refl, refl, refl, (tt, tt), ((0, refl, has.records.named), tt), (tt, tt), (tt, (tt, (tt, (tt, (tt, tt))))), tt, refl, refl, (tt, tt), refl)
 
@@ -107,9 +109,11 @@ abbrev pub schedules_query : ℕ → Query
 schedules_query tree = record (on_table tree [] (col 1 1 ∷ col 1 2 ∷ col 1 3 ∷ col 1 4 ∷ col 1 5 ∷ [])) { order = (col 1 1, ascending Binary) ∷ [] }
 
 pub select_schedules_is : (schema : Schema) (has : IsArchiveSchema schema)
-    → Means schema select_schedules (Select (alone (schedules_query has.schedules.tree)) (codes "path" ∷ codes "count" ∷ codes "unit" ∷ codes "action" ∷ codes "year_end" ∷ []))
+    → Means schema select_schedules (Select (alone (schedules_query has.schedules.tree)) (codes "path" ∷ codes "count" ∷ codes "unit" ∷ codes
+    "action" ∷ codes "year_end" ∷ []))
 unfolding everything
 select_schedules_is schema has =
-    means_query_one schema schedule_table has.schedules no_page (schedules_draft has.schedules.tree) (codes "path" ∷ codes "count" ∷ codes "unit" ∷ codes "action" ∷ codes "year_end" ∷ [])
+    means_query_one schema schedule_table has.schedules no_page (schedules_draft has.schedules.tree) (codes "path" ∷ codes "count" ∷ codes "unit" ∷
+    codes "action" ∷ codes "year_end" ∷ [])
     (Some Binary ∷ Some Binary ∷ Some Binary ∷ Some Binary ∷ Some Binary ∷ []) select_schedules (refl, refl) refl refl
     (refl, refl, refl, (tt, tt), ((0, refl, has.schedules.named), tt), (tt, tt), (tt, (tt, (tt, (tt, (tt, tt))))), tt, refl, refl, (tt, tt), refl)

@@ -53,7 +53,8 @@ shows_numbers old new rows t s keyed h =
     let read = reads_as Queries.select_numbers [] old new old.now.schema refl _ is.is is.plain is.unlisted rows h in
     let db = overlay old.now.trees [] in
     let answer : IsAnswer (Queries.numbers_query s.schema.messages.tree) db [] rows = read.answer Null in
-    let source = last_table db s.schema.messages.tree message_row message_key t.messages (seen old.now.trees _ ∙ s.messages) keyed.messages (at_end db) in
+    let source = last_table db s.schema.messages.tree message_row message_key t.messages (seen old.now.trees _
+    ∙ s.messages) keyed.messages (at_end db) in
     let all = answer_by_keys (Queries.numbers_query s.schema.messages.tree) db [] source (λ _. true) (λ r. refl) (λ r. r) (λ (m : Message).
     number_values m.number) (λ r. refl) refl refl (λ x y. last_key (value_cmp-Int (message_key x) (message_key y)))
     rows answer in
@@ -97,7 +98,8 @@ shows_classes old new rows t cs s keyed are h =
     let rises = ascending_weaker _ (λ x y. output_cmp (Queries.classes_query s.schema.classes.tree) (out x) (out y) ≡ Less) (λ x y less.
     last_key (value_cmp-Text x.path y.path) ∙ less) cs are.in_order in
     let ordered =
-    ordered_is (Queries.classes_query s.schema.classes.tree) db [] class_key class_row s.schema.classes.tree t.classes (seen old.now.trees _ ∙ s.classes) keyed.classes refl refl refl
+    ordered_is (Queries.classes_query s.schema.classes.tree) db [] class_key class_row s.schema.classes.tree t.classes (seen old.now.trees _
+    ∙ s.classes) keyed.classes refl refl refl
     refl class_entry out (λ x. refl) rows answer cs are.same rises in
     answer.shown ∙ ap (map (λ (o : Output). o.1)) ordered ∙ map-map (λ (o : Output). o.1) out cs
 
@@ -112,7 +114,8 @@ shows_schedules old new rows t rs s keyed are h =
     let rises = ascending_weaker _ (λ x y. output_cmp (Queries.schedules_query s.schema.schedules.tree) (out x) (out y) ≡ Less) (λ x y less.
     last_key (value_cmp-Text x.path y.path) ∙ less) rs are.in_order in
     let ordered =
-    ordered_is (Queries.schedules_query s.schema.schedules.tree) db [] schedule_key schedule_row s.schema.schedules.tree t.schedules (seen old.now.trees _ ∙ s.schedules) keyed.schedules
+    ordered_is (Queries.schedules_query s.schema.schedules.tree) db [] schedule_key schedule_row s.schema.schedules.tree t.schedules (seen
+    old.now.trees _ ∙ s.schedules) keyed.schedules
     refl refl refl refl rule out (λ x. refl) rows answer rs are.same rises in
     answer.shown ∙ ap (map (λ (o : Output). o.1)) ordered ∙ map-map (λ (o : Output). o.1) out rs
 
@@ -128,7 +131,8 @@ shows_holds old new rows t hs s keyed are h =
     then_key (value_cmp-Int (pos x.number) (pos y.number)) (last_key (value_cmp-Text x.name y.name))
     ∙ less) hs are.in_order in
     let ordered =
-    ordered_is (Queries.holds_query s.schema.holds.tree) db [] hold_key hold_row s.schema.holds.tree t.holds (seen old.now.trees _ ∙ s.holds) keyed.holds refl refl refl refl
+    ordered_is (Queries.holds_query s.schema.holds.tree) db [] hold_key hold_row s.schema.holds.tree t.holds (seen old.now.trees _
+    ∙ s.holds) keyed.holds refl refl refl refl
     hold_entry out (λ x. refl) rows answer hs are.same rises in
     answer.shown ∙ ap (map (λ (o : Output). o.1)) ordered ∙ map-map (λ (o : Output). o.1) out hs
 
@@ -143,7 +147,8 @@ shows_settings old new rows t ps s keyed are h =
     let rises = ascending_weaker _ (λ x y. output_cmp (Queries.settings_query s.schema.settings.tree) (out x) (out y) ≡ Less) (λ x y less.
     last_key (value_cmp-Text x.key y.key) ∙ less) ps are.in_order in
     let ordered =
-    ordered_is (Queries.settings_query s.schema.settings.tree) db [] setting_key setting_row s.schema.settings.tree t.settings (seen old.now.trees _ ∙ s.settings) keyed.settings refl refl
+    ordered_is (Queries.settings_query s.schema.settings.tree) db [] setting_key setting_row s.schema.settings.tree t.settings (seen old.now.trees _
+    ∙ s.settings) keyed.settings refl refl
     refl refl pair out (λ x. refl) rows answer ps are.same rises in
     answer.shown ∙ ap (map (λ (o : Output). o.1)) ordered ∙ map-map (λ (o : Output). o.1) out ps
 

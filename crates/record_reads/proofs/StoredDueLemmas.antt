@@ -10,7 +10,6 @@ use Rattle.sqlite.specs.Query.{Query, IsAnswer, inner, end}
 use Rattle.sqlite.specs.Command.TheVariants.{Select}
 use Rattle.sqlite.specs.Collation.TheVariants.{Binary}
 use Rattle.sqlite.specs.State.{State, Shown}
-use Rattle.sqlite.specs.Listing.{understood}
 use Rattle.sqlite.proofs.Callers.{reads_as}
 use Rattle.sqlite_sql.specs.Program.{overlay}
 use Rattle.sqlite_tied.specs.Compute.{everything}
@@ -19,7 +18,7 @@ use Rattle.sqlite_value.proofs.OrderLemmas.{value_cmp-Int}
 use Rattle.sqlite_typed.proofs.AnswerLemmas.{last_table, at_end, answer_by_keys, unfiltered}
 use Rattle.sqlite_typed.proofs.TestLemmas.{last_key}
 use Rattle.sqlite.specs.Schema.{Schema}
-use Rattle.record_tables.specs.Tables.{IsArchiveSchema, record_table, due_table}
+use Rattle.record_tables.specs.Tables.{IsArchiveSchema, due_table}
 use Rattle.record_tables.proofs.Described.{seen}
 use Rattle.record_tables.proofs.Compiling.{Draft, Means, no_page, draft_of, means_query_one}
 use Rattle.record_tables.specs.Rows.{Tables, Stores, AreKeyed, Due, due_key, due_row}

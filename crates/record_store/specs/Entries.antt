@@ -1,5 +1,6 @@
 -- Records as they are listed.
-use Rattle.std.specs.Prelude.{◌≡◌, ◌≤◌, ℕ, ◌==◌, nat_le, nat_lt, ℤ, pos, Bool, if◌then◌else◌, List, [], ◌∷◌, map, filter, take, drop, length, Option, None, option_map}
+use Rattle.std.specs.Prelude.{◌≡◌, ◌≤◌, ℕ, ◌==◌, nat_le, nat_lt, ℤ, pos, Bool, if◌then◌else◌, List, [], ◌∷◌, map, filter, take}
+use Rattle.std.specs.Prelude.{drop, length, Option, None, option_map}
 use Rattle.std.specs.List.{list_any}
 use Rattle.std.specs.Ordering.{nat_cmp}
 use Rattle.std.specs.Cmp.Lexicographic.{slice_cmp}
@@ -32,7 +33,15 @@ due_if_live p r = if r.destroyed then None else due_on p r.path r.day
 
 -- a record by a plan, with the names of its holds
 abbrev pub listed : Listing → Record → List (List ℕ) → Entry
-listed p r names = record { number = r.number; path = r.path; day = pos r.day; due = option_map pos (due_if_live p r); message = r.message; destroyed = r.destroyed; holds = names }
+listed p r names = record {
+  number = r.number;
+  path = r.path;
+  day = pos r.day;
+  due = option_map pos (due_if_live p r);
+  message = r.message;
+  destroyed = r.destroyed;
+  holds = names;
+}
 
 -- the day of the capture is not after 2199-12-31
 abbrev pub IsListable : Record → Type 0
@@ -55,7 +64,15 @@ entries_from a n = map (entry_of a) (records_from a n)
 
 -- an entry of the code as a plain one
 abbrev pub entry_view : code.Entry → Entry
-entry_view e = record { number = e.number; path = e.path.items; day = epoch_day e.day; due = option_map epoch_day e.due; message = e.message; destroyed = e.destroyed; holds = path_list e.holds.items }
+entry_view e = record {
+  number = e.number;
+  path = e.path.items;
+  day = epoch_day e.day;
+  due = option_map epoch_day e.due;
+  message = e.message;
+  destroyed = e.destroyed;
+  holds = path_list e.holds.items;
+}
 
 -- ---- the records of a page beside their holds
 

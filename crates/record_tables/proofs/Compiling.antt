@@ -1,6 +1,6 @@
 -- What a statement on one table, or a query of two, is compiled to, wherever in the schema they stand.
-use Rattle.std.proofs.Common.{◌≡◌, ◌<◌, ◌+◌, ◌^◌, ◌==◌, ℕ, zero, suc, negsuc, pos, List, [], ◌∷◌, ◌++◌, map, Bool, true, false, cond, not, ◌&&◌, Option, Some, None, Ok, Err, slice_get, length, refl, sym, ap, subst, ◌∙◌, find, arith}
-use Rattle.std.proofs.Common.{option_map, option_and_then, unwrap_or, is_some, nat_lt, nat_le}
+use Rattle.std.proofs.Common.{◌≡◌, ◌+◌, ◌^◌, ◌==◌, ℕ, zero, suc, negsuc, pos, List, [], ◌∷◌, ◌++◌, map, true, false, cond, ◌&&◌, Option, Some, None, Ok, Err, slice_get, length, refl, sym, ap, ◌∙◌, arith}
+use Rattle.std.proofs.Common.{option_map, option_and_then, unwrap_or, nat_lt}
 use Rattle.std.specs.List.{AllByRecursion}
 use Rattle.std.proofs.lemmas.Option.{slice_get_past}
 use Rattle.std.proofs.lemmas.Bool.{lt-ltb, lt-leb}
@@ -11,12 +11,12 @@ use Rattle.sqlite_sql.specs.Query.{Query, Join, inner, end}
 use Rattle.sqlite_value.specs.declared.value.Value.TheVariants.{Int}
 use Rattle.sqlite_value.specs.declared.keys.Key.{Key}
 use Rattle.sqlite_value.specs.declared.keys.Collation.{Collation}
-use Rattle.sqlite_ast.specs.declared.Expr.{Expr, out-Expr}
+use Rattle.sqlite_ast.specs.declared.Expr.{Expr}
 use Rattle.sqlite_ast.specs.declared.Rows.{Rows}
-use Rattle.sqlite_ast.specs.declared.Shown.{Shown, out-Shown}
+use Rattle.sqlite_ast.specs.declared.Shown.{out-Shown}
 use Rattle.sqlite_ast.specs.declared.Select.{Select, out-Select}
 use Rattle.sqlite_ast.specs.declared.Source.{Source, out-Source}
-use Rattle.sqlite_ast.specs.declared.Core.{Core, out-Core}
+use Rattle.sqlite_ast.specs.declared.Core.{out-Core}
 use Rattle.sqlite_ast.specs.declared.Conflict.TheVariants as conflict
 use Rattle.sqlite_ast.specs.declared.Statement.{Statement}
 use Rattle.sqlite_ast.specs.declared.Statement.TheVariants as written
@@ -26,13 +26,12 @@ use Rattle.sqlite_syntax.specs.declared.statement.Parsed.{Parsed}
 use Rattle.sqlite_schema.specs.declared.command.Source.{Source as Rowed}
 use Rattle.sqlite_schema.specs.declared.command.Command.{Command}
 use Rattle.sqlite_schema.specs.declared.command.Command.TheVariants.{Select as Reads, Insert, Update, Delete}
-use Rattle.sqlite_schema.specs.Names.{table_named}
 pub use Rattle.sqlite_draft.specs.declared.query.Draft.{Draft}
 use Rattle.sqlite_draft.specs.Query.{query_of}
 use Rattle.sqlite_draft.specs.declared.join.Step.TheVariants.{Inner}
 use Rattle.sqlite_typing.specs.Types.{accepts_program, accepts_after, is_count, filled, table_classes, row_classes}
 use Rattle.sqlite_resolve.specs.declared.error.CompileError.TheVariants.{NoSuchTable, Unsupported}
-use Rattle.sqlite_resolve.specs.Lowering.{Checked, and_then, or_else, Lowering, ◌>>=◌, pure, fail, get, take_steps, fresh, max_budget}
+use Rattle.sqlite_resolve.specs.Lowering.{Checked, and_then, or_else, ◌>>=◌, pure, fail, get, take_steps, fresh, max_budget}
 use Rattle.sqlite_resolve.specs.Scope.{Name, Context}
 use Rattle.sqlite_resolve.specs.Expr.{lower}
 use Rattle.sqlite_resolve.specs.Body as body
@@ -40,7 +39,26 @@ use Rattle.sqlite_resolve.specs.Select as select
 use Rattle.sqlite_resolve.specs.Program as program
 use Rattle.sqlite_resolve.specs.Write as write
 use Rattle.sqlite_resolve.specs.Reach.{any_scans}
-use Rattle.sqlite_resolve.specs.Compile.{compiled, planned, meaning, timed, returning, command, insert, insert_or_abort, update, delete, read, new_rows, shows, formats_of, small, first, with_command, target}
+use Rattle.sqlite_resolve.specs.Compile.{
+  compiled,
+  planned,
+  meaning,
+  timed,
+  returning,
+  command,
+  insert,
+  insert_or_abort,
+  update,
+  delete,
+  read,
+  new_rows,
+  shows,
+  formats_of,
+  small,
+  first,
+  with_command,
+  target,
+}
 use Rattle.sqlite.specs.Listing.{understood, reads_listing, misses_table}
 use Rattle.sqlite.proofs.Callers.{IsPlain as IsBare, command_of}
 use Rattle.sqlite_schema.specs.declared.program.Program.{Program}
@@ -83,7 +101,8 @@ module _ (schema : Schema) where
     own = λ k. own k;
   }
     where
-      same : (k : ℕ) → slice_get schema.tables (place_of_one is.place k) ≡ option_map (in_tree (tree_of_one is.tree k)) (slice_get (of_one t).tables k)
+      same : (k : ℕ) → slice_get schema.tables (place_of_one is.place k) ≡ option_map (in_tree (tree_of_one is.tree k)) (slice_get (of_one t).tables
+          k)
       same zero = is.listed
       same (suc k) = slice_get_past schema.tables (length schema.tables) (omega arith)
 
@@ -130,7 +149,8 @@ module _ (schema : Schema) where
       → accepts_program schema [] q [] ≡ true
   accepts_one t is q from h =
       ap (λ j. accepts_after [] q (filled schema [] [] j []) && (is_count [] q.limit && is_count [] q.offset)) from
-      ∙ ap (λ o. accepts_after [] q (option_and_then (filled schema [] [] end) (option_map (λ row. [] ++ row ∷ []) o)) && (is_count [] q.limit && is_count [] q.offset)) (classes_are t is)
+      ∙ ap (λ o. accepts_after [] q (option_and_then (filled schema [] [] end) (option_map (λ row. [] ++ row ∷ []) o)) && (is_count [] q.limit &&
+      is_count [] q.offset)) (classes_are t is)
       ∙ h
 
   pub accepts_two : (t u : Table) (is : Stands schema t) (next : Stands schema u) (q : Query) → q.from ≡ inner is.tree (inner next.tree end)
@@ -138,8 +158,10 @@ module _ (schema : Schema) where
       → accepts_program schema [] q [] ≡ true
   accepts_two t u is next q from h =
       ap (λ j. accepts_after [] q (filled schema [] [] j []) && (is_count [] q.limit && is_count [] q.offset)) from
-      ∙ ap (λ o. accepts_after [] q (option_and_then (filled schema [] [] (inner next.tree end)) (option_map (λ row. [] ++ row ∷ []) o)) && (is_count [] q.limit && is_count [] q.offset)) (classes_are t is)
-      ∙ ap (λ o. accepts_after [] q (option_and_then (filled schema [] [] end) (option_map (λ row. (row_classes t ∷ []) ++ row ∷ []) o)) && (is_count [] q.limit && is_count [] q.offset)) (classes_are u next)
+      ∙ ap (λ o. accepts_after [] q (option_and_then (filled schema [] [] (inner next.tree end)) (option_map (λ row. [] ++ row ∷ []) o)) &&
+      (is_count [] q.limit && is_count [] q.offset)) (classes_are t is)
+      ∙ ap (λ o. accepts_after [] q (option_and_then (filled schema [] [] end) (option_map (λ row. (row_classes t ∷ []) ++ row ∷ []) o)) &&
+      (is_count [] q.limit && is_count [] q.offset)) (classes_are u next)
       ∙ h
 
 -- ---- from a text to a command
@@ -163,7 +185,8 @@ module _ (schema : Schema) where
       (chain (planned schema p) ([], (c, None)) (λ plan. Ok (with_command p plan)) _ plan refl)
     where
       goes : meaning schema p (small p.names + 0) ≡ Ok (c, None)
-      goes = rw (h.is, h.bare) (chain (returning schema (small p.names + 0) s) None _ _ shown (chain (command schema [] (small p.names + 0) s) c _ _ is refl))
+      goes = rw (h.is, h.bare) (chain (returning schema (small p.names + 0) s) None _ _ shown (chain (command schema [] (small p.names + 0) s) c _ _
+          is refl))
 
       times : timed schema p.formats p.statement ≡ []
       times = rw (h.is, h.bare) untimed
@@ -194,7 +217,8 @@ module _ (schema : Schema) where
         → compiled schema text ≡ Ok (with_command p ([], (Insert is.place s, None)))
     unfolding timed returning shows command insert_or_abort
     compiles_insert text p columns rows s h plain news =
-        compiles text p (written.Insert conflict.Abort t.name columns rows [] []) (Insert is.place s) h (untimed plain) refl (inserts (small p.names + 0) columns rows s news)
+        compiles text p (written.Insert conflict.Abort t.name columns rows [] []) (Insert is.place s) h (untimed plain) refl (inserts (small p.names
+        + 0) columns rows s news)
 
     -- ---- rows that are picked
 
@@ -205,13 +229,15 @@ module _ (schema : Schema) where
     over = write.over schema is.place t.name
 
     lowered : (n : ℕ) (e : Expr) → IsPlain n e → lower over e ≡ lower only e
-    lowered n e h = SameNames.lowers schema (of_one t) (place_of_one schema is.place) (tree_of_one schema is.tree) (one_is_at schema t is) n e h (write.level_of 0 t.name ∷ []) false true
+    lowered n e h = SameNames.lowers schema (of_one t) (place_of_one schema is.place) (tree_of_one schema is.tree) (one_is_at schema t is) n e h
+        (write.level_of 0 t.name ∷ []) false true
 
     picked : (project : List Term) (test : Option Expr) → IsPlainIfAny test
         → write.picked over (in_tree is.tree t) project test ≡ write.picked only (in_tree is.tree t) project test
     unfolding write.picked
     picked project test h = λ i. queries.tests schema (of_one t) (place_of_one schema is.place) (tree_of_one schema is.tree) (one_is_at schema t is)
-        (write.level_of 0 t.name ∷ []) false true [] test h i >>= (λ filter. take_steps >>= (λ steps. pure (write.simple (Inner is.tree ∷ steps) filter project)))
+        (write.level_of 0 t.name ∷ []) false true [] test h i >>= (λ filter. take_steps >>= (λ steps. pure (write.simple (Inner is.tree ∷ steps)
+        filter project)))
 
     abbrev pub picks : List Term → Option Expr → Checked Draft
     picks project test = select.value_of (write.picked only (in_tree is.tree t) project test (fresh 2 max_budget))
@@ -239,11 +265,13 @@ module _ (schema : Schema) where
         → write.sets_from over table done sets ≡ write.sets_from only table done sets
     sets_from table done [] h = refl
     sets_from table done (set ∷ more) h = λ i s.
-        and_then (write.with_place table done.0 set.0) (λ at. and_then (lowered 4 set.1 h.0 i s) (λ r. sets_from table (at, done.1 ++ r.0 ∷ []) more h.1 i r.1))
+        and_then (write.with_place table done.0 set.0) (λ at. and_then (lowered 4 set.1 h.0 i s) (λ r. sets_from table (at, done.1 ++ r.0 ∷ []) more
+        h.1 i r.1))
 
     assigned : (table : Table) (sets : List (Name × Expr)) → ArePlain sets → write.assigned over table sets ≡ write.assigned only table sets
     unfolding write.assigned write.sets
-    assigned table sets h = λ i. sets_from table ([], []) sets h i >>= (λ found. get >>= (λ s. cond (any_scans table.tree s.steps) (fail Unsupported) (pure found)))
+    assigned table sets h = λ i. sets_from table ([], []) sets h i >>= (λ found. get >>= (λ s. cond (any_scans table.tree s.steps) (fail
+        Unsupported) (pure found)))
 
     abbrev pub updates : List (Name × Expr) → Option Expr → Checked Draft
     updates sets test = write.updated_in only (in_tree is.tree t) sets test
@@ -261,7 +289,8 @@ module _ (schema : Schema) where
     unfolding timed returning shows command update write.updated program.program
     compiles_update text p sets test d h hs plain updated accepted =
         compiles text p (written.Update t.name sets test []) (Update is.place (record { lets = []; body = query_of d })) h refl refl
-        (at_table (λ at table. and_then (write.updated schema at table sets test) (λ d. and_then (program.program schema [] d) (λ q. Ok (Update at q))))
+        (at_table (λ at table. and_then (write.updated schema at table sets test) (λ d. and_then (program.program schema [] d) (λ q. Ok (Update at
+        q))))
         ∙ chain (write.updated schema is.place (in_tree is.tree t) sets test) d _ _ (updated_in sets test hs plain ∙ updated)
         (chain (program.program schema [] d) (record { lets = []; body = query_of d }) _ _ (rw accepted) refl))
 
@@ -285,7 +314,8 @@ module _ (schema : Schema) where
   sources_from : (Q : Nested) (slot : ℕ) (ss : List Source) → AreTables ss → program.sources_from Q schema schema slot ss [] ≡ Ok (schema, [])
   unfolding program.source
   sources_from Q slot [] h = refl
-  sources_from Q slot (s ∷ ss) h = chain (program.source Q schema schema slot (out-Source s).origin []) (schema, []) _ _ (one (out-Source s).origin h.0) (sources_from Q (slot + 1) ss h.1)
+  sources_from Q slot (s ∷ ss) h = chain (program.source Q schema schema slot (out-Source s).origin []) (schema, []) _ _ (one (out-Source s).origin
+      h.0) (sources_from Q (slot + 1) ss h.1)
     where
       one : (o : Origin Select) → IsTable o → program.source Q schema schema slot o [] ≡ Ok (schema, [])
       one (origin.Table name) h = refl
@@ -300,9 +330,11 @@ module _ (schema : Schema) where
       chain (program.with Q schema (out-Select s).with []) (schema, []) (λ r. program.whole Q r.0 s r.1) _
       (ap (λ l. program.with Q schema l []) alone.with)
       (chain (program.lift (select.paging schema s) []) (page, []) _ _ (ap (λ r. program.lift r []) paged)
-      (ap (λ l. (cond (length l == 0) (program.alone Q schema (out-Select s).first (out-Select s).order page) (program.compound Q schema s page)) []) alone.others
+      (ap (λ l. (cond (length l == 0) (program.alone Q schema (out-Select s).first (out-Select s).order page) (program.compound Q schema s page))
+      []) alone.others
       ∙ chain (program.single Q schema (out-Select s).first (out-Select s).order page []) ((found, schema), []) _ _
-      (chain (program.sources Q schema (out-Core (out-Select s).first).from []) (schema, []) _ _ (sources_from Q 1 (out-Core (out-Select s).first).from tables)
+      (chain (program.sources Q schema (out-Core (out-Select s).first).from []) (schema, []) _ _ (sources_from Q 1 (out-Core (out-Select
+      s).first).from tables)
       (ap (λ r. program.or_view Q (program.viewing Q schema (out-Select s).first (out-Select s).order page 63) schema schema r []) is))
       refl))
 
@@ -324,7 +356,8 @@ pub record Means (schema : Schema) (text : List ℕ) (c : Command) : Type 0 wher
   pub plain : IsBare (understood schema text)
   pub unlisted : reads_listing schema text ≡ false
 
-means : (schema : Schema) (text : List ℕ) (p : Parsed) (c : Command) → compiled schema text ≡ Ok (with_command p ([], (c, None))) → Means schema text c
+means : (schema : Schema) (text : List ℕ) (p : Parsed) (c : Command) → compiled schema text ≡ Ok (with_command p ([], (c, None)))
+    → Means schema text c
 unfolding understood
 means schema text p c is = record { is = rw is; plain = rw is (refl, refl); unlisted = ap misses_table is }
 
@@ -370,7 +403,8 @@ module _ (schema : Schema) (t : Table) (is : Stands schema t) where
       → IsInsert (parsed_from text).statement (small (parsed_from text).names + 0) s → Means schema text (Insert is.place s)
   means_insert text s it untimed = go (parsed_from text).statement refl
     where
-      go : (w : Statement) → (parsed_from text).statement ≡ w → IsInsert w (small (parsed_from text).names + 0) s → Means schema text (Insert is.place s)
+      go : (w : Statement) → (parsed_from text).statement ≡ w → IsInsert w (small (parsed_from text).names + 0) s
+          → Means schema text (Insert is.place s)
       go (written.Insert how name columns rows clauses shown) e h = means schema text (parsed_from text) (Insert is.place s)
           (compiles_insert schema t is text (parsed_from text) columns rows s
           (record { read = it.0; is = e ∙ (λ i. written.Insert (h.0 i) (h.1 i) columns rows (h.2 i) (h.3 i)); bare = it.1 }) untimed h.4)
@@ -440,14 +474,15 @@ module _ (schema small : Schema) (place tree : ℕ → ℕ) (are : AreAt schema 
           (record { from = h.4; on = h.5; shown = h.6; filter = h.7; group = h.8; having = h.9 }) h.10 ∙ h.11) accepted)
       go _ e h = absurd h
 
-module _ (schema : Schema) (t : Table) (is : Stands schema t) (page : Term × Term) (d : Draft) (names : List Name) (how : List (Option Collation)) where
-  abbrev pub IsQueryOne : Statement → Type 0
-  IsQueryOne = IsQuery schema (of_one t) (place_of_one schema is.place) (tree_of_one schema is.tree) (one_is_at schema t is) page d names how
+module _ (schema : Schema) (t : Table) (is : Stands schema t) (page : Term × Term) (d : Draft) (names : List Name) (how : List (Option Collation))
+  where
+    abbrev pub IsQueryOne : Statement → Type 0
+    IsQueryOne = IsQuery schema (of_one t) (place_of_one schema is.place) (tree_of_one schema is.tree) (one_is_at schema t is) page d names how
 
-  pub means_query_one : (text : List ℕ) → IsRead text → (query_of d).from ≡ inner is.tree end
-      → IsTyped (t ∷ []) (query_of d) → IsQueryOne (parsed_from text).statement → Means schema text (Reads (program_of d) names)
-  means_query_one text it from typed = means_query schema (of_one t) (place_of_one schema is.place) (tree_of_one schema is.tree)
-      (one_is_at schema t is) page d names how text it (accepts_one schema t is (query_of d) from typed)
+    pub means_query_one : (text : List ℕ) → IsRead text → (query_of d).from ≡ inner is.tree end
+        → IsTyped (t ∷ []) (query_of d) → IsQueryOne (parsed_from text).statement → Means schema text (Reads (program_of d) names)
+    means_query_one text it from typed = means_query schema (of_one t) (place_of_one schema is.place) (tree_of_one schema is.tree)
+        (one_is_at schema t is) page d names how text it (accepts_one schema t is (query_of d) from typed)
 
 module _ (schema : Schema) (t u : Table) (is : Stands schema t) (next : Stands schema u) (page : Term × Term) (d : Draft) (names : List Name)
     (how : List (Option Collation)) where

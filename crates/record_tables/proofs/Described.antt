@@ -339,9 +339,19 @@ pub changed : {X : Type 0} (d : Described X) (old new : Database) (t : Tables) (
     → IsKeyedBy d.key xs → StoresKeyed new (d.with_rows xs t)
 changed {X} d old new t xs s keyed same others rows up =
     let has = s.schema in
-    let all = put_all_in old.trees new.trees d.table.name (map d.to_row xs) (kept old.schema has t)
-    (put has.common.messages, (put has.common.records, (put has.common.holds, (put has.common.settings,
-    (put has.common.classes, (put has.schedules, (put has.dues, tt))))))) (stored_rows old t s) in
+    let all = put_all_in old.trees new.trees d.table.name (map d.to_row xs) (kept old.schema has t) (
+      put has.common.messages,
+      (
+        put has.common.records,
+        (
+          put has.common.holds,
+          (
+            put has.common.settings,
+            (put has.common.classes, (put has.schedules, (put has.dues, tt))),
+          ),
+        ),
+      ),
+    ) (stored_rows old t s) in
     let laid = stores_rows old.schema has new.trees (d.with_rows xs t) (subst (AreIn new.trees) (sym (d.kept_with old.schema has xs t)) all) in (
       subst (λ schema. Stores (record { schema = schema; trees = new.trees }) (d.with_rows xs t)) (sym same) laid,
       d.keyed_with xs t keyed up,

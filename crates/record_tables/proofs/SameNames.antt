@@ -1,5 +1,5 @@
 -- A name means the same over two schemas that have the same tables at other places.
-use Rattle.std.proofs.Common.{◌≡◌, ℕ, zero, suc, ◌^◌, ◌+◌, List, [], ◌∷◌, ◌++◌, map, Bool, true, false, cond, not, ◌&&◌, ◌||◌, Option, Some, None, Ok, Err, slice_get, refl, sym, ap, subst, ◌∙◌}
+use Rattle.std.proofs.Common.{◌≡◌, ℕ, zero, suc, ◌^◌, ◌+◌, List, [], ◌∷◌, map, Bool, true, false, cond, not, ◌&&◌, ◌||◌, Option, Some, None, Ok, Err, slice_get, refl, sym, ap, subst, ◌∙◌}
 use Rattle.std.proofs.Common.{option_map, option_and_then, unwrap_or, is_some, nat_lt, ◌==◌, find}
 use Rattle.std.specs.List.{AllByRecursion}
 use Rattle.std.proofs.lemmas.Option.{slice_get-map}
@@ -7,18 +7,33 @@ use Rattle.sqlite.specs.Table.{Table}
 use Rattle.sqlite.specs.Schema.{Schema}
 use Rattle.sqlite_sql.specs.Term.{Term, lit, col, op1, op2, case}
 use Rattle.sqlite_schema.specs.Names.{column_named, place_of}
-use Rattle.sqlite_resolve.specs.declared.error.CompileError.TheVariants.{NoSuchColumn, Ambiguous, Unsupported}
+use Rattle.sqlite_resolve.specs.declared.error.CompileError.TheVariants.{NoSuchColumn}
 use Rattle.record_tables.specs.Tables.{in_tree}
 use Rattle.sqlite_resolve.specs.declared.state.Carried.{Carried}
 use Rattle.sqlite_resolve.specs.declared.scope.Bound.{Bound}
 use Rattle.sqlite_resolve.specs.declared.scope.Found.{Found}
 use Rattle.sqlite_resolve.specs.declared.scope.Found.TheVariants.{Column, Rowid, Alias}
 use Rattle.sqlite_resolve.specs.declared.scope.Level.{Level}
-use Rattle.sqlite_resolve.specs.Lowering.{Checked, and_then, or_else, Lowering, ◌>>=◌, ◌>>◌, pure, lift, carry, last, spend, begin, finish, chosen as chosen_by}
+use Rattle.sqlite_resolve.specs.Lowering.{
+  Checked,
+  and_then,
+  or_else,
+  Lowering,
+  ◌>>=◌,
+  ◌>>◌,
+  pure,
+  lift,
+  carry,
+  last,
+  spend,
+  begin,
+  finish,
+  chosen
+      as chosen_by,
+}
 use Rattle.sqlite_resolve.specs.Scope as scope
 use Rattle.sqlite_resolve.specs.Compare as compare
 use Rattle.sqlite_resolve.specs.Expr as expr
-use Rattle.sqlite_resolve.specs.declared.scope.Output.{Output}
 use Rattle.sqlite_resolve.specs.declared.compare.Affinity.TheVariants as affinity
 use Rattle.sqlite_ast.specs.declared.Binary.{Binary}
 use Rattle.sqlite_ast.specs.declared.Binary.TheVariants as binary
@@ -97,7 +112,8 @@ module _ (S S' : Schema) (p q : ℕ → ℕ) (are : AreAt S S' p q) where
   column_in name b = ap (λ o. option_map (Column b.slot (p b.table)) (option_and_then (λ t. column_named t name) o)) (are.same b.table)
       ∙ go (slice_get S'.tables b.table)
     where
-      go : (o : Option Table) → option_map (Column b.slot (p b.table)) (option_and_then (λ t. column_named t name) (option_map (in_tree (q b.table)) o))
+      go : (o : Option Table) → option_map (Column b.slot (p b.table)) (option_and_then (λ t. column_named t name) (option_map (in_tree (q b.table))
+          o))
           ≡ moved_option (option_map (Column b.slot b.table) (option_and_then (λ t. column_named t name) o))
       go None = refl
       go (Some t) = columns_map b.slot b.table (column_named t name)
@@ -127,7 +143,8 @@ module _ (S S' : Schema) (p q : ℕ → ℕ) (are : AreAt S S' p q) where
   chosen true false x y x' y' e f = f
   chosen false r x y x' y' e f = refl
 
-  hit : (table : Option Name) (name : Name) (by_rowid : Bool) (b : Bound) → scope.hit S table name by_rowid (moved b) ≡ moved_option (scope.hit S' table name by_rowid b)
+  hit : (table : Option Name) (name : Name) (by_rowid : Bool) (b : Bound) → scope.hit S table name by_rowid (moved b)
+      ≡ moved_option (scope.hit S' table name by_rowid b)
   unfolding scope.hit
   hit None name by_rowid b = chosen (not (scope.is_hidden None name b)) by_rowid _ _ _ _ (rowid_in b) (column_in name b)
   hit (Some table) name by_rowid b = chosen (scope.is_meant (Some table) b && true) by_rowid _ _ _ _ (rowid_in b) (column_in name b)
@@ -146,12 +163,14 @@ module _ (S S' : Schema) (p q : ℕ → ℕ) (are : AreAt S S' p q) where
       ∙ ap (λ r. and_then r (λ g. scope.only_from test g (map moved bs))) (at_most f (test' b))
       ∙ go (scope.at_most_one f (test' b)) (λ g. only_from test test' h g bs)
     where
-      go : (r : Checked (Option Found)) → ((g : Option Found) → scope.only_from test (moved_option g) (map moved bs) ≡ moved_hit (scope.only_from test' g bs))
+      go : (r : Checked (Option Found)) → ((g : Option Found) → scope.only_from test (moved_option g) (map moved bs)
+          ≡ moved_hit (scope.only_from test' g bs))
           → and_then (moved_hit r) (λ g. scope.only_from test g (map moved bs)) ≡ moved_hit (and_then r (λ g. scope.only_from test' g bs))
       go (Ok g) more = more g
       go (Err e) more = refl
 
-  only : (table : Option Name) (name : Name) (by_rowid : Bool) (bs : List Bound) → scope.only S table name by_rowid (map moved bs) ≡ moved_hit (scope.only S' table name by_rowid bs)
+  only : (table : Option Name) (name : Name) (by_rowid : Bool) (bs : List Bound) → scope.only S table name by_rowid (map moved bs)
+      ≡ moved_hit (scope.only S' table name by_rowid bs)
   unfolding scope.only
   only table name by_rowid bs = only_from (scope.hit S table name by_rowid) (scope.hit S' table name by_rowid) (hit table name by_rowid) None bs
 
@@ -161,7 +180,8 @@ module _ (S S' : Schema) (p q : ℕ → ℕ) (are : AreAt S S' p q) where
   -- the column, or else the rowid, or else the alias
   abbrev by_turns : Checked (Option Found) → Bool → Checked (Option Found) → Bool → Option Found → Checked (Option Found)
   by_turns columns is_rowid rowids among alias =
-      and_then columns (λ column. cond (is_some column) (Ok column) (and_then (cond is_rowid rowids (Ok None)) (λ rowid. cond (is_some rowid || among) (Ok rowid) (Ok alias))))
+      and_then columns (λ column. cond (is_some column) (Ok column) (and_then (cond is_rowid rowids (Ok None)) (λ rowid. cond (is_some rowid ||
+      among) (Ok rowid) (Ok alias))))
 
   turns : (columns rowids : Checked (Option Found)) (is_rowid among : Bool) (depth : ℕ) (alias : Option ℕ)
       → by_turns (moved_hit columns) is_rowid (moved_hit rowids) among (option_map (Alias depth) alias)
@@ -177,14 +197,18 @@ module _ (S S' : Schema) (p q : ℕ → ℕ) (are : AreAt S S' p q) where
   turns (Ok None) rowids false false depth None = refl
   turns (Ok None) rowids false false depth (Some at) = refl
 
-  in_level : (table : Option Name) (name : Name) (depth : ℕ) (l : Level) → scope.in_level S table name depth (moved_level l) ≡ moved_hit (scope.in_level S' table name depth l)
+  in_level : (table : Option Name) (name : Name) (depth : ℕ) (l : Level) → scope.in_level S table name depth (moved_level l)
+      ≡ moved_hit (scope.in_level S' table name depth l)
   unfolding scope.in_level
   in_level table name depth l =
-      ap (λ c. by_turns c (scope.is_rowid name) (scope.only S table name true (map moved l.tables)) (is_some table) (option_map (Alias depth) (scope.alias_of name l.shown)))
+      ap (λ c. by_turns c (scope.is_rowid name) (scope.only S table name true (map moved l.tables)) (is_some table) (option_map (Alias depth)
+      (scope.alias_of name l.shown)))
       (only table name false l.tables)
-      ∙ ap (λ r. by_turns (moved_hit (scope.only S' table name false l.tables)) (scope.is_rowid name) r (is_some table) (option_map (Alias depth) (scope.alias_of name l.shown)))
+      ∙ ap (λ r. by_turns (moved_hit (scope.only S' table name false l.tables)) (scope.is_rowid name) r (is_some table) (option_map (Alias depth)
+      (scope.alias_of name l.shown)))
       (only table name true l.tables)
-      ∙ turns (scope.only S' table name false l.tables) (scope.only S' table name true l.tables) (scope.is_rowid name) (is_some table) depth (scope.alias_of name l.shown)
+      ∙ turns (scope.only S' table name false l.tables) (scope.only S' table name true l.tables) (scope.is_rowid name) (is_some table) depth
+      (scope.alias_of name l.shown)
 
   find_from : (table : Option Name) (name : Name) (depth : ℕ) (ls : List Level)
       → scope.find_from S table name depth (map moved_level ls) ≡ moved_result (scope.find_from S' table name depth ls)
@@ -194,7 +218,8 @@ module _ (S S' : Schema) (p q : ℕ → ℕ) (are : AreAt S S' p q) where
       ∙ ap (λ r. and_then (moved_hit (scope.in_level S' table name depth l)) (scope.found_or r)) (find_from table name (depth + 1) ls)
       ∙ go (scope.in_level S' table name depth l) (scope.find_from S' table name (depth + 1) ls)
     where
-      go : (r : Checked (Option Found)) (outside : Checked Found) → and_then (moved_hit r) (scope.found_or (moved_result outside)) ≡ moved_result (and_then r (scope.found_or outside))
+      go : (r : Checked (Option Found)) (outside : Checked Found) → and_then (moved_hit r) (scope.found_or (moved_result outside))
+          ≡ moved_result (and_then r (scope.found_or outside))
       go (Ok (Some f)) outside = refl
       go (Ok None) (Ok f) = refl
       go (Ok None) (Err e) = refl
@@ -206,7 +231,8 @@ module _ (S S' : Schema) (p q : ℕ → ℕ) (are : AreAt S S' p q) where
   finds ls m a table name = find_from table name 0 ls
 
   abbrev described : ℕ → ℕ → Option Table → Checked (Term × Carried)
-  described slot at o = or_else (option_and_then (λ t. option_map (λ c. (col slot (place_of t at), scope.declared t at c)) (slice_get t.columns at)) o) NoSuchColumn
+  described slot at o = or_else (option_and_then (λ t. option_map (λ c. (col slot (place_of t at), scope.declared t at c)) (slice_get t.columns at))
+      o) NoSuchColumn
 
   column_at : (slot k at : ℕ) → scope.column_at S slot (p k) at ≡ scope.column_at S' slot k at
   unfolding scope.column_at
@@ -231,7 +257,8 @@ module _ (S S' : Schema) (p q : ℕ → ℕ) (are : AreAt S S' p q) where
   term_of ls m true (Alias depth at) = levels_at ls depth (λ l. scope.shown_again (m && depth == 0) l.shown at) (λ l. refl)
   term_of ls m false (Alias depth at) = refl
 
-  pub column : (ls : List Level) (m a : Bool) (table : Option Name) (name : Name) → scope.column (here ls m a) table name ≡ scope.column (there ls m a) table name
+  pub column : (ls : List Level) (m a : Bool) (table : Option Name) (name : Name) → scope.column (here ls m a) table name
+      ≡ scope.column (there ls m a) table name
   unfolding scope.column
   column ls m a table name = ap (λ r. lift r >>= scope.term_of (here ls m a)) (finds ls m a table name) ∙ go (scope.find (there ls m a) table name)
     where
@@ -253,7 +280,8 @@ module _ (S S' : Schema) (p q : ℕ → ℕ) (are : AreAt S S' p q) where
       find_moved (b ∷ bs) = next (b.slot == slot) (find_moved bs)
         where
           next : (c : Bool) → find (λ b. b.slot == slot) (map moved bs) ≡ option_map moved (find (λ b. b.slot == slot) bs)
-              → cond c (Some (moved b)) (find (λ b. b.slot == slot) (map moved bs)) ≡ option_map moved (cond c (Some b) (find (λ b. b.slot == slot) bs))
+              → cond c (Some (moved b)) (find (λ b. b.slot == slot) (map moved bs)) ≡ option_map moved (cond c (Some b) (find (λ b. b.slot == slot)
+              bs))
           next true h = refl
           next false h = h
 
@@ -264,10 +292,12 @@ module _ (S S' : Schema) (p q : ℕ → ℕ) (are : AreAt S S' p q) where
 
   at_place : (k at : ℕ) → compare.at_place S (p k) at ≡ compare.at_place S' k at
   at_place k zero = refl
-  at_place k (suc at) = ap (λ o. unwrap_or (option_map compare.of_declared (option_and_then (λ t. slice_get t.columns at) o)) affinity.None) (are.same k)
+  at_place k (suc at) = ap (λ o. unwrap_or (option_map compare.of_declared (option_and_then (λ t. slice_get t.columns at) o)) affinity.None)
+      (are.same k)
       ∙ go (slice_get S'.tables k)
     where
-      go : (o : Option Table) → unwrap_or (option_map compare.of_declared (option_and_then (λ t. slice_get t.columns at) (option_map (in_tree (q k)) o))) affinity.None
+      go : (o : Option Table) → unwrap_or (option_map compare.of_declared (option_and_then (λ t. slice_get t.columns at) (option_map (in_tree (q k))
+          o))) affinity.None
           ≡ unwrap_or (option_map compare.of_declared (option_and_then (λ t. slice_get t.columns at) o)) affinity.None
       go None = refl
       go (Some t) = refl
@@ -275,7 +305,8 @@ module _ (S S' : Schema) (p q : ℕ → ℕ) (are : AreAt S S' p q) where
   of_column : (ls : List Level) (m a : Bool) (slot at : ℕ) → compare.of_column (here ls m a) slot at ≡ compare.of_column (there ls m a) slot at
   unfolding compare.of_column
   of_column ls m a slot at =
-      ap (λ o. cond (slot == 0 && at == 0) affinity.None (unwrap_or (option_map (λ table. compare.at_place S table at) o) affinity.None)) (table_in slot ls)
+      ap (λ o. cond (slot == 0 && at == 0) affinity.None (unwrap_or (option_map (λ table. compare.at_place S table at) o) affinity.None)) (table_in
+      slot ls)
       ∙ ap (λ x. cond (slot == 0 && at == 0) affinity.None x) (go (compare.table_in slot ls))
     where
       go : (o : Option ℕ) → unwrap_or (option_map (λ table. compare.at_place S table at) (option_map p o)) affinity.None
@@ -291,10 +322,12 @@ module _ (S S' : Schema) (p q : ℕ → ℕ) (are : AreAt S S' p q) where
   affinity_of ls m a (op2 op x y) = refl
   affinity_of ls m a (case t x y) = refl
 
-  compared : (ls : List Level) (m a : Bool) (op : BinaryOp) (x y : Term) → compare.compared (here ls m a) op x y ≡ compare.compared (there ls m a) op x y
+  compared : (ls : List Level) (m a : Bool) (op : BinaryOp) (x y : Term) → compare.compared (here ls m a) op x y
+      ≡ compare.compared (there ls m a) op x y
   unfolding compare.compared
   compared ls m a op x y = λ i.
-      op2 op (compare.converted (affinity_of ls m a x i) (affinity_of ls m a y i) x) (compare.converted (affinity_of ls m a y i) (affinity_of ls m a x i) y)
+      op2 op (compare.converted (affinity_of ls m a x i) (affinity_of ls m a y i) x) (compare.converted (affinity_of ls m a y i) (affinity_of ls m a
+      x i) y)
 
   -- ---- expressions
 
@@ -315,10 +348,14 @@ module _ (S S' : Schema) (p q : ℕ → ℕ) (are : AreAt S S' p q) where
     operation : (op : Binary) (x y : Expr) → IsPlainOperator op → IsPlain n x → IsPlain n y
         → expr.operation lower (here ls m a) op x y ≡ expr.operation lower (there ls m a) op x y
     unfolding expr.operation expr.both expr.wanted_truth expr.tests_truth expr.tests_alias
-    operation binary.Eq x y op hx hy = λ i. alike n x hx ls m a i >>= (λ s. last >>= (λ q. alike n y hy ls m a i >>= (λ t. last >>= (λ r. combined ls m a binary.Eq tt (chosen_by q r) s t i))))
-    operation binary.Le x y op hx hy = λ i. alike n x hx ls m a i >>= (λ s. last >>= (λ q. alike n y hy ls m a i >>= (λ t. last >>= (λ r. combined ls m a binary.Le tt (chosen_by q r) s t i))))
-    operation binary.Ge x y op hx hy = λ i. alike n x hx ls m a i >>= (λ s. last >>= (λ q. alike n y hy ls m a i >>= (λ t. last >>= (λ r. combined ls m a binary.Ge tt (chosen_by q r) s t i))))
-    operation binary.And x y op hx hy = λ i. alike n x hx ls m a i >>= (λ s. last >>= (λ q. alike n y hy ls m a i >>= (λ t. last >>= (λ r. combined ls m a binary.And tt (chosen_by q r) s t i))))
+    operation binary.Eq x y op hx hy = λ i. alike n x hx ls m a i >>= (λ s. last >>= (λ q. alike n y hy ls m a i >>= (λ t. last >>= (λ r. combined
+        ls m a binary.Eq tt (chosen_by q r) s t i))))
+    operation binary.Le x y op hx hy = λ i. alike n x hx ls m a i >>= (λ s. last >>= (λ q. alike n y hy ls m a i >>= (λ t. last >>= (λ r. combined
+        ls m a binary.Le tt (chosen_by q r) s t i))))
+    operation binary.Ge x y op hx hy = λ i. alike n x hx ls m a i >>= (λ s. last >>= (λ q. alike n y hy ls m a i >>= (λ t. last >>= (λ r. combined
+        ls m a binary.Ge tt (chosen_by q r) s t i))))
+    operation binary.And x y op hx hy = λ i. alike n x hx ls m a i >>= (λ s. last >>= (λ q. alike n y hy ls m a i >>= (λ t. last >>= (λ r. combined
+        ls m a binary.And tt (chosen_by q r) s t i))))
     operation _ x y op hx hy = absurd op
 
     layer : (l : Layer) → IsPlainLayer (IsPlain n) l → expr.node_at lower (here ls m a) l ≡ expr.node_at lower (there ls m a) l

@@ -1,8 +1,8 @@
 -- A query means the same over two schemas that have the same tables at other places.
-use Rattle.std.proofs.Common.{◌≡◌, ◌+◌, ℕ, zero, suc, List, [], ◌∷◌, ◌++◌, map, Bool, true, false, cond, not, ◌&&◌, Option, Some, None, Ok, Err, codes, slice_get, length, refl, sym, ap, subst, ◌∙◌}
+use Rattle.std.proofs.Common.{◌≡◌, ◌+◌, ℕ, List, [], ◌∷◌, ◌++◌, map, Bool, true, false, cond, not, ◌&&◌, Option, Some, None, Ok, Err, codes, slice_get, length, refl, sym, ap, subst, ◌∙◌}
 use Rattle.std.proofs.Common.{option_map, option_and_then, unwrap_or, is_some, nat_lt, ◌==◌}
 use Rattle.std.specs.List.{AllByRecursion, list_all}
-use Rattle.std.proofs.lemmas.List.{map-append, length-map}
+use Rattle.std.proofs.lemmas.List.{map-append}
 use Rattle.sqlite.specs.Table.{Table}
 use Rattle.sqlite.specs.Schema.{Schema}
 use Rattle.sqlite_sql.specs.Term.{Term, reads_below}
@@ -13,7 +13,7 @@ use Rattle.sqlite_ast.specs.declared.Expr.TheOpen.{Expr-F, Shown-F}
 use Rattle.sqlite_ast.specs.declared.Shown.{Shown, out-Shown}
 use Rattle.sqlite_ast.specs.declared.Origin.{Origin}
 use Rattle.sqlite_ast.specs.declared.Origin.TheVariants as origin
-use Rattle.sqlite_ast.specs.declared.Select.{Select, out-Select}
+use Rattle.sqlite_ast.specs.declared.Select.{Select}
 use Rattle.sqlite_ast.specs.declared.Source.{Source, out-Source}
 use Rattle.sqlite_ast.specs.declared.Core.{Core, out-Core}
 use Rattle.sqlite_ast.specs.declared.Sort.{Sort, out-Sort}
@@ -30,7 +30,7 @@ use Rattle.sqlite_resolve.specs.declared.scope.Level.{Level}
 use Rattle.sqlite_resolve.specs.declared.body.Joined.{Joined}
 use Rattle.sqlite_resolve.specs.declared.body.Body.{Body}
 use Rattle.sqlite_resolve.specs.declared.select.Clauses.{Clauses}
-use Rattle.sqlite_resolve.specs.Lowering.{Checked, and_then, or_else, Lowering, ◌>>=◌, ◌>>◌, ◌<$>◌, pure, fail, lift, last, get, take_slot, fresh, max_budget, chosen as chosen_by}
+use Rattle.sqlite_resolve.specs.Lowering.{Checked, and_then, or_else, Lowering, ◌>>=◌, ◌<$>◌, pure, fail, lift, last, get, take_slot, fresh, max_budget, chosen as chosen_by}
 use Rattle.sqlite_resolve.specs.Scope as scope
 use Rattle.sqlite_resolve.specs.Scope.{Name, Context}
 use Rattle.sqlite_resolve.specs.Terms.{equal, conjuncts}
@@ -125,14 +125,16 @@ module _ (S S' : Schema) (p q : ℕ → ℕ) (are : AreAt S S' p q) where
       → Moves (map moved) (body.bounds_from S (map moved done) ss) (body.bounds_from S' done ss)
   bounds_from done [] h = refl
   bounds_from done (s ∷ ss) h = binds moved (map moved) _ _ _ _ (bound s h.0) (λ b.
-      subst (λ l. Moves (map moved) (body.bounds_from S l ss) (body.bounds_from S' (done ++ b ∷ []) ss)) (map-append moved done (b ∷ [])) (bounds_from (done ++ b ∷ []) ss h.1))
+      subst (λ l. Moves (map moved) (body.bounds_from S l ss) (body.bounds_from S' (done ++ b ∷ []) ss)) (map-append moved done (b ∷ []))
+      (bounds_from (done ++ b ∷ []) ss h.1))
 
   bounds : (ss : List Source) → AllByRecursion IsNamed ss → Moves (map moved) (body.bounds S ss) (body.bounds S' ss)
   unfolding body.bounds
-  bounds ss h = elim (nat_lt 64 (length ss)) as (λ c. Moves (map moved) (cond c (fail TooBig) (body.bounds_from S [] ss)) (cond c (fail TooBig) (body.bounds_from S' [] ss))) [
-    | true ↦ refl
-    | false ↦ bounds_from [] ss h
-  ]
+  bounds ss h = elim (nat_lt 64 (length ss)) as (λ c. Moves (map moved) (cond c (fail TooBig) (body.bounds_from S [] ss)) (cond c (fail TooBig)
+      (body.bounds_from S' [] ss))) [
+        | true ↦ refl
+        | false ↦ bounds_from [] ss h
+      ]
 
   -- ---- what is shown
 
@@ -141,9 +143,11 @@ module _ (S S' : Schema) (p q : ℕ → ℕ) (are : AreAt S S' p q) where
   heading ls m a e text = at_layer (out-Expr e)
     where
       declared : (k : ℕ) (at : Option ℕ) → body.declared S (p k) at ≡ body.declared S' k at
-      declared k at = ap (option_and_then (λ t. option_and_then (λ j. option_map (λ c. c.name) (slice_get t.columns j)) at)) (are.same k) ∙ go (slice_get S'.tables k)
+      declared k at = ap (option_and_then (λ t. option_and_then (λ j. option_map (λ c. c.name) (slice_get t.columns j)) at)) (are.same k)
+          ∙ go (slice_get S'.tables k)
         where
-          go : (o : Option Table) → option_and_then (λ t. option_and_then (λ j. option_map (λ c. c.name) (slice_get t.columns j)) at) (option_map (in_tree (q k)) o)
+          go : (o : Option Table) → option_and_then (λ t. option_and_then (λ j. option_map (λ c. c.name) (slice_get t.columns j)) at) (option_map
+              (in_tree (q k)) o)
               ≡ option_and_then (λ t. option_and_then (λ j. option_map (λ c. c.name) (slice_get t.columns j)) at) o
           go None = refl
           go (Some t) = refl
@@ -157,13 +161,16 @@ module _ (S S' : Schema) (p q : ℕ → ℕ) (are : AreAt S S' p q) where
 
       named : (r : Checked Found) → body.found_name S text (SameNames.moved_result S S' p q are r) ≡ body.found_name S' text r
       named (Ok (Column slot k at)) = ap (λ o. unwrap_or o text) (declared k (Some at))
-      named (Ok (Rowid slot k)) = ap (λ o. unwrap_or (body.declared S (p k) o) (codes "rowid")) (keyed k) ∙ ap (λ o. unwrap_or o (codes "rowid")) (declared k _)
+      named (Ok (Rowid slot k)) = ap (λ o. unwrap_or (body.declared S (p k) o) (codes "rowid")) (keyed k)
+          ∙ ap (λ o. unwrap_or o (codes "rowid")) (declared k _)
       named (Ok (Alias depth at)) = refl
       named (Err e) = refl
 
       at_layer : (l : Layer) → body.heading_at (here ls m a) text l ≡ body.heading_at (there ls m a) text l
-      at_layer (Expr-F.Column table name) = ap (body.found_name S text) (SameNames.finds S S' p q are ls m a table name) ∙ named (scope.find (there ls m a) table name)
-      at_layer (Expr-F.Truth name value) = ap (body.found_name S text) (SameNames.finds S S' p q are ls m a None name) ∙ named (scope.find (there ls m a) None name)
+      at_layer (Expr-F.Column table name) = ap (body.found_name S text) (SameNames.finds S S' p q are ls m a table name)
+          ∙ named (scope.find (there ls m a) table name)
+      at_layer (Expr-F.Truth name value) = ap (body.found_name S text) (SameNames.finds S S' p q are ls m a None name)
+          ∙ named (scope.find (there ls m a) None name)
       at_layer _ = refl
 
   lowered : (n : ℕ) (e : Expr) → IsPlain n e → (ls : List Level) (m a : Bool) → lower (here ls m a) e ≡ lower (there ls m a) e
@@ -176,10 +183,17 @@ module _ (S S' : Schema) (p q : ℕ → ℕ) (are : AreAt S S' p q) where
     where
       at_layer : (l : ShownLayer) → IsPlainShown l → body.shown_at lower (here ls m a) bs done l ≡ body.shown_at lower (there ls m a) cs done l
       at_layer (Shown-F.One e alias text) h = λ i. lowered 4 e h ls m a i >>= (λ t. last >>= (λ c.
-          pure (done ++ record { name = unwrap_or alias (heading ls m a e text i); is_alias = is_some alias; is_column = body.is_column e; term = t; carried = c } ∷ [])))
+          pure (done ++ record {
+            name = unwrap_or alias (heading ls m a e text i);
+            is_alias = is_some alias;
+            is_column = body.is_column e;
+            term = t;
+            carried = c;
+          } ∷ [])))
       at_layer _ h = absurd h
 
-  outputs_from : (ls : List Level) (m a : Bool) (bs cs : List Bound) (done : List Output) (ss : List Shown) → AllByRecursion (λ s. IsPlainShown (out-Shown s)) ss
+  outputs_from : (ls : List Level) (m a : Bool) (bs cs : List Bound) (done : List Output) (ss : List Shown)
+      → AllByRecursion (λ s. IsPlainShown (out-Shown s)) ss
       → body.outputs_from lower (here ls m a) bs done ss ≡ body.outputs_from lower (there ls m a) cs done ss
   outputs_from ls m a bs cs done [] h = refl
   outputs_from ls m a bs cs done (s ∷ ss) h = λ i. shown ls m a bs cs done s h.0 i >>= (λ longer. outputs_from ls m a bs cs longer ss h.1 i)
@@ -200,7 +214,8 @@ module _ (S S' : Schema) (p q : ℕ → ℕ) (are : AreAt S S' p q) where
 
   leftmost : (name : Name) (bs : List Bound) → body.leftmost S name (map moved bs) ≡ SameNames.moved_option S S' p q are (body.leftmost S' name bs)
   leftmost name [] = refl
-  leftmost name (b ∷ bs) = ap (λ o. cond (is_some o) o (body.leftmost S name (map moved bs))) (SameNames.column_in S S' p q are name b) ∙ go (scope.column_in S' name b) (leftmost name bs)
+  leftmost name (b ∷ bs) = ap (λ o. cond (is_some o) o (body.leftmost S name (map moved bs))) (SameNames.column_in S S' p q are name b)
+      ∙ go (scope.column_in S' name b) (leftmost name bs)
     where
       go : (o : Option Found) → body.leftmost S name (map moved bs) ≡ SameNames.moved_option S S' p q are (body.leftmost S' name bs)
           → cond (is_some (SameNames.moved_option S S' p q are o)) (SameNames.moved_option S S' p q are o) (body.leftmost S name (map moved bs))
@@ -209,7 +224,8 @@ module _ (S S' : Schema) (p q : ℕ → ℕ) (are : AreAt S S' p q) where
       go (Some f) more = refl
 
   read_by : (ls : List Level) (m a : Bool) (o : Option Found)
-      → (lift (or_else (SameNames.moved_option S S' p q are o) NoSuchColumn) >>= scope.term_of (here ls m a)) ≡ (lift (or_else o NoSuchColumn) >>= scope.term_of (there ls m a))
+      → (lift (or_else (SameNames.moved_option S S' p q are o) NoSuchColumn) >>= scope.term_of (here ls m a))
+      ≡ (lift (or_else o NoSuchColumn) >>= scope.term_of (there ls m a))
   read_by ls m a None = refl
   read_by ls m a (Some f) = SameNames.term_of S S' p q are ls m a f
 
@@ -221,18 +237,21 @@ module _ (S S' : Schema) (p q : ℕ → ℕ) (are : AreAt S S' p q) where
     where
       left : (lift (or_else (body.leftmost S name (map moved tables)) NoSuchColumn) >>= scope.term_of (here ls m a))
           ≡ (lift (or_else (body.leftmost S' name tables) NoSuchColumn) >>= scope.term_of (there ls m a))
-      left = ap (λ o. lift (or_else o NoSuchColumn) >>= scope.term_of (here ls m a)) (leftmost name tables) ∙ read_by ls m a (body.leftmost S' name tables)
+      left = ap (λ o. lift (or_else o NoSuchColumn) >>= scope.term_of (here ls m a)) (leftmost name tables)
+          ∙ read_by ls m a (body.leftmost S' name tables)
 
       right : (lift (or_else (scope.column_in S name (moved b)) NoSuchColumn) >>= scope.term_of (here ls m a))
           ≡ (lift (or_else (scope.column_in S' name b) NoSuchColumn) >>= scope.term_of (there ls m a))
-      right = ap (λ o. lift (or_else o NoSuchColumn) >>= scope.term_of (here ls m a)) (SameNames.column_in S S' p q are name b) ∙ read_by ls m a (scope.column_in S' name b)
+      right = ap (λ o. lift (or_else o NoSuchColumn) >>= scope.term_of (here ls m a)) (SameNames.column_in S S' p q are name b)
+          ∙ read_by ls m a (scope.column_in S' name b)
 
   shared_from : (ls : List Level) (m a : Bool) (tables : List Bound) (b : Bound) (done : List Term) (names : List Name)
       → body.shared_from (here ls m a) (map moved tables) (moved b) done names ≡ body.shared_from (there ls m a) tables b done names
   shared_from ls m a tables b done [] = refl
   shared_from ls m a tables b done (name ∷ more) = λ i. agreeing ls m a tables b name i >>= (λ t. shared_from ls m a tables b (done ++ t ∷ []) more i)
 
-  shared : (ls : List Level) (m a : Bool) (tables : List Bound) (b : Bound) → body.shared (here ls m a) (map moved tables) (moved b) ≡ body.shared (there ls m a) tables b
+  shared : (ls : List Level) (m a : Bool) (tables : List Bound) (b : Bound) → body.shared (here ls m a) (map moved tables) (moved b)
+      ≡ body.shared (there ls m a) tables b
   unfolding body.shared
   shared ls m a tables b = shared_from ls m a tables b [] b.shared
 
@@ -245,22 +264,26 @@ module _ (S S' : Schema) (p q : ℕ → ℕ) (are : AreAt S S' p q) where
   moved_joined j = record { steps = map moved_step j.steps; filter = j.filter }
 
   -- the table, and the place where it has its rows
-  tables_at : (k : ℕ) (o : Option Table) → ((t : Table) → o ≡ Some t → t.tree ≡ k) → {C D : Type 0} (h : D → C) (F : Table → Lowering C) (G : Table → Lowering D)
+  tables_at : (k : ℕ) (o : Option Table) → ((t : Table) → o ≡ Some t → t.tree ≡ k) → {C D : Type 0} (h : D → C) (F : Table → Lowering C) (G : Table
+      → Lowering D)
       → ((t : Table) → t.tree ≡ k → Moves h (F (in_tree (q k) t)) (G t))
       → Moves h (lift (or_else (option_map (in_tree (q k)) o) NoSuchTable) >>= F) (lift (or_else o NoSuchTable) >>= G)
   tables_at k None own h F G f = refl
   tables_at k (Some t) own h F G f = f t (own t refl)
 
   inner_join : (ls : List Level) (m a : Bool) (done : Joined) (tree k : ℕ) (same : List Term) (on : Option Expr) → IsPlainIfAny on → k ≡ tree
-      → Moves moved_joined (body.inner_join lower (here ls m a) (moved_joined done) (q tree) same on) (body.inner_join lower (there ls m a) done k same on)
+      → Moves moved_joined (body.inner_join lower (here ls m a) (moved_joined done) (q tree) same on) (body.inner_join lower (there ls m a) done k
+      same on)
   unfolding body.inner_join
   inner_join ls m a done tree k same on h e =
-      (λ i. (λ filter. record { steps = map moved_step done.steps ++ Inner (q (sym e i)) ∷ []; filter = filter }) <$> tests ls m a (done.filter ++ same) on h i)
+      (λ i. (λ filter. record { steps = map moved_step done.steps ++ Inner (q (sym e i)) ∷ []; filter = filter }) <$> tests ls m a (done.filter ++
+      same) on h i)
       ∙ follows moved_joined (body.tests lower (there ls m a) (done.filter ++ same) on) _ _ (λ filter.
       ap (λ l. pure (record { steps = l; filter = filter })) (sym (map-append moved_step done.steps (Inner k ∷ []))))
 
   left_join : (ls : List Level) (m a : Bool) (done : Joined) (tree k slot : ℕ) (same : List Term) (on : Option Expr) → IsPlainIfAny on → k ≡ tree
-      → Moves moved_joined (body.left_join lower (here ls m a) (moved_joined done) (q tree) slot same on) (body.left_join lower (there ls m a) done k slot same on)
+      → Moves moved_joined (body.left_join lower (here ls m a) (moved_joined done) (q tree) slot same on) (body.left_join lower (there ls m a) done
+      k slot same on)
   unfolding body.left_join
   left_join ls m a done tree k slot same on h e =
       (λ i. tests ls m false same on h i >>= (λ terms. cond (list_all (reads_below (slot + 1)) terms)
@@ -277,7 +300,8 @@ module _ (S S' : Schema) (p q : ℕ → ℕ) (are : AreAt S S' p q) where
   IsPlainOn s = IsPlainIfAny (out-Source s).on
 
   join : (ls : List Level) (m a : Bool) (tables : List Bound) (done : Joined) (b : Bound) (s : Source) → IsPlainOn s
-      → Moves moved_joined (body.join lower (here ls m a) (map moved tables) (moved_joined done) (moved b) s) (body.join lower (there ls m a) tables done b s)
+      → Moves moved_joined (body.join lower (here ls m a) (map moved tables) (moved_joined done) (moved b) s) (body.join lower (there ls m a) tables
+      done b s)
   unfolding body.join
   join ls m a tables done b s h =
       ap (λ o. lift (or_else o NoSuchTable) >>= Wide) (are.same b.table)
@@ -295,7 +319,8 @@ module _ (S S' : Schema) (p q : ℕ → ℕ) (are : AreAt S S' p q) where
       go : (k : ℕ) → k ≡ b.table → (same : List Term) (c : Bool) → Moves moved_joined
           (cond c (body.left_join lower (here ls m a) (moved_joined done) (q b.table) b.slot same (out-Source s).on)
           (body.inner_join lower (here ls m a) (moved_joined done) (q b.table) same (out-Source s).on))
-          (cond c (body.left_join lower (there ls m a) done k b.slot same (out-Source s).on) (body.inner_join lower (there ls m a) done k same (out-Source s).on))
+          (cond c (body.left_join lower (there ls m a) done k b.slot same (out-Source s).on) (body.inner_join lower (there ls m a) done k same
+          (out-Source s).on))
       go k e same true = left_join ls m a done b.table k b.slot same (out-Source s).on h e
       go k e same false = inner_join ls m a done b.table k same (out-Source s).on h e
 
@@ -313,9 +338,9 @@ module _ (S S' : Schema) (p q : ℕ → ℕ) (are : AreAt S S' p q) where
   joins ls m a tables ss h = elim (body.begins_with_on ss) as (λ c. Moves moved_joined
       (cond c (fail Misuse) (body.joins_from lower (here ls m a) (map moved tables) (record { steps = []; filter = [] }) (map moved tables) ss))
       (cond c (fail Misuse) (body.joins_from lower (there ls m a) tables (record { steps = []; filter = [] }) tables ss))) [
-    | true ↦ refl
-    | false ↦ joins_from ls m a tables (record { steps = []; filter = [] }) tables ss h
-  ]
+        | true ↦ refl
+        | false ↦ joins_from ls m a tables (record { steps = []; filter = [] }) tables ss h
+      ]
 
   abbrev pub moved_level : Level → Level
   moved_level = SameNames.moved_level S S' p q are
@@ -336,13 +361,18 @@ module _ (S S' : Schema) (p q : ℕ → ℕ) (are : AreAt S S' p q) where
       → Moves moved_joined (body.matching lower (outermost S) (moved_level l) core) (body.matching lower (outermost S') l core)
   unfolding body.matching
   matching core h l = binds moved_joined moved_joined _ _ _ _ (joins (l ∷ []) false true l.tables (out-Core core).from h.on) (λ joined.
-      (λ i. tests (l ∷ []) false true joined.filter (out-Core core).filter h.filter i >>= (λ filter. pure (record { steps = map moved_step joined.steps; filter = filter })))
+      (λ i. tests (l ∷ []) false true joined.filter (out-Core core).filter h.filter i >>= (λ filter. pure (record {
+        steps = map moved_step
+            joined.steps;
+        filter = filter;
+      })))
       ∙ follows moved_joined (body.tests lower (there (l ∷ []) false true) joined.filter (out-Core core).filter) _ _ (λ filter. refl))
 
   whole : (core : Core) → IsPlainCore core → Moves moved_body (body.body lower (outermost S) core) (body.body lower (outermost S') core)
   unfolding body.body
   whole core h = binds (map moved) moved_body _ _ _ _ (bounds (out-Core core).from h.from) (λ tables.
-      (λ i. result tables core h.shown i >>= (λ columns. body.matching lower (outermost S) (record { tables = map moved tables; shown = columns }) core
+      (λ i. result tables core h.shown i >>= (λ columns. body.matching lower (outermost S) (record { tables = map moved tables; shown = columns })
+      core
       >>= (λ joined. pure (record { level = record { tables = map moved tables; shown = columns }; steps = joined.steps; filter = joined.filter }))))
       ∙ follows moved_body (body.result lower (outermost S') (record { tables = tables; shown = [] }) core) _ _ (λ columns.
       binds moved_joined moved_body _ _ _ _ (matching core h (record { tables = tables; shown = columns })) (λ joined. refl)))
@@ -364,7 +394,8 @@ module _ (S S' : Schema) (p q : ℕ → ℕ) (are : AreAt S S' p q) where
   sort : (ls : List Level) (m a : Bool) (outputs : List Output) (done : List (Term × Key)) (s : Sort) → IsPlainSort s
       → order.sort lower (here ls m a) outputs done s ≡ order.sort lower (there ls m a) outputs done s
   unfolding order.sort order.key
-  sort ls m a outputs done s h = λ i. go (order.alias_in outputs (order.peeled (out-Sort s).key)) i >>= (λ t. order.collation_of (out-Sort s).key >>= (λ how.
+  sort ls m a outputs done s h = λ i. go (order.alias_in outputs (order.peeled (out-Sort s).key)) i >>= (λ t. order.collation_of (out-Sort s).key
+      >>= (λ how.
       order.placed done (record { collation = how; descending = (out-Sort s).descending }) (out-Sort s).nulls_first t))
     where
       go : (o : Option ℕ) → order.aliased_or lower (here ls m a) outputs (order.peeled (out-Sort s).key) o
@@ -422,6 +453,7 @@ module _ (S S' : Schema) (p q : ℕ → ℕ) (are : AreAt S S' p q) where
       after r = and_then (select.assembled (out-Core core).distinct page.0 page.1 r.0 r.1) (λ d.
           Ok (d, map (λ o. o.name) r.0.body.level.shown, map (λ o. o.carried.collation) r.0.body.level.shown))
 
-      go : (r : Checked (Clauses × State)) → and_then (and_then r (λ x. pure (moved_clauses x.0) x.1)) after ≡ and_then r (λ r. after (moved_clauses r.0, r.1))
+      go : (r : Checked (Clauses × State)) → and_then (and_then r (λ x. pure (moved_clauses x.0) x.1)) after
+          ≡ and_then r (λ r. after (moved_clauses r.0, r.1))
       go (Ok x) = refl
       go (Err e) = refl

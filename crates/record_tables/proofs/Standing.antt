@@ -1,5 +1,5 @@
 -- The tables stand in the schemas that this crate creates, also beside others after them.
-use Rattle.std.proofs.Common.{◌≡◌, ◌<◌, ◌^◌, ℕ, map, List, [], ◌∷◌, Some, None, codes, refl, ap, sym, subst, ◌∙◌, arith, slice_get, unwrap_or, option_map}
+use Rattle.std.proofs.Common.{◌≡◌, ℕ, map, Some, codes, refl, ap, sym, subst, ◌∙◌, arith, slice_get, unwrap_or, option_map}
 use Rattle.sqlite.specs.Table.{Table}
 use Rattle.sqlite.specs.Schema.{Schema}
 use Rattle.sqlite.specs.Effect.{Database}

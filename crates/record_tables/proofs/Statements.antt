@@ -33,8 +33,8 @@ use Rattle.sqlite_sql.specs.Program.{overlay}
 use Rattle.sqlite.specs.Schema.{Schema}
 use Rattle.record_tables.specs.Tables.{IsArchiveSchema, in_tree, record_table}
 use Rattle.record_archive.specs.Archive.{Message, Record}
-use Rattle.record_tables.specs.Rows.{Tables, message_row, record_key, record_row, Hold, hold_row, Setting, setting_row}
-use Rattle.record_tables.specs.Rows.{Class, class_row, Schedule, schedule_row, Due, due_row, Stores, StoresKeyed}
+use Rattle.record_tables.specs.Rows.{Tables, record_key, record_row, Hold, hold_row}
+use Rattle.record_tables.specs.Rows.{Due, Stores, StoresKeyed}
 use Rattle.record_tables.specs.Rows.{AreKeyed, as_flag}
 use Rattle.record_tables.specs.Changes.{Puts, Always, IsPastMessages, IsPastRecords, IsPastDues, with_message}
 use Rattle.record_tables.specs.Changes.{with_record, with_due, with_hold, with_setting, with_class, Rule, schedule_at}

@@ -38,7 +38,13 @@ fn are_key_indexes(hold: &Index, meta: &Index, class: &Index, schedule: &Index) 
     is_key_index(hold, b"sqlite_autoindex_hold_1", 3, 2, [1, 2].as_slice())
         && is_key_index(meta, b"sqlite_autoindex_meta_1", 5, 4, [1].as_slice())
         && is_key_index(class, b"sqlite_autoindex_class_1", 7, 6, [1].as_slice())
-        && is_key_index(schedule, b"sqlite_autoindex_schedule_1", 9, 8, [1].as_slice())
+        && is_key_index(
+            schedule,
+            b"sqlite_autoindex_schedule_1",
+            9,
+            8,
+            [1].as_slice(),
+        )
 }
 
 fn are_own_indexes(indexes: &[Index]) -> bool

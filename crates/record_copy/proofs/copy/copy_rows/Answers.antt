@@ -1,10 +1,9 @@
-use Rattle.std.proofs.Common.{◌≡◌, sym, ap, subst, refl, true, Err}
+use Rattle.std.proofs.Common.{◌≡◌, sym, ap, subst, refl, true, ◌∙◌, Err}
 use Rattle.sqlite.specs.Effect.{Database}
 use Rattle.sqlite.specs.State.{HasCleanDisk}
 use Rattle.sqlite.specs.Held.{state}
 use Rattle.record_archive.specs.Archive.{Archive}
 use Rattle.record_tables.specs.Rows.{Stores}
-use Rattle.record_tables.specs.Layouts.{TellsAlone}
 use Rattle.record_copy.proofs.CauseLemmas.{handed_on, no_archive_read}
 use Rattle.record_copy.proofs.CopyLemmas.{stores_copied}
 use Rattle.record_copy.proofs.LookLemmas.{looks_then}
@@ -28,8 +27,7 @@ returns-clause-copies g c clean_from clean_to = λ (a : Archive) plan s.
           let laid = rw c.as_slice.ensures.value at (c.in_ok-place_plan.ensures.ok clean_mid) in
           let kept_rows = stores_copied c.args.plan.now a b from.now to.now mid.now new.now rows plan s k blank told laid filled.1 in
           let alone : c.is_alone.result ≡ true = search in
-          let tells = subst (λ x. TellsAlone x true) c.schema.ensures.value (subst (TellsAlone c.schema.result.now) alone c.is_alone.ensures) in
-          record { tables = tells refl kept_rows.stored.schema; rows = kept_rows },
+          record { tables = sym c.schema.ensures.value ∙ c.is_alone.ensures.0 alone; rows = kept_rows },
     )
 
 pub returns-clause-looks : goal.returns-clause-looks

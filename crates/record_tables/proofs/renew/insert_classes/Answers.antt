@@ -8,7 +8,10 @@ use Rattle.record_tables.proofs.renew.insert_classes.Goals as goal
 pub loop-class-init : goal.loop-class-init
 loop-class-init g c = record {
   same_reference = refl;
-  puts = λ clean inside. nothing_yet (state g.S.Store c.args.tx.now.conn.now) HasNoClasses (with_classes []) (λ t none. λ i. record t { classes = none i });
+  puts = λ clean inside. nothing_yet (state g.S.Store c.args.tx.now.conn.now) HasNoClasses (with_classes []) (λ t none. λ i. record t {
+    classes =
+        none i;
+  });
   survives = search rules;
 }
 

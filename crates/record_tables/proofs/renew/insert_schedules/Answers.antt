@@ -8,7 +8,9 @@ use Rattle.record_tables.proofs.renew.insert_schedules.Goals as goal
 pub loop-schedule-init : goal.loop-schedule-init
 loop-schedule-init g c = record {
   same_reference = refl;
-  puts = λ clean inside. nothing_yet (state g.S.Store c.args.tx.now.conn.now) HasNoSchedules (with_schedules []) (λ t none. λ i. record t { schedules = none i });
+  puts = λ clean inside. nothing_yet (state g.S.Store c.args.tx.now.conn.now) HasNoSchedules (with_schedules []) (λ t none. λ i. record t {
+    schedules = none i;
+  });
   survives = search rules;
 }
 

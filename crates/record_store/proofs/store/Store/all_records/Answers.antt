@@ -5,7 +5,7 @@ use Rattle.record_archive.specs.Faults.{is_trouble}
 use Rattle.record_store.specs.Faults.{is_own}
 use Rattle.record_store.proofs.Causes.{not_own-lost_or, is_trouble-lost_or, fits_kept}
 use Rattle.record_store.proofs.CommandLemmas.{stands_looked, leaves_looked}
-use Rattle.record_store.proofs.ReviseLemmas.{looks_common, common_of, common_schema}
+use Rattle.record_store.proofs.ReviseLemmas.{looks_common, common_of}
 use Rattle.record_store.proofs.store.Store.all_records.Goals as goal
 
 pub returns-in-Ok-clause-tells : goal.returns-in-Ok-clause-tells
@@ -21,7 +21,7 @@ returns-in-Ok-clause-tells g c = λ (a : Archive) s.
 pub returns-in-Ok-clause-open : goal.returns-in-Ok-clause-open
 returns-in-Ok-clause-open g c = λ (a : Archive) s clean.
     let kept = s.rows (c.records.ensures.falls clean) (c.in-Ok.ensures.was_open clean) in
-    (c.in-Ok.ensures.same clean (common_schema _ kept.stored.schema)).0.is_open
+    (c.in-Ok.ensures.same clean kept.stored.schema.common).0.is_open
 
 pub returns-in-Ok-clause-crash : goal.returns-in-Ok-clause-crash
 returns-in-Ok-clause-crash g c = λ (a : Archive) s.

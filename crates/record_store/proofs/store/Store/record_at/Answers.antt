@@ -1,9 +1,31 @@
-use Rattle.std.proofs.Common.{◌≡◌, false, ap, sym, subst, Err}
+use Rattle.std.proofs.Common.{◌≡◌, false, find, option_map, ap, sym, subst, refl, ◌∙◌, Err}
+use Rattle.record_tables.specs.CodeRows.{record_of}
 use Rattle.record_tables.specs.declared.fault.Fault.TheVariants.{NoArchive}
-use Rattle.record_archive.specs.Archive.{Archive}
+use Rattle.record_archive.specs.Archive.{Archive, has_number}
 use Rattle.record_store.specs.Faults.{is_own}
 use Rattle.record_store.proofs.Causes.{not_own-lost_or, fits_kept}
+use Rattle.record_store.proofs.CommandLemmas.{stands_looked}
 use Rattle.record_store.proofs.store.Store.record_at.Goals as goal
+
+pub returns-in-Ok-Some-clause-tells : goal.returns-in-Ok-Some-clause-tells
+returns-in-Ok-Some-clause-tells g c = λ (a : Archive) s. (
+  stands_looked g.S.Store c.args.self.now _ a s c.record_by_number.ensures.looks refl refl (λ n. refl) (λ m. refl),
+  λ clean.
+      let kept = s.rows (c.record_by_number.ensures.looks.falls clean) (c.in-Ok-Some.ensures.open clean).0 in
+      sym (c.in-Ok-Some.ensures.record clean kept.tables kept.stored kept.keyed ∙ ap (find (has_number c.args.number)) kept.keeps.records)
+      ∙ ap (option_map record_of) c.in-Ok-Some.field-0-is,
+)
+
+pub returns-in-Ok-None-clause-tells : goal.returns-in-Ok-None-clause-tells
+returns-in-Ok-None-clause-tells g c = λ (a : Archive) s. (
+  stands_looked g.S.Store c.args.self.now _ a s c.record_by_number.ensures.looks refl refl (λ n. refl) (λ m. refl),
+  λ clean r is.
+      let kept = s.rows (c.record_by_number.ensures.looks.falls clean) (c.in-Ok-None.ensures.open clean).0 in (
+        cc,
+        sym (c.in-Ok-None.ensures.record clean kept.tables kept.stored kept.keyed ∙ ap (find (has_number c.args.number)) kept.keeps.records)
+        ∙ ap (option_map record_of) c.in-Ok-None.field-0-is,
+      ),
+)
 
 pub returns-in-Err-clause-cause : goal.returns-in-Err-clause-cause
 returns-in-Err-clause-cause g c = λ (a : Archive) s clean.
