@@ -1,28 +1,31 @@
 -- What a session at a desk leads to.
-use Rattle.std.proofs.Common.{ℕ, List, Result, Ok, Err, inl, inr, refl}
+use Rattle.std.proofs.Common.{ℕ, zero, List, [], Result, Ok, Err, inl, inr, refl}
 use Rattle.std.specs.Prelude.{OnOk, IsErrOf}
+use Rattle.record_archive.specs.Archive.{Archive}
 use Rattle.filing_commands.specs.Answers.{Answer}
 use Rattle.filing_commands.specs.Calls.{Calls, Leads}
 use Rattle.filing_commands.specs.Standing.{Standing, Step}
 use Rattle.filing_session.specs.Done.{HasDone}
+use Rattle.filing_session.specs.Crashes.{IsLeftOf, RunsLeave}
 use Rattle.filing_session.specs.Laws.{Refines}
 use Rattle.filing_session.specs.Session.{Item, Session, Run, IsServed, IsAnswered, IsCut, IsCutInAnswer, IsCutInEnding}
 use Rattle.filing_session.specs.declared.session.ServeFault.{ServeFault}
 use Rattle.filing_session.specs.declared.session.ServeFault.TheVariants.{Read, Write}
 use Rattle.file_sessions.specs.Sessions.{IsTold}
 
-module _ {D : Type 0} (clean : D → Type 0) (stands : D → Standing → Type 0) where
+module _ {D I : Type 0} (clean : D → Type 0) (stands : D → Standing → Type 0) (may_leave : D → I → Type 0)
+    (keeps : I → Archive → Type 0) where
   -- what a session at desks has written
   pub DeskTold : Result (Unit {0}) ServeFault → Session → D → (old written : List ℕ) → D → Type 0
-  DeskTold (Ok u) session s old written new = IsServed (Calls clean stands) session s old written new
-  DeskTold (Err Read) session s old written new = IsAnswered (Calls clean stands) session s old written new
-  DeskTold (Err Write) session s old written new = IsCut (Calls clean stands) session s old written new
+  DeskTold (Ok u) session s old written new = IsServed (Calls clean stands may_leave keeps) session s old written new
+  DeskTold (Err Read) session s old written new = IsAnswered (Calls clean stands may_leave keeps) session s old written new
+  DeskTold (Err Write) session s old written new = IsCut (Calls clean stands may_leave keeps) session s old written new
 
   -- from the clauses of `serve`
   pub desk_told : (result : Result (Unit {0}) ServeFault) (session : Session) (s : D) (old written : List ℕ) (new : D)
-      → OnOk result (IsServed (Calls clean stands) session s old written new)
-      → (IsErrOf result Read → IsAnswered (Calls clean stands) session s old written new)
-      → (IsErrOf result Write → IsCut (Calls clean stands) session s old written new)
+      → OnOk result (IsServed (Calls clean stands may_leave keeps) session s old written new)
+      → (IsErrOf result Read → IsAnswered (Calls clean stands may_leave keeps) session s old written new)
+      → (IsErrOf result Write → IsCut (Calls clean stands may_leave keeps) session s old written new)
       → DeskTold result session s old written new
   unfolding DeskTold
   desk_told (Ok u) session s old written new ok unheard unsaid = ok
@@ -31,13 +34,13 @@ module _ {D : Type 0} (clean : D → Type 0) (stands : D → Standing → Type 0
 
   -- by the law of sessions over the states that desks represent
   pub told_refines :
-      ((session : Session) (old written : List ℕ) → Refines clean stands (λ desk. IsServed (Calls clean stands) session desk old written)
+      ((session : Session) (old written : List ℕ) → Refines clean stands (λ desk. IsServed (Calls clean stands may_leave keeps) session desk old written)
       (λ s. IsServed Step session s old written))
-      → ((session : Session) (old written : List ℕ) → Refines clean stands (λ desk. IsAnswered (Calls clean stands) session desk old written)
+      → ((session : Session) (old written : List ℕ) → Refines clean stands (λ desk. IsAnswered (Calls clean stands may_leave keeps) session desk old written)
       (λ s. IsAnswered Step session s old written))
-      → ((session : Session) (old written : List ℕ) → Refines clean stands (λ desk. IsCutInAnswer (Calls clean stands) session desk old written)
+      → ((session : Session) (old written : List ℕ) → Refines clean stands (λ desk. IsCutInAnswer (Calls clean stands may_leave keeps) session desk old written)
       (λ s. IsCutInAnswer Step session s old written))
-      → ((session : Session) (old written : List ℕ) → Refines clean stands (λ desk. IsCutInEnding (Calls clean stands) session desk old written)
+      → ((session : Session) (old written : List ℕ) → Refines clean stands (λ desk. IsCutInEnding (Calls clean stands may_leave keeps) session desk old written)
       (λ s. IsCutInEnding Step session s old written))
       → (result : Result (Unit {0}) ServeFault) (session : Session) (old written : List ℕ) (desk new : D)
       → DeskTold result session desk old written new → clean new
@@ -54,10 +57,10 @@ module _ {D : Type 0} (clean : D → Type 0) (stands : D → Standing → Type 0
 
   -- the same for what was done, whatever the streams tell
   pub done_refines :
-      ((items : List Item) (answers : List Answer) → Refines clean stands (λ desk. Run (Calls clean stands) desk items answers)
+      ((items : List Item) (answers : List Answer) → Refines clean stands (λ desk. Run (Calls clean stands may_leave keeps) desk items answers)
       (λ s. Run Step s items answers))
       → (Heard : List Item → Type 0) (Said : List Answer → Type 0) (desk new : D)
-      → HasDone (Calls clean stands) Heard Said desk new → clean new
+      → HasDone (Calls clean stands may_leave keeps) Heard Said desk new → clean new
       → clean desk × ((s : Standing) → stands desk s → Leads stands new (HasDone Step Heard Said s))
   done_refines law Heard Said desk new it ok =
       let led = law it.items it.answers desk new it.run ok in (
@@ -74,3 +77,50 @@ module _ {D : Type 0} (clean : D → Type 0) (stands : D → Standing → Type 0
             } in
             record { to = l.to; is_one = reached; there = l.there },
       )
+
+  -- the same with what a crash leaves of it, where each crash before it leaves the archive of the state
+  pub leaves_refines :
+      ((items : List Item) (answers : List Answer) → Refines clean stands (λ desk. Run (Calls clean stands may_leave keeps) desk items answers)
+      (λ s. Run Step s items answers)) → RunsLeave clean stands may_leave keeps
+      → (Heard : List Item → Type 0) (Said : List Answer → Type 0) (desk new : D)
+      → HasDone (Calls clean stands may_leave keeps) Heard Said desk new → clean new
+      → (s : Standing) → stands desk s → ((image : I) → may_leave desk image → keeps image s.office.archive)
+      → (to : Standing) × (reached : HasDone Step Heard Said s to)
+      × ((image : I) → may_leave new image → IsLeftOf keeps image s reached.items reached.answers)
+  leaves_refines law crash Heard Said desk new it ok s there start =
+      let l = (law it.items it.answers desk new it.run ok).1 s there in
+      let reached : HasDone Step Heard Said s l.to = record {
+        items = it.items;
+        answers = it.answers;
+        run = l.is_one;
+        few = it.few;
+        heard = it.heard;
+        said = it.said;
+      } in (
+        l.to,
+        reached,
+        λ image may. elim (crash it.items it.answers desk new it.run ok s there image may) [
+          | inl before ↦ record {
+            count = zero;
+            replies = [];
+            to = s;
+            run = refl;
+            kept = start image before.0;
+            undone = before.1;
+          }
+          | inr left ↦ left
+        ],
+      )
+
+-- what is left keeps the archive in another way
+pub left_in : {I J : Type 0} (keeps : I → Archive → Type 0) (holds : J → Archive → Type 0) (image : I) (other : J)
+    → ((a : Archive) → keeps image a → holds other a) → (s : Standing) (items : List Item) (answers : List Answer)
+    → IsLeftOf keeps image s items answers → IsLeftOf holds other s items answers
+left_in keeps holds image other each s items answers left = record {
+  count = left.count;
+  replies = left.replies;
+  to = left.to;
+  run = left.run;
+  kept = each left.to.office.archive left.kept;
+  undone = left.undone;
+}

@@ -1,13 +1,17 @@
 -- What a session over a store leads to.
 use Rattle.std.specs.Prelude.{ℕ, List, Result, Ok, Err}
 use Rattle.sqlite_disk.specs.declared.Disk.{Ghosts}
+use Rattle.sqlite.specs.Recovery.{Image}
+use Rattle.sqlite.specs.WalFiles.{outcomes}
 use Rattle.record_archive.specs.Archive.{Archive}
 use Rattle.filing_commands.specs.Standing.{Standing, Step, opening}
+use Rattle.filing_session.specs.Crashes.{IsLeftOf}
 use Rattle.filing_session.specs.Done.{HasDone, Hears, Says}
 use Rattle.filing_session.specs.Session.{Session, IsServed, IsAnswered, IsCut, session_in}
 use Rattle.filing_session.specs.declared.session.ServeFault.{ServeFault}
 use Rattle.filing_session.specs.declared.session.ServeFault.TheVariants.{Read, Write}
-use Rattle.store_files.specs.Files.{KeepsFiles}
+use Rattle.store_files.specs.Closing.{LeavesBy}
+use Rattle.store_files.specs.Files.{KeepsAt, KeepsFiles}
 use Rattle.file_sessions.specs.declared.session.EndedSession.{EndedSession}
 
 -- These octets were written by a session that ended in this way, and this is the state after it. Where it ended well,
@@ -32,3 +36,13 @@ pub record LeadsTo {D : Type 0} (g : Ghosts D) (ended : EndedSession D) (a : Arc
   pub to : Standing
   pub reached : Reaches (opening a) to
   pub kept : KeepsFiles g ended.closing ended.files to.office.archive
+
+-- From an archive, commands were done. However the disk has failed since, whatever a crash may leave of the files keeps the
+-- archive after the first of the commands, of which a fault may have cut the last one short. By their answers, the
+-- archive has carried out none of those that follow. Only of a fault while the log was copied at the end is nothing said.
+pub record LeavesSome {D : Type 0} (g : Ghosts D) (ended : EndedSession D) (a : Archive) (hears says : Type 0)
+    (left old written : List ℕ) : Type 0 where
+  pub to : Standing
+  pub reached : IsDone hears says ended.session left old written (opening a) to
+  pub kept : (image : Image) → outcomes g ended.files.log ended.files.db image → LeavesBy ended.closing
+      (∥ IsLeftOf (λ i b. KeepsAt b i) image (opening a) reached.items reached.answers ∥₁)

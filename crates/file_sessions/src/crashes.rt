@@ -9,6 +9,7 @@ ghost use Rattle.filing_commands.specs.Standing.{Standing};
 ghost use Rattle.sqlite.specs.State.{HasCleanDisk};
 ghost use Rattle.record_store.specs.Stores as stores;
 ghost use Rattle.filing_desk.specs.Standing.{StandsFor};
+ghost use Rattle.store_files.specs.Closing.{HoldsLeft};
 ghost use Rattle.store_files.specs.Files.{KeepsAt};
 
 use filing_desk::Desk;
@@ -19,7 +20,8 @@ use store_files::leave;
 
 /// Gives the files under a desk back as they are, with no read and no write, as a crash does. Between two commands, and
 /// before the first and after the last, whatever it leaves of the files recovers to the archive as it is then, while no
-/// fault has shut the store.
+/// fault has shut the store. Afterwards it recovers to a database that a crash of the desk at this moment may leave: by
+/// the contract of each call, that of an archive after the first of the commands.
 pub fn crash<D: Disk + Drop>(desk: Desk<Store<FileStore<D>>>) -> Files<D>
     ensures clean { AreClean D.Disk result.log result.db
         → HasCleanDisk (file_state desk.store.conn) }
@@ -27,6 +29,9 @@ pub fn crash<D: Disk + Drop>(desk: Desk<Store<FileStore<D>>>) -> Files<D>
         → IsTrue (file_state desk.store.conn).is_open
         → (s : Standing) → StandsFor (stores.StandsFor over_files) desk s → (image : Image)
         → outcomes D.Disk result.log result.db image → KeepsAt s.office.archive image }
+    ensures leaves { AreClean D.Disk result.log result.db → (image : Image)
+        → outcomes D.Disk result.log result.db image
+        → HoldsLeft (file_state desk.store.conn) image }
 {
     leave(desk.into_store().into_connection())
 }

@@ -7,7 +7,9 @@ ghost use Rattle.record_archive.specs.Archive.{Archive, IsArchive};
 ghost use Rattle.record_adoption.specs.Adoption.{Finds};
 ghost use Rattle.record_archive.specs.Faults.{is_trouble};
 ghost use Rattle.filing_commands.specs.Standing.{opening};
+ghost use Rattle.sqlite.specs.Tree.{Trees};
 ghost use Rattle.record_store.specs.Stores as stores;
+ghost use Rattle.record_store.specs.Stores.{TreesKeep};
 ghost use Rattle.filing_desk.specs.Standing.{StandsFor};
 
 use filing_desk::Desk;
@@ -19,7 +21,8 @@ use std::alloc::Global;
 /// tables of an empty archive.
 ///
 /// Refused with 88 where the tables or their rows are not an archive's, with 89 (`sqlite`) or with 99 (no memory). The
-/// connection is then handed back.
+/// connection is then handed back. Where it is not refused, no fault has shut the connection, so that whatever a crash
+/// leaves keeps that archive.
 pub(crate) fn open_desk<S: Alter + Drop>(
     alloc: Global,
     conn: Connection<S>,
@@ -29,15 +32,22 @@ pub(crate) fn open_desk<S: Alter + Drop>(
         → HasCleanDisk (state S.Store conn)) }
     ensures stands { IfOk result (λ d. HasCleanDisk (state S.Store d.store.conn) → (a : Archive)
         → Finds (state S.Store conn).now a → StandsFor (stores.StandsFor S.Store) d (opening a)) }
+    ensures leaves { IfOk result (λ d. HasCleanDisk (state S.Store d.store.conn) → (a : Archive)
+        → Finds (state S.Store conn).now a → (trees : Trees)
+        → (state S.Store d.store.conn).may_leave trees → TreesKeep trees a) }
     ensures still_clean { IfErr result
         (λ e. HasCleanDisk (state S.Store e.1) → HasCleanDisk (state S.Store conn)) }
     ensures refused { IfErr result (λ e. HasCleanDisk (state S.Store e.1) → (a : Archive)
         → Finds (state S.Store conn).now a → IsArchive a → is_trouble e.0 ≡ true) }
 {
-    let store = match Store::adopt(alloc, conn) {
+    let mut store = match Store::adopt(alloc, conn) {
         Ok(store) => store,
         Err(refused) => return Err(refused),
     };
+    if let Err(fault) = store.ensure_open() {
+        return Err((fault, store.into_connection()));
+    }
+    let _idle = store.is_idle();
     match Desk::new(alloc, store) {
         Ok(desk) => Ok(desk),
         Err(store) => Err((StoreFault::NoMemory, store.into_connection())),

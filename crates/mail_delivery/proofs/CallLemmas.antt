@@ -1,6 +1,7 @@
 -- Calls of a desk, one after the other.
 use Rattle.std.proofs.Common.{◌≡◌, ℕ, List, [], ◌∷◌, ◌++◌, Result, Ok, Err, IsErr, IsErrAnd, refl, ap, subst}
 use Rattle.std.proofs.lemmas.Bool.{false≢true}
+use Rattle.record_archive.specs.Archive.{Archive}
 use Rattle.filing_commands.specs.Answers.{Answer}
 use Rattle.filing_commands.specs.Calls.{Calls, Leads}
 use Rattle.filing_commands.specs.Standing.{Command, Standing, Step}
@@ -17,9 +18,10 @@ goes_on [] ys s mid new here there = let From : Standing → Type 0 = λ z. Goes
 goes_on (c ∷ xs) ys s mid new (next, step, rest) there = (next, step, goes_on xs ys next mid new rest there)
 
 module _ {D : Type 0} (clean : D → Type 0) (stands : D → Standing → Type 0) where
-  pub one_call : (old new : D) (c : Command) (a : Answer) → Calls clean stands old c a new
+  pub one_call : {I : Type 0} (may_leave : D → I → Type 0) (keeps : I → Archive → Type 0) (old new : D) (c : Command) (a : Answer)
+      → Calls clean stands may_leave keeps old c a new
       → Follows clean stands old (record { command = c; answer = a } ∷ []) new
-  one_call old new c a call = record {
+  one_call may_leave keeps old new c a call = record {
     was_clean = call.was_clean;
     leads = λ h s there.
         let l = call.leads (λ _. h) s there in

@@ -1,5 +1,6 @@
 -- The commands among the lines of a session.
 use Rattle.std.proofs.Common.{[], ◌∷◌, List, refl, subst}
+use Rattle.record_archive.specs.Archive.{Archive}
 use Rattle.filing_commands.specs.Answers.{Answer}
 use Rattle.filing_commands.specs.Standing.{Standing, Step}
 use Rattle.filing_session.specs.Session.{Item, Call, UnknownCommand, WrongWord}
@@ -22,8 +23,9 @@ commands_run s new (WrongWord ∷ items) (a ∷ answers) h =
 commands_run s new [] (a ∷ answers) h = absurd h
 commands_run s new (i ∷ items) [] h = absurd h
 
-module _ {D : Type 0} (clean : D → Type 0) (stands : D → Standing → Type 0) (leads : RunsLead clean stands) where
-  pub is_session : (x : LineSession clean stands) → IsSession stands x.state x.items x.answers x.new
+module _ {D I : Type 0} (clean : D → Type 0) (stands : D → Standing → Type 0) (may_leave : D → I → Type 0)
+    (keeps : I → Archive → Type 0) (leads : RunsLead clean stands may_leave keeps) where
+  pub is_session : (x : LineSession clean stands may_leave keeps) → IsSession stands x.state x.items x.answers x.new
   is_session x =
       let led = leads x.items x.answers x.old x.new x.run x.state x.at_begin in
       record {

@@ -1,5 +1,6 @@
 -- Refusals by a registry, on any disk.
 use Rattle.std.proofs.Common.{◌≡◌, ◌≢◌, ℕ, Bool, true, false, refl, subst}
+use Rattle.record_archive.specs.Archive.{Archive}
 use Rattle.filing_commands.specs.Answers.{refused}
 use Rattle.filing_commands.specs.ArchiveAnswers.{is_of_archive}
 use Rattle.filing_commands.specs.Calls.{Leads}
@@ -11,15 +12,16 @@ not_both : (b : Bool) → b ≡ false → b ≡ true → ⊥
 not_both true off on = cc
 not_both false off on = cc
 
-module _ {D : Type 0} (clean : D → Type 0) (stands : D → Standing → Type 0) where
-  abbrev comes_from_archive : RefusedCall clean stands → Bool
+module _ {D I : Type 0} (clean : D → Type 0) (stands : D → Standing → Type 0) (may_leave : D → I → Type 0)
+    (keeps : I → Archive → Type 0) where
+  abbrev comes_from_archive : RefusedCall clean stands may_leave keeps → Bool
   comes_from_archive x = is_of_archive x.command (refused x.number x.offset)
 
   -- the state after a refusal that does not come from the archive
-  led : (x : RefusedCall clean stands) → comes_from_archive x ≡ false → Leads stands x.new (Step x.state x.command (refused x.number x.offset))
+  led : (x : RefusedCall clean stands may_leave keeps) → comes_from_archive x ≡ false → Leads stands x.new (Step x.state x.command (refused x.number x.offset))
   led x own = x.call.leads (λ from_archive. absurd (not_both (comes_from_archive x) own from_archive)) x.state x.at_begin
 
-  pub unchanged_at_registry : (x : RefusedCall clean stands) → x.number ≢ 99 → stands x.new x.state
+  pub unchanged_at_registry : (x : RefusedCall clean stands may_leave keeps) → x.number ≢ 99 → stands x.new x.state
   unchanged_at_registry x other = go (comes_from_archive x) refl
     where
       go : (b : Bool) → comes_from_archive x ≡ b → stands x.new x.state
@@ -29,7 +31,7 @@ module _ {D : Type 0} (clean : D → Type 0) (stands : D → Standing → Type 0
           let P : Standing → Type 0 = λ s. stands x.new s in
           subst P (refused_unchanged x.state x.command x.number x.offset l.to l.is_one other) l.there
 
-  pub no_memory_at_registry : (x : RefusedCall clean stands) → x.number ≡ 99 → HasTurnsMore stands x.state x.new
+  pub no_memory_at_registry : (x : RefusedCall clean stands may_leave keeps) → x.number ≡ 99 → HasTurnsMore stands x.state x.new
   no_memory_at_registry x poor = go (comes_from_archive x) refl
     where
       go : (b : Bool) → comes_from_archive x ≡ b → HasTurnsMore stands x.state x.new

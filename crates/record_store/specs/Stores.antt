@@ -1,5 +1,6 @@
 -- Which archive a store represents, and what its calls promise.
-use Rattle.std.specs.Prelude.{◌≡◌, ◌-◌, ℕ, false, None, Result, Ok, Err, OnOk, IfErr, IsTrue}
+use Rattle.std.specs.Prelude.{◌≡◌, ◌⊎◌, ◌<◌, ◌≤◌, ◌-◌, ℕ, false, None, Result, Ok, Err, OnOk, IfErr, IsTrue}
+use Rattle.sqlite_disk.specs.Disk.{MoreFaults}
 use Rattle.sqlite.specs.Store.{Ghosts}
 use Rattle.sqlite.specs.Effect.{Database, IsDatabase}
 use Rattle.sqlite.specs.State.{HasCleanDisk, Survives}
@@ -69,6 +70,23 @@ pub record TreesKeep (trees : Trees) (a : Archive) : Type 0 where
   pub sound : IsDatabase db
   pub stored : StoresArchive db a
   pub archive : IsArchive a
+
+-- What may become of a store: a crash leaves these trees, or it is found shut when the disk has failed so many times.
+pub data Fate : Type 0 where
+  Left : Trees → Fate
+  ShutAfter : (faults : ℕ) → Fate
+
+-- This may become of the store from this moment on. It is found shut after so many faults where it is shut already, or
+-- where there is one more by then.
+abbrev pub MayMeet : {S : Type 0} → Ghosts S → Store S → Fate → Type 0
+MayMeet g store (Left trees) = (state g store.conn).may_leave trees
+MayMeet g store (ShutAfter n) = ((state g store.conn).faults ≤ n)
+    × (((state g store.conn).is_open ≡ false) ⊎ MoreFaults (state g store.conn).faults n)
+
+-- what is left keeps this archive, and a store is shut only by a fault
+abbrev pub FateKeeps : Fate → Archive → Type 0
+FateKeeps (Left trees) a = TreesKeep trees a
+FateKeeps (ShutAfter n) a = 0 < n
 
 -- while the connection is open, whatever a crash at this moment leaves keeps the archive that the store represents
 abbrev pub LeavesNow : {S : Type 0} → Ghosts S → Store S → Type 0

@@ -3,8 +3,7 @@
 
 ghost use Rattle.sqlite.specs.State.{HasCleanDisk};
 ghost use Rattle.sqlite.specs.Held.{state};
-ghost use Rattle.sqlite.specs.Tree.{Trees};
-ghost use Rattle.record_store.specs.Stores.{StandsFor, TreesKeep};
+ghost use Rattle.record_store.specs.Stores.{Fate, FateKeeps, MayMeet, StandsFor};
 
 use crate::fault::{Cause, StoreFault};
 use crate::store::Store;
@@ -19,11 +18,11 @@ impl<S: Alter> Records for Store<S> {
 
     ghost stands = { StandsFor S.Store };
 
-    ghost remains = { Trees };
+    ghost remains = { Fate };
 
-    ghost may_leave = { λ s. (state S.Store s.conn).may_leave };
+    ghost may_leave = { MayMeet S.Store };
 
-    ghost keeps = { TreesKeep };
+    ghost keeps = { FateKeeps };
 
     ghost plan_of = { λ s. s.plan };
 

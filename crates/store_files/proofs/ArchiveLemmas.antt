@@ -5,10 +5,11 @@ use Rattle.sqlite_store.specs.declared.store.FileStore.{FileStore}
 use Rattle.sqlite.specs.Recovery.{Image}
 use Rattle.sqlite.specs.State.{HasCleanDisk}
 use Rattle.sqlite.specs.Held.{Held}
-use Rattle.sqlite.specs.Files.{over_files, file_state}
+use Rattle.sqlite.specs.Tree.{Trees}
+use Rattle.sqlite.specs.Files.{HoldsDatabase, over_files, file_state}
 use Rattle.record_archive.specs.Archive.{Archive}
 use Rattle.record_adoption.specs.Keeping.{StoresArchive}
-use Rattle.record_store.specs.Stores.{StandsFor}
+use Rattle.record_store.specs.Stores.{StandsFor, TreesKeep}
 use Rattle.record_store.specs.declared.store.Store.{Store}
 use Rattle.store_files.specs.Closing.{HoldsBy, HoldsNow}
 use Rattle.store_files.specs.Files.{KeepsAt}
@@ -38,3 +39,12 @@ holds_alike Copied P Q each image h = (each image h.0, each _ h.1)
 holds_alike Logged P Q each image h = each image h
 holds_alike Shut P Q each image h = tt
 holds_alike Cut P Q each image h = tt
+
+-- files that hold trees which keep an archive
+pub keeps_left : (image : Image) (trees : Trees) (a : Archive) → HoldsDatabase image trees → TreesKeep trees a → KeepsAt a image
+keeps_left image trees a held kept = record {
+  db = kept.db;
+  sound = kept.sound;
+  held = ∣ subst (HoldsDatabase image) kept.same held ∣₁;
+  has = (kept.stored, kept.archive);
+}

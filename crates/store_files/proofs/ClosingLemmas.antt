@@ -33,6 +33,12 @@ by_leaving Logged Holds told shut = told tt
 by_leaving Shut Holds told shut = shut refl
 by_leaving Cut Holds told shut = tt
 
+pub leaves_map : (closing : Closing) (P Q : Type 0) → (P → Q) → LeavesBy closing P → LeavesBy closing Q
+leaves_map Copied P Q f h = f h
+leaves_map Logged P Q f h = f h
+leaves_map Shut P Q f h = f h
+leaves_map Cut P Q f h = tt
+
 -- over an open connection between transactions
 module _ {D : Type 0} {g : Ghosts D} (conn : Held (FileStore D g)) (on : IsTrue (view conn.store).is_open) (live : IsLive (file_state conn))
     (settled : (file_state conn).now ≡ (file_state conn).committed) where

@@ -84,6 +84,8 @@ pub fn leave<D: Disk + Drop>(conn: Connection<FileStore<D>>) -> Files<D>
     ensures holds { AreClean D.Disk result.log result.db → conn.in_transaction ≡ false
         → IsTrue (file_state conn).is_open → (image : Image)
         → outcomes D.Disk result.log result.db image → HoldsNow (file_state conn) image }
+    ensures leaves { AreClean D.Disk result.log result.db → (image : Image)
+        → outcomes D.Disk result.log result.db image → HoldsLeft (file_state conn) image }
 {
     let _settled = conn.is_autocommit();
     let _live = conn.schema();

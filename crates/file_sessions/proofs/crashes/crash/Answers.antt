@@ -4,6 +4,7 @@ use Rattle.sqlite.specs.Held.{Held}
 use Rattle.sqlite.specs.Files.{file_state}
 use Rattle.sqlite_store.specs.declared.store.FileStore.{FileStore}
 use Rattle.record_store.specs.declared.store.Store.{Store}
+use Rattle.store_files.specs.Closing.{HoldsLeft}
 use Rattle.store_files.proofs.ArchiveLemmas.{is_idle, keeps_now}
 use Rattle.file_sessions.proofs.crashes.crash.Goals as goal
 
@@ -23,3 +24,9 @@ returns-clause-keeps g c honest on s there image may =
     let still = subst OpenConn (sym same) (subst OpenStore (sym c.into_store.ensures.store) on) in
     keeps_now store c.into_connection.result same s.office.archive stands (c.leave.ensures.clean honest) image
     (c.leave.ensures.holds honest (is_idle store c.into_connection.result same s.office.archive stands) still image may)
+
+pub returns-clause-leaves : goal.returns-clause-leaves
+returns-clause-leaves g c honest image may =
+    let OfConn : Held (FileStore g.row.D.Denot g.D.Disk) → Type 0 = λ h. HoldsLeft (file_state h) image in
+    let OfStore : Store (FileStore g.row.D.Denot g.D.Disk) → Type 0 = λ s. HoldsLeft (file_state s.conn) image in
+    subst OfStore c.into_store.ensures.store (subst OfConn c.into_connection.ensures (c.leave.ensures.leaves honest image may))

@@ -23,26 +23,39 @@ returns-in-Err-clause-refused g c clean a found is =
 pub returns-in-Ok-new-clause-clean : goal.returns-in-Ok-new-clause-clean
 returns-in-Ok-new-clause-clean g c clean =
     let CleanStore : Store g.row.S.Denot → Type 0 = λ s. HasCleanDisk (state g.S.Store s.conn) in
-    let early : HasCleanDisk (state g.S.Store c.in-Ok.store.conn) = subst CleanStore c.in-Ok-new.ensures.over clean in
-    omega (arith, c.in-Ok.ensures.crash.clean)
+    let early = c.ensure_open.ensures.falls (subst CleanStore c.in-Ok-new.ensures.over clean) in
+    omega (arith, c.in-Ok.ensures.crash.clean, early)
 
 pub returns-in-Ok-new-clause-stands : goal.returns-in-Ok-new-clause-stands
 returns-in-Ok-new-clause-stands g c clean a found =
     let CleanStore : Store g.row.S.Denot → Type 0 = λ s. HasCleanDisk (state g.S.Store s.conn) in
     let Stands : Archive → Type 0 = λ b. stores.StandsFor g.S.Store c.in-Ok.store b in
-    let early = subst CleanStore c.in-Ok-new.ensures.over clean in
-    c.in-Ok-new.ensures.opens a (elim found [
+    let early = c.ensure_open.ensures.falls (subst CleanStore c.in-Ok-new.ensures.over clean) in
+    c.in-Ok-new.ensures.opens a (c.ensure_open.ensures.stands a (elim found [
       | inl rows ↦ c.in-Ok.ensures.found early a rows.0 rows.1
       | inr none ↦ subst Stands (sym none.1) (c.in-Ok.ensures.empty early none.0)
-    ])
+    ]))
 
 pub returns-in-Err-new-clause-still_clean : goal.returns-in-Err-new-clause-still_clean
 returns-in-Err-new-clause-still_clean g c clean =
     let CleanConn : Held g.row.S.Denot → Type 0 = λ h. HasCleanDisk (state g.S.Store h) in
     let CleanStore : Store g.row.S.Denot → Type 0 = λ s. HasCleanDisk (state g.S.Store s.conn) in
-    let early : HasCleanDisk (state g.S.Store c.in-Ok.store.conn) =
-    subst CleanStore c.in-Err-new.ensures.handed_back (subst CleanConn c.into_connection.ensures clean) in
-    omega (arith, c.in-Ok.ensures.crash.clean)
+    let early = c.ensure_open.ensures.falls (subst CleanStore c.in-Err-new.ensures.handed_back
+    (subst CleanConn c.into_connection-in-Err-new.ensures clean)) in
+    omega (arith, c.in-Ok.ensures.crash.clean, early)
 
 pub returns-in-Err-new-clause-refused : goal.returns-in-Err-new-clause-refused
 returns-in-Err-new-clause-refused g c clean a found is = refl
+
+pub returns-in-Ok-new-clause-leaves : goal.returns-in-Ok-new-clause-leaves
+returns-in-Ok-new-clause-leaves g c clean a found trees may =
+    let CleanStore : Store g.row.S.Denot → Type 0 = λ s. HasCleanDisk (state g.S.Store s.conn) in
+    let MayLeave : Store g.row.S.Denot → Type 0 = λ s. (state g.S.Store s.conn).may_leave trees in
+    let Stands : Archive → Type 0 = λ b. stores.StandsFor g.S.Store c.in-Ok.store b in
+    let now = subst CleanStore c.in-Ok-new.ensures.over clean in
+    let early = c.ensure_open.ensures.falls now in
+    let there = c.ensure_open.ensures.stands a (elim found [
+      | inl rows ↦ c.in-Ok.ensures.found early a rows.0 rows.1
+      | inr none ↦ subst Stands (sym none.1) (c.in-Ok.ensures.empty early none.0)
+    ]) in
+    c.is_idle-idle.ensures.left now (c.in_default.ensures.open now) a there trees (subst MayLeave c.in-Ok-new.ensures.over may)

@@ -4,7 +4,7 @@ use Rattle.filing_commands.specs.CallAnswers.{answer_of_capture}
 use Rattle.filing_commands.specs.Faults.{refused_by}
 use Rattle.filing_commands.specs.Standing.{finish}
 use Rattle.filing_commands.specs.declared.fault.DeskFault.{DeskFault}
-use Rattle.filing_desk.specs.Standing.{IsClean, StandsFor}
+use Rattle.filing_desk.specs.Standing.{IsClean, MayLeave, StandsFor}
 use Rattle.mail_delivery.specs.Deliveries.{Call, Delivers}
 use Rattle.mail_delivery.specs.declared.delivering.Delivery.{Delivery}
 use Rattle.mail_delivery.proofs.CallLemmas.{calls_on, one_call, passed_on}
@@ -28,6 +28,8 @@ pub returns-in_err-capture : goal.returns-in_err-capture
 returns-in_err-capture g c = λ m is.
     let clean = IsClean g.A.Records.clean in
     let stands = StandsFor g.A.Records.stands in
+    let may_leave = MayLeave g.A.Records.may_leave in
+    let keeps = g.A.Records.keeps in
     let out = c.from_residual-in_err-capture in
     let fault = c.in_err-capture.field-0.0 in
     let first = c.in_ok-ticket.ensures m is in
@@ -35,12 +37,12 @@ returns-in_err-capture g c = λ m is.
     let last : List Call = record { command = finish t; answer = refused_by fault } ∷ [] in
     let Told : Result Delivery DeskFault → Type 0 = λ r.
     Delivers clean stands c.args.desk.now c.args.officer.now c.args.moment m r c.finish.new.self in
-    let Finishes : ℕ → Type 0 = λ n. Calls clean stands c.begin_and_run.new.desk (finish n) (refused_by fault) c.finish.new.self in
+    let Finishes : ℕ → Type 0 = λ n. Calls clean stands may_leave keeps c.begin_and_run.new.desk (finish n) (refused_by fault) c.finish.new.self in
     subst Told (sym (passed_on out.result fault out.ensures.0 out.ensures.1)) (
       first.0 ++ last,
       inr (inl (t, first.1.0, first.1.1, ap (λ (calls : List Call). calls ++ last) first.1.2)),
       calls_on clean stands c.args.desk.now c.begin_and_run.new.desk c.finish.new.self first.0 last first.2
-          (one_call clean stands c.begin_and_run.new.desk c.finish.new.self (finish t) (refused_by fault)
+          (one_call clean stands may_leave keeps c.begin_and_run.new.desk c.finish.new.self (finish t) (refused_by fault)
           (subst Finishes c.from.ensures c.in_err-capture.ensures)),
     )
 
@@ -48,15 +50,17 @@ pub returns : goal.returns
 returns g c = λ m is.
     let clean = IsClean g.A.Records.clean in
     let stands = StandsFor g.A.Records.stands in
+    let may_leave = MayLeave g.A.Records.may_leave in
+    let keeps = g.A.Records.keeps in
     let first = c.in_ok-ticket.ensures m is in
     let t = c.in_ok-ticket.ticket in
     let last : List Call = record { command = finish t; answer = answer_of_capture (Ok c.in_ok-capture.capture) } ∷ [] in
     let Finishes : ℕ
-    → Type 0 = λ n. Calls clean stands c.begin_and_run.new.desk (finish n)
+    → Type 0 = λ n. Calls clean stands may_leave keeps c.begin_and_run.new.desk (finish n)
     (answer_of_capture (Ok c.in_ok-capture.capture)) c.finish.new.self in (
       first.0 ++ last,
       (t, first.1.0, first.1.1, ap (λ (calls : List Call). calls ++ last) first.1.2),
       calls_on clean stands c.args.desk.now c.begin_and_run.new.desk c.finish.new.self first.0 last first.2
-          (one_call clean stands c.begin_and_run.new.desk c.finish.new.self (finish t) (answer_of_capture (Ok c.in_ok-capture.capture))
+          (one_call clean stands may_leave keeps c.begin_and_run.new.desk c.finish.new.self (finish t) (answer_of_capture (Ok c.in_ok-capture.capture))
           (subst Finishes c.from.ensures c.in_ok-capture.ensures)),
     )
