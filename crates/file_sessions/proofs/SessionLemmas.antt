@@ -1,6 +1,12 @@
 -- What a session at a desk leads to.
-use Rattle.std.proofs.Common.{ℕ, zero, List, [], Result, Ok, Err, inl, inr, refl}
+use Rattle.std.proofs.Common.{ℕ, zero, IsTrue, sym, ◌∙◌, arith, List, [], Result, Ok, Err, inl, inr, refl}
 use Rattle.std.specs.Prelude.{OnOk, IsErrOf}
+use Rattle.std.proofs.lemmas.Bool.{false≢true}
+use Rattle.sqlite.specs.Store.{Ghosts}
+use Rattle.sqlite.specs.Tree.{Trees}
+use Rattle.sqlite.specs.Held.{state}
+use Rattle.record_store.specs.Stores.{Fate, Left, ShutAfter, FateKeeps, MayMeet, TreesKeep}
+use Rattle.record_store.specs.declared.store.Store.{Store}
 use Rattle.record_archive.specs.Archive.{Archive}
 use Rattle.filing_commands.specs.Answers.{Answer}
 use Rattle.filing_commands.specs.Calls.{Calls, Leads}
@@ -124,3 +130,13 @@ left_in keeps holds image other each s items answers left = record {
   kept = each left.to.office.archive left.kept;
   undone = left.undone;
 }
+
+-- what may become of an open store whose crash leaves one archive
+pub met_first : {S : Type 0} (g : Ghosts S) (store : Store S) (a : Archive) → IsTrue (state g store.conn).is_open
+    → ((trees : Trees) → (state g store.conn).may_leave trees → TreesKeep trees a)
+    → (fate : Fate) → MayMeet g store fate → FateKeeps fate a
+met_first g store a on leaves (Left trees) may = leaves trees may
+met_first g store a on leaves (ShutAfter n) may = elim may.1 [
+  | inl closed ↦ absurd (false≢true (sym closed ∙ on))
+  | inr more ↦ omega (arith, more)
+]
