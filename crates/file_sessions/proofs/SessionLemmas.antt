@@ -40,13 +40,17 @@ module _ {D I : Type 0} (clean : D → Type 0) (stands : D → Standing → Type
 
   -- by the law of sessions over the states that desks represent
   pub told_refines :
-      ((session : Session) (old written : List ℕ) → Refines clean stands (λ desk. IsServed (Calls clean stands may_leave keeps) session desk old written)
+      ((session : Session) (old written : List ℕ) → Refines clean stands (λ desk. IsServed (Calls clean stands may_leave keeps) session
+      desk old written)
       (λ s. IsServed Step session s old written))
-      → ((session : Session) (old written : List ℕ) → Refines clean stands (λ desk. IsAnswered (Calls clean stands may_leave keeps) session desk old written)
+      → ((session : Session) (old written : List ℕ) → Refines clean stands (λ desk. IsAnswered (Calls clean stands may_leave keeps)
+      session desk old written)
       (λ s. IsAnswered Step session s old written))
-      → ((session : Session) (old written : List ℕ) → Refines clean stands (λ desk. IsCutInAnswer (Calls clean stands may_leave keeps) session desk old written)
+      → ((session : Session) (old written : List ℕ) → Refines clean stands (λ desk. IsCutInAnswer (Calls clean stands may_leave keeps)
+      session desk old written)
       (λ s. IsCutInAnswer Step session s old written))
-      → ((session : Session) (old written : List ℕ) → Refines clean stands (λ desk. IsCutInEnding (Calls clean stands may_leave keeps) session desk old written)
+      → ((session : Session) (old written : List ℕ) → Refines clean stands (λ desk. IsCutInEnding (Calls clean stands may_leave keeps)
+      session desk old written)
       (λ s. IsCutInEnding Step session s old written))
       → (result : Result (Unit {0}) ServeFault) (session : Session) (old written : List ℕ) (desk new : D)
       → DeskTold result session desk old written new → clean new

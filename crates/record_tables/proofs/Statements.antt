@@ -140,10 +140,12 @@ module _ {X : Type 0} (d : Described X) (text : List ℕ) (params : Row) where
       (deleting d.table.tree tests) params count s.schema.is w in
       let has = d.stored old.now t s in
       let left = deleted_rows d.key d.to_row d.keyed (overlay old.now.trees []) d.table.tree (d.rows t)
-      (d.seen old.now.trees ∙ has) (d.ordered t keyed) tests params p test done.1.0 (done.1.1.answer Null) in
-      (changed d old.now new.now t _ s keyed done.0 done.1.2.tables (done.1.2.rows
-      ∙ ap (λ l. without_all l (ids_of done.1.0)) (sym (d.seen old.now.trees))
-      ∙ left) (IsKeyedBy-delete_where d.key _ (d.rows t) (d.ordered t keyed)), w.sound))
+      (d.seen old.now.trees ∙ has) (d.ordered t keyed) tests params p test done.1.0 (done.1.1.answer Null) in (
+        changed d old.now new.now t _ s keyed done.0 done.1.2.tables (done.1.2.rows
+            ∙ ap (λ l. without_all l (ids_of done.1.0)) (sym (d.seen old.now.trees))
+            ∙ left) (IsKeyedBy-delete_where d.key _ (d.rows t) (d.ordered t keyed)),
+        w.sound,
+      ))
 
 all_gone : {X : Type 0} (xs : List X) → delete_where (λ _. true) xs ≡ []
 all_gone xs = filter_none _ xs (all_of _ (λ _. refl) xs)

@@ -101,7 +101,8 @@ by_cause g conn back mid last closing left files first second third more most ea
     go Cut is = (last, files, failed (inr (cut is)))
 
 -- A store is shut only by a fault, whether the fault fell before its end or then.
-pub by_fault : {D : Type 0} (g : Ghosts D) (before : ℕ) (left : Files D) (closing : Closing) → HasCause g before left closing → HasCause g 0 left closing
+pub by_fault : {D : Type 0} (g : Ghosts D) (before : ℕ) (left : Files D) (closing : Closing) → HasCause g before left closing → HasCause
+    g 0 left closing
 by_fault g before left Copied cause = tt
 by_fault g before left Logged cause = tt
 by_fault g before left Shut cause = (cause.0, cause.1, omega (arith, cause.2))
