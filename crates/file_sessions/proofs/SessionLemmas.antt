@@ -1,6 +1,12 @@
 -- What a session at a desk leads to.
-use Rattle.std.proofs.Common.{ℕ, zero, List, [], Result, Ok, Err, inl, inr, refl}
+use Rattle.std.proofs.Common.{ℕ, zero, IsTrue, sym, ◌∙◌, arith, List, [], Result, Ok, Err, inl, inr, refl}
 use Rattle.std.specs.Prelude.{OnOk, IsErrOf}
+use Rattle.std.proofs.lemmas.Bool.{false≢true}
+use Rattle.sqlite.specs.Store.{Ghosts}
+use Rattle.sqlite.specs.Tree.{Trees}
+use Rattle.sqlite.specs.Held.{state}
+use Rattle.record_store.specs.Stores.{Fate, Left, ShutAfter, FateKeeps, MayMeet, TreesKeep}
+use Rattle.record_store.specs.declared.store.Store.{Store}
 use Rattle.record_archive.specs.Archive.{Archive}
 use Rattle.filing_commands.specs.Answers.{Answer}
 use Rattle.filing_commands.specs.Calls.{Calls, Leads}
@@ -34,13 +40,17 @@ module _ {D I : Type 0} (clean : D → Type 0) (stands : D → Standing → Type
 
   -- by the law of sessions over the states that desks represent
   pub told_refines :
-      ((session : Session) (old written : List ℕ) → Refines clean stands (λ desk. IsServed (Calls clean stands may_leave keeps) session desk old written)
+      ((session : Session) (old written : List ℕ) → Refines clean stands (λ desk. IsServed (Calls clean stands may_leave keeps) session
+      desk old written)
       (λ s. IsServed Step session s old written))
-      → ((session : Session) (old written : List ℕ) → Refines clean stands (λ desk. IsAnswered (Calls clean stands may_leave keeps) session desk old written)
+      → ((session : Session) (old written : List ℕ) → Refines clean stands (λ desk. IsAnswered (Calls clean stands may_leave keeps)
+      session desk old written)
       (λ s. IsAnswered Step session s old written))
-      → ((session : Session) (old written : List ℕ) → Refines clean stands (λ desk. IsCutInAnswer (Calls clean stands may_leave keeps) session desk old written)
+      → ((session : Session) (old written : List ℕ) → Refines clean stands (λ desk. IsCutInAnswer (Calls clean stands may_leave keeps)
+      session desk old written)
       (λ s. IsCutInAnswer Step session s old written))
-      → ((session : Session) (old written : List ℕ) → Refines clean stands (λ desk. IsCutInEnding (Calls clean stands may_leave keeps) session desk old written)
+      → ((session : Session) (old written : List ℕ) → Refines clean stands (λ desk. IsCutInEnding (Calls clean stands may_leave keeps)
+      session desk old written)
       (λ s. IsCutInEnding Step session s old written))
       → (result : Result (Unit {0}) ServeFault) (session : Session) (old written : List ℕ) (desk new : D)
       → DeskTold result session desk old written new → clean new
@@ -124,3 +134,13 @@ left_in keeps holds image other each s items answers left = record {
   kept = each left.to.office.archive left.kept;
   undone = left.undone;
 }
+
+-- what may become of an open store whose crash leaves one archive
+pub met_first : {S : Type 0} (g : Ghosts S) (store : Store S) (a : Archive) → IsTrue (state g store.conn).is_open
+    → ((trees : Trees) → (state g store.conn).may_leave trees → TreesKeep trees a)
+    → (fate : Fate) → MayMeet g store fate → FateKeeps fate a
+met_first g store a on leaves (Left trees) may = leaves trees may
+met_first g store a on leaves (ShutAfter n) may = elim may.1 [
+  | inl closed ↦ absurd (false≢true (sym closed ∙ on))
+  | inr more ↦ omega (arith, more)
+]

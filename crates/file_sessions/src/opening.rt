@@ -1,6 +1,6 @@
 //! The desk over a database.
 
-ghost use Rattle.std.specs.Prelude.{◌≡◌, false, true, IfErr, IfOk};
+ghost use Rattle.std.specs.Prelude.{◌≡◌, false, true, IfErr, IfOk, IsTrue};
 ghost use Rattle.sqlite.specs.State.{HasCleanDisk};
 ghost use Rattle.sqlite.specs.Held.{state};
 ghost use Rattle.record_archive.specs.Archive.{Archive, IsArchive};
@@ -35,6 +35,8 @@ pub(crate) fn open_desk<S: Alter + Drop>(
     ensures leaves { IfOk result (λ d. HasCleanDisk (state S.Store d.store.conn) → (a : Archive)
         → Finds (state S.Store conn).now a → (trees : Trees)
         → (state S.Store d.store.conn).may_leave trees → TreesKeep trees a) }
+    ensures open { IfOk result (λ d. HasCleanDisk (state S.Store d.store.conn)
+        → IsTrue (state S.Store d.store.conn).is_open) }
     ensures still_clean { IfErr result
         (λ e. HasCleanDisk (state S.Store e.1) → HasCleanDisk (state S.Store conn)) }
     ensures refused { IfErr result (λ e. HasCleanDisk (state S.Store e.1) → (a : Archive)

@@ -13,7 +13,7 @@ ghost use Rattle.filing_commands.specs.Standing.{Standing};
 ghost use Rattle.filing_session.specs.Session.{session_in};
 ghost use Rattle.record_store.specs.Stores as stores;
 ghost use Rattle.filing_desk.specs.Standing.{StandsFor};
-ghost use Rattle.store_files.specs.Closing.{HasCause as EndsFor, HoldsLeft, LeavesBy};
+ghost use Rattle.store_files.specs.Closing.{HasCause as EndsFor, HaveCounted, HoldsLeft, LeavesBy};
 ghost use Rattle.store_files.specs.Files.{FindsAt, KeepsAt, KeepsFiles, system_file};
 ghost use Rattle.file_sessions.specs.Refusals.{HasCause};
 ghost use Rattle.file_sessions.specs.Sessions.{IsDone, IsTold, LeadsTo, LeavesSome};
@@ -60,6 +60,7 @@ fn close_desk<D: Disk + Drop>(desk: Desk<Store<FileStore<D>>>) -> (Files<D>, Clo
     ensures cause { AreClean D.Disk result.0.log result.0.db
         → IsTrue (file_state desk.store.conn).is_open
         → EndsFor D.Disk (file_state desk.store.conn).faults result.0 result.1 }
+    ensures counts { HaveCounted D.Disk (file_state desk.store.conn).faults result.0 }
 {
     close(desk.into_store().into_connection())
 }
@@ -87,6 +88,9 @@ pub fn serve_connection<D: Disk + Drop, In: Source, Out: Sink>(
         → HasCleanDisk (file_state conn) × ((a : Archive)
         → Finds (file_state conn).now a → LeavesSome D.Disk it a In.tells Out.tells
         (In.left source.old) (Out.written sink.old) (Out.written sink.new))) }
+    ensures shut { IfOk result (λ it. AreClean D.Disk it.files.log it.files.db
+        → HasCleanDisk (file_state conn) × ((a : Archive)
+        → Finds (file_state conn).now a → EndsFor D.Disk 0 it.files it.closing)) }
     ensures refused { IfErr result (λ e. AreClean D.Disk e.1.log e.1.db
         → HasCleanDisk (file_state conn) × ((a : Archive)
         → Finds (file_state conn).now a → IsArchive a → is_trouble e.0 ≡ true)) }
@@ -110,9 +114,10 @@ pub fn serve_connection<D: Disk + Drop, In: Source, Out: Sink>(
 ///
 /// While the disk returns what was written to it, the session begins at the archive that the files held, what is
 /// written are the answers of its commands there, and the files keep the archive that it leads to, also over a crash.
-/// Whatever faults of the disk shut the store, and wherever a crash falls, the files keep the archive after the first of
-/// the commands, among them all that the archive has carried out (`left`). Of octets it says what the streams tell of theirs. What the files held, and how a write that a crash cuts short is
-/// read, is what `S` says. No code knows it, so this holds whatever it is.
+/// Whatever faults of the disk shut the store, and wherever a crash falls, the files keep the archive after the first
+/// of the commands, among them all that the archive has carried out (`left`). `Shut` and `Cut` are told only where the
+/// disk has failed (`shut`). Of octets it says what the streams tell of theirs. What the files held, and how a write
+/// that a crash cuts short is read, is what `S` says. No code knows it, so this holds whatever it is.
 ///
 /// No session is served, and nothing is read, where the files cannot be opened, where they hold no archive (88), and
 /// where the database refuses (89) or there is no memory (99). Over files that hold an archive there is no other cause.
@@ -135,6 +140,9 @@ pub fn serve_file<S: Start, In: Source, Out: Sink>(
         → (a : Archive) → FindsAt (image_at S.Start) a
         → LeavesSome (system_file S.Start) it a In.tells Out.tells
         (In.left source.old) (Out.written sink.old) (Out.written sink.new)) }
+    ensures shut { IfOk result (λ it. AreClean (system_file S.Start) it.files.log it.files.db
+        → (a : Archive) → FindsAt (image_at S.Start) a
+        → EndsFor (system_file S.Start) 0 it.files it.closing) }
     ensures refused { IfErr result (λ e. (a : Archive) → FindsAt (image_at S.Start) a → IsArchive a
         → HasCause e) }
 {

@@ -60,11 +60,14 @@ module _ {A I : Type 0} (is_clean : A → Type 0) (stood : A → Archive → Typ
         | inl before ↦ inl before
         | inr made ↦
             let P : Archive → Type 0 = λ x. keeps image x in
-            inr (listed (due_list s.office.archive n), record {
-              to = s;
-              is_one = due_step s n (due_list s.office.archive n) refl;
-              kept = subst P (sym (same_made made.1)) made.2;
-            })
+            inr (
+              listed (due_list s.office.archive n),
+              record {
+                to = s;
+                is_one = due_step s n (due_list s.office.archive n) refl;
+                kept = subst P (sym (same_made made.1)) made.2;
+              },
+            )
       ]
 
   pub due_told : {E : Type 0} (old new : Desk A) (n : ℕ) (lines : Vec code.Line Global)
@@ -75,7 +78,8 @@ module _ {A I : Type 0} (is_clean : A → Type 0) (stood : A → Archive → Typ
       plain_calls is_clean stood may_leave keeps old new (due n) (listed (map line_view lines.items)) call.was_clean (λ sure s stands.
       let clean : is_clean new.store = sure refl in
       let h = call.does clean s.office.archive stands.store in
-      (s.office, inl (refl, h.1), still_stands is_clean stood may_leave keeps old new s rest same stands h.0)) (λ refused. absurd (false≢true refused))
+      (s.office, inl (refl, h.1), still_stands is_clean stood may_leave keeps old new s rest same stands h.0)) (λ refused. absurd
+      (false≢true refused))
       (crashes_due old new n call.crash)
       (λ from_archive told clean s stands image may.
       let P : Archive → Type 0 = λ x. keeps image x in
@@ -86,7 +90,8 @@ module _ {A I : Type 0} (is_clean : A → Type 0) (stood : A → Archive → Typ
       → KeepsRest is_clean stood may_leave keeps old new → new.open_paths ≡ old.open_paths
       → CarriesOut {X = Vec code.Line Global} {E = E} is_clean stood may_leave keeps old.store new.store unchanged (IsDueList day)
       (Err f) → a ≡ refused_by (archive_fault f) → Calls (IsClean is_clean) (StandsFor stood) (MayLeave may_leave) keeps old (plain (due n)) a new
-  due_given_up old new n day f a rest same call is_told = plain_calls is_clean stood may_leave keeps old new (due n) a call.was_clean (λ sure s stands.
+  due_given_up old new n day f a rest same call is_told = plain_calls is_clean stood may_leave keeps old new (due n) a call.was_clean (λ
+      sure s stands.
       let h = call.does s.office.archive stands.store in
       let P : Answer → Type 0 = λ x. OfficeStep s.office (due n) x s.office in
       let step : OfficeStep s.office (due n) (refused_by (archive_fault f)) s.office =

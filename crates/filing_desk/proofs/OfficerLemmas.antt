@@ -128,12 +128,13 @@ module _ {A I : Type 0} (is_clean : A → Type 0) (stood : A → Archive → Typ
       → ((a : Archive) → office_of a new.officers ≡ change (office_of a old.officers))
       → ((s : Standing) → StandsFor stood old s → Settles s.office c (change s.office))
       → Calls (IsClean is_clean) (StandsFor stood) (MayLeave may_leave) keeps old (plain c) done new
-  set_by old new c change apart rest same is settles = plain_calls is_clean stood may_leave keeps old new c done (cleans old new rest.store) (λ sure s stands. (
-    change s.office,
-    inl (settles s stands),
-    resets old new s (change s.office) rest stands (same s.office) (is s.office.archive
-        ∙ ap change stands.officers),
-  )) (λ refused. absurd (false≢true refused)) (untouched is_clean stood may_leave keeps old new (plain c) rest.store)
+  set_by old new c change apart rest same is settles = plain_calls is_clean stood may_leave keeps old new c done (cleans old new
+      rest.store) (λ sure s stands. (
+        change s.office,
+        inl (settles s stands),
+        resets old new s (change s.office) rest stands (same s.office) (is s.office.archive
+            ∙ ap change stands.officers),
+      )) (λ refused. absurd (false≢true refused)) (untouched is_clean stood may_leave keeps old new (plain c) rest.store)
       (λ from_archive. absurd (false≢true (sym (not_of_archive c done apart) ∙ from_archive)))
 
   -- nothing is set

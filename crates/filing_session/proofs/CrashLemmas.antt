@@ -65,13 +65,13 @@ module _ {D I : Type 0} (clean : D → Type 0) (stands : D → Standing → Type
       elim (run_leaves items answers run.0 new run.2 ok first.to first.there image may) [
         | inl nothing ↦ item_leaves i a items answers old run.0 run.1 sure s there image nothing.0 nothing.1
         | inr left ↦ inr (record {
-            count = suc left.count;
-            replies = a ∷ left.replies;
-            to = left.to;
-            run = (first.to, first.is_one, left.run);
-            kept = left.kept;
-            undone = left.undone;
-          })
+          count = suc left.count;
+          replies = a ∷ left.replies;
+          to = left.to;
+          run = (first.to, first.is_one, left.run);
+          kept = left.kept;
+          undone = left.undone;
+        })
       ]
   run_leaves [] (a ∷ answers) old new run ok s there image may = absurd run
   run_leaves (i ∷ items) [] old new run ok s there image may = absurd run

@@ -18,7 +18,8 @@ later_holds false y e = e
 
 module _ {D I : Type 0} (clean : D → Type 0) (stands : D → Standing → Type 0) (may_leave : D → I → Type 0)
     (keeps : I → Archive → Type 0) where
-  pub item_refines : (i : Item) (a : Answer) → Refines clean stands (λ old. ItemStep (Calls clean stands may_leave keeps) old i a) (λ s. ItemStep Step s i a)
+  pub item_refines : (i : Item) (a : Answer) → Refines clean stands (λ old. ItemStep (Calls clean stands may_leave keeps) old i a) (λ s.
+      ItemStep Step s i a)
   item_refines (Call c) a old new step ok = (step.was_clean ok, step.leads (λ from_archive. ok))
   item_refines UnknownCommand a old new step ok = (
     subst clean step.1 ok,

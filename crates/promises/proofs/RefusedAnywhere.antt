@@ -18,7 +18,8 @@ module _ {D I : Type 0} (clean : D → Type 0) (stands : D → Standing → Type
   comes_from_archive x = is_of_archive x.command (refused x.number x.offset)
 
   -- the state after a refusal that does not come from the archive
-  led : (x : RefusedCall clean stands may_leave keeps) → comes_from_archive x ≡ false → Leads stands x.new (Step x.state x.command (refused x.number x.offset))
+  led : (x : RefusedCall clean stands may_leave keeps) → comes_from_archive x ≡ false → Leads stands x.new (Step x.state x.command
+      (refused x.number x.offset))
   led x own = x.call.leads (λ from_archive. absurd (not_both (comes_from_archive x) own from_archive)) x.state x.at_begin
 
   pub unchanged_at_registry : (x : RefusedCall clean stands may_leave keeps) → x.number ≢ 99 → stands x.new x.state

@@ -1,5 +1,5 @@
 -- What the files hold of the last commit once its connection is given up.
-use Rattle.std.proofs.Common.{◌≡◌, ◌≤◌, ◌⊎◌, inl, inr, [], false, IsTrue, sym, ap, subst, ◌∙◌, refl, arith}
+use Rattle.std.proofs.Common.{◌≡◌, ◌<◌, ◌≤◌, ◌⊎◌, ℕ, inl, inr, [], false, IsTrue, sym, ap, subst, ◌∙◌, refl, arith}
 use Rattle.std.proofs.lemmas.Bool.{false≢true}
 use Rattle.sqlite_disk.specs.Disk.{MoreFaults}
 use Rattle.sqlite_disk.specs.declared.Files.{Files}
@@ -16,7 +16,7 @@ use Rattle.sqlite.specs.State.{IsLive}
 use Rattle.sqlite.specs.Held.{Held, AreDatabases}
 use Rattle.sqlite.specs.Files.{HoldsDatabase, file_state}
 use Rattle.sqlite.proofs.Theorems.{opens_again}
-use Rattle.store_files.specs.Closing.{HasCause, HoldsBy, HoldsLeft, HoldsNow, IsTold, LeavesBy}
+use Rattle.store_files.specs.Closing.{HasCause, HaveCounted, HoldsBy, HoldsLeft, HoldsNow, IsTold, LeavesBy}
 use Rattle.store_files.specs.declared.closing.Closing.{Closing}
 use Rattle.store_files.specs.declared.closing.Closing.TheVariants.{Copied, Logged, Shut, Cut}
 
@@ -99,3 +99,18 @@ by_cause g conn back mid last closing left files first second third more most ea
     go Logged is = tt
     go Shut is = (last, files, failed (inl (shut is)))
     go Cut is = (last, files, failed (inr (cut is)))
+
+-- A store is shut only by a fault, whether the fault fell before its end or then.
+pub by_fault : {D : Type 0} (g : Ghosts D) (before : ℕ) (left : Files D) (closing : Closing) → HasCause g before left closing → HasCause
+    g 0 left closing
+by_fault g before left Copied cause = tt
+by_fault g before left Logged cause = tt
+by_fault g before left Shut cause = (cause.0, cause.1, omega (arith, cause.2))
+by_fault g before left Cut cause = (cause.0, cause.1, omega (arith, cause.2))
+
+pub by_count : {D : Type 0} (g : Ghosts D) (before : ℕ) (left : Files D) (closing : Closing) → HaveCounted g before left → 0 < before
+    → HasCause g 0 left closing
+by_count g before left Copied counted some = tt
+by_count g before left Logged counted some = tt
+by_count g before left Shut counted some = (counted.0, counted.1, omega (arith, counted.2, some))
+by_count g before left Cut counted some = (counted.0, counted.1, omega (arith, counted.2, some))

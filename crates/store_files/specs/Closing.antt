@@ -1,5 +1,5 @@
 -- What the two files hold of a database once its connection is given up.
-use Rattle.std.specs.Prelude.{◌≡◌, ℕ, [], IsTrue}
+use Rattle.std.specs.Prelude.{◌≡◌, ◌≤◌, ℕ, [], IsTrue}
 use Rattle.sqlite_disk.specs.Disk.{MoreFaults}
 use Rattle.sqlite_disk.specs.declared.Disk.{Ghosts}
 use Rattle.sqlite_disk.specs.declared.Files.{Files}
@@ -48,3 +48,7 @@ abbrev pub HasCause : {D : Type 0} (g : Ghosts D) → (before : ℕ) → Files D
 HasCause g before files Copied = Unit {0}
 HasCause g before files Logged = Unit {0}
 HasCause {D} g before files _ = (last : FileStore D g) × (stored_files last ≡ (files.log, files.db)) × MoreFaults before (faults last)
+
+-- no fault is forgotten
+abbrev pub HaveCounted : {D : Type 0} (g : Ghosts D) → (before : ℕ) → Files D → Type 0
+HaveCounted {D} g before files = (last : FileStore D g) × (stored_files last ≡ (files.log, files.db)) × (before ≤ faults last)

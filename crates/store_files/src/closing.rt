@@ -9,7 +9,7 @@ ghost use Rattle.sqlite.specs.Files.{file_state};
 ghost use Rattle.sqlite_store.specs.FileStore.{view, log_frames, HasSpilled};
 ghost use Rattle.sqlite_store.specs.Calls.{IsQuietCall};
 ghost use Rattle.sqlite_trees.specs.View.{IsClean};
-ghost use Rattle.store_files.specs.Closing.{HasCause, HoldsBy, HoldsLeft, HoldsNow, IsTold, LeavesBy};
+ghost use Rattle.store_files.specs.Closing.{HasCause, HaveCounted, HoldsBy, HoldsLeft, HoldsNow, IsTold, LeavesBy};
 
 use sqlite::{Connection, FileStore, Files};
 use sqlite_disk::Disk;
@@ -68,6 +68,7 @@ pub fn close<D: Disk + Drop>(conn: Connection<FileStore<D>>) -> (Files<D>, Closi
         → LeavesBy result.1 (HoldsLeft (file_state conn) image) }
     ensures cause { AreClean D.Disk result.0.log result.0.db → IsTrue (file_state conn).is_open
         → HasCause D.Disk (file_state conn).faults result.0 result.1 }
+    ensures counts { HaveCounted D.Disk (file_state conn).faults result.0 }
 {
     let _settled = conn.is_autocommit();
     let _live = conn.schema();

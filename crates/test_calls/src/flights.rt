@@ -24,6 +24,12 @@ impl Records for PlanAlone {
 
     ghost stands = { λ _ _. ⊥ };
 
+    ghost remains = { ⊥ };
+
+    ghost may_leave = { λ _ _. ⊥ };
+
+    ghost keeps = { λ _ _. ⊥ };
+
     ghost plan_of = { λ s. s.plan };
 
     fn plan(&self) -> &Plan {

@@ -1,4 +1,4 @@
-use Rattle.std.proofs.Common.{true, refl, sym, subst, inl, inr, arith}
+use Rattle.std.proofs.Common.{true, IsTrue, refl, sym, subst, inl, inr, arith}
 use Rattle.std.proofs.lemmas.Bool.{cases_Bool}
 use Rattle.sqlite.specs.State.{HasCleanDisk}
 use Rattle.sqlite.specs.Held.{Held, state}
@@ -59,3 +59,9 @@ returns-in-Ok-new-clause-leaves g c clean a found trees may =
       | inr none ↦ subst Stands (sym none.1) (c.in-Ok.ensures.empty early none.0)
     ]) in
     c.is_idle-idle.ensures.left now (c.in_default.ensures.open now) a there trees (subst MayLeave c.in-Ok-new.ensures.over may)
+
+pub returns-in-Ok-new-clause-open : goal.returns-in-Ok-new-clause-open
+returns-in-Ok-new-clause-open g c clean =
+    let CleanStore : Store g.row.S.Denot → Type 0 = λ s. HasCleanDisk (state g.S.Store s.conn) in
+    let OpenStore : Store g.row.S.Denot → Type 0 = λ s. IsTrue (state g.S.Store s.conn).is_open in
+    subst OpenStore (sym c.in-Ok-new.ensures.over) (c.in_default.ensures.open (subst CleanStore c.in-Ok-new.ensures.over clean))

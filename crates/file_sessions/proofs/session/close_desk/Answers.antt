@@ -4,7 +4,7 @@ use Rattle.sqlite.specs.Held.{Held}
 use Rattle.sqlite.specs.Files.{file_state}
 use Rattle.sqlite_store.specs.declared.store.FileStore.{FileStore}
 use Rattle.record_store.specs.declared.store.Store.{Store}
-use Rattle.store_files.specs.Closing.{HasCause, HoldsLeft, HoldsNow, LeavesBy}
+use Rattle.store_files.specs.Closing.{HasCause, HaveCounted, HoldsLeft, HoldsNow, LeavesBy}
 use Rattle.store_files.specs.Files.{KeepsAt}
 use Rattle.store_files.proofs.ArchiveLemmas.{holds_alike, is_idle, keeps_now}
 use Rattle.file_sessions.proofs.session.close_desk.Goals as goal
@@ -40,3 +40,10 @@ returns-clause-cause g c honest on =
     let OpenStore : Store (FileStore g.row.D.Denot g.D.Disk) → Type 0 = λ s. IsTrue (file_state s.conn).is_open in
     let still = subst OpenConn (sym c.into_connection.ensures) (subst OpenStore (sym c.into_store.ensures.store) on) in
     subst OfStore c.into_store.ensures.store (subst OfConn c.into_connection.ensures (c.close.ensures.cause honest still))
+
+pub returns-clause-counts : goal.returns-clause-counts
+returns-clause-counts g c =
+    let files = c.close.result in
+    let OfConn : Held (FileStore g.row.D.Denot g.D.Disk) → Type 0 = λ h. HaveCounted g.D.Disk (file_state h).faults files.0 in
+    let OfStore : Store (FileStore g.row.D.Denot g.D.Disk) → Type 0 = λ s. HaveCounted g.D.Disk (file_state s.conn).faults files.0 in
+    subst OfStore c.into_store.ensures.store (subst OfConn c.into_connection.ensures c.close.ensures.counts)

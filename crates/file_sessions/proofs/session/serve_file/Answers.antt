@@ -23,6 +23,11 @@ returns-in-Ok-serve_connection-clause-left g c honest a held =
     let it = c.in-Ok-serve_connection.ensures.left honest in
     it.1 a (finds_opened c.in-Ok.conn (image_at g.S.Start) a (c.in-Ok.ensures.opened it.0) (c.in-Ok.ensures.found it.0) held)
 
+pub returns-in-Ok-serve_connection-clause-shut : goal.returns-in-Ok-serve_connection-clause-shut
+returns-in-Ok-serve_connection-clause-shut g c honest a held =
+    let it = c.in-Ok-serve_connection.ensures.shut honest in
+    it.1 a (finds_opened c.in-Ok.conn (image_at g.S.Start) a (c.in-Ok.ensures.opened it.0) (c.in-Ok.ensures.found it.0) held)
+
 pub returns-in-Err-serve_connection-clause-refused : goal.returns-in-Err-serve_connection-clause-refused
 returns-in-Err-serve_connection-clause-refused g c a held is honest =
     let it = c.in-Err-serve_connection.ensures.refused honest in

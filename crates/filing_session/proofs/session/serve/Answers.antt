@@ -40,11 +40,13 @@ loop-init g c = record {
 
 pub returns-in_default-clause-done : goal.returns-in_default-clause-done
 returns-in_default-clause-done g c =
-    let P : _ → Type 0 = λ x. HasDone (Calls g.R.Registry.clean g.R.Registry.stands g.R.Registry.may_leave g.R.Registry.keeps) (λ items. g.S.Source.tells
+    let P : _ → Type 0 = λ x. HasDone (Calls g.R.Registry.clean g.R.Registry.stands g.R.Registry.may_leave g.R.Registry.keeps) (λ items.
+    g.S.Source.tells
     → Hears (Err Read) (session_of 1000000 (g.S.Source.left c.args.source.now)) items) (λ answers. g.K.Sink.tells
     → Says (Err Read) (g.K.Sink.written c.args.sink.now) answers (g.K.Sink.written c.loop.sink)) c.args.registry.now
     x in
-    subst P (sym c.in_default.ensures.same) (done_unheard (Calls g.R.Registry.clean g.R.Registry.stands g.R.Registry.may_leave g.R.Registry.keeps) c.loop.counter
+    subst P (sym c.in_default.ensures.same) (done_unheard (Calls g.R.Registry.clean g.R.Registry.stands g.R.Registry.may_leave
+    g.R.Registry.keeps) c.loop.counter
     (1000000 - c.loop.counter) _ _ _ _ _ _ c.loop.invariant.doing (omega (arith, c.loop-test.true)))
 
 pub returns-in_default-clause-unheard : goal.returns-in_default-clause-unheard
@@ -53,8 +55,10 @@ returns-in_default-clause-unheard g c = λ s k is.
     let P : _ → Type 0 = λ x.
     IsAnswered (Calls g.R.Registry.clean g.R.Registry.stands g.R.Registry.may_leave g.R.Registry.keeps) all c.args.registry.now
     (g.K.Sink.written c.args.sink.now) (g.K.Sink.written c.loop.sink) x in
-    let so_far = told (Calls g.R.Registry.clean g.R.Registry.stands g.R.Registry.may_leave g.R.Registry.keeps) _ _ _ _ _ _ _ _ c.loop.invariant.doing s k in
-    subst P (sym c.in_default.ensures.same) (answered_now (Calls g.R.Registry.clean g.R.Registry.stands g.R.Registry.may_leave g.R.Registry.keeps) _ _ _ _ _ _ _ _ so_far refl)
+    let so_far = told (Calls g.R.Registry.clean g.R.Registry.stands g.R.Registry.may_leave g.R.Registry.keeps) _ _ _ _ _ _ _ _
+    c.loop.invariant.doing s k in
+    subst P (sym c.in_default.ensures.same) (answered_now (Calls g.R.Registry.clean g.R.Registry.stands g.R.Registry.may_leave
+    g.R.Registry.keeps) _ _ _ _ _ _ _ _ so_far refl)
 
 pub loop-preserved : goal.loop-preserved
 loop-preserved g c =
@@ -65,7 +69,8 @@ loop-preserved g c =
     record {
       doing =
           let P : ℕ → Type 0 = λ n.
-          Doing (Calls g.R.Registry.clean g.R.Registry.stands g.R.Registry.may_leave g.R.Registry.keeps) g.S.Source.tells g.K.Sink.tells c.loop.counter n
+          Doing (Calls g.R.Registry.clean g.R.Registry.stands g.R.Registry.may_leave g.R.Registry.keeps) g.S.Source.tells g.K.Sink.tells
+          c.loop.counter n
           (session_of 1000000 (g.S.Source.left c.args.source.now)) c.args.registry.now
           (g.K.Sink.written c.args.sink.now) (g.S.Source.left c.loop.source) c.loop.registry
           (g.K.Sink.written c.loop.sink) in
@@ -127,7 +132,8 @@ returns-then-is_err-clause-unsaid g c = λ s k is.
     written_fault c.write_reply.result (g.K.Sink.written c.loop.sink) (reply_octets (answer_of c.in-Reply.reply))
     (g.K.Sink.written c.write_reply.new.sink) (c.write_reply.ensures.written k) (sym c.is_err.ensures.value
     ∙ c.if-is_err.true) in
-    inl (cut_in_answer (Calls g.R.Registry.clean g.R.Registry.stands g.R.Registry.may_leave g.R.Registry.keeps) _ _ _ _ _ _ _ a.0 (answer_of c.in-Reply.reply) _ _
+    inl (cut_in_answer (Calls g.R.Registry.clean g.R.Registry.stands g.R.Registry.may_leave g.R.Registry.keeps) _ _ _ _ _ _ _ a.0
+    (answer_of c.in-Reply.reply) _ _
     _ so_far (a.2 s) a.1 following)
 
 pub returns-in-End-clause-done : goal.returns-in-End-clause-done
@@ -156,8 +162,10 @@ returns-in-End-clause-ok g c = λ s k.
     Doing (Calls g.R.Registry.clean g.R.Registry.stands g.R.Registry.may_leave g.R.Registry.keeps) g.S.Source.tells g.K.Sink.tells c.loop.counter
     (1000000 - c.loop.counter) (session_of 1000000 (g.S.Source.left c.args.source.now)) c.args.registry.now
     (g.K.Sink.written c.args.sink.now) (g.S.Source.left c.loop.source) x (g.K.Sink.written c.loop.sink) in
-    let so_far = told (Calls g.R.Registry.clean g.R.Registry.stands g.R.Registry.may_leave g.R.Registry.keeps) _ _ _ _ _ _ _ _ (subst P (sym a.0) c.loop.invariant.doing) s k in
-    ended_ok (Calls g.R.Registry.clean g.R.Registry.stands g.R.Registry.may_leave g.R.Registry.keeps) c.write_ending.result _ _ _ _ _ c.next.new.registry
+    let so_far = told (Calls g.R.Registry.clean g.R.Registry.stands g.R.Registry.may_leave g.R.Registry.keeps) _ _ _ _ _ _ _ _ (subst P
+    (sym a.0) c.loop.invariant.doing) s k in
+    ended_ok (Calls g.R.Registry.clean g.R.Registry.stands g.R.Registry.may_leave g.R.Registry.keeps) c.write_ending.result _ _ _ _ _
+    c.next.new.registry
     (g.K.Sink.written c.loop.sink) c.in-End.ending (g.K.Sink.written c.write_ending.new.sink) so_far
     (stop_ends c.loop.counter _ _ _ c.loop-test.true (a.1 s)) (c.write_ending.ensures.written k)
 
@@ -171,8 +179,10 @@ returns-in-End-clause-unsaid g c = λ s k is.
     Doing (Calls g.R.Registry.clean g.R.Registry.stands g.R.Registry.may_leave g.R.Registry.keeps) g.S.Source.tells g.K.Sink.tells c.loop.counter
     (1000000 - c.loop.counter) (session_of 1000000 (g.S.Source.left c.args.source.now)) c.args.registry.now
     (g.K.Sink.written c.args.sink.now) (g.S.Source.left c.loop.source) x (g.K.Sink.written c.loop.sink) in
-    let so_far = told (Calls g.R.Registry.clean g.R.Registry.stands g.R.Registry.may_leave g.R.Registry.keeps) _ _ _ _ _ _ _ _ (subst P (sym a.0) c.loop.invariant.doing) s k in
-    inr (ended_cut (Calls g.R.Registry.clean g.R.Registry.stands g.R.Registry.may_leave g.R.Registry.keeps) c.write_ending.result _ _ _ _ _ _ c.next.new.registry
+    let so_far = told (Calls g.R.Registry.clean g.R.Registry.stands g.R.Registry.may_leave g.R.Registry.keeps) _ _ _ _ _ _ _ _ (subst P
+    (sym a.0) c.loop.invariant.doing) s k in
+    inr (ended_cut (Calls g.R.Registry.clean g.R.Registry.stands g.R.Registry.may_leave g.R.Registry.keeps) c.write_ending.result _ _ _ _
+    _ _ c.next.new.registry
     (g.K.Sink.written c.loop.sink) c.in-End.ending (g.K.Sink.written c.write_ending.new.sink) so_far
     (stop_ends c.loop.counter _ _ _ c.loop-test.true (a.1 s)) (c.write_ending.ensures.written k) is)
 
@@ -182,7 +192,8 @@ returns-in-End-clause-ending g c = λ s k ok by.
     → Type 0 = λ x. Answers g.S.Source.tells (Calls g.R.Registry.clean g.R.Registry.stands g.R.Registry.may_leave g.R.Registry.keeps) c.loop.registry
     (start_of (g.S.Source.left c.loop.source)) x c.next.new.registry (g.S.Source.left c.next.new.source) in
     let a = subst Q c.in-End.is c.in-Ok.ensures.reaction in
-    let so_far = told (Calls g.R.Registry.clean g.R.Registry.stands g.R.Registry.may_leave g.R.Registry.keeps) _ _ _ _ _ _ _ _ c.loop.invariant.doing s k in
+    let so_far = told (Calls g.R.Registry.clean g.R.Registry.stands g.R.Registry.may_leave g.R.Registry.keeps) _ _ _ _ _ _ _ _
+    c.loop.invariant.doing s k in
     let all = all_ends (Calls g.R.Registry.clean g.R.Registry.stands g.R.Registry.may_leave g.R.Registry.keeps) _ _ _ _ _ _ _ c.in-End.ending so_far
     (stop_ends c.loop.counter _ _ _ c.loop-test.true (a.1 s)) in
     let P : SessionEnd → Type 0 = EndsByInput in
@@ -208,22 +219,28 @@ returns-clause-done g c =
 
 pub returns-clause-ok : goal.returns-clause-ok
 returns-clause-ok g c = λ s k.
-    let so_far = told (Calls g.R.Registry.clean g.R.Registry.stands g.R.Registry.may_leave g.R.Registry.keeps) _ _ _ _ _ _ _ _ c.loop.invariant.doing s k in
-    ended_ok (Calls g.R.Registry.clean g.R.Registry.stands g.R.Registry.may_leave g.R.Registry.keeps) c.write_ending-2.result _ _ _ _ _ c.loop.registry
+    let so_far = told (Calls g.R.Registry.clean g.R.Registry.stands g.R.Registry.may_leave g.R.Registry.keeps) _ _ _ _ _ _ _ _
+    c.loop.invariant.doing s k in
+    ended_ok (Calls g.R.Registry.clean g.R.Registry.stands g.R.Registry.may_leave g.R.Registry.keeps) c.write_ending-2.result _ _ _ _ _
+    c.loop.registry
     (g.K.Sink.written c.loop.sink) Limit (g.K.Sink.written c.write_ending-2.new.sink) so_far
     (limit_ends c.loop.counter _ c.loop-test.false) (c.write_ending-2.ensures.written k)
 
 pub returns-clause-unsaid : goal.returns-clause-unsaid
 returns-clause-unsaid g c = λ s k is.
-    let so_far = told (Calls g.R.Registry.clean g.R.Registry.stands g.R.Registry.may_leave g.R.Registry.keeps) _ _ _ _ _ _ _ _ c.loop.invariant.doing s k in
-    inr (ended_cut (Calls g.R.Registry.clean g.R.Registry.stands g.R.Registry.may_leave g.R.Registry.keeps) c.write_ending-2.result _ _ _ _ _ _ c.loop.registry
+    let so_far = told (Calls g.R.Registry.clean g.R.Registry.stands g.R.Registry.may_leave g.R.Registry.keeps) _ _ _ _ _ _ _ _
+    c.loop.invariant.doing s k in
+    inr (ended_cut (Calls g.R.Registry.clean g.R.Registry.stands g.R.Registry.may_leave g.R.Registry.keeps) c.write_ending-2.result _ _ _
+    _ _ _ c.loop.registry
     (g.K.Sink.written c.loop.sink) Limit (g.K.Sink.written c.write_ending-2.new.sink) so_far
     (limit_ends c.loop.counter _ c.loop-test.false) (c.write_ending-2.ensures.written k) is)
 
 pub returns-clause-ending : goal.returns-clause-ending
 returns-clause-ending g c = λ s k ok by.
-    let so_far = told (Calls g.R.Registry.clean g.R.Registry.stands g.R.Registry.may_leave g.R.Registry.keeps) _ _ _ _ _ _ _ _ c.loop.invariant.doing s k in
-    let all = all_ends (Calls g.R.Registry.clean g.R.Registry.stands g.R.Registry.may_leave g.R.Registry.keeps) _ _ _ _ _ _ _ Limit so_far (limit_ends c.loop.counter _ c.loop-test.false) in
+    let so_far = told (Calls g.R.Registry.clean g.R.Registry.stands g.R.Registry.may_leave g.R.Registry.keeps) _ _ _ _ _ _ _ _
+    c.loop.invariant.doing s k in
+    let all = all_ends (Calls g.R.Registry.clean g.R.Registry.stands g.R.Registry.may_leave g.R.Registry.keeps) _ _ _ _ _ _ _ Limit
+    so_far (limit_ends c.loop.counter _ c.loop-test.false) in
     let P : SessionEnd → Type 0 = EndsByInput in
     absurd (subst P (ap (λ x. x.ending) all) by)
 

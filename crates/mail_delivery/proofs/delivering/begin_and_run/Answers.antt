@@ -45,7 +45,8 @@ returns-in_err-turn g c = λ m is.
       calls_on clean stands c.args.desk.now c.begin.new.self c.turn.new.self
           (record { command = asked; answer = begun t b } ∷ []) (record { command = turn t b; answer = refused_by fault } ∷ [])
           (one_call clean stands may_leave keeps c.args.desk.now c.begin.new.self asked (begun t b) (c.in_ok-ticket.ensures m is))
-          (one_call clean stands may_leave keeps c.begin.new.self c.turn.new.self (turn t b) (refused_by fault) (subst Turns c.from.ensures c.in_err-turn.ensures)),
+          (one_call clean stands may_leave keeps c.begin.new.self c.turn.new.self (turn t b) (refused_by fault) (subst Turns
+          c.from.ensures c.in_err-turn.ensures)),
     )
 
 pub returns : goal.returns

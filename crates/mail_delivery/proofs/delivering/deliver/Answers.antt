@@ -61,6 +61,7 @@ returns g c = λ m is.
       first.0 ++ last,
       (t, first.1.0, first.1.1, ap (λ (calls : List Call). calls ++ last) first.1.2),
       calls_on clean stands c.args.desk.now c.begin_and_run.new.desk c.finish.new.self first.0 last first.2
-          (one_call clean stands may_leave keeps c.begin_and_run.new.desk c.finish.new.self (finish t) (answer_of_capture (Ok c.in_ok-capture.capture))
+          (one_call clean stands may_leave keeps c.begin_and_run.new.desk c.finish.new.self (finish t) (answer_of_capture (Ok
+          c.in_ok-capture.capture))
           (subst Finishes c.from.ensures c.in_ok-capture.ensures)),
     )

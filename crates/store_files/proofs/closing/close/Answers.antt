@@ -103,3 +103,10 @@ returns-clause-cause g c honest on =
     (made.quiet.closes early on) (undone.quiet.closes clean) (done.quiet.closes none) undone.quiet.counts done.quiet.counts
     made.quiet.counts (λ here. (undone.undone.undone here).1)
     (λ here. ap (λ (v : View). v.is_broken) (done.same here)) (done.broken none) (done.cut none)
+
+pub returns-clause-counts : goal.returns-clause-counts
+returns-clause-counts g c =
+    let early = c.into_store-store.ensures.quiet.counts in
+    let middle = c.rollback.ensures.quiet.counts in
+    let late = c.copy_log-closing.ensures.quiet.counts in
+    (c.copy_log-closing.new.store, sym c.close.ensures, omega (arith, early, middle, late))

@@ -35,6 +35,8 @@ returns g c =
           refl;
       open_paths = refl;
     }) (λ s. refl) set.done (λ x stands.
-    let P : Officer → Type 0 = λ o. is_some (script_at c.args.name.now o.scripts) ≡ true in
-    (subst P (officer_is g.A.Records.clean g.A.Records.stands g.A.Records.may_leave
-    g.A.Records.keeps c.args.self.now x c.args.officer.now stands) set.there, refl))
+    let P : Officer → Type 0 = λ o. is_some (script_at c.args.name.now o.scripts) ≡ true in (
+      subst P (officer_is g.A.Records.clean g.A.Records.stands g.A.Records.may_leave
+          g.A.Records.keeps c.args.self.now x c.args.officer.now stands) set.there,
+      refl,
+    ))

@@ -58,7 +58,7 @@ returns g c = λ t is.
       put_script c.args.name.now main x.office.globals,
       kept x.office.globals (meanings_of c.args.self.now.officers.globals) c.args.name.now t
           (tree_of c.in_ok-script.script.script) (globals_are g.A.Records.clean g.A.Records.stands g.A.Records.may_leave
-    g.A.Records.keeps c.args.self.now x
+          g.A.Records.keeps c.args.self.now x
           stands) (c.in_ok-script.ensures.good t is) set.has_room,
       refl,
     ))

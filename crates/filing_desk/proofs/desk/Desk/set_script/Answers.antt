@@ -58,7 +58,7 @@ returns g c = λ t is.
           (officer_at c.args.officer.now c.args.self.now.officers.officers).scripts c.args.name.now t
           (tree_of c.in_ok-script.script.script) (ap (λ (o : Officer).
           o.scripts) (officer_is g.A.Records.clean g.A.Records.stands g.A.Records.may_leave
-    g.A.Records.keeps c.args.self.now x c.args.officer.now stands))
+          g.A.Records.keeps c.args.self.now x c.args.officer.now stands))
           (c.in_ok-script.ensures.good t is) set.has_room,
       refl,
     ))

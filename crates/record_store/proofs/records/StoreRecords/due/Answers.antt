@@ -13,5 +13,6 @@ pub returns : goal.returns
 returns g c =
     let opened = c.ensure_open.ensures in
     carried_out g.S.Store c.args.self.now c.ensure_open.new.self c.due-lines.new.self _ _ opened.stands opened.falls
-    c.in_ok-ensure_open.ensures.open opened.crash c.due-lines.ensures.falls (leaves_refused g.S.Store c.ensure_open.new.self c.due-lines.new.self unchanged c.due-lines.ensures.crash) c.is_idle-idle.ensures.left _
+    c.in_ok-ensure_open.ensures.open opened.crash c.due-lines.ensures.falls (leaves_refused g.S.Store c.ensure_open.new.self
+    c.due-lines.new.self unchanged c.due-lines.ensures.crash) c.is_idle-idle.ensures.left _
     (read_out g.S.Store c.ensure_open.new.self c.due-lines.new.self _ c.due-lines.result c.due-lines.ensures.tells) c.due-lines.ensures.open
