@@ -3,6 +3,7 @@
 
 use class_plan::{Plan, date_of, day_number, day_of};
 use record_store::{ArchiveRefusal, Line, Store, StoreFault, are_classes};
+use record_tables::alone::is_alone;
 use sqlite::{Connection, Error, MemStore};
 use std::alloc::Global;
 use std::process::Abort;
@@ -393,6 +394,16 @@ fn stored_due_days(rt: HostRuntime) -> Result<(), Fail> {
         let mut renewed = adopted(alloc, conn)?;
         assert_eq!(rt; due(alloc, &mut renewed, 20_040)?.as_str(), "");
         assert_eq!(rt; due(alloc, &mut renewed, 60_000)?.as_str(), "1 due 20041; ");
+    }
+    Ok(())
+}
+
+#[test]
+fn own_tables(rt: HostRuntime) -> Result<(), Fail> {
+    let alloc = rt.alloc();
+    for others in ["", "CREATE TABLE later (x)"] {
+        let conn = with_plan(alloc, others)?.into_connection();
+        assert_eq!(rt; is_alone(conn.schema()), others.is_empty());
     }
     Ok(())
 }
