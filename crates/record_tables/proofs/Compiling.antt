@@ -1,5 +1,6 @@
 -- What a statement on one table, or a query of two, is compiled to, wherever in the schema they stand.
-use Rattle.std.proofs.Common.{◌≡◌, ◌+◌, ◌^◌, ◌==◌, ℕ, zero, suc, negsuc, pos, List, [], ◌∷◌, ◌++◌, map, true, false, cond, ◌&&◌, Option, Some, None, Ok, Err, slice_get, length, refl, sym, ap, ◌∙◌, arith}
+use Rattle.std.proofs.Common.{◌≡◌, ◌+◌, ◌^◌, ◌==◌, ℕ, zero, suc, negsuc, pos, List, [], ◌∷◌, ◌++◌, map, true, false}
+use Rattle.std.proofs.Common.{cond, ◌&&◌, Option, Some, None, Ok, Err, slice_get, length, refl, sym, ap, ◌∙◌, arith}
 use Rattle.std.proofs.Common.{option_map, option_and_then, unwrap_or, nat_lt}
 use Rattle.std.specs.List.{AllByRecursion}
 use Rattle.std.proofs.lemmas.Option.{slice_get_past}
@@ -39,26 +40,9 @@ use Rattle.sqlite_resolve.specs.Select as select
 use Rattle.sqlite_resolve.specs.Program as program
 use Rattle.sqlite_resolve.specs.Write as write
 use Rattle.sqlite_resolve.specs.Reach.{any_scans}
-use Rattle.sqlite_resolve.specs.Compile.{
-  compiled,
-  planned,
-  meaning,
-  timed,
-  returning,
-  command,
-  insert,
-  insert_or_abort,
-  update,
-  delete,
-  read,
-  new_rows,
-  shows,
-  formats_of,
-  small,
-  first,
-  with_command,
-  target,
-}
+use Rattle.sqlite_resolve.specs.Compile.{compiled, planned, meaning, timed, returning, command}
+use Rattle.sqlite_resolve.specs.Compile.{insert, insert_or_abort, update, delete, read, new_rows}
+use Rattle.sqlite_resolve.specs.Compile.{shows, formats_of, small, first, with_command, target}
 use Rattle.sqlite.specs.Listing.{understood, reads_listing, misses_table}
 use Rattle.sqlite.proofs.Callers.{IsPlain as IsBare, command_of}
 use Rattle.sqlite_schema.specs.declared.program.Program.{Program}

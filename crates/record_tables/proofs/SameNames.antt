@@ -1,5 +1,6 @@
 -- A name means the same over two schemas that have the same tables at other places.
-use Rattle.std.proofs.Common.{◌≡◌, ℕ, zero, suc, ◌^◌, ◌+◌, List, [], ◌∷◌, map, Bool, true, false, cond, not, ◌&&◌, ◌||◌, Option, Some, None, Ok, Err, slice_get, refl, sym, ap, subst, ◌∙◌}
+use Rattle.std.proofs.Common.{◌≡◌, ℕ, zero, suc, ◌^◌, ◌+◌, List, [], ◌∷◌, map, Bool, true, false, cond, not, ◌&&◌}
+use Rattle.std.proofs.Common.{◌||◌, Option, Some, None, Ok, Err, slice_get, refl, sym, ap, subst, ◌∙◌}
 use Rattle.std.proofs.Common.{option_map, option_and_then, unwrap_or, is_some, nat_lt, ◌==◌, find}
 use Rattle.std.specs.List.{AllByRecursion}
 use Rattle.std.proofs.lemmas.Option.{slice_get-map}
@@ -14,23 +15,9 @@ use Rattle.sqlite_resolve.specs.declared.scope.Bound.{Bound}
 use Rattle.sqlite_resolve.specs.declared.scope.Found.{Found}
 use Rattle.sqlite_resolve.specs.declared.scope.Found.TheVariants.{Column, Rowid, Alias}
 use Rattle.sqlite_resolve.specs.declared.scope.Level.{Level}
-use Rattle.sqlite_resolve.specs.Lowering.{
-  Checked,
-  and_then,
-  or_else,
-  Lowering,
-  ◌>>=◌,
-  ◌>>◌,
-  pure,
-  lift,
-  carry,
-  last,
-  spend,
-  begin,
-  finish,
-  chosen
-      as chosen_by,
-}
+use Rattle.sqlite_resolve.specs.Lowering.{Checked, and_then, or_else, Lowering, ◌>>=◌, ◌>>◌, pure}
+use Rattle.sqlite_resolve.specs.Lowering.{lift, carry, last, spend, begin, finish}
+use Rattle.sqlite_resolve.specs.Lowering.{chosen as chosen_by}
 use Rattle.sqlite_resolve.specs.Scope as scope
 use Rattle.sqlite_resolve.specs.Compare as compare
 use Rattle.sqlite_resolve.specs.Expr as expr
@@ -173,9 +160,6 @@ module _ (S S' : Schema) (p q : ℕ → ℕ) (are : AreAt S S' p q) where
       ≡ moved_hit (scope.only S' table name by_rowid bs)
   unfolding scope.only
   only table name by_rowid bs = only_from (scope.hit S table name by_rowid) (scope.hit S' table name by_rowid) (hit table name by_rowid) None bs
-
-  abbrev rowid_or : (alias : Option Found) → Bool → Option Found → Checked (Option Found)
-  rowid_or alias among rowid = cond (is_some rowid || among) (Ok rowid) (Ok alias)
 
   -- the column, or else the rowid, or else the alias
   abbrev by_turns : Checked (Option Found) → Bool → Checked (Option Found) → Bool → Option Found → Checked (Option Found)

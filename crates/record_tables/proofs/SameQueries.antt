@@ -1,5 +1,6 @@
 -- A query means the same over two schemas that have the same tables at other places.
-use Rattle.std.proofs.Common.{◌≡◌, ◌+◌, ℕ, List, [], ◌∷◌, ◌++◌, map, Bool, true, false, cond, not, ◌&&◌, Option, Some, None, Ok, Err, codes, slice_get, length, refl, sym, ap, subst, ◌∙◌}
+use Rattle.std.proofs.Common.{◌≡◌, ◌+◌, ℕ, List, [], ◌∷◌, ◌++◌, map, Bool, true, false, cond, not, ◌&&◌, Option, Some}
+use Rattle.std.proofs.Common.{None, Ok, Err, codes, slice_get, length, refl, sym, ap, subst, ◌∙◌}
 use Rattle.std.proofs.Common.{option_map, option_and_then, unwrap_or, is_some, nat_lt, ◌==◌}
 use Rattle.std.specs.List.{AllByRecursion, list_all}
 use Rattle.std.proofs.lemmas.List.{map-append}
@@ -30,7 +31,8 @@ use Rattle.sqlite_resolve.specs.declared.scope.Level.{Level}
 use Rattle.sqlite_resolve.specs.declared.body.Joined.{Joined}
 use Rattle.sqlite_resolve.specs.declared.body.Body.{Body}
 use Rattle.sqlite_resolve.specs.declared.select.Clauses.{Clauses}
-use Rattle.sqlite_resolve.specs.Lowering.{Checked, and_then, or_else, Lowering, ◌>>=◌, ◌<$>◌, pure, fail, lift, last, get, take_slot, fresh, max_budget, chosen as chosen_by}
+use Rattle.sqlite_resolve.specs.Lowering.{Checked, and_then, or_else, Lowering, ◌>>=◌, ◌<$>◌, pure, fail, lift, last}
+use Rattle.sqlite_resolve.specs.Lowering.{get, take_slot, fresh, max_budget, chosen as chosen_by}
 use Rattle.sqlite_resolve.specs.Scope as scope
 use Rattle.sqlite_resolve.specs.Scope.{Name, Context}
 use Rattle.sqlite_resolve.specs.Terms.{equal, conjuncts}
