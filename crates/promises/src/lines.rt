@@ -20,10 +20,11 @@ use sieve_text::{one_scan, one_tree, one_verdict};
 /// `serve` reads and writes: it has written answers to the lines that it has read. The disk may fail in between; only
 /// after an answer that comes from the archive the registry is to be clean.
 pub fn equal_lines_after_striking<R: Registry>()
-    ensures lines { (x y : LineSession R.clean R.stands R.may_leave R.keeps) → SameButTurns x.state y.state
-        → EqualLinesLeft x y → ReplyAlike x y × LeaveTheSame R.stands x.new y.new }
-    ensures octets { (x y : ServedSession R.clean R.stands R.may_leave R.keeps) → SameButTurns x.state y.state
-        → AreServedAlike x y }
+    ensures lines { (x y : LineSession R.clean R.stands R.may_leave R.keeps)
+        → SameButTurns x.state y.state → EqualLinesLeft x y
+        → ReplyAlike x y × LeaveTheSame R.stands x.new y.new }
+    ensures octets { (x y : ServedSession R.clean R.stands R.may_leave R.keeps)
+        → SameButTurns x.state y.state → AreServedAlike x y }
 {
     one_scan();
     one_verdict();

@@ -48,13 +48,13 @@ pub trait Records {
     /// Adds an open class without a schedule of its own. Refused with the smallest that holds of 52 (no path), 53 (no
     /// parent), 54 (there already) and 56 (4,096 classes).
     fn add_class(&mut self, path: &[u8]) -> Result<(), ArchiveFault<Self::Cause>>
-        ensures { CarriesOut clean stands may_leave keeps self.old self.new (λ a. archive.add_class a path.now)
-            Quietly result };
+        ensures { CarriesOut clean stands may_leave keeps self.old self.new
+            (λ a. archive.add_class a path.now) Quietly result };
 
     /// Replaces the plan. Refused with 57 where the new plan drops a path of the present one.
     fn revise(&mut self, plan: Plan) -> Result<(), ArchiveFault<Self::Cause>>
-        ensures { CarriesOut clean stands may_leave keeps self.old self.new (λ a. archive.revise a plan)
-            Quietly result };
+        ensures { CarriesOut clean stands may_leave keeps self.old self.new
+            (λ a. archive.revise a plan) Quietly result };
 
     /// Stores a message, and a record of it for each path. Answers a line for each record. Refused with 87 where the
     /// numbers of records are used up.

@@ -9,7 +9,8 @@ use Rattle.sqlite.specs.Held.{Held, state}
 use Rattle.sqlite.proofs.StateLemmas.{survives_weaker}
 use Rattle.record_tables.specs.Rows.{Due}
 use Rattle.record_tables.specs.Changes.{Turns}
-use Rattle.record_archive.specs.Archive.{Archive, Line, next_number, records_of, after_capture, capture_lines, capture, has_room, AreClasses, IsArchive}
+use Rattle.record_archive.specs.Archive.{Archive, Line, next_number, records_of, after_capture, capture_lines, capture}
+use Rattle.record_archive.specs.Archive.{has_room, AreClasses, IsArchive}
 use Rattle.record_store.specs.Captures.{with_captured, ArePast, lines_of, dues_of_lines}
 use Rattle.record_adoption.specs.Counts.{count_at, only_at}
 use Rattle.record_adoption.specs.Keeping.{StoresArchive}

@@ -13,7 +13,8 @@ use Rattle.record_archive.specs.Calls.{CarriesOut, Does, KeepsMade, Makes, uncha
 use Rattle.record_archive.specs.Faults.{is_trouble}
 use Rattle.record_archive.specs.declared.fault.ArchiveRefusal.{ArchiveRefusal}
 use Rattle.record_store.specs.Faults.{StoreFault}
-use Rattle.record_store.specs.Stores.{Becomes, Falls, IsOpenOnOk, Leaves, LeavesNow, Obeys, ObeysRows, StandsFor, StaysOpenOnOk, Tells, Fate, Left, ShutAfter, FateKeeps, MayMeet}
+use Rattle.record_store.specs.Stores.{Becomes, Falls, IsOpenOnOk, Leaves, LeavesNow, Obeys, ObeysRows, StandsFor, StaysOpenOnOk, Tells}
+use Rattle.record_store.specs.Stores.{Fate, Left, ShutAfter, FateKeeps, MayMeet}
 use Rattle.record_store.specs.declared.store.Store.{Store}
 
 made : {S : Type 0} (g : Ghosts S) (new : Store S) (r : Result Archive ArchiveRefusal) → Becomes g new r → Makes (StandsFor g new) r

@@ -145,10 +145,12 @@ module _ {X : Type 0} (d : Described X) (text : List ℕ) (params : Row) where
       let done = deletes schema (place d schema has) (table d schema has) (quiet d schema has) old new _
       (deleting at tests) params count refl w in
       let left = deleted_rows d.key d.to_row d.keyed (overlay old.now.trees []) at (d.rows t)
-      (seen old.now.trees at ∙ d.stored old.now t s) (d.ordered t keyed) tests params p test done.1.0 (done.1.1.answer Null) in
-      (changed d old.now new.now t _ s keyed done.0 done.1.2.tables (done.1.2.rows
-      ∙ ap (λ l. without_all l (ids_of done.1.0)) (sym (seen old.now.trees at))
-      ∙ left) (IsKeyedBy-delete_where d.key _ (d.rows t) (d.ordered t keyed)), w.sound))
+      (seen old.now.trees at ∙ d.stored old.now t s) (d.ordered t keyed) tests params p test done.1.0 (done.1.1.answer Null) in (
+        changed d old.now new.now t _ s keyed done.0 done.1.2.tables (done.1.2.rows
+            ∙ ap (λ l. without_all l (ids_of done.1.0)) (sym (seen old.now.trees at))
+            ∙ left) (IsKeyedBy-delete_where d.key _ (d.rows t) (d.ordered t keyed)),
+        w.sound,
+      ))
 
 all_gone : {X : Type 0} (xs : List X) → delete_where (λ _. true) xs ≡ []
 all_gone xs = filter_none _ xs (all_of _ (λ _. refl) xs)

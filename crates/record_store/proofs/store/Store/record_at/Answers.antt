@@ -23,7 +23,7 @@ returns-in-Ok-None-clause-tells g c = λ (a : Archive) s. (
       let kept = s.rows (c.record_by_number.ensures.looks.falls clean) (c.in-Ok-None.ensures.open clean).0 in (
         cc,
         sym (c.in-Ok-None.ensures.record clean kept.tables kept.stored kept.keyed ∙ ap (find (has_number c.args.number)) kept.keeps.records)
-        ∙ ap (option_map record_of) c.in-Ok-None.field-0-is,
+            ∙ ap (option_map record_of) c.in-Ok-None.field-0-is,
       ),
 )
 
