@@ -83,6 +83,16 @@ no_copy() {
     rm -f -- "$here/copy"*
 }
 
+# Copies the files of an export, and sums them, as an export does.
+copy_and_sum_files() {
+    copy_files && (cd -- "$here/second" && find . -name '*.eml' -exec sha256sum {} +)
+}
+
+# Reads the messages of a Maildir, and moves them, as an intake does.
+read_and_move() {
+    cat -- "$here/box/new"/* > "$here/read" && mv -- "$here/box/new"/* "$here/box/cur"
+}
+
 copy_store() {
     "$keeper" copy --store "$here/store" "$here/copy"
 }
@@ -126,12 +136,14 @@ row() {
 
 # The rate of an intake, beside that of a session.
 intake_rows() {
-    local taken=$1 session whole
+    local taken=$1 session files whole
     { cat -- "$here/commands" && write_messages "$taken" "$SMALL"; } > "$here/session"
     session=$(best new_store serve_file "$here/session") && whole=$(best "new_maildir $taken" take_over) || return
     [[ $(list_records | wc -l) -eq $taken ]] || return
-    row "intake of $taken messages of 2 KB, $place" "0.9 of the rate" "$whole" "a session of the same captures" "$session" 90
-    rm -f -- "$here/session"
+    row "intake of $taken messages of 2 KB, $place" "–" "$whole" "a session of the same captures" "$session" 0
+    files=$(best "new_maildir $taken" read_and_move) || return
+    row "the same" "0.9 of the rate" "$whole" "the session, and \`cat\` and \`mv\` of the messages" $((session + files)) 90
+    rm -f -- "$here/session" "$here/read"
 }
 
 # The time of an intake, beside that of one of a quarter as many messages, times four.
@@ -150,35 +162,44 @@ list_rows() {
     row "list of $1 records, $place" "1.5 times at most" "$listing" "the opening, times 1.5" $((opening * 3 / 2)) 100
 }
 
-# What a command of a store takes beyond its opening, in time and in memory.
-beyond_opening() {
-    local name=$1 asked=$2 time=$3 other=$4 beside=$5 size=$6 open=$7
-    row "$name, $place, after the opening" "$asked" $((time - opening)) "$other" "$beside" 50
-    row "$name, $place, with the opening" "–" "$time" "$other" "$beside" 0
-    echo "$name, $place: $((size / 1024)) MB of memory, and $((open / 1024)) MB for the opening" >> "$here/sizes"
+# The memory of a command of a store, beside that of the opening.
+memory_line() {
+    echo "$1, $place: $(($2 / 1024)) MB of memory, and $(($3 / 1024)) MB for the opening" >> "$here/sizes"
 }
 
-# An export of a number of messages of a length, beside a copy of its files; and a copy of the store, beside one of its file.
+# An export of a number of messages of a length after the opening, beside a copy of its files, and beside that with their sums.
 export_rows() {
-    local what="$1 messages of $(($2 / 1024)) KB" opening open
+    local what="export of $1 messages of $(($2 / 1024)) KB" time
+    time=$(best no_export export_records) || return
+    row "$what, $place, after the opening" "–" $((time - opening)) "cp -r of the export" "$(best no_second_export copy_files)" 0
+    row "the same" "half the speed" $((time - opening)) "\`cp -r\` and \`sha256sum\` of the export" "$(best no_second_export copy_and_sum_files)" 50
+    memory_line "$what" "$(no_export && size_of "$keeper" export --store "$here/store" "$here/export")" "$open"
+    no_second_export && no_export
+}
+
+# A copy of the store with its opening, beside a copy of its file, and beside the opening.
+copy_rows() {
+    local what="copy of $1 messages of $(($2 / 1024)) KB" time
+    time=$(best no_copy copy_store) || return
+    row "$what, $place" "–" "$time" "cp of the store" "$(best no_copy copy_file)" 0
+    row "the same" "8 openings at most" "$time" "the opening, times 8" $((opening * 8)) 100
+    memory_line "$what" "$(no_copy && size_of "$keeper" copy --store "$here/store" "$here/copy")" "$open"
+    no_copy
+}
+
+# Exports and copies of an archive with a number of messages of a length.
+archive_rows() {
+    local opening open
     { cat -- "$here/commands" && write_messages "$1" "$2"; } > "$here/session"
     new_store && serve_file "$here/session" > "$here/said" && rm -f -- "$here/session" || return
-    opening=$(best true open_store) && open=$(size_of "$mailfile" --store "$here/store") || return
-    beyond_opening "export of $what" "half the speed of cp" "$(best no_export export_records)" "cp -r of the export" "$(best no_second_export copy_files)" \
-        "$(no_export && size_of "$keeper" export --store "$here/store" "$here/export")" "$open"
-    no_second_export && no_export
-    if "$keeper" copy --help > "$here/said" 2>&1; then
-        beyond_opening "copy of $what" "half the speed of cp" "$(best no_copy copy_store)" "cp of the store" "$(best no_copy copy_file)" \
-            "$(no_copy && size_of "$keeper" copy --store "$here/store" "$here/copy")" "$open"
-        no_copy
-    fi
+    opening=$(best true open_store) && open=$(size_of "$mailfile" --store "$here/store") && export_rows "$@" && copy_rows "$@"
 }
 
 # The rows of a place, in a folder.
 rows_in() {
     local here=$1 place=$2
-    write_rules && intake_rows 10000 && growth_rows 4000 && growth_rows 40000 && list_rows 100000 && export_rows 100000 "$SMALL" &&
-        export_rows 5000 "$LARGE"
+    write_rules && intake_rows 10000 && growth_rows 4000 && growth_rows 40000 && list_rows 100000 && archive_rows 100000 "$SMALL" &&
+        archive_rows 5000 "$LARGE"
 }
 
 # The table of the program.

@@ -15,7 +15,20 @@ pub fn read_payload<R: Read + Drop>(alloc: Global, reader: R, limit: usize) -> i
     requires { limit < 2 ^ 32 }
     ensures { IfOk result (λ p. IfSome (R.remaining reader) (IsOf limit p)) }
 {
-    let mut octets = Vec::new(alloc);
+    read_with_room(alloc, reader, limit, 0)
+}
+
+/// The same, with room for so many octets from the beginning.
+fn read_with_room<R: Read + Drop>(
+    alloc: Global,
+    reader: R,
+    limit: usize,
+    room: usize,
+) -> io::Result<Payload>
+    requires { limit < 2 ^ 32 }
+    ensures { IfOk result (λ p. IfSome (R.remaining reader) (IsOf limit p)) }
+{
+    let mut octets = Vec::with_capacity(alloc, room)?;
     reader.take(limit as u64 + 1).read_to_end(&mut octets)?;
     if octets.len() > limit {
         return Ok(Payload::TooLong);
@@ -27,8 +40,11 @@ pub fn read_payload<R: Read + Drop>(alloc: Global, reader: R, limit: usize) -> i
 pub fn payload_of_file(rt: &HostRuntime, path: &str, limit: usize) -> io::Result<Payload>
     requires { limit < 2 ^ 32 }
 {
-    if !fs::metadata(rt, path)?.is_file() {
+    let found = fs::metadata(rt, path)?;
+    if !found.is_file() {
         return Err(Error::new(ErrorKind::Unsupported, "not a regular file"));
     }
-    read_payload(rt.alloc(), fs::open(rt, path)?, limit)
+    // One octet more than the file has, so that its end is found without further room.
+    let room = usize::try_from(found.len()).unwrap_or(limit).min(limit).saturating_add(1);
+    read_with_room(rt.alloc(), fs::open(rt, path)?, limit, room)
 }
