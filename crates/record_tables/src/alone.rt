@@ -1,7 +1,7 @@
 //! Whether a database of version 2 has no tables but its own.
 
 ghost use Rattle.std.specs.Prelude.{◌≡◌, ◌↔◌, ◌∷◌, [], IsTrue};
-ghost use Rattle.record_tables.specs.Tables.{key_index, due_index, archive_schema};
+ghost use Rattle.record_tables.specs.Tables.{Foreign, HasNoReferences, IsArchiveSchema, key_index, due_index, archive_beside, archive_schema};
 
 use crate::layout::{
     is_class_table, is_due_table, is_hold_table, is_key, is_message_table, is_meta_table,
@@ -83,3 +83,8 @@ pub fn is_alone(schema: &Schema) -> bool
         && are_own_indexes(schema.indexes.as_slice())
         && schema.views.is_empty()
 }
+
+/// Where the tables of version 2 come first and none of the others has a foreign key, they are an archive's.
+pub fn first_tables_are_an_archive()
+    ensures { (f : Foreign) → HasNoReferences f → IsArchiveSchema (archive_beside f) }
+{}
