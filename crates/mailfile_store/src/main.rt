@@ -30,25 +30,56 @@ use failure::{Failure, Status};
 use std::alloc::Global;
 use std::process::ExitCode;
 
+/// What a subcommand has come to; none for a name that is no subcommand of its kind.
+type Done = Option<Result<(), Failure>>;
+
+/// Runs a subcommand that makes an archive or changes it.
+fn do_change(rt: &HostRuntime, name: &str, asked: &ArgMatches<'_>) -> Done {
+    match name {
+        "create" => Some(create::create(rt, asked)),
+        "plan" => Some(plan::print_or_replace(rt, asked)),
+        "deliver" => Some(deliver::deliver_one(rt, asked)),
+        "intake" => Some(intake::intake(rt, asked)),
+        _ => None,
+    }
+}
+
+/// Runs a subcommand that reads an archive.
+fn do_reading(rt: &HostRuntime, name: &str, asked: &ArgMatches<'_>) -> Done {
+    match name {
+        "list" => Some(list::list(rt, asked)),
+        "show" => Some(show::show(rt, asked)),
+        "export" => Some(export::export(rt, asked)),
+        "copy" => Some(copy::copy(rt, asked)),
+        "check" => Some(judge::check(rt, asked)),
+        "why" => Some(why::why(rt, asked)),
+        _ => None,
+    }
+}
+
+/// Runs a subcommand on holds, destruction and reports.
+fn do_disposal(rt: &HostRuntime, name: &str, asked: &ArgMatches<'_>) -> Done {
+    match name {
+        "hold" => Some(holds::hold(rt, asked)),
+        "release" => Some(holds::release(rt, asked)),
+        "dispose" => Some(dispose::dispose(rt, asked)),
+        "report" => Some(report::report(rt, asked)),
+        _ => None,
+    }
+}
+
 /// Runs the subcommand of the command line.
 fn do_subcommand(rt: &HostRuntime, matches: &ArgMatches<'_>) -> Result<(), Failure> {
-    match matches.subcommand() {
-        Some(("create", asked)) => create::create(rt, asked),
-        Some(("plan", asked)) => plan::print_or_replace(rt, asked),
-        Some(("deliver", asked)) => deliver::deliver_one(rt, asked),
-        Some(("intake", asked)) => intake::intake(rt, asked),
-        Some(("list", asked)) => list::list(rt, asked),
-        Some(("show", asked)) => show::show(rt, asked),
-        Some(("why", asked)) => why::why(rt, asked),
-        Some(("export", asked)) => export::export(rt, asked),
-        Some(("copy", asked)) => copy::copy(rt, asked),
-        Some(("check", asked)) => judge::check(rt, asked),
-        Some(("hold", asked)) => holds::hold(rt, asked),
-        Some(("release", asked)) => holds::release(rt, asked),
-        Some(("dispose", asked)) => dispose::dispose(rt, asked),
-        Some(("report", asked)) => report::report(rt, asked),
-        _ => Ok(()),
+    let Some((name, asked)) = matches.subcommand() else {
+        return Ok(());
+    };
+    if let Some(done) = do_change(rt, name, asked) {
+        return done;
     }
+    if let Some(done) = do_reading(rt, name, asked) {
+        return done;
+    }
+    do_disposal(rt, name, asked).unwrap_or(Ok(()))
 }
 
 /// Prints what `clap` reports, which for `--help` is no fault.
