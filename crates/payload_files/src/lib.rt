@@ -45,6 +45,9 @@ pub fn payload_of_file(rt: &HostRuntime, path: &str, limit: usize) -> io::Result
         return Err(Error::new(ErrorKind::Unsupported, "not a regular file"));
     }
     // One octet more than the file has, so that its end is found without further room.
-    let room = usize::try_from(found.len()).unwrap_or(limit).min(limit).saturating_add(1);
+    let room = usize::try_from(found.len())
+        .unwrap_or(limit)
+        .min(limit)
+        .saturating_add(1);
     read_with_room(rt.alloc(), fs::open(rt, path)?, limit, room)
 }

@@ -1,7 +1,7 @@
 use Rattle.std.proofs.Common.{◌≡◌, ◌+◌, ◌≤◌, ℕ, List, [], ◌++◌, length, take, Option, Some, None, IfSome, option_map}
-use Rattle.std.proofs.Common.{vec_len, ap, subst, ◌∙◌, arith, length-take}
+use Rattle.std.proofs.Common.{ap, subst, ◌∙◌, arith, length-take}
 use Rattle.std.proofs.lemmas.List.{take_all}
-use Rattle.payload_files.proofs.read_payload.Goals as goal
+use Rattle.payload_files.proofs.read_with_room.Goals as goal
 
 -- of all that is left, one octet more than the limit was asked for, and no more than the limit came
 all_came : (limit n : ℕ) (left asked : Option (List ℕ)) (octets before : List ℕ) → n ≡ limit + 1 → asked ≡ left → before ≡ []
@@ -17,5 +17,5 @@ pub returns : goal.returns
 returns g c =
     let t = c.take.result in
     all_came c.args.limit t.limit (g.R.Read.remaining c.args.reader) (g.R.Read.remaining t.inner) c.read_to_end.new.buf.items
-    c.new-octets.result.items c.take.ensures.limit (ap g.R.Read.remaining c.take.ensures.inner) c.new-octets.ensures.items
+    c.in_ok-octets.octets.items c.take.ensures.limit (ap g.R.Read.remaining c.take.ensures.inner) c.in_ok-octets.ensures.items
     c.in_ok-read_to_end.ensures.bytes (omega (arith, c.if-len-limit.false, c.len.ensures))
