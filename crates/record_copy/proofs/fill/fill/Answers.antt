@@ -1,5 +1,5 @@
 use Rattle.std.proofs.Common.{◌≡◌, map, arith, rules, sym, ap, subst, ◌∙◌, IsTrue, true, Err, refl}
-use Rattle.sqlite.specs.Effect.{Database}
+use Rattle.sqlite.specs.Effect.{Database, IsDatabase}
 use Rattle.sqlite.specs.State.{HasCleanDisk}
 use Rattle.sqlite.specs.Held.{state}
 use Rattle.record_tables.specs.Rows.{Tables, StoresKeyed}
@@ -39,6 +39,8 @@ returns-clause-filled g c clean_to clean = λ (s : Tables) stored keyed plan tol
       record {
         stored = λ t stored_to keyed_to none. subst (λ (db : Database). StoresKeyed db (with_rows_of s t)) (sym ended.1.now_is)
             (whole.stored t stored_to keyed_to none);
+        sound = λ sound t stored_to keyed_to none.
+            subst IsDatabase (sym ended.1.now_is) (whole.sound sound t stored_to keyed_to none);
       },
     )
 
