@@ -6,7 +6,7 @@ use record_store::{Entry, Store};
 use sqlite::Alter;
 use store_files::{FileArchive, close_archive, open_archive};
 
-/// How many records are read at a time.
+/// How many records a walk reads at a time.
 const PAGE: usize = 4_000;
 
 /// The path of the store.
@@ -42,12 +42,22 @@ pub fn on_archive<T: Drop, F: FnOnce(&mut FileArchive) -> Result<T, Failure>>(
 pub struct Walk {
     /// The number from which it goes on, if it does.
     from: Option<u32>,
+    /// How many records are read at a time.
+    step: usize,
 }
 
 impl Walk {
     /// A walk that begins with a number.
     pub fn from(number: u32) -> Walk {
-        Walk { from: Some(number) }
+        Walk::in_steps(number, PAGE)
+    }
+
+    /// The same, with so many records at a time.
+    pub fn in_steps(number: u32, step: usize) -> Walk {
+        Walk {
+            from: Some(number),
+            step,
+        }
     }
 
     /// The next records; none at the end.
@@ -59,7 +69,7 @@ impl Walk {
         let Some(from) = self.from else {
             return Ok(Vec::new(rt.alloc()));
         };
-        match archive.entries(from, PAGE) {
+        match archive.entries(from, self.step) {
             Ok(page) => {
                 self.from = match page.last() {
                     Some(last) => last.number.checked_add(1),

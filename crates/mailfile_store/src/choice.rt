@@ -3,7 +3,7 @@
 use crate::clock::day_asked;
 use crate::failure::{Failure, Status};
 use clap::ArgMatches;
-use class_plan::{Date, day_number};
+use class_plan::{Date, Plan, day_number};
 use record_store::Entry;
 
 /// Which records a list or an export has: those that meet each condition that is given.
@@ -60,6 +60,19 @@ impl<'a> Choice<'a> {
             is_live: asked.get_flag("live"),
             from,
         })
+    }
+
+    /// Finds that the class is one of the plan.
+    pub fn judge(&self, rt: &HostRuntime, plan: &Plan) -> Result<(), Failure> {
+        match self.class {
+            Some(class) if plan.schedule_of(class.as_bytes()).is_none() => Err(Failure::at(
+                rt.alloc(),
+                Status::BadData,
+                class,
+                &"no class of the plan",
+            )),
+            _ => Ok(()),
+        }
     }
 
     /// Whether a record is one of these.

@@ -210,14 +210,19 @@ fn check<'a>(alloc: Global) -> Result<Command<'a>, AllocError> {
     )
 }
 
+/// The numbers of records.
+fn numbers<'a>(alloc: Global) -> Arg<'a> {
+    Arg::new(alloc, "numbers")
+        .value_name("NUMBER")
+        .action(ArgAction::Append)
+        .num_args(1..)
+}
+
 /// Adds the name of a hold and the numbers of records.
 fn with_numbers<'a>(alloc: Global, command: Command<'a>) -> Result<Command<'a>, AllocError> {
-    let numbers = Arg::new(alloc, "numbers")
-        .value_name("NUMBER")
-        .required(true)
-        .action(ArgAction::Append)
-        .num_args(1..);
-    command.arg(word(alloc, "name", "NAME"))?.arg(numbers)
+    command
+        .arg(word(alloc, "name", "NAME"))?
+        .arg(numbers(alloc).required(true))
 }
 
 fn hold<'a>(alloc: Global) -> Result<Command<'a>, AllocError> {
@@ -244,8 +249,8 @@ fn dispose<'a>(alloc: Global) -> Result<Command<'a>, AllocError> {
     over_store(
         alloc,
         "dispose",
-        "Lists the records that are due and may be destroyed; with --yes destroys them, and prints a certificate for each",
-        "Example: mailfile-store dispose --store records.db --yes > certificates.txt",
+        "Lists the records that are due and may be destroyed, all or those of some numbers; with --yes destroys them, and prints a certificate for each",
+        "Example: mailfile-store dispose --store records.db --yes >> certificates.txt",
     )?
     .arg(option(
         alloc,
@@ -253,7 +258,8 @@ fn dispose<'a>(alloc: Global) -> Result<Command<'a>, AllocError> {
         "YYYY-MM-DD",
         "The day by which records are due, which is not later than today; today if none is given",
     ))?
-    .arg(flag(alloc, "yes", "Destroys the records"))
+    .arg(flag(alloc, "yes", "Destroys the records"))?
+    .arg(numbers(alloc))
 }
 
 fn report<'a>(alloc: Global) -> Result<Command<'a>, AllocError> {

@@ -16,7 +16,9 @@ const TOO_LONG: u8 = 58;
 /// The failure of a plan that is refused by a number.
 fn plan_refused(rt: &HostRuntime, path: &str, number: u8) -> Failure {
     let words = refusal_text(number).unwrap_or("refused");
-    match format!(in rt.alloc(); "{path}: {number}: {words}") {
+    match format!(in rt.alloc();
+        "{path}: {number}: {words}; mailfile-tool check {path} says where"
+    ) {
         Ok(text) => Failure::Told(Status::BadData, text),
         Err(_) => Failure::NoMemory,
     }

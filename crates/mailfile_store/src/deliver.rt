@@ -23,6 +23,19 @@ pub fn fault_words(alloc: Global, fault: RunFault) -> Result<String, AllocError>
     format!(in alloc; "fault {number}: {words}")
 }
 
+/// The beginning of a text, up to its first comma or semicolon.
+fn beginning(text: &str) -> &str {
+    let text = text.split_once(", ").map_or(text, |(first, _)| first);
+    text.split_once("; ").map_or(text, |(first, _)| first)
+}
+
+/// The fault of a run in words, where its message was given up.
+pub fn given_up_words(alloc: Global, fault: RunFault) -> Result<String, AllocError> {
+    let number = fault.number();
+    let words = beginning(fault_text(number).unwrap_or("the run ended with a fault"));
+    format!(in alloc; "fault {number}: {words}; the message is not captured")
+}
+
 /// The record lines of a capture, each after a text; or that the message was discarded.
 pub fn record_lines(alloc: Global, before: &str, capture: &Capture) -> Result<String, AllocError> {
     let mut text = String::new(alloc);
@@ -93,6 +106,9 @@ fn deliver_to<A: Records>(
     let officer = filing.officer.as_bytes();
     let done = match deliver(&mut desk, officer, moment, message, filing.on_fault) {
         Ok(delivery) => Ok(delivery),
+        Err(DeskFault::BadMoment) => {
+            Err(Failure::of_desk(rt.alloc(), "--at", DeskFault::BadMoment))
+        }
         Err(fault) => Err(Failure::of_desk(rt.alloc(), "the message", fault)),
     };
     (desk.into_store(), done)
@@ -100,7 +116,7 @@ fn deliver_to<A: Records>(
 
 /// The failure of a message whose run ended with a fault.
 fn given_up(rt: &HostRuntime, fault: RunFault) -> Failure {
-    match fault_words(rt.alloc(), fault) {
+    match given_up_words(rt.alloc(), fault) {
         Ok(words) => Failure::Told(Status::TryAgain, words),
         Err(_) => Failure::NoMemory,
     }

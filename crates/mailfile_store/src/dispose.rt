@@ -1,14 +1,19 @@
 //! `dispose`: what is due, and its destruction.
 
-use crate::archive::on_archive;
+use crate::archive::{Walk, on_archive};
+use crate::choice::read_number;
 use crate::clock::{day_asked, now};
 use crate::failure::{Failure, Status};
 use crate::output::{tell, write_text};
 use clap::ArgMatches;
 use class_plan::{Action, Date, Plan, Schedule};
-use record_store::{Line, Store, StoreFault};
+use record_store::{Entry, Line, Store, StoreFault};
 use sqlite::Alter;
+use std::alloc::{AllocError, Global};
 use store_texts::{Certificate, captured_line, certificate_line, sum_of};
+
+/// How many records are read at a time in a search for others of one message.
+const GROUP: usize = 16;
 
 /// The failure of a call of the store on a record.
 fn record_failure(rt: &HostRuntime, number: u32, fault: StoreFault) -> Failure {
@@ -19,7 +24,7 @@ fn record_failure(rt: &HostRuntime, number: u32, fault: StoreFault) -> Failure {
 }
 
 /// Whether the schedule of a class destroys its records.
-fn destroys(plan: &Plan, path: &[u8]) -> bool {
+pub fn destroys(plan: &Plan, path: &[u8]) -> bool {
     matches!(
         plan.schedule_of(path),
         Some(Schedule::After {
@@ -48,29 +53,145 @@ fn disposable<S: Alter>(
     Ok(lines)
 }
 
-/// Destroys a record, and answers the line of its certificate.
+/// The numbers of records, in order.
+fn numbers_of(alloc: Global, lines: &[Line]) -> Result<Vec<u32>, AllocError> {
+    let mut numbers = Vec::with_capacity(alloc, lines.len())?;
+    for line in lines {
+        numbers.push(line.number)?;
+    }
+    numbers.sort()?;
+    Ok(numbers)
+}
+
+/// The numbers that were typed, in order. Each has to be among those of the records that may be destroyed by a day.
+fn read_numbers(
+    rt: &HostRuntime,
+    words: &[&str],
+    among: &[u32],
+    day: Date,
+) -> Result<Vec<u32>, Failure> {
+    let mut numbers = Vec::with_capacity(rt.alloc(), words.len())?;
+    for word in words {
+        let number = read_number(rt, *word)?;
+        if among.binary_search(&number).is_err() {
+            let reason = format!(in rt.alloc();
+                "not among the records that may be destroyed by {day}"
+            )?;
+            return Err(Failure::at(rt.alloc(), Status::BadData, *word, &reason));
+        }
+        numbers.push(number)?;
+    }
+    numbers.sort()?;
+    Ok(numbers)
+}
+
+/// Of the records that may be destroyed by a day, those whose numbers were typed; all, where none was.
+fn chosen(
+    rt: &HostRuntime,
+    lines: Vec<Line>,
+    words: &[&str],
+    day: Date,
+) -> Result<Vec<Line>, Failure> {
+    if words.is_empty() {
+        return Ok(lines);
+    }
+    let among = numbers_of(rt.alloc(), lines.as_slice())?;
+    let numbers = read_numbers(rt, words, among.as_slice(), day)?;
+    let mut chosen = Vec::with_capacity(rt.alloc(), numbers.len())?;
+    for line in lines {
+        if numbers.as_slice().binary_search(&line.number).is_ok() {
+            chosen.push(line)?;
+        }
+    }
+    Ok(chosen)
+}
+
+/// How far the search for another record of a message has come.
+#[derive(Clone, Copy)]
+enum Search {
+    Found(u32),
+    /// There is none.
+    Ended,
+    /// There may be one among the next records.
+    Further,
+}
+
+/// Looks for another live record of a message among some records, which are all of its records or the first of these.
+fn search_in(page: &[Entry], message: u32, number: u32) -> Search {
+    for entry in page {
+        if entry.message != message {
+            return Search::Ended;
+        }
+        if !entry.destroyed && entry.number != number {
+            return Search::Found(entry.number);
+        }
+    }
+    if page.is_empty() {
+        Search::Ended
+    } else {
+        Search::Further
+    }
+}
+
+/// The first other live record that has the message of a record. The records of a message have one number after another, and the
+/// message has the first of these.
+fn keeper_of<S: Alter>(
+    rt: &HostRuntime,
+    archive: &mut Store<S>,
+    number: u32,
+) -> Result<Option<u32>, Failure> {
+    let message = match Walk::in_steps(number, 1).next_page(rt, archive)?.first() {
+        Some(entry) => entry.message,
+        None => return Ok(None),
+    };
+    let mut walk = Walk::in_steps(message, GROUP);
+    for _ in 0..u64::MAX {
+        let page = walk.next_page(rt, archive)?;
+        match search_in(page.as_slice(), message, number) {
+            Search::Found(keeper) => return Ok(Some(keeper)),
+            Search::Ended => break,
+            Search::Further => {}
+        }
+    }
+    Ok(None)
+}
+
+/// A record that was destroyed.
+#[derive(Drop)]
+struct Destroyed {
+    certificate: String,
+    /// Whether its message is gone with it.
+    is_gone: bool,
+}
+
+/// Destroys a record.
 fn destroy<S: Alter>(
     rt: &HostRuntime,
     archive: &mut Store<S>,
     line: &Line,
     day: Date,
-) -> Result<String, Failure> {
+) -> Result<Destroyed, Failure> {
     let message = match archive.message(line.number) {
         Ok(message) => message,
         Err(fault) => return Err(record_failure(rt, line.number, fault)),
     };
     let sum = sum_of(rt.alloc(), message.as_slice())?;
-    let certificate = Certificate {
+    let kept_by = keeper_of(rt, archive, line.number)?;
+    let facts = Certificate {
         number: line.number,
         path: line.path.as_slice(),
         due: line.due,
         octets: message.len(),
         sum: sum.as_str(),
         moment: now(rt)?,
+        kept_by,
     };
-    let text = certificate_line(rt.alloc(), &certificate)?;
+    let certificate = certificate_line(rt.alloc(), &facts)?;
     match archive.destroy(line.number, day) {
-        Ok(()) => Ok(text),
+        Ok(()) => Ok(Destroyed {
+            certificate,
+            is_gone: kept_by.is_none(),
+        }),
         Err(fault) => Err(record_failure(rt, line.number, fault)),
     }
 }
@@ -97,11 +218,13 @@ fn destroy_all<S: Alter>(
     lines: &[Line],
     day: Date,
 ) -> Result<(), Failure> {
+    let mut is_any_gone = false;
     for line in lines {
-        let text = destroy(rt, archive, line, day)?;
-        write_certificate(rt, text.as_str())?;
+        let done = destroy(rt, archive, line, day)?;
+        is_any_gone = is_any_gone || done.is_gone;
+        write_certificate(rt, done.certificate.as_str())?;
     }
-    if !lines.is_empty() {
+    if is_any_gone {
         tell(
             rt,
             "the messages are gone from the archive, but their octets may still lie in unused parts of its file; copy makes a store without them",
@@ -115,10 +238,12 @@ fn dispose_by<S: Alter>(
     rt: &HostRuntime,
     archive: &mut Store<S>,
     day: Date,
-    is_agreed: bool,
+    asked: &ArgMatches<'_>,
 ) -> Result<(), Failure> {
     let lines = disposable(rt, archive, day)?;
-    if is_agreed {
+    let words = asked.get_strs("numbers").unwrap_or(&[]);
+    let lines = chosen(rt, lines, words, day)?;
+    if asked.get_flag("yes") {
         return destroy_all(rt, archive, lines.as_slice(), day);
     }
     for line in lines.as_slice() {
@@ -127,12 +252,8 @@ fn dispose_by<S: Alter>(
     Ok(())
 }
 
-/// Lists what is due and may be destroyed, and with `--yes` destroys it.
+/// Lists what is due and may be destroyed, and with `--yes` destroys it; of records whose numbers were typed, these alone.
 pub fn dispose(rt: &HostRuntime, asked: &ArgMatches<'_>) -> Result<(), Failure> {
     let day = day_asked(rt, asked.get_str("day"))?;
-    on_archive(
-        rt,
-        asked,
-        |archive| dispose_by(rt, archive, day, asked.get_flag("yes")),
-    )
+    on_archive(rt, asked, |archive| dispose_by(rt, archive, day, asked))
 }

@@ -8,9 +8,13 @@ use clap::ArgMatches;
 use record_store::{Entry, Store};
 use sqlite::Alter;
 use std::alloc::{AllocError, Global};
-use std::fs::{self, File};
+use std::fs::{self, File, OpenOptions};
 use std::io::{self, ErrorKind, Write};
+use std::os::unix::fs::OpenOptionsExt;
 use store_texts::{Kept, MANIFEST_HEADER, manifest_row, sum_of};
+
+/// The permissions of a file of an export, as of a store.
+const MODE: u32 = 0o600;
 
 /// The files of an export that lists the others.
 #[derive(Drop)]
@@ -41,10 +45,15 @@ fn file_failure(rt: &HostRuntime, path: &str, error: io::Error) -> Failure {
     Failure::at(rt.alloc(), status, path, &error)
 }
 
-/// A new file of a folder. One that is there is not replaced.
+/// A new file of a folder, which only its owner may read. One that is there is not replaced.
 fn make_file(rt: &HostRuntime, folder: &str, name: &str) -> Result<File, Failure> {
     let path = format!(in rt.alloc(); "{folder}/{name}")?;
-    match File::create_new(rt, path.as_str()) {
+    let made = OpenOptions::new()
+        .write(true)
+        .create_new(true)
+        .mode(MODE)
+        .open(rt, path.as_str());
+    match made {
         Ok(file) => Ok(file),
         Err(error) => Err(file_failure(rt, path.as_str(), error)),
     }
@@ -171,6 +180,7 @@ fn export_to<S: Alter>(
     folder: &str,
     choice: &Choice<'_>,
 ) -> Result<(), Failure> {
+    choice.judge(rt, archive.plan())?;
     make_folder(rt, folder)?;
     let mut manifest = make_file(rt, folder, "manifest.csv")?;
     write_to(rt, folder, &mut manifest, MANIFEST_HEADER.as_bytes())?;

@@ -92,6 +92,9 @@ impl Failure {
 
     /// The failure of a store that cannot be made.
     pub fn not_made(alloc: Global, path: &str, cause: NoStore) -> Failure {
+        if let NoStore::NotThere = cause {
+            return Failure::at(alloc, Status::CannotMake, path, &"no such folder");
+        }
         match Failure::no_store(alloc, path, cause) {
             Failure::Told(Status::NoInput | Status::BadData, text) => {
                 Failure::Told(Status::CannotMake, text)

@@ -3,7 +3,7 @@
 use crate::archive::on_archive;
 use crate::choice::read_number;
 use crate::failure::{Failure, Status};
-use crate::output::tell;
+use crate::output::{tell, write_text};
 use clap::ArgMatches;
 use record_store::{Store, StoreFault};
 use sqlite::Alter;
@@ -26,6 +26,17 @@ fn change_one<S: Alter>(
     match change {
         Change::Place => archive.hold(name, number),
         Change::End => archive.release(name, number),
+    }
+}
+
+/// Writes that a hold was placed on a record, or released. That is done, so whatever happens to the line is no failure.
+fn write_change(rt: &HostRuntime, change: Change, name: &str, number: u32) {
+    let done = match change {
+        Change::Place => "hold",
+        Change::End => "released",
+    };
+    if let Ok(text) = format!(in rt.alloc(); "record {number} {done} {name}\n") {
+        let _ = write_text(rt, text.as_str());
     }
 }
 
@@ -60,9 +71,12 @@ fn change_all<S: Alter>(
     let mut refused = false;
     for word in words {
         let number = read_number(rt, *word)?;
-        if let Err(fault) = change_one(archive, change, name.as_bytes(), number) {
-            report(rt, *word, fault)?;
-            refused = true;
+        match change_one(archive, change, name.as_bytes(), number) {
+            Ok(()) => write_change(rt, change, name, number),
+            Err(fault) => {
+                report(rt, *word, fault)?;
+                refused = true;
+            }
         }
     }
     if refused {

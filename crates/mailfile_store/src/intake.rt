@@ -2,7 +2,7 @@
 
 use crate::archive::open;
 use crate::clock::now;
-use crate::deliver::{fault_words, report_capture};
+use crate::deliver::{given_up_words, report_capture};
 use crate::failure::{Failure, Status};
 use crate::rules::Filing;
 use clap::ArgMatches;
@@ -17,6 +17,7 @@ use record_archive::Records;
 use std::fmt::Display;
 use std::io::{self, IsTerminal};
 use store_files::close_archive;
+use tool_texts::named;
 
 /// After how many messages progress is shown.
 const STEP: u64 = 100;
@@ -59,7 +60,9 @@ struct MailFiling<'a> {
 
 /// Names a message that stays, with the reason.
 fn name_one<T: Display>(rt: &HostRuntime, name: &str, reason: &T) {
-    let _ = eprintln!(rt; "mailfile-store: {name} stays: {reason}");
+    if let Ok(name) = named(rt.alloc(), name.as_bytes()) {
+        let _ = eprintln!(rt; "mailfile-store: {name} stays: {reason}");
+    }
 }
 
 /// The failure of the Maildir.
@@ -109,12 +112,13 @@ fn file_away(
     name: &str,
     capture: &Capture,
 ) -> Result<Taken, Failure> {
-    let before = format!(in rt.alloc(); "{name}: ")?;
+    let shown = named(rt.alloc(), name.as_bytes())?;
+    let before = format!(in rt.alloc(); "{shown}: ")?;
     report_capture(rt, before.as_str(), capture);
     match move_to_cur(rt, maildir, name) {
         Ok(()) => Ok(Taken::Filed),
         Err(error) => match format!(in rt.alloc();
-            "{name} is captured, but still in new, where the next intake would capture it again: {error}"
+            "{shown} is captured, but still in new, where the next intake would capture it again: {error}"
         ) {
             Ok(text) => Err(Failure::Told(Status::TryAgain, text)),
             Err(_) => Err(Failure::NoMemory),
@@ -137,7 +141,7 @@ fn take_one<A: Records>(
     match deliver(desk, officer, now(rt)?, message, filing.on_fault) {
         Ok(Delivery::Captured(capture)) => file_away(rt, job.maildir, name, &capture),
         Ok(Delivery::GivenUp(fault)) => {
-            name_one(rt, name, &fault_words(rt.alloc(), fault)?);
+            name_one(rt, name, &given_up_words(rt.alloc(), fault)?);
             Ok(Taken::GivenUp)
         }
         Err(fault) => Err(Failure::of_desk(rt.alloc(), name, fault)),
@@ -218,7 +222,9 @@ fn take_all<A: Records>(
 fn end(rt: &HostRuntime, tally: &Tally, nameless: usize) -> Result<(), Failure> {
     let (stay, given_up) = (tally.stay, tally.given_up);
     if nameless > 0 {
-        let _ = eprintln!(rt; "mailfile-store: {nameless} messages stay: their names are no UTF-8");
+        let _ = eprintln!(rt;
+            "mailfile-store: messages that stay, since their names are no UTF-8: {nameless}"
+        );
     }
     if given_up > 0 {
         return Err(Failure::Reported(Status::TryAgain));

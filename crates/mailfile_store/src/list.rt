@@ -104,6 +104,7 @@ fn write_list<S: Alter>(
         Form::Csv => (LIST_HEADER, ""),
         Form::Json => ("[", "\n]\n"),
     };
+    choice.judge(rt, archive.plan())?;
     write_text(rt, before)?;
     write_records(rt, archive, choice, form)?;
     write_text(rt, after)

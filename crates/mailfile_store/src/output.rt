@@ -39,7 +39,7 @@ pub fn agrees(rt: &HostRuntime, question: &str) -> bool {
     let _ = eprint!(rt; "{question} [y/N] ");
     let mut answer = String::new(rt.alloc());
     match rt.read_line(&mut answer) {
-        Ok(_) => answer.trim() == "y" || answer.trim() == "yes",
+        Ok(_) => matches!(answer.trim(), "y" | "Y" | "yes"),
         Err(_) => false,
     }
 }

@@ -4,6 +4,7 @@ use crate::archive::{Walk, on_archive};
 use crate::choice::is_by;
 use crate::clock::today;
 use crate::create::read_plan;
+use crate::dispose::destroys;
 use crate::failure::{Failure, Status};
 use crate::output::{agrees, write_text};
 use clap::ArgMatches;
@@ -12,13 +13,35 @@ use record_store::{Entry, Store};
 use sqlite::Alter;
 use store_texts::{due_by, plan_of_text, plan_text};
 
+/// How many live records are due today by a plan.
+#[derive(Clone, Copy)]
+struct DueToday {
+    /// Held or not.
+    all: u64,
+    /// Those that no hold keeps, by a schedule that destroys.
+    destroyable: u64,
+}
+
+impl DueToday {
+    /// Adds a live record.
+    fn add(&mut self, entry: &Entry, plan: &Plan, today: Date) {
+        let path = entry.path.as_slice();
+        if is_by(due_by(plan, path, entry.day), today) {
+            self.all = self.all.saturating_add(1);
+            if entry.holds.is_empty() && destroys(plan, path) {
+                self.destroyable = self.destroyable.saturating_add(1);
+            }
+        }
+    }
+}
+
 /// What a new plan changes.
 #[derive(Clone, Copy)]
 struct Changes {
     /// How many records have another due date.
     moved: u64,
-    /// How many records are due today by the new plan.
-    due: u64,
+    before: DueToday,
+    after: DueToday,
 }
 
 /// Whether two due dates are the same, or there is none.
@@ -32,14 +55,12 @@ fn is_same_day(one: Option<Date>, other: Option<Date>) -> bool {
 
 impl Changes {
     /// Adds a live record.
-    fn add(&mut self, entry: &Entry, plan: &Plan, today: Date) {
-        let path = entry.path.as_slice();
-        if !is_same_day(due_by(plan, path, entry.day), entry.due) {
+    fn add(&mut self, entry: &Entry, old: &Plan, new: &Plan, today: Date) {
+        if !is_same_day(due_by(new, entry.path.as_slice(), entry.day), entry.due) {
             self.moved = self.moved.saturating_add(1);
         }
-        if is_by(due_by(plan, path, entry.day), today) {
-            self.due = self.due.saturating_add(1);
-        }
+        self.before.add(entry, old, today);
+        self.after.add(entry, new, today);
     }
 }
 
@@ -50,7 +71,15 @@ fn changes_by<S: Alter>(
     plan: &Plan,
 ) -> Result<Changes, Failure> {
     let today = today(rt)?;
-    let mut changes = Changes { moved: 0, due: 0 };
+    let none = DueToday {
+        all: 0,
+        destroyable: 0,
+    };
+    let mut changes = Changes {
+        moved: 0,
+        before: none,
+        after: none,
+    };
     let mut walk = Walk::from(1);
     for _ in 0..u64::MAX {
         let page = walk.next_page(rt, archive)?;
@@ -58,10 +87,20 @@ fn changes_by<S: Alter>(
             break;
         }
         for entry in page.iter().filter(|entry| !entry.destroyed) {
-            changes.add(entry, plan, today);
+            changes.add(entry, archive.plan(), plan, today);
         }
     }
     Ok(changes)
+}
+
+/// Writes what a new plan changes.
+fn write_changes(rt: &HostRuntime, changes: &Changes) -> Result<(), Failure> {
+    let (before, after) = (changes.before, changes.after);
+    let text = format!(in rt.alloc();
+        "due dates that move: {}\nrecords that are due at once: {}, before {}\nrecords that may be destroyed at once: {}, before {}\n",
+        changes.moved, after.all, before.all, after.destroyable, before.destroyable
+    )?;
+    write_text(rt, text.as_str())
 }
 
 /// Replaces the plan of an archive, once it was told what that changes and someone agrees.
@@ -73,11 +112,7 @@ fn replace<S: Alter>(
 ) -> Result<(), Failure> {
     let plan = read_plan(rt, path)?;
     let changes = changes_by(rt, archive, &plan)?;
-    let text = format!(in rt.alloc();
-        "due dates that move: {}\nrecords that are due at once: {}\n",
-        changes.moved, changes.due
-    )?;
-    write_text(rt, text.as_str())?;
+    write_changes(rt, &changes)?;
     if !is_agreed && !agrees(rt, "replace the plan?") {
         return Err(Failure::told(
             rt.alloc(),
@@ -110,6 +145,11 @@ pub fn print_or_replace(rt: &HostRuntime, asked: &ArgMatches<'_>) -> Result<(), 
         Some(path) => on_archive(rt, asked, |archive| {
             replace(rt, archive, path, asked.get_flag("yes"))
         }),
+        None if asked.get_flag("yes") => Err(Failure::told(
+            rt.alloc(),
+            Status::Usage,
+            "--yes needs the plan of --set",
+        )),
         None => on_archive(rt, asked, |archive| write_plan(rt, archive.plan())),
     }
 }

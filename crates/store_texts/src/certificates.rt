@@ -21,6 +21,8 @@ pub struct Certificate<'a> {
     pub sum: &'a str,
     /// When it was destroyed, in seconds since 1970-01-01T00:00:00Z.
     pub moment: u64,
+    /// A live record that keeps the same message, if there is one.
+    pub kept_by: Option<u32>,
 }
 
 /// The SHA-256 of octets, in hexadecimal digits.
@@ -49,7 +51,12 @@ pub fn certificate_line(alloc: Global, it: &Certificate<'_>) -> Result<String, A
     let path = shown(alloc, it.path)?;
     let due = due_text(alloc, it.due)?;
     let moment = moment_text(alloc, it.moment)?;
-    format!(in alloc;
-        "destroyed record {number} class {path} due {due} octets {octets} sha256 {sum} at {moment}\n"
-    )
+    let mut line = format!(in alloc;
+        "destroyed record {number} class {path} due {due} octets {octets} sha256 {sum} at {moment}"
+    )?;
+    if let Some(keeper) = it.kept_by {
+        line.push_str(format!(in alloc; " message kept by record {keeper}")?.as_str())?;
+    }
+    line.push('\n')?;
+    Ok(line)
 }
