@@ -32,7 +32,7 @@ answer_alike() {
     grep -q '^record 6 ' "$1.said" && cmp -- "$1.said" "$2.said"
 }
 
-# All of a copy is in its file: its log is empty and may be removed.
+# All of a copy is in its file: its log holds nothing of it and may be removed.
 copies() {
     local before
     make_destroyed || return
@@ -60,7 +60,7 @@ copies_a_copy() {
 copies_over_nothing() {
     make_destroyed && echo mine > "$here/mine" && over_refuses 73 'there is a file already' copy "$here/mine" &&
         [[ $(< "$here/mine") == mine ]] && over_refuses 73 'there is a file already' copy "$here/store" &&
-        over_refuses 73 '' copy "$here/none/copy" || return
+        over_refuses 73 'none/copy: no such folder' copy "$here/none/copy" || return
     echo log > "$here/copy-wal"
     over_refuses 73 'a log' copy "$here/copy" && [[ ! -e $here/copy && -s $here/copy-wal ]] &&
         refuses_with 66 'no such file' copy --store "$here/other" "$here/copy2" && [[ ! -e $here/copy2 ]]

@@ -2,7 +2,7 @@
 # shellcheck disable=SC2317,SC2015 # count calls its checks by their names, and `|| shows_run` only reports
 # Tests ./mailfile-store: what it answers, with which status it ends, and what it leaves. The expectations are written by hand, or come
 # from other programs: coreutils, and python3 where it is installed. ./test sources this file; run by itself, it plays these tests and
-# those of store_files.bash and copies.bash.
+# those of disposals.bash, store_files.bash and copies.bash.
 
 # A folder for the files of a check, new each time. Sets `here`.
 begin() {
@@ -112,6 +112,11 @@ has_captured() {
     over_says "$CAPTURED" list
 }
 
+# An archive in which record 5 is due since 1977, and record 6 as well, but on hold.
+make_due() {
+    make_archive && delivers_to ann 1 --at 0 && delivers_to ann 1 --at 0 && over hold audit 6
+}
+
 # ---- the command line
 
 # Whether each subcommand has a help with an example.
@@ -141,10 +146,16 @@ creates_nothing_twice() {
     over_refuses 73 'there is a file already' create --plan "$here/plan.toml" && [[ $(sha256sum < "$here/store") == "$before" ]]
 }
 
+# How the refusal of the plan of a check ends.
+says_where() {
+    echo "; mailfile-tool check $here/plan.toml says where"
+}
+
 creates_nowhere() {
-    begin && write_inputs && refuses_with 73 '' create --store "$here/none/store" --plan "$here/plan.toml" &&
+    begin && write_inputs && refuses_with 73 'none/store: no such folder' create --store "$here/none/store" --plan "$here/plan.toml" &&
         over_refuses 66 'plan.none' create --plan "$here/plan.none" && echo 'root = "never"' > "$here/plan.toml" &&
-        over_refuses 65 'plan.toml: 55: ' create --plan "$here/plan.toml" && [[ ! -e $here/store ]]
+        over_refuses 65 'plan.toml: 55: ' create --plan "$here/plan.toml" && grep -q -F "$(says_where)" "$work/error" &&
+        [[ ! -e $here/store ]]
 }
 
 creates_beside_no_log() {
@@ -177,6 +188,12 @@ delivers_as_a_session() {
     [[ -s $here/answered ]] && delivers_to ann 1 --at 1700092800 && cmp -- "$here/answered" "$work/said"
 }
 
+# 7258118400 is the first moment of 2200.
+delivers_at_no_later_moment() {
+    make_archive && refuses_delivery 64 '--at: 94: ' ann 1 --at 7258118400 && has_captured &&
+        delivers_to ann 1 --at 7258118399 && [[ $(< "$work/said") == 'record 5 class finance due 2206-12-31' ]]
+}
+
 delivers_no_long_message() {
     make_archive && head -c 8388609 /dev/zero > "$here/mail/long" && refuses_delivery 65 '95: ' ann long &&
         truncate -s 8388608 "$here/mail/long" && delivers_to ann long --at 0 &&
@@ -206,7 +223,7 @@ tells_no_officer() {
 
 tells_faults_of_runs() {
     make_archive && echo 'require "fileinto"; fileinto "staff";' > "$here/rules/ann/main.sieve" &&
-        refuses_delivery 75 'fault 1: ' ann 1 && has_captured
+        refuses_delivery 75 'fault 1: a fileinto names a path that is no open class; the message is not captured' ann 1 && has_captured
 }
 
 files_faults_where_told_to() {
@@ -235,8 +252,19 @@ line_of() {
 chooses() {
     local held='record 2 class finance day 2023-11-16 due 2030-11-16 hold audit'
     make_archive && over hold audit 2 && over_says "$(printf '%s\n' "$(line_of 1)" "$held" "$(line_of 3)")"$'\n' list --class finance &&
-        over_says "$(line_of 3)"$'\n' list --class finance/tax && over_says '' list --class fin && over_says "$held"$'\n' list --held &&
+        over_says "$(line_of 3)"$'\n' list --class finance/tax && over_says '' list --class staff && over_says "$held"$'\n' list --held &&
         over_says "$(line_of 4)"$'\n' list --from 4 && over_says '' list --from 5 && over_says '' list --due "$(date -u +%F)"
+}
+
+# A misspelt class is no class without records.
+chooses_no_other_class() {
+    local path
+    make_archive || return
+    for path in fin finance/ finance/car Finance ''; do
+        over_refuses 65 "$path: no class of the plan" list --class "$path" &&
+            over_refuses 65 "$path: no class of the plan" export --class "$path" "$here/out" && [[ ! -e $here/out ]] || return
+    done
+    over_says "$(line_of 4)"$'\n' list --class unfiled
 }
 
 # Whether python3, where it is installed, reads the holds of a list of JSON as these.
@@ -333,54 +361,14 @@ asks_why_of_nothing() {
 exports() {
     local out="$here/out put"
     make_archive && over export "$out" && (cd -- "$out" && sha256sum --quiet -c SHA256SUMS) && cmp -- "$out/1.eml" "$here/mail/1" &&
-        cmp -- "$out/2.eml" "$here/mail/2" && cmp -- "$out/4.eml" "$here/mail/3" && [[ $(find "$out" -type f | wc -l) -eq 5 ]] &&
+        cmp -- "$out/2.eml" "$here/mail/2" && cmp -- "$out/4.eml" "$here/mail/3" &&
+        [[ $(find "$out" -type f -perm 600 | wc -l) -eq 5 && $(find "$out" -type f | wc -l) -eq 5 ]] &&
         wanted_manifest | cmp - "$out/manifest.csv"
 }
 
 exports_what_is_chosen() {
     make_archive && over export --class finance/tax "$here/out" && [[ $(find "$here/out" -type f | wc -l) -eq 3 ]] &&
         cmp -- "$here/out/2.eml" "$here/mail/2" && wanted_manifest | sed -n '1p; 4p' | cmp - "$here/out/manifest.csv"
-}
-
-# ---- holds and destruction
-
-# An archive in which record 5 is due since 1977, and record 6 as well, but on hold.
-make_due() {
-    make_archive && delivers_to ann 1 --at 0 && delivers_to ann 1 --at 0 && over hold audit 6
-}
-
-holds() {
-    make_due && over_refuses 65 '6: 86: ' hold audit 6 && over_refuses 65 '9: 80: ' hold audit 9 5 && over_says \
-        'record 5 class finance day 1970-01-01 due 1977-01-01 hold audit
-record 6 class finance day 1970-01-01 due 1977-01-01 hold audit
-' list --held && over release audit 5 && over_refuses 65 '5: 85: ' release audit 5 && over_refuses 64 'name' hold 'a b' 1 &&
-        over_refuses 64 'x: not a number' hold later 5 x && over_says 'record 6 class finance day 1970-01-01 due 1977-01-01 hold audit
-' list --held
-}
-
-disposes() {
-    local certificate
-    make_due && over_says $'record 5 class finance due 1977-01-01\n' dispose && over_says '' dispose --day 1976-12-31 --yes || return
-    certificate="destroyed record 5 class finance due 1977-01-01 octets $(octets_of 1) sha256 $(sum_of_mail 1) at $(date -u +%F)T"
-    run dispose --store "$here/store" --yes
-    ((status == 0)) && [[ $(< "$work/said") == "$certificate"*Z ]] && grep -q octets "$work/error" || shows_run || return
-    over_refuses 65 '5: 84: ' show 5 && over_says '' dispose --yes && over_says 'record 5 class finance day 1970-01-01 destroyed
-record 6 class finance day 1970-01-01 due 1977-01-01 hold audit
-' list --from 5
-}
-
-# A record of a class that is reviewed is listed as due, but not destroyed.
-destroys_nothing_for_review() {
-    make_archive && sed -i 's/10 years review/1 days review/' "$here/plan.toml" && over plan --set "$here/plan.toml" --yes &&
-        over_says $'record 3 class finance/tax day 2023-11-16 due 2023-11-17\n' list --due "$(date -u +%F)" && over_says '' dispose --yes
-}
-
-tells_certificates_that_are_lost() {
-    make_due && over release audit 6 || return
-    status=0
-    ./mailfile-store dispose --store "$here/store" --yes > /dev/full 2> "$work/error" || status=$?
-    ((status == 74)) && grep -q 'destroyed record 5 ' "$work/error" && ! grep -q 'destroyed record 6 ' "$work/error" &&
-        over_says $'record 6 class finance day 1970-01-01 due 1977-01-01\n' list --from 6 --live
 }
 
 # ---- reports
@@ -436,20 +424,6 @@ reports_nothing() {
         run report --store "$here/store" --day 1970-01-01 && ((status == 0)) && has_lines 1 'No record is due by this day.' 1 'No hold keeps a record.'
 }
 
-# ---- plans
-
-replaces_its_plan() {
-    local none=$'due dates that move: 4\nrecords that are due at once: 0\n' all=$'due dates that move: 4\nrecords that are due at once: 4\n'
-    make_due && sed -i 's/7 years destroy/99 years destroy/' "$here/plan.toml" &&
-        ends_after 64 "$none" plan --store "$here/store" --set "$here/plan.toml" < /dev/null &&
-        over_says $'record 5 class finance due 1977-01-01\n' dispose &&
-        over_says "$none" plan --set "$here/plan.toml" --yes && over_says '' dispose &&
-        sed -i 's/99 years destroy/1 days destroy/' "$here/plan.toml" && over_says "$all" plan --set "$here/plan.toml" --yes &&
-        echo 'root = "permanent"' > "$here/plan.toml" || return
-    run plan --store "$here/store" --set "$here/plan.toml" --yes
-    ((status == 65)) && grep -q '57: ' "$work/error" || shows_run
-}
-
 # ---- what a store holds
 
 checks() {
@@ -479,11 +453,9 @@ intakes_over() {
 
 # What an intake of that Maildir prints; due dates are replaced by a word.
 readonly TAKEN='a: record 5 class finance due DATE
-b name: record 6 class unfiled due never
-line
-end: record 7 class finance due DATE
-line
-end: record 8 class finance/tax due DATE'
+"b name": record 6 class unfiled due never
+"line\nend": record 7 class finance due DATE
+"line\nend": record 8 class finance/tax due DATE'
 
 takes_mail_over() {
     make_maildir && intakes_over && ((status == 0)) && [[ ! -s $work/error ]] &&
@@ -502,6 +474,15 @@ leaves_what_is_no_message() {
     [[ $(find "$here/Maildir/cur" -type f -printf x) == xxx && -p $new/pipe && -d $new/folder && -L $new/link && -s $new/long ]]
 }
 
+# No name of a file passes for a line of its own, nor moves what a terminal shows.
+tells_any_name() {
+    local new=$here/Maildir/new
+    make_maildir && mv -- "$new/a" "$new/"$'1: record 9 class finance due never\n2' && mkdir "$new/"$'3\nmailfile-store: 4\e[2J "ü"' || return
+    intakes_over
+    ((status == 65)) && [[ $(head -n 1 -- "$work/said") == '"1: record 9 class finance due never\n2": record 5 class finance due '* ]] &&
+        [[ $(< "$work/error") == 'mailfile-store: "3\nmailfile-store: 4\x1b[2J \"ü\"" stays: not a regular file' ]] || shows_run
+}
+
 # The number of messages in a folder of the Maildir.
 mail_in() {
     find "$here/Maildir/$1" -type f ! -name '.*' -printf x | wc -c
@@ -515,8 +496,8 @@ leaves_what_ends_in_a_fault() {
         cp -- "$here/mail/$((number % 2 == 0 ? 1 : 3))" "$here/Maildir/new/$number"
     done
     intakes_over
-    ((status == 75)) && [[ $(grep -c 'stays: fault 1: ' "$work/error") -eq 50 && $(mail_in cur) -eq 50 && $(mail_in new) -eq 50 ]] ||
-        shows_run || return
+    ((status == 75)) && [[ $(grep -c 'stays: fault 1: .*; the message is not captured$' "$work/error") -eq 50 ]] &&
+        [[ $(mail_in cur) -eq 50 && $(mail_in new) -eq 50 ]] || shows_run || return
     intakes_over --unfiled-on-fault
     ((status == 0)) && [[ $(mail_in cur) -eq 100 ]]
 }
@@ -548,6 +529,7 @@ store() {
     count "a new store beside a log" creates_beside_no_log
     count "deliveries" delivers
     count "a delivery as a session answers it" delivers_as_a_session
+    count "a moment after 2199" delivers_at_no_later_moment
     count "a message over the limit" delivers_no_long_message
     count "rules at fault" tells_faults_of_rules
     count "words that are no officer" tells_no_officer
@@ -555,6 +537,7 @@ store() {
     count "faults that go to unfiled" files_faults_where_told_to
     count "mail that a script discards" discards
     count "lists of chosen records" chooses
+    count "a class that is not there" chooses_no_other_class
     count "lists as CSV and JSON" lists_as_csv_and_json
     count "a day that has not come" refuses_a_later_day
     count "a reader that goes away" ends_with_its_listener
@@ -563,18 +546,14 @@ store() {
     count "why a record is where it is that is destroyed" asks_why_of_nothing
     count "an export" exports
     count "an export of chosen records" exports_what_is_chosen
-    count "holds" holds
-    count "a disposal" disposes
-    count "a disposal of what is to be reviewed" destroys_nothing_for_review
-    count "certificates that cannot be written" tells_certificates_that_are_lost
     count "a report" reports
     count "a report by today" reports_by_today
     count "a report that lets in its style alone" reports_only_its_style
     count "a report on nothing" reports_nothing
-    count "another plan" replaces_its_plan
     count "what a store holds" checks
     count "a Maildir" takes_mail_over
     count "a Maildir with other things than messages" leaves_what_is_no_message
+    count "a Maildir with names of all kinds" tells_any_name
     count "a Maildir with mail whose runs end in faults" leaves_what_ends_in_a_fault
     count "a Maildir with a message that cannot be moved" moves_over_nothing
     count "a folder that is no Maildir" takes_no_other_folder
@@ -593,11 +572,14 @@ if [[ ${BASH_SOURCE[0]} == "$0" ]]; then
     # shellcheck source=scripts/build.bash
     . scripts/build.bash || exit 125
     ensure_program mailfile_store
+    # shellcheck source=scripts/disposals.bash
+    . scripts/disposals.bash || exit 125
     # shellcheck source=scripts/store_files.bash
     . scripts/store_files.bash || exit 125
     # shellcheck source=scripts/copies.bash
     . scripts/copies.bash || exit 125
     store
+    disposals
     store_files
     copies_tests
     exit $((failed > 0))

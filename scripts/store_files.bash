@@ -149,6 +149,15 @@ captures_nothing_it_cannot_move() {
     done
 }
 
+# A Maildir that may not be opened may be opened later.
+may_not_open_a_maildir() {
+    make_other_archive && chmod 000 "$here/Maildir" || return
+    other_refuses 75 'denied' intake --store "$here/store" --rules "$here/rules" ann "$here/Maildir"
+    local result=$?
+    chmod 755 "$here/Maildir"
+    ((result == 0)) && has_captured
+}
+
 # A store in a folder in which no log can be made.
 needs_its_folder() {
     make_other_archive && rm -f -- "$here/store-wal" && chmod 555 "$here" || return
@@ -213,6 +222,7 @@ store_files() {
         count "a store that may not be read" may_not_be_read
         count "folders that may not be written" makes_nothing_in_a_fixed_folder
         count "a Maildir that may not be written" captures_nothing_it_cannot_move
+        count "a Maildir that may not be opened" may_not_open_a_maildir
         count "a store in a folder that may not be written" needs_its_folder
     fi
     if command -v sqlite3 > "$work/said"; then
