@@ -98,6 +98,19 @@ tells_certificates_that_are_lost() {
         over_says $'record 6 class finance day 1970-01-01 due 1977-01-01\n' list --from 6 --live
 }
 
+# The reader has gone before the certificate is written.
+tells_certificates_that_nobody_reads() {
+    local to
+    make_due && over release audit 6 || return
+    exec {to}> >(:)
+    wait "$!"
+    status=0
+    ./mailfile-store dispose --store "$here/store" --yes 1>&"$to" 2> "$work/error" || status=$?
+    exec {to}>&-
+    ((status == 74)) && grep -q 'destroyed record 5 ' "$work/error" && ! grep -q 'destroyed record 6 ' "$work/error" &&
+        over_says $'record 6 class finance day 1970-01-01 due 1977-01-01\n' list --from 6 --live
+}
+
 # ---- plans
 
 # What is told of another plan: the due dates that move, the records that are due, and those that may be destroyed.
@@ -158,6 +171,7 @@ disposals() {
     count "certificates of a message in two classes" certifies_what_keeps_the_message
     count "a disposal of what is to be reviewed" destroys_nothing_for_review
     count "certificates that cannot be written" tells_certificates_that_are_lost
+    count "certificates that nobody reads" tells_certificates_that_nobody_reads
     count "another plan" replaces_its_plan
     count "what another plan changes" tells_what_a_plan_changes
     count "plans that are refused" refuses_plans

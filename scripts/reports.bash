@@ -41,7 +41,7 @@ make_held() {
     number=0
     for name in "$@"; do
         number=$((number + 1))
-        ./mailfile-store hold --store "$store" -- "$name" "$number" || return
+        ./mailfile-store hold --store "$store" -- "$name" "$number" > "$work/said" || return
     done
 }
 

@@ -205,7 +205,8 @@ tells_faults_of_rules() {
     local script=$here/rules/global/new.sieve
     make_archive && printf 'require "fileinto";\nfilinto "finance";\n' > "$script" &&
         refuses_delivery 75 'rules/global/new.sieve:2:1: 32: ' ann 1 && printf 'require "fileinto";\nfileinto "finance"' > "$script" &&
-        refuses_delivery 75 'rules/global/new.sieve:2:19: 20: ' ann 1 && rm -- "$script" &&
+        refuses_delivery 75 'rules/global/new.sieve:2:19: 20: ' ann 1 && mv -- "$script" "$here/rules/ann/.old.sieve" &&
+        refuses_delivery 75 'rules/ann/.old.sieve:2:19: 20: ' ann 1 && rm -- "$here/rules/ann/.old.sieve" &&
         refuses_delivery 75 'rules/bob: not there' bob 1 && mkdir "$here/rules/bob" &&
         refuses_delivery 75 'rules/bob/main.sieve: not there' bob 1 && has_captured
 }
@@ -223,7 +224,9 @@ tells_no_officer() {
 
 tells_faults_of_runs() {
     make_archive && echo 'require "fileinto"; fileinto "staff";' > "$here/rules/ann/main.sieve" &&
-        refuses_delivery 75 'fault 1: a fileinto names a path that is no open class; the message is not captured' ann 1 && has_captured
+        refuses_delivery 75 'fault 1: a fileinto names a path that is no open class; the message is not captured' ann 1 &&
+        echo 'require "include"; include "none";' > "$here/rules/ann/main.sieve" &&
+        refuses_delivery 75 'fault 2: an include names a script that is not there; the message is not captured' ann 1 && has_captured
 }
 
 files_faults_where_told_to() {
@@ -477,7 +480,8 @@ leaves_what_is_no_message() {
 # No name of a file passes for a line of its own, nor moves what a terminal shows.
 tells_any_name() {
     local new=$here/Maildir/new
-    make_maildir && mv -- "$new/a" "$new/"$'1: record 9 class finance due never\n2' && mkdir "$new/"$'3\nmailfile-store: 4\e[2J "ü"' || return
+    make_maildir && mv -- "$new/a" "$new/"$'1: record 9 class finance due never\n2' &&
+        mkdir "$new/"$'3\nmailfile-store: 4\e[2J "ü"' || return
     intakes_over
     ((status == 65)) && [[ $(head -n 1 -- "$work/said") == '"1: record 9 class finance due never\n2": record 5 class finance due '* ]] &&
         [[ $(< "$work/error") == 'mailfile-store: "3\nmailfile-store: 4\x1b[2J \"ü\"" stays: not a regular file' ]] || shows_run
