@@ -13,7 +13,7 @@ use clap::ArgMatches;
 use filing_trace::trace_run;
 use filing_verify::Verified;
 use run_inquiry::{Form, Inquiry, Scripts, answer_to, compiled, open_case, outcome_text};
-use sieve_meaning::Location;
+use sieve_meaning::{Location, RunFault};
 
 /// The scripts that the command line names; none where one is refused, which is reported.
 fn read_scripts(rt: &HostRuntime, asked: &ArgMatches<'_>) -> Result<Option<Scripts>, Failure> {
@@ -25,6 +25,21 @@ fn read_scripts(rt: &HostRuntime, asked: &ArgMatches<'_>) -> Result<Option<Scrip
         return Ok(None);
     };
     unless_full(rt, Scripts::new(rt.alloc(), main, others))
+}
+
+/// Tells a person where to look for what a run that ended with a fault has missed.
+fn tell_lack(rt: &HostRuntime, asked: &ArgMatches<'_>, fault: Option<RunFault>) {
+    let words = match fault {
+        Some(RunFault::ClassNotOpen) if asked.get_str("plan").is_none() => {
+            "no --plan is given, so unfiled is the only class"
+        }
+        Some(RunFault::ClassNotOpen) => "check --plan says whether the class is missing or closed",
+        Some(RunFault::ScriptMissing) => {
+            "the scripts to include are those in the folders of --personal and --global"
+        }
+        _ => return,
+    };
+    let _ = eprintln!(rt; "mailfile-tool: {words}");
 }
 
 /// Writes a report on the run of a script: in lines, with the outcome as in a session below, or as JSON.
@@ -58,6 +73,7 @@ fn report_script(
     } else {
         write(rt, &outcome_text(alloc, &answer.outcome)?)?;
     }
+    tell_lack(rt, asked, answer.outcome.fault);
     Ok(Verdict::Good)
 }
 
