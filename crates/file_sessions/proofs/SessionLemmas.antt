@@ -1,5 +1,5 @@
 -- What a session at a desk leads to.
-use Rattle.std.proofs.Common.{ℕ, zero, IsTrue, sym, ◌∙◌, arith, List, [], Result, Ok, Err, inl, inr, refl}
+use Rattle.std.proofs.Common.{ℕ, zero, IsTrue, sym, ◌∙◌, arith, List, Result, Ok, Err, inl, inr, refl}
 use Rattle.std.specs.Prelude.{OnOk, IsErrOf}
 use Rattle.std.proofs.lemmas.Bool.{false≢true}
 use Rattle.sqlite.specs.Store.{Ghosts}
@@ -112,11 +112,12 @@ module _ {D I : Type 0} (clean : D → Type 0) (stands : D → Standing → Type
         λ image may. elim (crash it.items it.answers desk new it.run ok s there image may) [
           | inl before ↦ record {
             count = zero;
-            replies = [];
-            to = s;
+            done = s;
             run = refl;
-            kept = start image before.0;
             undone = before.1;
+            to = s;
+            one_more = inl refl;
+            kept = start image before.0;
           }
           | inr left ↦ left
         ],
@@ -128,11 +129,12 @@ pub left_in : {I J : Type 0} (keeps : I → Archive → Type 0) (holds : J → A
     → IsLeftOf keeps image s items answers → IsLeftOf holds other s items answers
 left_in keeps holds image other each s items answers left = record {
   count = left.count;
-  replies = left.replies;
-  to = left.to;
+  done = left.done;
   run = left.run;
-  kept = each left.to.office.archive left.kept;
   undone = left.undone;
+  to = left.to;
+  one_more = left.one_more;
+  kept = each left.to.office.archive left.kept;
 }
 
 -- what may become of an open store whose crash leaves one archive

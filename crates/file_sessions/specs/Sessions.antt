@@ -38,8 +38,9 @@ pub record LeadsTo {D : Type 0} (g : Ghosts D) (ended : EndedSession D) (a : Arc
   pub kept : KeepsFiles g ended.closing ended.files to.office.archive
 
 -- From an archive, commands were done. However the disk has failed since, whatever a crash may leave of the files keeps the
--- archive after the first of the commands, of which a fault may have cut the last one short. By their answers, the
--- archive has carried out none of those that follow. Only of a fault while the log was copied at the end is nothing said.
+-- archive after the first of the commands, by the answers that were given to them, or after one more, which a fault may
+-- have cut short. By their answers, the archive has carried out none but the first. Only of a fault while the log was
+-- copied at the end is nothing said.
 pub record LeavesSome {D : Type 0} (g : Ghosts D) (ended : EndedSession D) (a : Archive) (hears says : Type 0)
     (left old written : List ℕ) : Type 0 where
   pub to : Standing

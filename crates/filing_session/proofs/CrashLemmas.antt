@@ -30,23 +30,25 @@ module _ {D I : Type 0} (clean : D → Type 0) (stands : D → Standing → Type
           let one = step.kept is.0 is.1 ok s there image may in
           inr (record {
             count = suc zero;
-            replies = a ∷ [];
-            to = one.to;
+            done = one.to;
             run = (one.to, one.is_one, refl);
-            kept = one.kept;
             undone = undone;
+            to = one.to;
+            one_more = inl refl;
+            kept = one.kept;
           })
       go false apart = elim (step.crash ok s there image may) [
         | inl before ↦ inl (before, (apart, undone))
         | inr made ↦
             let one = made.1 in
             inr (record {
-              count = suc zero;
-              replies = made.0 ∷ [];
+              count = zero;
+              done = s;
+              run = refl;
+              undone = (apart, undone);
               to = one.to;
-              run = (one.to, one.is_one, refl);
+              one_more = inr (made.0, one.is_one);
               kept = one.kept;
-              undone = undone;
             })
       ]
   item_leaves UnknownCommand a items answers old mid step ok s there image may undone =
@@ -66,11 +68,12 @@ module _ {D I : Type 0} (clean : D → Type 0) (stands : D → Standing → Type
         | inl nothing ↦ item_leaves i a items answers old run.0 run.1 sure s there image nothing.0 nothing.1
         | inr left ↦ inr (record {
           count = suc left.count;
-          replies = a ∷ left.replies;
-          to = left.to;
+          done = left.done;
           run = (first.to, first.is_one, left.run);
-          kept = left.kept;
           undone = left.undone;
+          to = left.to;
+          one_more = left.one_more;
+          kept = left.kept;
         })
       ]
   run_leaves [] (a ∷ answers) old new run ok s there image may = absurd run

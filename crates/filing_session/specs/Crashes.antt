@@ -5,7 +5,7 @@ use Rattle.filing_commands.specs.Answers.{Answer}
 use Rattle.filing_commands.specs.Calls.{Calls}
 use Rattle.filing_commands.specs.Standing.{Standing, Step, is_refusal}
 use Rattle.filing_session.specs.Laws.{is_item_of_archive}
-use Rattle.filing_session.specs.Session.{Item, Run}
+use Rattle.filing_session.specs.Session.{Item, ItemStep, Run}
 
 -- whether this answer to an item says that the archive has carried it out
 abbrev pub is_carried_out : Item → Answer → Bool
@@ -17,17 +17,23 @@ AreUndone (i ∷ items) (a ∷ answers) = (is_carried_out i a ≡ false) × AreU
 AreUndone [] answers = Unit {0}
 AreUndone (i ∷ items) [] = Unit {0}
 
--- What a crash has left keeps the archive after the first of the items. A crash, or a fault of the disk, may have cut
--- the last of them short; so its answer need not be the one that was given. By the answers, the archive has carried out
--- none of the items that follow.
+-- this is a state after the first of these items, whatever its answer
+abbrev pub IsAfterFirst : Standing → List Item → Standing → Type 0
+IsAfterFirst s [] new = ⊥
+IsAfterFirst s (i ∷ items) new = (answer : Answer) × ItemStep Step s i answer new
+
+-- The first of the items were done, with the answers that were given to them; by the answers, the archive has carried out
+-- none of those that follow. What a crash has left keeps the archive after the items that were done, or after one more:
+-- a crash, or a fault of the disk, may have cut that one short, so its answer need not be the one that was given.
 pub record IsLeftOf {I : Type 0} (keeps : I → Archive → Type 0) (image : I) (s : Standing) (items : List Item)
     (answers : List Answer) : Type 0 where
   pub count : ℕ
-  pub replies : List Answer
-  pub to : Standing
-  pub run : Run Step s (take count items) replies to
-  pub kept : keeps image to.office.archive
+  pub done : Standing
+  pub run : Run Step s (take count items) (take count answers) done
   pub undone : AreUndone (drop count items) (drop count answers)
+  pub to : Standing
+  pub one_more : (to ≡ done) ⊎ IsAfterFirst done (drop count items) to
+  pub kept : keeps image to.office.archive
 
 -- Whatever a crash may leave after a run was left by one before it, and then the archive has carried out nothing; or it
 -- keeps the archive after the first of the items.
