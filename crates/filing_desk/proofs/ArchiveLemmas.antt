@@ -1,5 +1,5 @@
 -- Refusals of an archive, as refusals of a desk.
-use Rattle.std.proofs.Common.{◌≡◌, ℕ, false, None, inl, inr, refl}
+use Rattle.std.proofs.Common.{◌≡◌, false, None, inl, inr, refl}
 use Rattle.class_plan.specs.declared.faults.PlanFault.{PlanFault}
 use Rattle.class_plan.specs.declared.faults.PlanFault.TheVariants as plans
 use Rattle.class_plan.specs.Faults as plan

@@ -1,5 +1,5 @@
 -- Due lists, and days by their numbers.
-use Rattle.std.proofs.Common.{◌≡◌, ◌⊎◌, ℕ, ℤ, List, map, pos, true, false, Bool, Ok, Err, None, Vec, inl, inr, refl, ap, sym, ◌∙◌, subst}
+use Rattle.std.proofs.Common.{◌≡◌, ◌⊎◌, ℕ, ℤ, List, map, pos, false, Ok, Err, Vec, inl, inr, refl, ap, sym, ◌∙◌, subst}
 use Rattle.std.proofs.lemmas.Bool.{false≢true}
 use Rattle.std.specs.declared.alloc.Global.{Global}
 use Rattle.record_archive.specs.Archive.{Archive, Line, due_list, due_list_on}
@@ -9,7 +9,7 @@ use Rattle.record_archive.specs.Calls.{CarriesOut, KeepsMade, unchanged}
 use Rattle.record_archive.specs.Faults.{WhereRefused}
 use Rattle.record_archive.specs.declared.fault.ArchiveFault.{ArchiveFault}
 use Rattle.record_archive.specs.declared.fault.ArchiveFault.TheVariants.{Refused, Database, NoMemory}
-use Rattle.filing_commands.specs.Answers.{Answer, listed, refused}
+use Rattle.filing_commands.specs.Answers.{Answer, listed}
 use Rattle.filing_commands.specs.ArchiveAnswers.{is_refused_outside}
 use Rattle.filing_commands.specs.Calls.{Calls}
 use Rattle.filing_commands.specs.Faults.{refused_by, archive_fault}

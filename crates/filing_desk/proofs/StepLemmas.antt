@@ -1,5 +1,5 @@
 -- Calls of a desk that have nothing to do with captures in flight.
-use Rattle.std.proofs.Common.{◌≡◌, ℕ, List, [], ◌∷◌, Bool, true, false, not, if◌then◌else◌, Option, None, Result, Ok, ◌⊎◌}
+use Rattle.std.proofs.Common.{◌≡◌, ℕ, List, [], ◌∷◌, Bool, true, false, not, if◌then◌else◌, Option, Result, Ok, ◌⊎◌}
 use Rattle.std.proofs.Common.{Err, inl, inr, refl, ap, sym, ◌∙◌, subst}
 use Rattle.std.specs.Result.{IsErr, IsErrAnd}
 use Rattle.std.proofs.lemmas.Bool.{false≢true}
@@ -11,7 +11,7 @@ use Rattle.record_archive.specs.Faults.{WhereRefused, number_of}
 use Rattle.record_archive.specs.declared.fault.ArchiveFault.{ArchiveFault}
 use Rattle.record_archive.specs.declared.fault.ArchiveFault.TheVariants.{Refused, Database, NoMemory}
 use Rattle.record_archive.specs.declared.fault.ArchiveRefusal.{ArchiveRefusal}
-use Rattle.filing_commands.specs.Answers.{Answer, done, refused}
+use Rattle.filing_commands.specs.Answers.{Answer, done}
 use Rattle.filing_commands.specs.ArchiveAnswers.{is_for_archive, is_of_archive, is_refused_outside}
 use Rattle.filing_commands.specs.Calls.{Calls, KeepsOne}
 use Rattle.filing_commands.specs.Faults.{refused_by, refusal_fault, archive_fault}

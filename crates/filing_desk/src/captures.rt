@@ -1,56 +1,30 @@
-//! Captures in flight.
+//! How captures begin, and what is shown of them in flight.
 
 ghost use Rattle.std.specs.Prelude.{◌≡◌, ℕ, List, ◌≤◌, ◌<◌, ◌/◌, pos, length, IfOk, IfErr, OnOk, MatchOption};
 ghost use Rattle.jiff.specs.Words.{epoch_day};
-ghost use Rattle.class_plan.specs.Calendar.{number_of_day};
 ghost use Rattle.class_plan.specs.Dates.{IsCaptureDay};
 ghost use Rattle.class_plan.specs.Plans.{is_open_in};
 ghost use Rattle.filing_case.specs.Message.{is_among};
 ghost use Rattle.filing_commands.specs.Limits.{greatest_message};
 ghost use Rattle.filing_commands.specs.Standing as commands;
 ghost use Rattle.filing_commands.specs.Standing.{Standing, flight_of};
-ghost use Rattle.filing_commands.specs.CallAnswers.{answer_of_capture, answer_of_ticket, answer_of_turn};
+ghost use Rattle.filing_commands.specs.CallAnswers.{answer_of_ticket};
 ghost use Rattle.filing_desk.specs.Beginning.{IsEntered, IsNumbered, KeepsAll, against_begin};
-ghost use Rattle.filing_desk.specs.Filing.{Files, FilesSafely, IsArchiveFault};
 ghost use Rattle.filing_desk.specs.Messages.{IsMessageOf, IsShort, whole_message};
 ghost use Rattle.filing_desk.specs.Standing.{AreOpenPaths, IsShownBy};
 
 use crate::desk::Desk;
 use crate::messages::Message;
-use class_paths::Paths;
 use class_plan::{Date, day_of};
-use filing_commands::{Capture, DeskFault, Payload, Turn};
-use filing_flights::{Flight, PinnedPaths, captures_hold_flights, path_vectors};
+use filing_commands::DeskFault;
+use filing_flights::{Flight, PinnedPaths, captures_hold_flights};
 use filing_machine::{Machine, every_run_ends};
 use filing_verify::Verified;
-use record_archive::{ArchiveRefusal, Line, Records, are_classes};
+use record_archive::Records;
 use std::alloc::{AllocError, Global};
 
-/// Makes the records of a capture in an archive, all or none. Refused with 87 (numbers used up), 89 or 99. A path that is
-/// no class of the plan gives 88; no capture of a desk that represents a state files into such a path.
-fn file_outcome<A: Records>(
-    alloc: Global,
-    store: &mut A,
-    flight: &Flight,
-    classes: &Paths,
-) -> Result<Vec<Line>, DeskFault>
-    ensures files { Files A.clean A.stands store.old store.new flight.now.message
-        (number_of_day flight.now.day) classes.now result }
-    ensures safe { FilesSafely A.clean A.stands A.may_leave A.keeps store.old store.new
-        flight.now.message (number_of_day flight.now.day) classes.now result }
-    ensures fault { IfErr result IsArchiveFault }
-    ensures was_clean { A.clean store.new → A.clean store.old }
-{
-    let classes = path_vectors(alloc, classes)?;
-    if !are_classes(store.plan(), classes.as_slice()) {
-        return Err(DeskFault::Archive(ArchiveRefusal::NoArchive));
-    }
-    let lines = store.capture(flight.message(), flight.day(), classes.as_slice())?;
-    Ok(lines)
-}
-
 impl<A: Records> Desk<A> {
-    ghost use Rattle.filing_commands.specs.Calls.{Calls, CallsWith};
+    ghost use Rattle.filing_commands.specs.Calls.{Calls};
     ghost use Rattle.filing_desk.specs.Standing.{IsClean, MayLeave, StandsFor};
 
     /// The day of a moment, where one more capture may begin. Else 94, 95, 90 or 97, judged in this order.
@@ -118,8 +92,9 @@ impl<A: Records> Desk<A> {
         Ok(flight)
     }
 
-    /// Begins a capture as `begin` says. Nothing is allocated, and no pieces are joined, before the call is judged.
-    fn begin_message(
+    /// Begins a capture as `Registry::begin` says. Nothing is allocated, and no pieces are joined, before the call is
+    /// judged.
+    pub(crate) fn begin_message(
         &mut self,
         officer: &[u8],
         moment: u64,
@@ -142,23 +117,6 @@ impl<A: Records> Desk<A> {
         Ok((ticket, budget))
     }
 
-    /// Begins a capture of a message by an officer's program at a moment in seconds since 1970-01-01T00:00:00Z, as
-    /// `Registry` says. It answers the ticket and the budget in steps. Refused with 94 (after 2199), 95 (more than
-    /// 8,388,608 octets), 90 (sixty-four captures in flight) or 97 (tickets used up), in this order.
-    pub fn begin(
-        &mut self,
-        officer: &[u8],
-        moment: u64,
-        message: Payload,
-    ) -> Result<(u32, u32), DeskFault>
-        ensures { CallsWith (IsClean A.clean) (StandsFor A.stands)
-            (MayLeave A.may_leave) A.keeps self.old greatest_message message
-            (λ m. commands.begin officer.now moment m)
-            (answer_of_ticket result) self.new }
-    {
-        self.begin_message(officer, moment, Message::Whole(message))
-    }
-
     /// Begins a capture of a message that comes in pieces, of which each may be empty. It is answered as `begin` is for
     /// the pieces one after the other: 94 before the pieces are looked at, 95 by their lengths, and 90 or 97, before
     /// they are joined. The capture keeps the octets once, and none of the pieces.
@@ -174,39 +132,6 @@ impl<A: Records> Desk<A> {
             (answer_of_ticket result) self.new }
     {
         self.begin_message(officer, moment, Message::Pieces(pieces))
-    }
-
-    /// Lets the capture of a ticket make `count` more steps, at most, as `Registry` says. Refused with 91 (no such
-    /// ticket). Where there is no memory (99), the steps that were made before are kept.
-    pub fn turn(&mut self, ticket: u64, count: u32) -> Result<Turn, DeskFault>
-        ensures { Calls (IsClean A.clean) (StandsFor A.stands)
-            (MayLeave A.may_leave) A.keeps self.old (commands.turn ticket count)
-            (answer_of_turn result) self.new }
-    {
-        self.flights.turn(ticket, count)
-    }
-
-    /// Makes the records of a capture that has come to its end, and gives its ticket up, as `Registry` says. Refused
-    /// with 91 (no such ticket), 92 (not ended) or 87 (numbers of records used up); the ticket is then kept.
-    pub fn finish(&mut self, ticket: u64) -> Result<Capture, DeskFault>
-        ensures { Calls (IsClean A.clean) (StandsFor A.stands)
-            (MayLeave A.may_leave) A.keeps self.old (commands.finish ticket)
-            (answer_of_capture result) self.new }
-    {
-        captures_hold_flights();
-        let Some(flight) = self.flights.get(ticket) else {
-            return Err(DeskFault::NoTicket);
-        };
-        if !flight.is_ended() {
-            return Err(DeskFault::NotEnded);
-        }
-        let outcome = flight.outcome()?;
-        let lines = file_outcome(self.alloc, &mut self.store, flight, &outcome.classes)?;
-        self.flights.remove(ticket);
-        Ok(Capture {
-            fault: outcome.fault,
-            lines,
-        })
     }
 
     /// The pinned program of a capture in flight, and its machine; none where no capture in flight has the ticket.

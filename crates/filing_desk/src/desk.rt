@@ -9,8 +9,8 @@ use record_archive::Records;
 use std::alloc::Global;
 
 /// The office that a session talks to. It keeps records in an archive, the scripts and programs of officers, and captures
-/// in flight. Contracts say which states it represents. Besides its own refusals, a call may be refused with 89 where
-/// the database refuses, and with 99 where there is no memory.
+/// in flight. Its commands are the calls of `Registry`. Contracts say which states it represents. Besides its own
+/// refusals, a call may be refused with 89 where the database refuses, and with 99 where there is no memory.
 #[derive(Drop)]
 pub struct Desk<A> {
     pub(crate) alloc: Global,

@@ -2,13 +2,12 @@
 //! archive.
 //!
 //! - `desk`: what a desk keeps, and how it is made and taken apart;
-//! - `archive`: the calls that reach its archive;
-//! - `officers`: the scripts that are kept, and what officers set;
-//! - `captures`: captures in flight;
+//! - `registry`: the desk as a `Registry`, and so what each command does;
+//! - `archive`: what a desk asks of its archive;
+//! - `captures`: how captures begin, and what is shown of them in flight;
 //! - `messages`: messages that are to be captured, as payloads or in pieces;
 //! - `dry_runs`: runs that store nothing;
-//! - `payloads`: payloads as scripts, images and cases of messages;
-//! - `registry`: the desk as a `Registry`.
+//! - `payloads`: payloads as scripts, images and cases of messages.
 //!
 //! The crate `filing_commands` defines what each command may be answered and what it leaves. `Standing` in `specs/`
 //! says which of its states a desk represents.
@@ -20,7 +19,6 @@ mod classes;
 mod desk;
 mod dry_runs;
 mod messages;
-mod officers;
 mod payloads;
 mod registry;
 

@@ -1,11 +1,16 @@
-//! The desk as the `Registry` that a session talks to. Each call goes on in the method of `Desk` with the same name.
-//! These methods are in `archive` (plan and records), `officers` (scripts and programs), `captures` (`begin`, `turn`,
-//! `finish`) and `dry_runs` (`file`, `try_image`).
+//! The desk as the `Registry` that a session talks to: what each command does. What takes more than a few lines is in
+//! `archive`, `captures` and `dry_runs`.
 
+use crate::archive::{file_outcome, record_number};
 use crate::desk::Desk;
-use class_plan::Date;
-use filing_commands::{Capture, DeskFault, Payload, Registry, Turn};
+use crate::dry_runs::{outcome_of, run_image};
+use crate::messages::Message;
+use crate::payloads::{judge_image, judge_message, judge_script};
+use class_plan::{Date, Plan};
+use filing_commands::{Capture, DeskFault, MAX_PLAN_OCTETS, Payload, Registry, Turn};
+use filing_flights::captures_hold_flights;
 use record_archive::{Line, Records};
+use script_library::{Shelf, Shelves};
 use sieve_meaning::Outcome;
 
 impl<A: Records> Registry for Desk<A> {
@@ -22,55 +27,87 @@ impl<A: Records> Registry for Desk<A> {
     ghost keeps = { A.keeps };
 
     fn add_class(&mut self, path: &[u8]) -> Result<(), DeskFault> {
-        self.add_class(path)
+        self.store.add_class(path)?;
+        self.open_paths = None;
+        Ok(())
     }
 
     fn set_plan(&mut self, text: &Payload) -> Result<(), DeskFault> {
-        self.set_plan(text)
+        let octets = text.octets(MAX_PLAN_OCTETS, DeskFault::PlanTooLong)?;
+        let plan = Plan::from_toml(self.alloc, octets)?;
+        self.store.revise(plan)?;
+        self.open_paths = None;
+        Ok(())
     }
 
     fn set_script(&mut self, officer: &[u8], name: &[u8], text: &Payload) -> Result<(), DeskFault> {
-        self.set_script(officer, name, text)
+        let script = judge_script(self.alloc, text)?;
+        self.officers.set_script(officer, name, script)?;
+        Ok(())
     }
 
     fn set_global(&mut self, name: &[u8], text: &Payload) -> Result<(), DeskFault> {
-        self.set_global(name, text)
+        let script = judge_script(self.alloc, text)?;
+        self.officers.set_global(name, script)?;
+        Ok(())
     }
 
     fn activate(&mut self, officer: &[u8], name: &[u8]) -> Result<(), DeskFault> {
-        self.activate(officer, name)
+        self.officers.activate(officer, name)?;
+        Ok(())
     }
 
     fn deactivate(&mut self, officer: &[u8]) {
-        self.deactivate(officer);
+        self.officers.deactivate(officer);
     }
 
     fn set_image(&mut self, officer: &[u8], image: &Payload) -> Result<(), DeskFault> {
-        self.set_image(officer, image)
+        let program = judge_image(self.alloc, image)?;
+        self.officers.set_image(officer, program)?;
+        Ok(())
     }
 
     fn file(&self, script: &Payload, message: &Payload) -> Result<Outcome, DeskFault> {
-        self.file(script, message)
+        let checked = judge_script(self.alloc, script)?;
+        let case = judge_message(self.alloc, self.store.plan(), message)?;
+        // A dry run has no officer, so no personal scripts.
+        let personal = Shelf::new(self.alloc);
+        let shelves = Shelves {
+            personal: &personal,
+            global: self.officers.globals(),
+        };
+        let outcome = outcome_of(self.alloc, &case, &checked, shelves)?;
+        Ok(outcome)
     }
 
     fn try_image(&self, image: &Payload, message: &Payload) -> Result<Outcome, DeskFault> {
-        self.try_image(image, message)
+        let program = judge_image(self.alloc, image)?;
+        let case = judge_message(self.alloc, self.store.plan(), message)?;
+        let outcome = run_image(self.alloc, &program, &case)?;
+        Ok(outcome)
     }
 
     fn hold(&mut self, name: &[u8], number: u64) -> Result<(), DeskFault> {
-        self.hold(name, number)
+        let number = record_number(number)?;
+        self.store.hold(name, number)?;
+        Ok(())
     }
 
     fn release(&mut self, name: &[u8], number: u64) -> Result<(), DeskFault> {
-        self.release(name, number)
+        let number = record_number(number)?;
+        self.store.release(name, number)?;
+        Ok(())
     }
 
     fn due(&mut self, day: Date) -> Result<Vec<Line>, DeskFault> {
-        self.due(day)
+        let lines = self.store.due(day)?;
+        Ok(lines)
     }
 
     fn destroy(&mut self, number: u64, day: Date) -> Result<(), DeskFault> {
-        self.destroy(number, day)
+        let number = record_number(number)?;
+        self.store.destroy(number, day)?;
+        Ok(())
     }
 
     fn begin(
@@ -79,14 +116,27 @@ impl<A: Records> Registry for Desk<A> {
         moment: u64,
         message: Payload,
     ) -> Result<(u32, u32), DeskFault> {
-        self.begin(officer, moment, message)
+        self.begin_message(officer, moment, Message::Whole(message))
     }
 
     fn turn(&mut self, ticket: u64, count: u32) -> Result<Turn, DeskFault> {
-        self.turn(ticket, count)
+        self.flights.turn(ticket, count)
     }
 
     fn finish(&mut self, ticket: u64) -> Result<Capture, DeskFault> {
-        self.finish(ticket)
+        captures_hold_flights();
+        let Some(flight) = self.flights.get(ticket) else {
+            return Err(DeskFault::NoTicket);
+        };
+        if !flight.is_ended() {
+            return Err(DeskFault::NotEnded);
+        }
+        let outcome = flight.outcome()?;
+        let lines = file_outcome(self.alloc, &mut self.store, flight, &outcome.classes)?;
+        self.flights.remove(ticket);
+        Ok(Capture {
+            fault: outcome.fault,
+            lines,
+        })
     }
 }

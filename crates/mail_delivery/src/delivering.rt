@@ -7,7 +7,7 @@ ghost use Rattle.filing_commands.specs.declared.fault.DeskFault.TheVariants.{NoM
 ghost use Rattle.filing_desk.specs.Standing.{IsClean, StandsFor};
 ghost use Rattle.mail_delivery.specs.Deliveries.{Begins, Delivers};
 
-use filing_commands::{Capture, DeskFault, Payload};
+use filing_commands::{Capture, DeskFault, Payload, Registry};
 use filing_desk::Desk;
 use record_archive::Records;
 use sieve_meaning::RunFault;

@@ -3,7 +3,7 @@
 use crate::told::word;
 use anyhow::{Result, bail};
 use class_plan::{Date, Plan};
-use filing_commands::Payload;
+use filing_commands::{Payload, Registry};
 use filing_desk::Desk;
 use record_archive::{ArchiveFault, ArchiveRefusal, Line, Records};
 use std::alloc::Global;

@@ -1,7 +1,0 @@
-use Rattle.std.proofs.Common.{refl}
-use Rattle.filing_desk.proofs.FlightLemmas.{turned_by}
-use Rattle.filing_desk.proofs.desk.Desk.turn.Goals as goal
-
-pub returns : goal.returns
-returns g c = turned_by g.A.Records.clean g.A.Records.stands g.A.Records.may_leave
-    g.A.Records.keeps c.args.self.now _ c.args.ticket c.args.count _ refl refl refl refl c.turn.ensures

@@ -1,0 +1,64 @@
+use Rattle.std.proofs.Common.{Err, ap, inl, refl, subst, sym}
+use Rattle.sieve_syntax.specs.View.{tree_of}
+use Rattle.sieve_meaning.specs.Reading.{program_of}
+use Rattle.filing_commands.specs.Answers.{Answer}
+use Rattle.filing_commands.specs.Limits.{greatest_script}
+use Rattle.filing_commands.specs.Office.{OfficeStep, set_global}
+use Rattle.filing_commands.specs.Parts.{RefusesScript}
+use Rattle.filing_commands.specs.Scripts.{meanings_of, put_script}
+use Rattle.filing_officers.specs.Register.{with_global_script}
+use Rattle.filing_desk.proofs.FaultLemmas.{refused_part}
+use Rattle.filing_desk.proofs.OfficerLemmas.{globals_are, keep_refused, kept, not_set, set_by}
+use Rattle.filing_desk.proofs.StepLemmas.{done_fault}
+use Rattle.filing_desk.proofs.registry.DeskRegistry.set_global.Goals as goal
+
+pub returns-in_err-script : goal.returns-in_err-script
+returns-in_err-script g c = λ t is.
+    let result = c.from_residual.ensures in
+    refused_part g.A.Records.clean g.A.Records.stands g.A.Records.may_leave
+    g.A.Records.keeps c.args.self.now (set_global c.args.name.now t) (RefusesScript t)
+    greatest_script t c.in_err-script.field-0.0 _ (λ x n r. inl r) (λ x n l.
+    l) (done_fault _ _ result.0 result.1) (c.in_err-script.ensures.refused t is)
+
+pub returns-in_err-set_global : goal.returns-in_err-set_global
+returns-in_err-set_global g c = λ t is.
+    let result = c.from_residual-in_err-set_global.ensures in
+    let refused = c.in_err-set_global.ensures in
+    not_set g.A.Records.clean g.A.Records.stands g.A.Records.may_leave
+    g.A.Records.keeps c.args.self.now _ (set_global c.args.name.now t) _ refl (record {
+      store =
+          refl;
+      flights = refl;
+      last = refl;
+      open_paths = refl;
+    }) refused.unchanged (λ x stands.
+    let Q : Answer → Type 0 = λ a. OfficeStep x.office (set_global c.args.name.now t) a x.office in
+    subst Q (sym (done_fault _ _ result.0 result.1))
+    (keep_refused x.office (set_global c.args.name.now t) x.office.globals
+    (meanings_of c.args.self.now.officers.globals) c.args.name.now t (tree_of c.in_ok-script.script.script)
+    c.in_err-set_global.field-0.0 (λ n r. r) (λ n l.
+    l) (globals_are g.A.Records.clean g.A.Records.stands g.A.Records.may_leave
+    g.A.Records.keeps c.args.self.now x stands)
+    (c.in_ok-script.ensures.good t is) (c.in_ok-script.ensures.short t is) refused.fault (λ full.
+    refused.full (ap (λ f. Err f) full))))
+
+pub returns : goal.returns
+returns g c = λ t is.
+    let set = c.in_ok-set_global.ensures in
+    let main = program_of (tree_of c.in_ok-script.script.script) in
+    set_by g.A.Records.clean g.A.Records.stands g.A.Records.may_leave
+    g.A.Records.keeps c.args.self.now _ (set_global c.args.name.now t) (λ s.
+    with_global_script s c.args.name.now main) refl (record {
+      store = refl;
+      flights = refl;
+      last = refl;
+      open_paths =
+          refl;
+    }) (λ s. refl) set.done (λ x stands. (
+      put_script c.args.name.now main x.office.globals,
+      kept x.office.globals (meanings_of c.args.self.now.officers.globals) c.args.name.now t
+          (tree_of c.in_ok-script.script.script) (globals_are g.A.Records.clean g.A.Records.stands g.A.Records.may_leave
+          g.A.Records.keeps c.args.self.now x
+          stands) (c.in_ok-script.ensures.good t is) set.has_room,
+      refl,
+    ))
