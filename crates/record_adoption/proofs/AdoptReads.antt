@@ -1,5 +1,5 @@
 -- Reads that follow one another, and what the rows of a database are.
-use Rattle.std.proofs.Common.{◌≡◌, ◌⊎◌, inl, inr, List, [], ◌∷◌, map, refl, sym, ap, subst, ◌∙◌, arith, IsPermutation}
+use Rattle.std.proofs.Common.{◌≡◌, List, [], ◌∷◌, map, refl, sym, ap, subst, ◌∙◌, arith, IsPermutation}
 use Rattle.sqlite.specs.Store.{Ghosts}
 use Rattle.sqlite.specs.Schema.{Schema}
 use Rattle.sqlite.specs.Effect.{Database}
@@ -7,7 +7,7 @@ use Rattle.sqlite.specs.State.{State, HasCleanDisk, IsUnchanged}
 use Rattle.sqlite.specs.Held.{Held, state}
 use Rattle.sqlite.proofs.StateLemmas.{survives_then, survives_weaker}
 use Rattle.record_tables.specs.Tables.{HasCommonTables, IsFirstSchema, IsArchiveSchema}
-use Rattle.record_tables.specs.Rows.{Tables, Stores, StoresFirst, StoresCommon}
+use Rattle.record_tables.specs.Rows.{Tables, StoresCommon}
 pub use Rattle.record_tables.proofs.DropLemmas.{common_of as stores_common, first_common_of as stores_first_common}
 use Rattle.record_archive.specs.Archive.{Archive}
 use Rattle.std.proofs.lemmas.List.Elements.{All-from_recursion, recursion_from_All}

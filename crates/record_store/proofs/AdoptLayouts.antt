@@ -1,5 +1,5 @@
 -- Which version's rows a layout may have.
-use Rattle.std.proofs.Common.{◌≡◌, ◌⊎◌, inl, inr, ◌∙◌, subst, List, codes}
+use Rattle.std.proofs.Common.{◌≡◌, ◌⊎◌, inl, inr, subst, List, codes}
 use Rattle.sqlite.specs.Schema.{Schema}
 use Rattle.sqlite.specs.Effect.{Database}
 use Rattle.record_tables.specs.Tables.{Stands, Lacks, HasNone, IsFirstSchema, IsArchiveSchema, HasCommonTables, due_table}

@@ -1,20 +1,19 @@
 -- The tables of a schema stand as before beside one more, and where another is left out.
 use Rattle.std.proofs.Common.{◌≡◌, ◌<◌, ◌^◌, ◌==◌, ◌+◌, ◌||◌, ℕ, Bool, true, false, not, List, [], ◌∷◌, ◌++◌, length, Option, Some, None}
-use Rattle.std.proofs.Common.{Ok, slice_get, find, filter, is_some, unwrap_or, option_map, refl, sym, ap, subst, ◌∙◌, arith}
+use Rattle.std.proofs.Common.{slice_get, find, filter, is_some, unwrap_or, refl, sym, ap, subst, ◌∙◌, arith}
 use Rattle.std.proofs.lemmas.Bool.{ne_eqb, eq-eqb}
-use Rattle.std.specs.List.{AllByRecursion, position_from, list_any}
+use Rattle.std.specs.List.{AllByRecursion, position_from}
 use Rattle.sqlite.specs.Table.{Table}
 use Rattle.sqlite.specs.Schema.{Schema}
 use Rattle.sqlite.specs.Effect.{Database, IsDatabase}
-use Rattle.sqlite.specs.Change.{created, next_tree}
-use Rattle.sqlite_catalog.specs.Change.{KeepsRows, is_used, without_table}
+use Rattle.sqlite.specs.Change.{next_tree}
+use Rattle.sqlite_catalog.specs.Change.{KeepsRows, without_table}
 use Rattle.sqlite_catalog.specs.Calls.{CreatesTable}
 use Rattle.sqlite_catalog.specs.Listing.{IsTableRow}
 use Rattle.sqlite_catalog.proofs.ListFacts.{find_within}
 use Rattle.sqlite_catalog.proofs.StepLemmas.{same_itself, table_below}
 use Rattle.sqlite_schema.specs.Names.{same_name, table_named, index_named, view_named}
 use Rattle.sqlite_trees.proofs.ListLemmas.{all-slice_get, all-filter, all-append}
-use Rattle.sqlite_trees.specs.Objects.{catalog_tree}
 use Rattle.record_tables.specs.Tables.{in_tree, Stands, IsApart}
 use Rattle.record_tables.specs.Layouts.{Rests, StandsEmpty}
 use Rattle.record_tables.proofs.Placed.{slice_get_longer, slice_get_last, zip_at, find_longer, find_last}
@@ -34,17 +33,20 @@ pub rests_then : (a b c : Database) (t : Table) (was : Stands a.schema t) (one :
 rests_then a b c t was one two = record { stands = two.stands; rows = two.rows ∙ one.rows }
 
 -- no table came or went
+abbrev pub stands_in : (old new : Schema) (t : Table) → Stands old t → new.tables ≡ old.tables → Stands new t
+stands_in old new t was same = record {
+  place = was.place;
+  tree = was.tree;
+  named = ap (position_from (λ (u : Table). same_name u.name t.name) 0) same ∙ was.named;
+  listed = ap (λ ts. slice_get ts was.place) same ∙ was.listed;
+  own = ap (find (λ (u : Table). u.tree == was.tree)) same ∙ was.own;
+  small = was.small;
+}
+
 pub rests_in : (old new : Database) (t : Table) (was : Stands old.schema t) → new.schema.tables ≡ old.schema.tables
     → KeepsRows old.schema.tables old.trees new.trees → Rests old new t was
 rests_in old new t was same kept = record {
-  stands = record {
-    place = was.place;
-    tree = was.tree;
-    named = ap (position_from (λ (u : Table). same_name u.name t.name) 0) same ∙ was.named;
-    listed = ap (λ ts. slice_get ts was.place) same ∙ was.listed;
-    own = ap (find (λ (u : Table). u.tree == was.tree)) same ∙ was.own;
-    small = was.small;
-  };
+  stands = stands_in old.schema new.schema t was same;
   rows = all-slice_get (λ (u : Table). new.trees u.tree ≡ old.trees u.tree) old.schema.tables was.place (in_tree was.tree t) was.listed kept;
 }
 

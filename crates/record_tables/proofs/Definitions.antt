@@ -1,5 +1,5 @@
 -- What the texts that create and drop tables are compiled to, in any schema in which they may be run.
-use Rattle.std.proofs.Common.{◌≡◌, ◌+◌, ℕ, Bool, true, false, cond, List, [], codes, Option, Some, None, Ok, Err, Result}
+use Rattle.std.proofs.Common.{◌≡◌, ◌+◌, ℕ, Bool, true, false, cond, List, [], codes, Option, Some, None, Ok, Err}
 use Rattle.std.proofs.Common.{refl, sym, ap, subst, ◌∙◌, is_some, unwrap_or}
 use Rattle.std.specs.Option.{option_or}
 use Rattle.sqlite.specs.Schema.{Schema}
@@ -24,7 +24,7 @@ use Rattle.sqlite_resolve.specs.Body as body
 use Rattle.sqlite_resolve.specs.Compile.{compiled, planned, meaning, timed, returning, command, first, with_command, small}
 use Rattle.sqlite_resolve.specs.Compile.{create_table, create_index as index_command, drop_table, creates, is_attached, is_reserved, target, dropped}
 use Rattle.sqlite_schema.specs.Names.{table_named, index_named, view_named}
-use Rattle.record_tables.specs.Tables.{Stands, due_table}
+use Rattle.record_tables.specs.Tables.{Stands, due_table, due_index}
 use Rattle.record_tables.specs.Tables.{message_table, record_table, hold_table, meta_table, class_table, schedule_table}
 use Rattle.record_tables.specs.Layouts.{IsBare, Defines, DefinesIndex}
 use Rattle.record_tables.proofs.Compiling.{parsed_from}
@@ -293,10 +293,11 @@ defines_due = record {
   apart = refl;
 }
 
-pub defines_index : DefinesIndex create_index due_table
+pub defines_index : DefinesIndex create_index due_table due_index
 unfolding listing_schema everything
 defines_index = record {
   creates = makes_index create_index (record { read = refl; bare = refl; unlisted = refl; whole = refl }) due_table (refl, refl);
+  defined = λ tree. refl;
 }
 
 pub drops_due_table : (schema : Schema) (on : Stands schema due_table) (c : Compiled) → understood schema drop_dues ≡ Ok c

@@ -1,5 +1,5 @@
 -- What is left after a DROP of the table of due days.
-use Rattle.std.proofs.Common.{◌≡◌, ◌⊎◌, inl, inr, ℕ, List, [], ◌∷◌, None, Ok, IsTrue, Bool, true, false, is_some, ◌&&◌, MatchBool}
+use Rattle.std.proofs.Common.{◌≡◌, inl, inr, ℕ, List, [], ◌∷◌, None, Ok, IsTrue, Bool, true, false, is_some, ◌&&◌, MatchBool}
 use Rattle.std.proofs.Common.{refl, sym, ap, subst, ◌∙◌, codes}
 use Rattle.std.specs.List.{AllByRecursion, list_any}
 use Rattle.sqlite.specs.Table.{Table}
@@ -18,8 +18,8 @@ use Rattle.sqlite_tied.specs.Compute.{everything}
 use Rattle.record_tables.specs.Tables.{in_tree, Stands, IsApart, schedule_table, due_table}
 use Rattle.record_tables.specs.Rows.{Tables, Stores, StoresFirst, StoresCommon, StoresKeyed}
 use Rattle.record_tables.specs.Changes.{Puts, Always, without_dues}
-use Rattle.record_tables.specs.Layouts.{Drops, Lays, Rests, HasDues, Empties, TellsDues, TellsAlone}
-use Rattle.record_tables.proofs.Beside.{rests_without, apart_without, rests_then}
+use Rattle.record_tables.specs.Layouts.{Drops, Lays, HasDues, Empties, TellsDues, TellsAlone}
+use Rattle.record_tables.proofs.Beside.{rests_without, apart_without}
 use Rattle.record_tables.proofs.Definitions.{drop_dues, drops_due_table}
 use Rattle.record_tables.proofs.LayLemmas.{compiled_in, ran_as, laid_beside}
 use Rattle.record_tables.proofs.WriteLemmas.{went, same_value}

@@ -1,6 +1,6 @@
 -- What CREATE TABLE and CREATE INDEX make of a database, whatever tables it has.
-use Rattle.std.proofs.Common.{◌≡◌, map, ◌⊎◌, inl, inr, ℕ, Bool, true, false, List, [], ◌∷◌, ◌++◌, None, Ok, IsTrue, MatchBool}
-use Rattle.std.proofs.Common.{refl, sym, ap, subst, ◌∙◌, length, Result, Err}
+use Rattle.std.proofs.Common.{◌≡◌, map, inl, inr, ℕ, List, [], ◌∷◌, ◌++◌, None, Ok, IsTrue}
+use Rattle.std.proofs.Common.{refl, sym, ap, subst, ◌∙◌, length, Err}
 use Rattle.std.proofs.lemmas.Bool.{cases_Bool}
 use Rattle.std.specs.List.{AllByRecursion}
 use Rattle.sqlite.specs.Table.{Table}
@@ -9,23 +9,26 @@ use Rattle.sqlite.specs.Compile.{table_defined_by}
 use Rattle.sqlite.specs.Change.{next_tree}
 use Rattle.sqlite_schema.specs.declared.command.Command.{Command}
 use Rattle.sqlite_schema.specs.declared.command.Command.TheVariants.{CreateTable, CreateIndex}
+use Rattle.sqlite_schema.specs.declared.schema.Index.{Index}
 use Rattle.sqlite_schema.specs.declared.schema.Reference.{Reference}
+use Rattle.sqlite_rules.specs.Lists.{Has}
+use Rattle.sqlite_rules.proofs.ListLemmas.{has_right}
 use Rattle.sqlite_catalog.specs.Change.{KeepsRows}
 use Rattle.sqlite_catalog.specs.Calls.{CreatesTable}
-use Rattle.sqlite.specs.Does.{Tally, Does, MakesSequence, lacks_sequence, sequence_text}
-use Rattle.sqlite.specs.Effect.{Database, IsDatabase}
+use Rattle.sqlite.specs.Does.{Tally, MakesSequence, lacks_sequence, sequence_text}
+use Rattle.sqlite.specs.Effect.{Database}
 use Rattle.sqlite.specs.Listing.{understood}
-use Rattle.sqlite.specs.State.{State, Runs, Writes, Executes, ExecutesIn, ExecutesInside, mode_of}
+use Rattle.sqlite.specs.State.{State, Runs, Writes, Executes, ExecutesIn, ExecutesInside}
 use Rattle.sqlite.proofs.Callers.{IsPlain, command_of, statement_of, runs_as}
 use Rattle.sqlite_resolve.specs.declared.compiled.Compiled.{Compiled}
 use Rattle.sqlite_resolve.specs.Lowering.{Checked}
 use Rattle.sqlite_tied.specs.Compute.{everything}
-use Rattle.sqlite_trees.proofs.ListLemmas.{all-append, all_weaker, all-slice_get}
+use Rattle.sqlite_trees.proofs.ListLemmas.{all-append, all_weaker}
 use Rattle.record_tables.specs.Tables.{in_tree, Stands, IsApart, archive_tables, schedule_table, due_table}
 use Rattle.record_tables.specs.Rows.{Tables, Stores, StoresCommon, StoresKeyed, schedule_row, due_row}
-use Rattle.record_tables.specs.Layouts.{Lays, Rests, StandsEmpty, IsBare, Defines, DefinesIndex, no_rows}
+use Rattle.record_tables.specs.Layouts.{Lays, StandsEmpty, IsBare, Defines, DefinesIndex, IsIndexed, no_rows}
 use Rattle.record_tables.proofs.Beside.{Adds, Extends, adds, extends_itself, extends_more, last_listed, small_tree, stands_empty}
-use Rattle.record_tables.proofs.Beside.{rests_then, rests_in}
+use Rattle.record_tables.proofs.Beside.{rests_then, rests_in, stands_in}
 use Rattle.record_tables.proofs.WriteLemmas.{went, same_value}
 
 -- ---- what was run
@@ -101,9 +104,10 @@ lays_table old new text table count d inside h =
 
 -- ---- CREATE INDEX
 
-pub lays_index : (old new : State) (text : List ℕ) (table : Table) (count : ℕ) → DefinesIndex text table → IsTrue old.in_transaction
-    → ExecutesInside 0 text [] old new (Ok count) → Stands old.now.schema table → Lays old new []
-lays_index old new text table count d inside h on =
+pub lays_index : (old new : State) (text : List ℕ) (table : Table) (index : Index) (count : ℕ) → DefinesIndex text table index
+    → IsTrue old.in_transaction → ExecutesInside 0 text [] old new (Ok count) → Stands old.now.schema table
+    → Lays old new [] × IsIndexed new.now.schema table index
+lays_index old new text table index count d inside h on =
     let c = compiled_in text old new count h.0 in
     let k = d.creates old.now.schema on c.0 c.1 in
     let write : Writes old new None (CreateIndex on.place) text [] count = ran_as text old new count c.0 (CreateIndex on.place) c.1 k.0 k.1 h.0 in
@@ -113,15 +117,26 @@ lays_index old new text table count d inside h on =
     let tables : new.now.schema.tables ≡ old.now.schema.tables = ap (λ (d : Database). d.schema.tables) now ∙ ap (λ (s : Schema). s.tables) made.is in
     let rows : KeepsRows old.now.schema.tables old.now.trees new.now.trees =
     subst (λ (d : Database). KeepsRows old.now.schema.tables old.now.trees d.trees) (sym now) made.rows in
-    record {
-      made = tt;
-      others = λ t was. rests_in old.now new.now t was tables rows;
-      apart = λ apart. subst (AllByRecursion (λ (t : Table). t.references ≡ [])) (sym tables) apart;
-      sound = write.sound;
-      committed = h.1.committed_is;
-      mode = h.1.mode ∙ sym inside;
-      is_open = h.1.is_open ∙ sym h.1.was_open;
-    }
+    let its : made.index ≡ record index { tree = 0; table = on.tree } = same_value (sym made.defined ∙ d.defined on.tree) in
+    let last = record index { tree = next_tree old.now.schema; table = on.tree } in
+    let indexes : new.now.schema.indexes ≡ old.now.schema.indexes ++ last ∷ [] =
+    ap (λ (d : Database). d.schema.indexes) now ∙ ap (λ (s : Schema). s.indexes) made.is
+    ∙ ap (λ (i : Index). old.now.schema.indexes ++ record i { tree = next_tree old.now.schema; table = on.tree } ∷ []) its in (
+      record {
+        made = tt;
+        others = λ t was. rests_in old.now new.now t was tables rows;
+        apart = λ apart. subst (AllByRecursion (λ (t : Table). t.references ≡ [])) (sym tables) apart;
+        sound = write.sound;
+        committed = h.1.committed_is;
+        mode = h.1.mode ∙ sym inside;
+        is_open = h.1.is_open ∙ sym h.1.was_open;
+      },
+      record {
+        stands = stands_in old.now.schema new.now.schema table on tables;
+        tree = next_tree old.now.schema;
+        listed = subst (λ is. Has is last) (sym indexes) (has_right old.now.schema.indexes (last ∷ []) last (inl refl));
+      },
+    )
 
 -- ---- statements in turn
 

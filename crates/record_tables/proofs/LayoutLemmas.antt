@@ -1,8 +1,8 @@
 -- A schema of a version has the tables of that version alone.
-use Rattle.std.proofs.Common.{◌≡◌, ◌↔◌, Bool, true, false, not, IsTrue, Option, Some, None, codes, refl, ap, subst, sym, ◌∙◌, option_and_then, slice_get}
+use Rattle.std.proofs.Common.{◌≡◌, ◌↔◌, Bool, true, false, not, IsTrue, codes, refl, ap, subst, sym, ◌∙◌, option_and_then, slice_get}
 use Rattle.sqlite.specs.Schema.{Schema}
 use Rattle.sqlite.specs.Table.{Table}
-use Rattle.record_tables.specs.Tables.{Stands, Lacks, HasNone, HasCommonTables, IsFirstSchema, IsArchiveSchema, table_of, message_table}
+use Rattle.record_tables.specs.Tables.{Stands, Lacks, HasNone, HasCommonTables, IsFirstSchema, IsArchiveSchema, message_table}
 use Rattle.record_tables.specs.Tables.{record_table, hold_table, meta_table, class_table, schedule_table, due_table}
 use Rattle.record_tables.specs.Layouts.{TellsDues}
 use Rattle.record_tables.specs.Layout.{HasCommon, HasTable, IsTableIfAny, IsLayout}

@@ -1,5 +1,5 @@
 -- The tables stand in the schemas that this crate creates, also beside others after them.
-use Rattle.std.proofs.Common.{◌≡◌, ℕ, Some, codes, inl, inr, refl, ap, sym, ◌∙◌, arith, slice_get, unwrap_or, option_map}
+use Rattle.std.proofs.Common.{◌≡◌, Some, codes, inl, inr, refl, ap, sym, ◌∙◌, arith, slice_get, unwrap_or, option_map}
 use Rattle.sqlite.specs.Table.{Table}
 use Rattle.sqlite.specs.Schema.{Schema}
 use Rattle.sqlite_tied.specs.Compute.{everything}

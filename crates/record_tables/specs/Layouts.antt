@@ -3,7 +3,7 @@ use Rattle.std.specs.Prelude.{◌≡◌, ◌≢◌, ℕ, Bool, true, false, List
 use Rattle.std.specs.List.{AllByRecursion}
 use Rattle.sqlite.specs.Table.{Table}
 use Rattle.sqlite.specs.Command.TheVariants.{CreateTable, CreateIndex}
-use Rattle.sqlite.specs.Compile.{table_defined_by}
+use Rattle.sqlite.specs.Compile.{table_defined_by, index_defined_by}
 use Rattle.sqlite.specs.Listing.{understood}
 use Rattle.sqlite.specs.Schema.{Schema}
 use Rattle.sqlite.specs.Effect.{Database, IsDatabase}
@@ -11,6 +11,8 @@ use Rattle.sqlite.specs.Store.{Ghosts}
 use Rattle.sqlite.specs.State.{State, HasCleanDisk, text_of}
 use Rattle.sqlite.specs.Held.{Held, state}
 use Rattle.sqlite_catalog.specs.Change.{without_table}
+use Rattle.sqlite_rules.specs.Lists.{Has}
+use Rattle.sqlite_schema.specs.declared.schema.Index.{Index}
 use Rattle.sqlite_resolve.specs.declared.compiled.Compiled.{Compiled}
 use Rattle.record_tables.specs.Tables.{archive_schema, due_table, in_tree, Stands, IsApart, IsFree, Lacks}
 use Rattle.record_tables.specs.Rows.{Tables, Due, Stores, StoresFirst, StoresKeyed, AreKeyed}
@@ -114,21 +116,28 @@ pub record Defines (text : List ℕ) (table : Table) : Type 0 where
   pub defined : table_defined_by text ≡ Ok (in_tree 0 table)
   pub apart : table.references ≡ []
 
--- in each schema that has this table and in which the text may be run, it creates an index of the table
-pub record DefinesIndex (text : List ℕ) (table : Table) : Type 0 where
+-- the table stands in the schema, and has this index
+pub record IsIndexed (schema : Schema) (table : Table) (index : Index) : Type 0 where
+  pub stands : Stands schema table
+  pub tree : ℕ
+  pub listed : Has schema.indexes (record index { tree = tree; table = stands.tree })
+
+-- in each schema that has this table and in which the text may be run, it creates this index of the table
+pub record DefinesIndex (text : List ℕ) (table : Table) (index : Index) : Type 0 where
   pub creates : (schema : Schema) (on : Stands schema table) (compiled : Compiled) → understood schema text ≡ Ok compiled →
       (compiled.command ≡ CreateIndex on.place) × IsBare text compiled
+  pub defined : (tree : ℕ) → index_defined_by (in_tree tree table) text ≡ Ok (record index { tree = 0; table = tree })
 
 module _ {S : Type 0} (g : Ghosts S) (old new : Held S) where
   -- the table that the text creates is added, empty
   abbrev pub LaysTable : List ℕ → Type 0
   LaysTable text = (table : Table) → Defines text table → LaysIn g old new (table ∷ [])
 
-  -- the tables stay where the text creates an index
+  -- the index that the text creates is added, and the tables stay
   abbrev pub LaysIndex : List ℕ → Type 0
-  LaysIndex text = (table : Table) → DefinesIndex text table → HasCleanDisk (state g new) →
+  LaysIndex text = (table : Table) (index : Index) → DefinesIndex text table index → HasCleanDisk (state g new) →
       IsTrue (state g old).in_transaction → Stands (state g old).now.schema table →
-      Lays (state g old) (state g new) []
+      Lays (state g old) (state g new) [] × IsIndexed (state g new).now.schema table index
 
   -- in a transaction, the table of due days is dropped
   abbrev pub DropsIn : Type 0

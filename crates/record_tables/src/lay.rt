@@ -2,8 +2,8 @@
 
 ghost use Rattle.std.specs.Prelude.{◌≡◌, ◌∷◌, [], OnOk, false, map};
 ghost use Rattle.sqlite.specs.Held.{state};
-ghost use Rattle.record_tables.specs.Tables.{archive_tables, schedule_table, due_table};
-ghost use Rattle.record_tables.specs.Layouts.{LaysIn, GoesOnIn, Empties, TellsDues, IsLaid, IsWidened, LaysTable, LaysIndex, DropsIn};
+ghost use Rattle.record_tables.specs.Tables.{archive_tables, schedule_table, due_table, due_index};
+ghost use Rattle.record_tables.specs.Layouts.{LaysIn, GoesOnIn, Empties, TellsDues, IsLaid, IsWidened, LaysTable, LaysIndex, DropsIn, IsIndexed};
 ghost use Rattle.record_tables.specs.Steps.{Inside, PutsIn, KeepsIn, CommitsNothing, CommitsWhole, Makes, IsCommitted, IsUndone, WasOpen, MakesIn};
 ghost use Rattle.record_tables.specs.Changes.{Always, AreAscending, with_version};
 ghost use Rattle.record_tables.specs.CodeRows.{due_of, class_entry_of, rule_of, with_plan_rows, IsMovedTo};
@@ -41,6 +41,8 @@ fn define_index<S: Alter>(tx: &mut Transaction<'_, S>, text: &str) -> Result<(),
 fn lay_dues<S: Alter>(tx: &mut Transaction<'_, S>) -> Result<(), Error>
     ensures same_reference { tx.new.conn.ghost_name ≡ tx.old.conn.ghost_name }
     ensures ok { OnOk result (LaysIn S.Store tx.old.conn.now tx.new.conn.now (due_table ∷ [])) }
+    ensures index { OnOk result (Inside S.Store tx.old.conn.now tx.new.conn.now
+        (IsIndexed (state S.Store tx.new.conn.now).now.schema due_table due_index)) }
     ensures err { KeepsIn S.Store tx.old.conn.now tx.new.conn.now result }
     ensures survives { CommitsNothing S.Store tx.old.conn.now tx.new.conn.now }
 {
