@@ -1,15 +1,14 @@
 -- Reads that follow one another, and what the rows of a database are.
-use Rattle.std.proofs.Common.{◌≡◌, ◌⊎◌, inl, inr, List, [], ◌∷◌, map, refl, sym, ap, subst, ◌∙◌, arith, IsPermutation}
+use Rattle.std.proofs.Common.{◌≡◌, List, [], ◌∷◌, map, refl, sym, ap, subst, ◌∙◌, arith, IsPermutation}
 use Rattle.sqlite.specs.Store.{Ghosts}
 use Rattle.sqlite.specs.Schema.{Schema}
 use Rattle.sqlite.specs.Effect.{Database}
 use Rattle.sqlite.specs.State.{State, HasCleanDisk, IsUnchanged}
 use Rattle.sqlite.specs.Held.{Held, state}
 use Rattle.sqlite.proofs.StateLemmas.{survives_then, survives_weaker}
-use Rattle.record_tables.specs.Tables.{Foreign, none, first_dues, common_beside, HasCommonTables, IsArchiveSchema}
-use Rattle.record_tables.specs.Tables.{first_schema, first_schema_with_dues}
-use Rattle.record_tables.specs.Rows.{Tables, Stores, StoresFirst, StoresCommon}
-use Rattle.record_tables.proofs.Standing.{common_is}
+use Rattle.record_tables.specs.Tables.{HasCommonTables, IsFirstSchema, IsArchiveSchema}
+use Rattle.record_tables.specs.Rows.{Tables, StoresCommon}
+pub use Rattle.record_tables.proofs.DropLemmas.{common_of as stores_common, first_common_of as stores_first_common}
 use Rattle.record_archive.specs.Archive.{Archive}
 use Rattle.std.proofs.lemmas.List.Elements.{All-from_recursion, recursion_from_All}
 use Rattle.std.proofs.lemmas.List.Sorted.{IsPermutation-sym, length_permutation, All-permutation}
@@ -64,36 +63,8 @@ sees_as g Are More old new to one = record {
 pub archive_common : (schema : Schema) → IsArchiveSchema schema → HasCommonTables schema
 archive_common schema h = h.common
 
-pub first_common : (schema : Schema) → (schema ≡ first_schema) ⊎ (schema ≡ first_schema_with_dues) → HasCommonTables schema
-first_common schema (inl e) = subst HasCommonTables (sym e) (common_is none)
-first_common schema (inr e) = subst HasCommonTables (sym e) (common_is first_dues)
-
-pub stores_common : (db : Database) (t : Tables) → Stores db t → StoresCommon db t
-stores_common db t h = record {
-  schema = h.schema.common;
-  messages = h.messages;
-  records = h.records;
-  holds = h.holds;
-  settings = h.settings;
-  classes = h.classes;
-}
-
-pub stores_first_common : (db : Database) (t : Tables) → StoresFirst db t → StoresCommon db t
-stores_first_common db t h = by_schema h.schema
-  where
-    among : (f : Foreign) → db.schema ≡ common_beside f → StoresCommon db t
-    among f e = subst (λ schema. StoresCommon (record { schema = schema; trees = db.trees }) t) (sym e) (record {
-      schema = common_is f;
-      messages = h.messages;
-      records = h.records;
-      holds = h.holds;
-      settings = h.settings;
-      classes = h.classes;
-    })
-
-    by_schema : (db.schema ≡ first_schema) ⊎ (db.schema ≡ first_schema_with_dues) → StoresCommon db t
-    by_schema (inl e) = among none e
-    by_schema (inr e) = among first_dues e
+pub first_common : (schema : Schema) → IsFirstSchema schema → HasCommonTables schema
+first_common schema h = h.common
 
 pub reads_after : (old new : State) (t : Tables) (ps : List Pair) (rs : List Rule) (cs : List ClassEntry)
     → ReadsSecond old.now t ps rs cs → IsUnchanged old new → ReadsSecond new.now t ps rs cs

@@ -3,7 +3,7 @@ use Rattle.std.proofs.Common.{◌≡◌, ℤ, ◌+ℤ◌, pos, List, [], ◌∷�
 use Rattle.std.proofs.lemmas.List.Sorted.{IsPermutation-refl}
 use Rattle.class_plan.specs.Plans.{first_plan, IsPlan}
 use Rattle.sqlite.specs.Effect.{Database}
-use Rattle.record_tables.specs.Tables.{no_schema}
+use Rattle.record_tables.specs.Tables.{IsFree}
 use Rattle.record_tables.specs.Changes.{ClassEntry, Rule, classes_from, schedules_from, with_plan, with_version}
 use Rattle.record_tables.specs.Layouts.{IsLaid, no_rows}
 use Rattle.record_tables.specs.Reads.{class_entry, rule}
@@ -23,10 +23,10 @@ pub same_list : {X : Type 0} (xs ys : List X) → xs ≡ ys → IsPermutation xs
 same_list xs ys e = subst (IsPermutation xs) e (IsPermutation-refl xs)
 
 -- the tables as they are created keep the empty archive
-pub stores_laid : (old db : Database) → old.schema ≡ no_schema
+pub stores_laid : (old db : Database) → IsFree old.schema
     → IsLaid (rules_of first_plan) (classes_of first_plan) old db → StoresArchive db empty_archive
-stores_laid old db empty laid =
-    let made = laid.stored empty in
+stores_laid old db free laid =
+    let made = laid.stored free in
     record {
       tables = with_version (with_plan (rules_of first_plan) (classes_of first_plan) [] no_rows);
       stored = made.0;

@@ -1,5 +1,5 @@
 -- What a database holds of an archive when a store is opened over it, and what is read from it.
-use Rattle.std.specs.Prelude.{◌<◌, ◌^◌, ◌≡◌, ◌≢◌, ◌⊎◌, ℕ, ◌-◌, false, List, [], ◌∷◌, map, codes, IsPermutation}
+use Rattle.std.specs.Prelude.{◌<◌, ◌^◌, ◌≡◌, ◌⊎◌, ℕ, ◌-◌, false, List, [], ◌∷◌, map, codes, IsPermutation}
 use Rattle.std.specs.List.{AllByRecursion}
 use Rattle.sqlite.specs.Store.{Ghosts}
 use Rattle.sqlite.specs.Schema.{Schema}
@@ -11,7 +11,7 @@ use Rattle.sqlite_keyed.specs.Lists.{sort_by}
 use Rattle.sqlite_trees.specs.Tree.{IsAscending}
 use Rattle.class_plan.specs.Plans.{Listing, IsPlan}
 use Rattle.class_plan.specs.Texts.{text_of}
-use Rattle.record_tables.specs.Tables.{no_schema, first_schema, first_schema_with_dues, IsArchiveSchema}
+use Rattle.record_tables.specs.Tables.{HasNone, IsFree, IsFirstSchema, IsArchiveSchema}
 use Rattle.record_archive.specs.Archive.{Message, Record, Archive, Hold, IsArchive, empty_archive, is_hold, next_number}
 use Rattle.record_tables.specs.Rows.{Tables, Due, Stores, StoresFirst, StoresCommon, AreKeyed}
 use Rattle.record_tables.specs.Changes.{ClassEntry, Rule}
@@ -81,16 +81,16 @@ pub record FindsCommon (db : Database) (a : Archive) : Type 0 where
   pub records : tables.records ≡ a.records
   pub holds : map hold_of tables.holds ≡ a.holds
 
--- there is no table, as before the empty archive is created
+-- no table has one of the archive's names, as before the empty archive is created, and none has a foreign key
 abbrev pub FindsNothing : Database → Archive → Type 0
-FindsNothing db a = (db.schema ≡ no_schema) × (a ≡ empty_archive)
+FindsNothing db a = IsFree db.schema × (a ≡ empty_archive)
 
 abbrev pub Finds : Database → Archive → Type 0
 Finds db a = (FindsRows db a × IsKeyed a) ⊎ FindsNothing db a
 
--- no archive has these rows
+-- some table has one of the archive's names, and no archive has these rows
 abbrev pub HasNoArchive : Database → Type 0
-HasNoArchive db = (db.schema ≢ no_schema) × ((a : Archive) → FindsRows db a → IsArchive a → ⊥)
+HasNoArchive db = ¬ HasNone db.schema × ((a : Archive) → FindsRows db a → IsArchive a → ⊥)
 
 -- no archive is found in this way
 abbrev pub FindsNone : (Database → Archive → Type 0) → Database → Type 0
@@ -166,7 +166,7 @@ pub record AreTypedFirst (db : Database) : Type 0 where
 -- the tables of either version, if they are there, have typed rows
 pub record HasTypedRows (db : Database) : Type 0 where
   pub second : IsArchiveSchema db.schema → AreTypedSecond db
-  pub first : (db.schema ≡ first_schema) ⊎ (db.schema ≡ first_schema_with_dues) → AreTypedFirst db
+  pub first : IsFirstSchema db.schema → AreTypedFirst db
 
 -- ---- what is read
 

@@ -1,8 +1,8 @@
 -- Which version's rows a layout may have.
-use Rattle.std.proofs.Common.{◌≡◌, ◌≢◌, ◌⊎◌, inl, inr, ◌∙◌, subst, List}
+use Rattle.std.proofs.Common.{◌≡◌, ◌⊎◌, inl, inr, subst, List, codes}
 use Rattle.sqlite.specs.Schema.{Schema}
 use Rattle.sqlite.specs.Effect.{Database}
-use Rattle.record_tables.specs.Tables.{no_schema, first_schema, first_schema_with_dues, IsArchiveSchema, HasCommonTables}
+use Rattle.record_tables.specs.Tables.{Stands, Lacks, HasNone, IsFirstSchema, IsArchiveSchema, HasCommonTables, due_table}
 use Rattle.record_tables.specs.declared.layout.Layout.{Layout}
 use Rattle.record_tables.specs.declared.layout.Layout.TheVariants.{Empty, First, FirstWithDues, Second}
 use Rattle.record_tables.specs.Rows.{Tables}
@@ -15,15 +15,16 @@ use Rattle.record_adoption.specs.Adoption.{ReadsFirst}
 use Rattle.record_adoption.specs.Keeping.{StoresArchive}
 use Rattle.record_adoption.proofs.AdoptReads.{first_common}
 
--- the layout of each schema that a store creates
+-- the layout of each schema that has an archive's tables, or none of their names
 pub record Lays (schema : Schema) (l : Layout) : Type 0 where
-  pub empty : schema ≡ no_schema → l ≡ Empty
-  pub first : schema ≡ first_schema → l ≡ First
-  pub dated : schema ≡ first_schema_with_dues → l ≡ FirstWithDues
+  pub empty : HasNone schema → l ≡ Empty
+  pub first : IsFirstSchema schema → Lacks schema (codes "due_day") → l ≡ First
+  pub dated : IsFirstSchema schema → Stands schema due_table → l ≡ FirstWithDues
   pub second : IsArchiveSchema schema → l ≡ Second
 
-pub lays_at : (s t : Schema) (l : Layout) → s ≡ t → (s ≡ no_schema → l ≡ Empty) → (s ≡ first_schema → l ≡ First)
-    → (s ≡ first_schema_with_dues → l ≡ FirstWithDues) → (IsArchiveSchema s → l ≡ Second) → Lays t l
+pub lays_at : (s t : Schema) (l : Layout) → s ≡ t → (HasNone s → l ≡ Empty)
+    → (IsFirstSchema s → Lacks s (codes "due_day") → l ≡ First) → (IsFirstSchema s → Stands s due_table → l ≡ FirstWithDues)
+    → (IsArchiveSchema s → l ≡ Second) → Lays t l
 lays_at s t l e empty first dated second = subst (λ x. Lays x l) e (record { empty = empty; first = first; dated = dated; second = second })
 
 abbrev pub IsFirst : Layout → Type 0
@@ -37,9 +38,8 @@ first_not_empty : (l : Layout) → IsFirst l → l ≡ Empty → ⊥
 first_not_empty l (inl e) k = cc
 first_not_empty l (inr e) k = cc
 
-first_apart : (schema : Schema) (l : Layout) → Lays schema l → (schema ≡ first_schema) ⊎ (schema ≡ first_schema_with_dues) → IsFirst l
-first_apart schema l lays (inl e) = inl (lays.first e)
-first_apart schema l lays (inr e) = inr (lays.dated e)
+first_apart : (schema : Schema) (l : Layout) → Lays schema l → IsFirstSchema schema → IsFirst l
+first_apart schema l lays is = elim is.dues [ inl lacks ↦ inl (lays.first is lacks) | inr on ↦ inr (lays.dated is on) ]
 
 pub no_rows : (db : Database) (a : Archive) (l : Layout) → Lays db.schema l → l ≡ Empty → FindsRows db a → ⊥
 no_rows db a l lays is (inl h) = let k : l ≡ Second = lays.second h.stored.schema in cc
@@ -59,11 +59,11 @@ finds_nothing db a l lays is (inr h) = h
 
 pub finds_second : (db : Database) (a : Archive) (l : Layout) → Lays db.schema l → l ≡ Second → Finds db a → FindsSecond db a × IsKeyed a
 finds_second db a l lays is (inl h) = (second_rows db a l lays is h.0, h.1)
-finds_second db a l lays is (inr h) = absurd (let k : l ≡ Empty = lays.empty h.0 in cc)
+finds_second db a l lays is (inr h) = absurd (let k : l ≡ Empty = lays.empty h.0.none in cc)
 
 pub finds_first : (db : Database) (a : Archive) (l : Layout) → Lays db.schema l → IsFirst l → Finds db a → FindsFirst db a × IsKeyed a
 finds_first db a l lays is (inl h) = (first_rows db a l lays is h.0, h.1)
-finds_first db a l lays is (inr h) = absurd (first_not_empty l is (lays.empty h.0))
+finds_first db a l lays is (inr h) = absurd (first_not_empty l is (lays.empty h.0.none))
 
 pub second_none : (db : Database) (l : Layout) → Lays db.schema l → l ≡ Second
     → ((a : Archive) → FindsSecond db a → IsArchive a → ⊥) → HasNoArchive db

@@ -8,7 +8,7 @@ use Rattle.sqlite.specs.State.{State, HasCleanDisk, IsNotRun, IsRolledBack, IsUn
 use Rattle.sqlite.specs.declared.error.Error.{Error}
 use Rattle.sqlite.specs.declared.statement.Statement.{Statement}
 use Rattle.sqlite.specs.Held.{Held, state}
-use Rattle.record_tables.specs.Tables.{no_schema}
+use Rattle.record_tables.specs.Tables.{IsFree}
 use Rattle.record_tables.specs.Changes.{ClassEntry, Rule}
 use Rattle.record_tables.specs.Layouts.{IsLaid}
 use Rattle.record_rows.specs.Rules.{rules_of, classes_of}
@@ -22,7 +22,7 @@ pub stands_laid : {S : Type 0} (g : Ghosts S) (old : Held S) (new : Store S) (ru
     (classes : List ClassEntry) → IsPlan first_plan → rules ≡ rules_of first_plan → classes ≡ classes_of first_plan
     → new.conn.in_transaction ≡ false → new.plan ≡ first_plan → new.next ≡ 1 → ((n : ℕ) → count_at new.held n ≡ 0)
     → ((m : ℕ) → count_at new.others m ≡ 0)
-    → (state g old).now.schema ≡ no_schema
+    → IsFree (state g old).now.schema
     → (HasCleanDisk (state g new.conn) → IsLaid rules classes (state g old).now (state g new.conn).now)
     → StandsFor g new empty_archive
 stands_laid g old new rules classes is same_rules same_classes idle plan next held others empty laid = record {

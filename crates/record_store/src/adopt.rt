@@ -3,7 +3,7 @@
 ghost use Rattle.std.specs.Prelude.{◌≡◌, false, IfOk, IfErr};
 ghost use Rattle.sqlite.specs.State.{HasCleanDisk};
 ghost use Rattle.sqlite.specs.Held.{state};
-ghost use Rattle.record_tables.specs.Tables.{no_schema, HasCommonTables, IsArchiveSchema};
+ghost use Rattle.record_tables.specs.Tables.{IsFree, HasCommonTables, IsArchiveSchema};
 ghost use Rattle.record_tables.specs.Steps.{IsUntouched};
 ghost use Rattle.record_archive.specs.declared.fault.ArchiveFault.TheVariants.{Refused};
 ghost use Rattle.record_archive.specs.declared.fault.ArchiveRefusal.TheVariants.{NoArchive};
@@ -121,7 +121,7 @@ impl<S: Alter> Store<S> {
     ) -> Result<Store<S>, (StoreFault, Connection<S>)>
         requires { conn.in_transaction ≡ false }
         ensures empty { IfOk result (λ s. HasCleanDisk (state S.Store s.conn) →
-            (state S.Store conn).now.schema ≡ no_schema → StandsFor S.Store s empty_archive) }
+            IsFree (state S.Store conn).now.schema → StandsFor S.Store s empty_archive) }
         ensures found { IfOk result (λ s. TakesOver S.Store conn s FindsRows IsKeyed) }
         ensures reopened { IfOk result (λ s. TakesOver S.Store conn s StoresArchive IsArchive) }
         ensures sound { IfOk result (λ s. HasCleanDisk (state S.Store s.conn)

@@ -3,7 +3,7 @@
 ghost use Rattle.std.specs.Prelude.{◌≡◌, false, true, Some, IfOk, IfErr};
 ghost use Rattle.sqlite.specs.State.{HasCleanDisk};
 ghost use Rattle.sqlite.specs.Held.{state};
-ghost use Rattle.record_tables.specs.Tables.{no_schema};
+ghost use Rattle.record_tables.specs.Tables.{IsFree};
 ghost use Rattle.record_tables.specs.CodeRows.{record_of};
 ghost use Rattle.record_archive.specs.Archive as archive;
 ghost use Rattle.record_archive.specs.Archive.{Archive, empty_archive};
@@ -36,7 +36,8 @@ pub struct Store<S: Alter> {
 }
 
 impl<S: Alter> Store<S> {
-    /// Creates the tables in a database that has none: an archive with the plan of `Plan::new` and no record.
+    /// Creates the tables in a database that has none of their names: an archive with the plan of `Plan::new` and no
+    /// record. Tables of other names are left as they are.
     ///
     /// A refusal, 89 (`sqlite`) or 99 (no memory), returns the connection and leaves the database as it was.
     pub fn create(
@@ -45,7 +46,7 @@ impl<S: Alter> Store<S> {
     ) -> Result<Store<S>, (StoreFault, Connection<S>)>
         requires { conn.in_transaction ≡ false }
         ensures ok { IfOk result (λ s. HasCleanDisk (state S.Store s.conn) →
-            (state S.Store conn).now.schema ≡ no_schema → StandsFor S.Store s empty_archive) }
+            IsFree (state S.Store conn).now.schema → StandsFor S.Store s empty_archive) }
         ensures trouble { IfErr result (λ e. is_trouble e.0 ≡ true) }
         ensures cause { IfErr result (λ e. is_own e.0 ≡ false) }
         ensures unchanged { IfErr result (λ e. IsUntouched S.Store conn e.1) }

@@ -1,124 +1,195 @@
 -- What is left after a DROP of the table of due days.
-use Rattle.std.proofs.Common.{◌≡◌, ◌⊎◌, inl, inr, ℕ, List, [], ◌∷◌, None, Ok, IsTrue, true, false, refl, sym, ap, subst, ◌∙◌, codes}
+use Rattle.std.proofs.Common.{◌≡◌, inl, inr, ℕ, List, [], ◌∷◌, None, Ok, IsTrue, Bool, true, false, is_some, ◌&&◌, MatchBool}
+use Rattle.std.proofs.Common.{refl, sym, ap, subst, ◌∙◌, codes}
+use Rattle.std.specs.List.{AllByRecursion, list_any}
+use Rattle.sqlite.specs.Table.{Table}
 use Rattle.sqlite.specs.Tree.{Trees}
-use Rattle.sqlite.specs.Command.TheVariants.{DropTable}
+use Rattle.sqlite_schema.specs.declared.command.Command.TheVariants.{DropTable}
+use Rattle.sqlite_schema.specs.declared.schema.Keys.{Keys}
+use Rattle.sqlite_schema.specs.Names.{same_name}
+use Rattle.sqlite_rules.specs.Action.{deed_for}
 use Rattle.sqlite_catalog.specs.Change.{KeepsRows, without_table}
-use Rattle.sqlite.specs.Does.{Tally, Does}
-use Rattle.sqlite.specs.Effect.{Database}
-use Rattle.sqlite.specs.Listing.{understood}
-use Rattle.sqlite.specs.State.{State, ExecutesInside, mode_of}
-use Rattle.sqlite.proofs.Callers.{runs_as, statement_of}
+use Rattle.sqlite.specs.Does.{Tally, is_acted_on}
+use Rattle.sqlite.specs.Effect.{Database, IsDatabase}
+use Rattle.sqlite.specs.State.{State, Writes, ExecutesInside, mode_of}
+use Rattle.sqlite.specs.Schema.{Schema}
+use Rattle.sqlite_catalog.proofs.StepLemmas.{same_itself}
 use Rattle.sqlite_tied.specs.Compute.{everything}
-use Rattle.record_tables.specs.Tables.{first_schema, first_schema_with_dues, archive_schema, schedule_table, due_table}
-use Rattle.record_tables.specs.Rows.{Tables, Stores, StoresFirst, StoresKeyed}
+use Rattle.record_tables.specs.Tables.{in_tree, Stands, IsApart, schedule_table, due_table}
+use Rattle.record_tables.specs.Rows.{Tables, Stores, StoresFirst, StoresCommon, StoresKeyed}
 use Rattle.record_tables.specs.Changes.{Puts, Always, without_dues}
-use Rattle.record_tables.specs.Shapes.{schema_6}
-use Rattle.record_tables.specs.Layouts.{Drops, Lays, Empties, TellsDues, TellsAlone}
-use Rattle.record_tables.proofs.LayLemmas.{laid_beside}
-use Rattle.record_tables.proofs.Compiling.{Means}
-use Rattle.record_tables.proofs.Standing.{to_stores, from_stores}
+use Rattle.record_tables.specs.Layouts.{Drops, Lays, HasDues, Empties, TellsDues, TellsAlone}
+use Rattle.record_tables.proofs.Beside.{rests_without, apart_without}
+use Rattle.record_tables.proofs.Definitions.{drop_dues, drops_due_table}
+use Rattle.record_tables.proofs.LayLemmas.{compiled_in, ran_as, laid_beside}
 use Rattle.record_tables.proofs.WriteLemmas.{went, same_value}
 
-abbrev pub drop_dues : List ℕ
-drop_dues = codes "DROP TABLE due_day"
+-- without a foreign key nothing acts on the rows that go
+none_among : (keys : Keys) (table : Table) (ts : List Table) → AllByRecursion (λ (t : Table). t.references ≡ []) ts
+    → list_any (λ (t : Table). list_any (λ ref. same_name table.name ref.parent && is_some (deed_for keys true ref)) t.references) ts ≡ false
+none_among keys table [] apart = refl
+none_among keys table (t ∷ ts) apart = rw apart.0 (none_among keys table ts apart.1)
 
-pub drop_dues_is : Means first_schema_with_dues drop_dues (DropTable 5)
-unfolding understood everything
-drop_dues_is = record { is = refl; plain = (refl, refl); unlisted = refl }
+none_acts : (schema : Schema) (keys : Keys) (table : Table) → IsApart schema → is_acted_on schema keys table ≡ false
+none_acts schema keys table apart = none_among keys table schema.tables apart
 
-pub drop_last_is : Means archive_schema drop_dues (DropTable 6)
-unfolding understood everything
-drop_last_is = record { is = refl; plain = (refl, refl); unlisted = refl }
+if_not : (b : Bool) (P Q : Type 0) → b ≡ false → MatchBool b P Q → Q
+if_not true P Q none h = absurd cc
+if_not false P Q none h = h
 
--- without the due days, the schema is that from before their creation, so they may be created again in their place
-pub left_is : without_table first_schema_with_dues 8 ≡ first_schema
-unfolding everything
-left_is = refl
+-- what is left of a database that had due days
+record Left (old new : State) (on : Stands old.now.schema due_table) : Type 0 where
+  schema : new.now.schema ≡ without_table old.now.schema on.tree
+  rows : KeepsRows new.now.schema.tables old.now.trees new.now.trees
+  sound : IsDatabase new.now
 
-pub left_last_is : without_table archive_schema 10 ≡ schema_6
-unfolding everything
-left_last_is = refl
-
-dropped_first : (old new : State) (count : ℕ) → ExecutesInside 0 drop_dues [] old new (Ok count) → old.now.schema ≡ first_schema_with_dues
-    → (new.now.schema ≡ first_schema) × KeepsRows first_schema.tables old.now.trees new.now.trees
-dropped_first old new count h has =
-    let w = runs_as drop_dues [] old new first_schema_with_dues has (DropTable 5) drop_dues_is.is drop_dues_is.plain count h.0 in
-    let whole = subst (λ s.
-    Does old.step_limit (mode_of old) [] (record old.now { schema = s })
-    (statement_of drop_dues (understood first_schema_with_dues drop_dues)) None (DropTable 5) (Ok (
-      w.tally,
-      new.now,
-    ))) has w.changed in
-    let emptied = went whole in
+left_by : (old new : State) (count : ℕ) → ExecutesInside 0 drop_dues [] old new (Ok count) → (has : HasDues old.now.schema) → Left old new has.0
+left_by old new count h has =
+    let on = has.0 in
+    let c = compiled_in drop_dues old new count h.0 in
+    let k = drops_due_table old.now.schema on c.0 c.1 in
+    let w : Writes old new None (DropTable on.place) drop_dues [] count =
+    ran_as drop_dues old new count c.0 (DropTable on.place) c.1 k.0 k.1 h.0 in
+    let emptied = went (rw on.listed at w.changed) in
+    let acts : is_acted_on old.now.schema (mode_of old).keys (in_tree on.tree due_table) ≡ false =
+    none_acts old.now.schema (mode_of old).keys (in_tree on.tree due_table) has.1 in
+    let still : emptied.0 ≡ old.now.trees =
+    same_value (if_not (is_acted_on old.now.schema (mode_of old).keys (in_tree on.tree due_table)) _ _ acts emptied.1) in
     let uncounted = went emptied.2 in
     let tested = went uncounted.2 in
     let left = went tested.2 in
-    let first : emptied.0 ≡ old.now.trees = same_value emptied.1 in
-    let second : uncounted.0 ≡ emptied.0 = same_value uncounted.1 in
-    let now : new.now ≡ left.0 = ap (λ (p : Tally × Database). p.1) (same_value left.2) in (
-      ap (λ (d : Database). d.schema) now ∙ left.1.0 ∙ left_is,
-      subst (λ (d : Database). KeepsRows first_schema.tables old.now.trees d.trees) (sym now) (subst (λ (t : Trees).
-          KeepsRows first_schema.tables t left.0.trees) (second ∙ first) left.1.1),
-    )
-
-dropped_last : (old new : State) (count : ℕ) → ExecutesInside 0 drop_dues [] old new (Ok count) → old.now.schema ≡ archive_schema
-    → (new.now.schema ≡ schema_6) × KeepsRows schema_6.tables old.now.trees new.now.trees
-dropped_last old new count h has =
-    let w = runs_as drop_dues [] old new archive_schema has (DropTable 6) drop_last_is.is drop_last_is.plain count h.0 in
-    let whole = subst (λ s.
-    Does old.step_limit (mode_of old) [] (record old.now { schema = s })
-    (statement_of drop_dues (understood archive_schema drop_dues)) None (DropTable 6) (Ok (w.tally, new.now))) has
-    w.changed in
-    let emptied = went whole in
-    let uncounted = went emptied.2 in
-    let tested = went uncounted.2 in
-    let left = went tested.2 in
-    let first : emptied.0 ≡ old.now.trees = same_value emptied.1 in
-    let second : uncounted.0 ≡ emptied.0 = same_value uncounted.1 in
-    let now : new.now ≡ left.0 = ap (λ (p : Tally × Database). p.1) (same_value left.2) in (
-      ap (λ (d : Database). d.schema) now ∙ left.1.0 ∙ left_last_is,
-      subst (λ (d : Database). KeepsRows schema_6.tables old.now.trees d.trees) (sym now) (subst (λ (t : Trees).
-          KeepsRows schema_6.tables t left.0.trees) (second ∙ first) left.1.1),
-    )
+    let same : uncounted.0 ≡ emptied.0 = same_value uncounted.1 in
+    let now : new.now ≡ left.0 = ap (λ (p : Tally × Database). p.1) (same_value left.2) in
+    let is : new.now.schema ≡ without_table old.now.schema on.tree = ap (λ (d : Database). d.schema) now ∙ left.1.0 in
+    record {
+      schema = is;
+      rows = subst (λ (s : Schema). KeepsRows s.tables old.now.trees new.now.trees) (sym is)
+          (subst (λ (d : Database). KeepsRows (without_table old.now.schema on.tree).tables old.now.trees d.trees) (sym now)
+          (subst (λ (t : Trees). KeepsRows (without_table old.now.schema on.tree).tables t left.0.trees) (same ∙ still) left.1.1));
+      sound = w.sound;
+    }
 
 pub drops_dues : (old new : State) (count : ℕ) → IsTrue old.in_transaction
-    → ExecutesInside 0 drop_dues [] old new (Ok count) → Drops old new first_schema_with_dues first_schema
+    → ExecutesInside 0 drop_dues [] old new (Ok count) → Drops old new
 drops_dues old new count inside h = record {
-  schema = λ has. (dropped_first old new count h has).0;
-  kept = λ has. (dropped_first old new count h has).1;
-  sound = λ has. (runs_as drop_dues [] old new first_schema_with_dues has (DropTable 5) drop_dues_is.is drop_dues_is.plain count h.0).sound;
+  gone = λ has. (left_by old new count h has).schema;
+  others = λ has t names was.
+      let left = left_by old new count h has in
+      rests_without old.now new.now due_table has.0 left.schema left.rows t was names;
+  apart = λ has. apart_without old.now.schema new.now.schema has.0.tree (left_by old new count h has).schema has.1;
+  sound = λ has. (left_by old new count h has).sound;
   committed = h.1.committed_is;
   mode = h.1.mode ∙ sym inside;
   is_open = h.1.is_open ∙ sym h.1.was_open;
 }
 
-pub drops_last : (old new : State) (count : ℕ) → IsTrue old.in_transaction
-    → ExecutesInside 0 drop_dues [] old new (Ok count) → Drops old new archive_schema schema_6
-drops_last old new count inside h = record {
-  schema = λ has. (dropped_last old new count h has).0;
-  kept = λ has. (dropped_last old new count h has).1;
-  sound = λ has. (runs_as drop_dues [] old new archive_schema has (DropTable 6) drop_last_is.is drop_last_is.plain count h.0).sound;
-  committed = h.1.committed_is;
-  mode = h.1.mode ∙ sym inside;
-  is_open = h.1.is_open ∙ sym h.1.was_open;
+names_differ : (a b : List ℕ) → same_name a b ≡ false → a ≡ b → ⊥
+names_differ a b differ e =
+    let same : same_name a b ≡ true = subst (λ n. same_name a n ≡ true) e (same_itself a) in
+    let clash : true ≡ false = sym same ∙ differ in
+    absurd cc
+
+not_message : codes "message" ≡ codes "due_day" → ⊥
+unfolding everything
+not_message = names_differ (codes "message") (codes "due_day") refl
+
+not_record : codes "record" ≡ codes "due_day" → ⊥
+unfolding everything
+not_record = names_differ (codes "record") (codes "due_day") refl
+
+not_hold : codes "hold" ≡ codes "due_day" → ⊥
+unfolding everything
+not_hold = names_differ (codes "hold") (codes "due_day") refl
+
+not_meta : codes "meta" ≡ codes "due_day" → ⊥
+unfolding everything
+not_meta = names_differ (codes "meta") (codes "due_day") refl
+
+not_class : codes "class" ≡ codes "due_day" → ⊥
+unfolding everything
+not_class = names_differ (codes "class") (codes "due_day") refl
+
+not_schedule : codes "schedule" ≡ codes "due_day" → ⊥
+unfolding everything
+not_schedule = names_differ (codes "schedule") (codes "due_day") refl
+
+-- the five tables of both versions stay
+dropped_common : (old new : State) (t : Tables) → Drops old new → HasDues old.now.schema → StoresCommon old.now t → StoresCommon new.now t
+dropped_common old new t d has s =
+    let messages = d.others has _ not_message s.schema.messages in
+    let records = d.others has _ not_record s.schema.records in
+    let holds = d.others has _ not_hold s.schema.holds in
+    let settings = d.others has _ not_meta s.schema.settings in
+    let classes = d.others has _ not_class s.schema.classes in
+    record {
+      schema = record {
+        messages = messages.stands;
+        records = records.stands;
+        holds = holds.stands;
+        settings = settings.stands;
+        classes = classes.stands;
+      };
+      messages = messages.rows ∙ s.messages;
+      records = records.rows ∙ s.records;
+      holds = holds.rows ∙ s.holds;
+      settings = settings.rows ∙ s.settings;
+      classes = classes.rows ∙ s.classes;
+    }
+
+pub common_of : (db : Database) (t : Tables) → Stores db t → StoresCommon db t
+common_of db t s = record {
+  schema = s.schema.common;
+  messages = s.messages;
+  records = s.records;
+  holds = s.holds;
+  settings = s.settings;
+  classes = s.classes;
+}
+
+pub first_common_of : (db : Database) (t : Tables) → StoresFirst db t → StoresCommon db t
+first_common_of db t s = record {
+  schema = s.schema.common;
+  messages = s.messages;
+  records = s.records;
+  holds = s.holds;
+  settings = s.settings;
+  classes = s.classes;
 }
 
 -- the table of due days is created again, empty, beside the rows of the others
-pub emptied : (old mid new : State) → Drops old mid archive_schema schema_6 → Lays mid new schema_6 (due_table ∷ []) archive_schema → Empties old new
+pub emptied : (old mid new : State) → Drops old mid → Lays mid new (due_table ∷ []) → Empties old new
 emptied old mid new d l = record {
-  stored = λ t s keyed has.
-      let k = d.kept has in
-      let m = l.kept (d.schema has) in
-      let r = from_stores old.now t has s in (
-        to_stores new.now (without_dues t) (l.schema (d.schema has)) (record {
-          messages = m.0 ∙ k.0 ∙ r.messages;
-          records = m.1.0 ∙ k.1.0 ∙ r.records;
-          holds = m.1.1.0 ∙ k.1.1.0 ∙ r.holds;
-          settings = m.1.1.1.0 ∙ k.1.1.1.0 ∙ r.settings;
-          classes = m.1.1.1.1.0 ∙ k.1.1.1.1.0 ∙ r.classes;
-          schedules = m.1.1.1.1.1.0 ∙ k.1.1.1.1.1.0 ∙ r.schedules;
-          dues = (l.empty (d.schema has)).0;
-        }),
+  stored = λ t s keyed alone.
+      let has : HasDues old.now.schema = (s.schema.dues, s.schema.apart) in
+      let k = dropped_common old mid t d has (common_of old.now t s) in
+      let schedules = d.others has _ not_schedule s.schema.schedules in
+      let last = l.others _ schedules.stands in
+      let messages = l.others _ k.schema.messages in
+      let records = l.others _ k.schema.records in
+      let holds = l.others _ k.schema.holds in
+      let settings = l.others _ k.schema.settings in
+      let classes = l.others _ k.schema.classes in (
+        record {
+          schema = record {
+            common = record {
+              messages = messages.stands;
+              records = records.stands;
+              holds = holds.stands;
+              settings = settings.stands;
+              classes = classes.stands;
+            };
+            schedules = last.stands;
+            dues = l.made.0.stands;
+            apart = l.apart (d.apart has);
+          };
+          messages = messages.rows ∙ k.messages;
+          records = records.rows ∙ k.records;
+          holds = holds.rows ∙ k.holds;
+          settings = settings.rows ∙ k.settings;
+          classes = classes.rows ∙ k.classes;
+          schedules = last.rows ∙ schedules.rows ∙ s.schedules;
+          dues = l.made.0.empty;
+        },
         record {
           messages = keyed.messages;
           records = keyed.records;
@@ -129,7 +200,7 @@ emptied old mid new d l = record {
           dues = tt;
         },
       );
-  sound = λ t s keyed has. l.sound (d.schema has);
+  sound = λ t s keyed alone. l.sound;
   committed = l.committed ∙ d.committed;
   mode = l.mode ∙ d.mode;
   is_open = l.is_open ∙ d.is_open;
@@ -151,35 +222,17 @@ renewed old mid new change same tells e p = record {
   is_open = p.is_open ∙ e.is_open;
 }
 
--- the rows of version 1 stay where its due days are dropped and the later tables created
-pub widened : (old mid new : State) (t : Tables) → Drops old mid first_schema_with_dues first_schema
-    → Lays mid new first_schema (schedule_table ∷ due_table ∷ []) archive_schema
-    → old.now.schema ≡ first_schema_with_dues → StoresFirst old.now t → Stores new.now t
-widened old mid new t d l has s =
-    let k = d.kept has in
-    let first : StoresFirst mid.now t = record {
-      schema = inl (d.schema has);
-      messages = k.0 ∙ s.messages;
-      records = k.1.0 ∙ s.records;
-      holds = k.1.1.0 ∙ s.holds;
-      settings = k.1.1.1.0 ∙ s.settings;
-      classes = k.1.1.1.1.0 ∙ s.classes;
-      schedules = s.schedules;
-      dues = s.dues;
-    } in
-    laid_beside mid new t l (d.schema has) first
+-- the rows of version 1 stay where the later tables are created beside them
+pub widened_bare : (old new : State) (t : Tables) → Lays old new (schedule_table ∷ due_table ∷ []) → StoresFirst old.now t → Stores new.now t
+widened_bare old new t l s = laid_beside old new t l s.schema.apart (first_common_of old.now t s) s.schedules s.dues
 
--- version 1 has due days, or has none, as the flag says
-pub told_without : {P : Type 0} (db : Database) (t : Tables) → StoresFirst db t → TellsDues db.schema false → (db.schema ≡ first_schema → P) → P
-told_without {P} db t s tells go = by_schema s.schema
-  where
-    by_schema : (db.schema ≡ first_schema) ⊎ (db.schema ≡ first_schema_with_dues) → P
-    by_schema (inl h) = go h
-    by_schema (inr h) = absurd (let e = tells.with_them h in cc)
+-- the same where its due days are dropped first
+pub widened : (old mid new : State) (t : Tables) → Drops old mid → Lays mid new (schedule_table ∷ due_table ∷ [])
+    → Stands old.now.schema due_table → StoresFirst old.now t → Stores new.now t
+widened old mid new t d l on s =
+    let has : HasDues old.now.schema = (on, s.schema.apart) in
+    laid_beside mid new t l (d.apart has) (dropped_common old mid t d has (first_common_of old.now t s)) s.schedules s.dues
 
-pub told_with : {P : Type 0} (db : Database) (t : Tables) → StoresFirst db t → TellsDues db.schema true → (db.schema ≡ first_schema_with_dues → P) → P
-told_with {P} db t s tells go = by_schema s.schema
-  where
-    by_schema : (db.schema ≡ first_schema) ⊎ (db.schema ≡ first_schema_with_dues) → P
-    by_schema (inl h) = absurd (let e = tells.without h in cc)
-    by_schema (inr h) = go h
+-- version 1 has due days, as the flag says
+pub told_with : {P : Type 0} (db : Database) (t : Tables) → StoresFirst db t → TellsDues db.schema true → (Stands db.schema due_table → P) → P
+told_with {P} db t s tells go = elim s.schema.dues [ inl lacks ↦ absurd (let e = tells.without lacks in cc) | inr on ↦ go on ]

@@ -3,7 +3,6 @@ pub mod SameQueries
 pub mod Compiling
 pub mod Standing
 pub mod Texts
-pub mod Shapes
 pub mod WriteLemmas
 pub mod DeleteLemmas
 pub mod AnswerLemmas
@@ -11,6 +10,9 @@ pub mod UpdateLemmas
 pub mod Described
 pub mod Statements
 pub mod Loops
+pub mod Placed
+pub mod Beside
+pub mod Definitions
 pub mod LayLemmas
 pub mod DropLemmas
 pub mod LayoutLemmas

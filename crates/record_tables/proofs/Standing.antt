@@ -1,13 +1,12 @@
 -- The tables stand in the schemas that this crate creates, also beside others after them.
-use Rattle.std.proofs.Common.{◌≡◌, ℕ, map, Some, codes, refl, ap, sym, subst, ◌∙◌, arith, slice_get, unwrap_or, option_map}
+use Rattle.std.proofs.Common.{◌≡◌, Some, codes, inl, inr, refl, ap, sym, ◌∙◌, arith, slice_get, unwrap_or, option_map}
 use Rattle.sqlite.specs.Table.{Table}
 use Rattle.sqlite.specs.Schema.{Schema}
-use Rattle.sqlite.specs.Effect.{Database}
 use Rattle.sqlite_tied.specs.Compute.{everything}
 use Rattle.sqlite_schema.specs.Names.{table_named}
-use Rattle.record_tables.specs.Tables.{Foreign, none, HasNoReferences, common_beside, archive_beside, archive_schema, Stands}
-use Rattle.record_tables.specs.Tables.{HasCommonTables, IsArchiveSchema, in_tree, schedules_and_dues_beside}
-use Rattle.record_tables.specs.Rows.{Tables, Stores, message_row, record_row, hold_row, setting_row, class_row, schedule_row, due_row}
+use Rattle.record_tables.specs.Tables.{Foreign, none, first_dues, HasNoReferences, common_beside, archive_beside, Stands}
+use Rattle.record_tables.specs.Tables.{HasCommonTables, IsArchiveSchema, IsFirstSchema, IsFree, in_tree, schedules_and_dues_beside}
+use Rattle.record_tables.specs.Tables.{no_schema, first_schema, first_schema_with_dues}
 
 pub message_named : (f : Foreign) → table_named (common_beside f) (codes "message") ≡ Some 0
 unfolding everything
@@ -64,38 +63,28 @@ one_tree schema other t e a b =
     sym a.listed ∙ ap (slice_get schema.tables) places ∙ ap (λ (s : Schema). slice_get s.tables b.place) e ∙ b.listed in
     ap (λ o. unwrap_or (option_map (λ (x : Table). x.tree) o) 0) one
 
--- the rows in a schema that has no other tables
-pub record StoresAlone (db : Database) (t : Tables) : Type 0 where
-  pub messages : db.trees 0 ≡ map message_row t.messages
-  pub records : db.trees 1 ≡ map record_row t.records
-  pub holds : db.trees 2 ≡ map hold_row t.holds
-  pub settings : db.trees 4 ≡ map setting_row t.settings
-  pub classes : db.trees 6 ≡ map class_row t.classes
-  pub schedules : db.trees 8 ≡ map schedule_row t.schedules
-  pub dues : db.trees 10 ≡ map due_row t.dues
+-- a database without tables is free for an archive's
+pub nothing_is_free : IsFree no_schema
+nothing_is_free = record {
+  none = record { messages = refl; records = refl; holds = refl; settings = refl; classes = refl; schedules = refl; dues = refl };
+  apart = tt;
+}
 
-pub to_stores : (db : Database) (t : Tables) → db.schema ≡ archive_schema → StoresAlone db t → Stores db t
-to_stores db t e s = subst (λ schema. Stores (record { schema = schema; trees = db.trees }) t) (sym e) (record {
-  schema = archive_is none tt;
-  messages = s.messages;
-  records = s.records;
-  holds = s.holds;
-  settings = s.settings;
-  classes = s.classes;
-  schedules = s.schedules;
-  dues = s.dues;
-})
+-- the tables of version 1 as they were created
+pub first_is : IsFirstSchema first_schema
+unfolding everything
+first_is = record {
+  common = common_is none;
+  unscheduled = refl;
+  dues = inl refl;
+  apart = (refl, (refl, (refl, (refl, (refl, tt)))));
+}
 
-pub from_stores : (db : Database) (t : Tables) → db.schema ≡ archive_schema → Stores db t → StoresAlone db t
-from_stores db t e s =
-    let own = archive_is none tt in
-    let at = λ (k j : ℕ) (h : k ≡ j). ap db.trees (sym h) in
-    record {
-      messages = at _ _ (one_tree _ _ _ e s.schema.common.messages own.common.messages) ∙ s.messages;
-      records = at _ _ (one_tree _ _ _ e s.schema.common.records own.common.records) ∙ s.records;
-      holds = at _ _ (one_tree _ _ _ e s.schema.common.holds own.common.holds) ∙ s.holds;
-      settings = at _ _ (one_tree _ _ _ e s.schema.common.settings own.common.settings) ∙ s.settings;
-      classes = at _ _ (one_tree _ _ _ e s.schema.common.classes own.common.classes) ∙ s.classes;
-      schedules = at _ _ (one_tree _ _ _ e s.schema.schedules own.schedules) ∙ s.schedules;
-      dues = at _ _ (one_tree _ _ _ e s.schema.dues own.dues) ∙ s.dues;
-    }
+pub dated_is : IsFirstSchema first_schema_with_dues
+unfolding everything
+dated_is = record {
+  common = common_is first_dues;
+  unscheduled = refl;
+  dues = inr (record { place = 5; tree = 8; named = refl; listed = refl; own = refl; small = omega arith });
+  apart = (refl, (refl, (refl, (refl, (refl, (refl, tt))))));
+}

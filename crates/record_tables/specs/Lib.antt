@@ -5,6 +5,5 @@ pub mod Steps
 pub mod Reads
 pub mod CodeRows
 pub mod Layouts
-pub mod Shapes
 pub mod Layout
 pub mod Faults

@@ -1,12 +1,12 @@
 -- The rows of the tables, with types, and what a database stores.
-use Rattle.std.specs.Prelude.{◌≡◌, ◌⊎◌, map, ℕ, ℤ, pos, Bool, if◌then◌else◌, List, [], ◌∷◌, Option}
+use Rattle.std.specs.Prelude.{◌≡◌, map, ℕ, ℤ, pos, Bool, if◌then◌else◌, List, [], ◌∷◌, Option}
 use Rattle.sqlite.specs.declared.types.Value.TheVariants.{Null, Int, Text as Words, Blob as Octets}
 use Rattle.sqlite.specs.Order.{Row}
 use Rattle.sqlite_typed.specs.Columns.{or_null}
 use Rattle.sqlite_keyed.specs.Keyed.{IsKeyedBy}
 use Rattle.sqlite.specs.Effect.{Database}
 use Rattle.record_archive.specs.Archive.{Message, Record}
-use Rattle.record_tables.specs.Tables.{IsArchiveSchema, HasCommonTables, first_schema, first_schema_with_dues}
+use Rattle.record_tables.specs.Tables.{IsArchiveSchema, HasCommonTables, IsFirstSchema}
 
 pub record Hold : Type 0 where
   pub id : ℤ
@@ -117,12 +117,12 @@ pub record StoresCommon (db : Database) (t : Tables) : Type 0 where
 
 -- the rows of a database of version 1, with any due days or without the table of them
 pub record StoresFirst (db : Database) (t : Tables) : Type 0 where
-  pub schema : (db.schema ≡ first_schema) ⊎ (db.schema ≡ first_schema_with_dues)
-  pub messages : db.trees 0 ≡ map message_row t.messages
-  pub records : db.trees 1 ≡ map record_row t.records
-  pub holds : db.trees 2 ≡ map hold_row t.holds
-  pub settings : db.trees 4 ≡ map setting_row t.settings
-  pub classes : db.trees 6 ≡ map class_row t.classes
+  pub schema : IsFirstSchema db.schema
+  pub messages : db.trees schema.common.messages.tree ≡ map message_row t.messages
+  pub records : db.trees schema.common.records.tree ≡ map record_row t.records
+  pub holds : db.trees schema.common.holds.tree ≡ map hold_row t.holds
+  pub settings : db.trees schema.common.settings.tree ≡ map setting_row t.settings
+  pub classes : db.trees schema.common.classes.tree ≡ map class_row t.classes
   pub schedules : t.schedules ≡ []
   pub dues : t.dues ≡ []
 

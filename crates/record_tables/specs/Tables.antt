@@ -1,6 +1,6 @@
 -- The tables of a store, and the schemas that have them.
 use Rattle.sqlite.specs.Collation.TheVariants.{Binary}
-use Rattle.std.specs.Prelude.{◌≡◌, ◌<◌, ◌^◌, ◌==◌, ℕ, Bool, true, false, List, [], ◌∷◌, Some, None, slice_get, find, codes}
+use Rattle.std.specs.Prelude.{◌≡◌, ◌⊎◌, ◌<◌, ◌^◌, ◌==◌, ℕ, Bool, true, false, List, [], ◌∷◌, Option, Some, None, option_and_then, slice_get, find, codes}
 use Rattle.std.specs.List.{AllByRecursion}
 use Rattle.sqlite.specs.declared.types.Value.TheVariants.{Null}
 use Rattle.sqlite.specs.Table.{Table}
@@ -89,6 +89,10 @@ due_table_at tree = keyed_table (codes "due_day") tree (optional (codes "record"
 abbrev pub due_table : Table
 due_table = due_table_at 10
 
+-- the tables of version 2, in the order in which they are created
+abbrev pub archive_tables : List Table
+archive_tables = message_table ∷ record_table ∷ hold_table ∷ meta_table ∷ class_table ∷ schedule_table ∷ due_table ∷ []
+
 -- the index of a key
 abbrev pub key_index : List ℕ → ℕ → ℕ → List ℕ → Index
 key_index name tree table columns = record { name = name; tree = tree; table = table; columns = columns; order = plain; is_unique = true }
@@ -122,12 +126,45 @@ pub record HasCommonTables (schema : Schema) : Type 0 where
   pub settings : Stands schema meta_table
   pub classes : Stands schema class_table
 
+-- no table has a foreign key
+abbrev pub IsApart : Schema → Type 0
+IsApart schema = AllByRecursion (λ (t : Table). t.references ≡ []) schema.tables
+
 -- the tables of version 2, and no table with a foreign key
 pub record IsArchiveSchema (schema : Schema) : Type 0 where
   pub common : HasCommonTables schema
   pub schedules : Stands schema schedule_table
   pub dues : Stands schema due_table
-  pub apart : AllByRecursion (λ (t : Table). t.references ≡ []) schema.tables
+  pub apart : IsApart schema
+
+-- the table of a name, in any case of ASCII letters
+abbrev pub table_of : Schema → List ℕ → Option Table
+table_of schema name = option_and_then (slice_get schema.tables) (table_named schema name)
+
+abbrev pub Lacks : Schema → List ℕ → Type 0
+Lacks schema name = table_of schema name ≡ None
+
+-- the tables of version 1, with that of due days or without it, and no table with a foreign key
+pub record IsFirstSchema (schema : Schema) : Type 0 where
+  pub common : HasCommonTables schema
+  pub unscheduled : Lacks schema (codes "schedule")
+  pub dues : Lacks schema (codes "due_day") ⊎ Stands schema due_table
+  pub apart : IsApart schema
+
+-- no table has one of the archive's names
+pub record HasNone (schema : Schema) : Type 0 where
+  pub messages : Lacks schema (codes "message")
+  pub records : Lacks schema (codes "record")
+  pub holds : Lacks schema (codes "hold")
+  pub settings : Lacks schema (codes "meta")
+  pub classes : Lacks schema (codes "class")
+  pub schedules : Lacks schema (codes "schedule")
+  pub dues : Lacks schema (codes "due_day")
+
+-- no table has one of the archive's names, and none has a foreign key
+pub record IsFree (schema : Schema) : Type 0 where
+  pub none : HasNone schema
+  pub apart : IsApart schema
 
 -- ---- the schemas that this crate creates
 

@@ -1,7 +1,7 @@
 //! Whether a database of version 2 has no tables but its own.
 
 ghost use Rattle.std.specs.Prelude.{◌≡◌, ◌↔◌, ◌∷◌, [], IsTrue};
-ghost use Rattle.record_tables.specs.Tables.{Foreign, HasNoReferences, IsArchiveSchema, key_index, due_index, archive_beside, archive_schema};
+ghost use Rattle.record_tables.specs.Tables.{Foreign, HasNoReferences, IsArchiveSchema, IsFirstSchema, IsFree, key_index, due_index, archive_beside, archive_schema, no_schema, first_schema, first_schema_with_dues};
 
 use crate::layout::{
     is_class_table, is_due_table, is_hold_table, is_key, is_message_table, is_meta_table,
@@ -87,4 +87,15 @@ pub fn is_alone(schema: &Schema) -> bool
 /// Where the tables of version 2 come first and none of the others has a foreign key, they are an archive's.
 pub fn first_tables_are_an_archive()
     ensures { (f : Foreign) → HasNoReferences f → IsArchiveSchema (archive_beside f) }
+{}
+
+/// A database without tables is free for an archive's.
+pub fn no_tables_are_free()
+    ensures { IsFree no_schema }
+{}
+
+/// The tables of version 1 as they were created are version 1's, with due days and without.
+pub fn created_tables_are_version_1()
+    ensures without_dues { IsFirstSchema first_schema }
+    ensures with_dues { IsFirstSchema first_schema_with_dues }
 {}

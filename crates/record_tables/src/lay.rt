@@ -1,10 +1,9 @@
-//! Creating the tables: in a database that has none, and beside those of version 1.
+//! Creating the tables: in a database that has none of their names, and beside those of version 1.
 
 ghost use Rattle.std.specs.Prelude.{◌≡◌, ◌∷◌, [], OnOk, false, map};
 ghost use Rattle.sqlite.specs.Held.{state};
-ghost use Rattle.record_tables.specs.Tables.{no_schema, first_schema, first_schema_with_dues, archive_schema, schedule_table, due_table};
-ghost use Rattle.record_tables.specs.Shapes.{schema_6, archive_tables};
-ghost use Rattle.record_tables.specs.Layouts.{LaysIn, GoesOnIn, Empties, TellsDues, IsLaid, IsWidened, LaysTable, LaysIndex, DropsIn};
+ghost use Rattle.record_tables.specs.Tables.{archive_tables, schedule_table, due_table, due_index};
+ghost use Rattle.record_tables.specs.Layouts.{LaysIn, GoesOnIn, Empties, TellsDues, IsLaid, IsWidened, LaysTable, LaysIndex, DropsIn, IsIndexed};
 ghost use Rattle.record_tables.specs.Steps.{Inside, PutsIn, KeepsIn, CommitsNothing, CommitsWhole, Makes, IsCommitted, IsUndone, WasOpen, MakesIn};
 ghost use Rattle.record_tables.specs.Changes.{Always, AreAscending, with_version};
 ghost use Rattle.record_tables.specs.CodeRows.{due_of, class_entry_of, rule_of, with_plan_rows, IsMovedTo};
@@ -41,8 +40,9 @@ fn define_index<S: Alter>(tx: &mut Transaction<'_, S>, text: &str) -> Result<(),
 /// Creates the table of due days and its index.
 fn lay_dues<S: Alter>(tx: &mut Transaction<'_, S>) -> Result<(), Error>
     ensures same_reference { tx.new.conn.ghost_name ≡ tx.old.conn.ghost_name }
-    ensures ok { OnOk result
-        (LaysIn S.Store tx.old.conn.now tx.new.conn.now schema_6 (due_table ∷ []) archive_schema) }
+    ensures ok { OnOk result (LaysIn S.Store tx.old.conn.now tx.new.conn.now (due_table ∷ [])) }
+    ensures index { OnOk result (Inside S.Store tx.old.conn.now tx.new.conn.now
+        (IsIndexed (state S.Store tx.new.conn.now).now.schema due_table due_index)) }
     ensures err { KeepsIn S.Store tx.old.conn.now tx.new.conn.now result }
     ensures survives { CommitsNothing S.Store tx.old.conn.now tx.new.conn.now }
 {
@@ -57,8 +57,8 @@ fn lay_dues<S: Alter>(tx: &mut Transaction<'_, S>) -> Result<(), Error>
 /// Creates the tables that version 1 lacks, or has in another place.
 fn lay_later<S: Alter>(tx: &mut Transaction<'_, S>) -> Result<(), Error>
     ensures same_reference { tx.new.conn.ghost_name ≡ tx.old.conn.ghost_name }
-    ensures ok { OnOk result (LaysIn S.Store tx.old.conn.now tx.new.conn.now first_schema
-        (schedule_table ∷ due_table ∷ []) archive_schema) }
+    ensures ok { OnOk result
+        (LaysIn S.Store tx.old.conn.now tx.new.conn.now (schedule_table ∷ due_table ∷ [])) }
     ensures err { KeepsIn S.Store tx.old.conn.now tx.new.conn.now result }
     ensures survives { CommitsNothing S.Store tx.old.conn.now tx.new.conn.now }
 {
@@ -70,11 +70,10 @@ fn lay_later<S: Alter>(tx: &mut Transaction<'_, S>) -> Result<(), Error>
     Ok(())
 }
 
-/// Creates all tables in a database that has none.
+/// Creates all tables in a database that has none of their names.
 fn lay_tables<S: Alter>(tx: &mut Transaction<'_, S>) -> Result<(), Error>
     ensures same_reference { tx.new.conn.ghost_name ≡ tx.old.conn.ghost_name }
-    ensures ok { OnOk result
-        (LaysIn S.Store tx.old.conn.now tx.new.conn.now no_schema archive_tables archive_schema) }
+    ensures ok { OnOk result (LaysIn S.Store tx.old.conn.now tx.new.conn.now archive_tables) }
     ensures err { KeepsIn S.Store tx.old.conn.now tx.new.conn.now result }
     ensures survives { CommitsNothing S.Store tx.old.conn.now tx.new.conn.now }
 {
@@ -122,7 +121,7 @@ fn fill<S: Alter>(
     Ok(())
 }
 
-/// The tables of version 2, created with a plan in a database that has none.
+/// The tables of version 2, created with a plan in a database that has none of their names.
 #[derive(Drop)]
 struct Laying<'a> {
     schedules: &'a [ScheduleRow],
@@ -141,7 +140,8 @@ impl Change for Laying<'_> {
     }
 }
 
-/// Creates the tables of version 2, with a plan, in a database that has none: all or nothing, even in a crash.
+/// Creates the tables of version 2, with a plan, in a database that has none of their names: all or nothing, even in a
+/// crash. Tables of other names may be there, wherever they stand.
 ///
 /// Refused with the error of `sqlite` alone. The connection has no open transaction, before and after.
 pub fn lay<S: Alter>(
@@ -165,10 +165,7 @@ pub fn lay<S: Alter>(
 
 fn drop_dues<S: Alter>(tx: &mut Transaction<'_, S>) -> Result<(), Error>
     ensures same_reference { tx.new.conn.ghost_name ≡ tx.old.conn.ghost_name }
-    ensures first { OnOk result
-        (DropsIn S.Store tx.old.conn.now tx.new.conn.now first_schema_with_dues first_schema) }
-    ensures second { OnOk result
-        (DropsIn S.Store tx.old.conn.now tx.new.conn.now archive_schema schema_6) }
+    ensures ok { OnOk result (DropsIn S.Store tx.old.conn.now tx.new.conn.now) }
     ensures err { KeepsIn S.Store tx.old.conn.now tx.new.conn.now result }
     ensures survives { CommitsNothing S.Store tx.old.conn.now tx.new.conn.now }
 {
@@ -232,7 +229,8 @@ impl Change for Moving<'_> {
 }
 
 /// Moves a database of version 1 over to version 2, with these rows of its plan and these due days: all or nothing,
-/// even in a crash. The due days come in the order of their records.
+/// even in a crash. The due days come in the order of their records. Tables of other names may be there, wherever they
+/// stand.
 ///
 /// Refused with the error of `sqlite` alone. The connection has no open transaction, before and after.
 pub fn move_first<S: Alter>(

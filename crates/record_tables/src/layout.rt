@@ -1,9 +1,9 @@
 //! Which version's tables a database has.
 
-ghost use Rattle.std.specs.Prelude.{◌≡◌, ◌↔◌, IsTrue, [], ◌∷◌, Some, None, option_map, drop};
-ghost use Rattle.record_tables.specs.Tables.{strict_column, keyed_table, uniquely_keyed_table, message_table, record_table, hold_table, meta_table, class_table, schedule_table, due_table, no_schema, first_schema, first_schema_with_dues, IsArchiveSchema};
+ghost use Rattle.std.specs.Prelude.{◌≡◌, ◌↔◌, IsTrue, [], ◌∷◌, Some, None, option_map, drop, codes};
+ghost use Rattle.record_tables.specs.Tables.{strict_column, keyed_table, uniquely_keyed_table, message_table, record_table, hold_table, meta_table, class_table, schedule_table, due_table, Stands, Lacks, HasNone, IsFirstSchema, IsArchiveSchema, table_of};
 ghost use Rattle.record_tables.specs.Layouts.{TellsDues};
-ghost use Rattle.record_tables.specs.Layout.{IsTable, HasTable, Lacks, HasNone, HasCommon, IsLayout, table_of};
+ghost use Rattle.record_tables.specs.Layout.{IsTable, HasTable, HasCommon, IsLayout};
 
 use sqlite_items::Items;
 use sqlite_schema::code::Terms;
@@ -390,9 +390,11 @@ fn layout_in(schema: &Schema) -> Layout
 /// keys.
 pub fn layout_of(schema: &Schema) -> Layout
     ensures is { IsLayout schema.now result }
-    ensures empty { schema.now ≡ no_schema → result ≡ Layout.Empty }
-    ensures first { schema.now ≡ first_schema → result ≡ Layout.First }
-    ensures first_with_dues { schema.now ≡ first_schema_with_dues → result ≡ Layout.FirstWithDues }
+    ensures empty { HasNone schema.now → result ≡ Layout.Empty }
+    ensures first { IsFirstSchema schema.now → Lacks schema.now (codes "due_day")
+        → result ≡ Layout.First }
+    ensures first_with_dues { IsFirstSchema schema.now → Stands schema.now due_table
+        → result ≡ Layout.FirstWithDues }
     ensures second { IsArchiveSchema schema.now → result ≡ Layout.Second }
 {
     let layout = layout_in(schema);

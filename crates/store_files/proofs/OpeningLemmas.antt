@@ -20,6 +20,8 @@ use Rattle.sqlite.specs.Files.{file_state, IsOpened, IsNothing}
 use Rattle.sqlite.specs.Start.{FindsIn}
 use Rattle.sqlite.proofs.ListingLemmas.{empty_is_sound}
 use Rattle.record_archive.specs.Archive.{Archive}
+use Rattle.record_tables.specs.Tables.{IsFree}
+use Rattle.record_tables.proofs.Standing.{nothing_is_free}
 use Rattle.record_adoption.specs.Adoption.{Finds}
 use Rattle.store_files.specs.Files.{FindsAt, KeepsAt}
 use Rattle.store_files.proofs.BlankLemmas.{not_blank}
@@ -54,7 +56,7 @@ finds_opened conn image a opened found (inr none) =
       | inl read ↦ absurd (∥∥₁_elim read.4 (λ x y. absurd x) (λ ours. holds_something image read.0 read.1 read.2 read.3 ours none.0))
       | inr empty ↦
           let plain = sound_once _ _ _ live.1 (empty_is_sound _ empty.1.1) in
-          inr (ap (λ (db : Database). db.schema) opened.0.clean ∙ plain, none.1)
+          inr (subst IsFree (sym (ap (λ (db : Database). db.schema) opened.0.clean ∙ plain)) nothing_is_free, none.1)
     ]
 
 pub finds_kept : (image : Image) (a : Archive) → KeepsAt a image → FindsAt image a

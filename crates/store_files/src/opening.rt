@@ -7,7 +7,7 @@ ghost use Rattle.sqlite.specs.WalReads.{AreClean};
 ghost use Rattle.sqlite.specs.WalFiles.{image_at, outcomes};
 ghost use Rattle.sqlite.specs.Recovery.{Image};
 ghost use Rattle.sqlite.specs.Files.{file_state, over_files};
-ghost use Rattle.record_tables.specs.Tables.{no_schema};
+ghost use Rattle.record_tables.specs.Tables.{IsFree};
 ghost use Rattle.record_archive.specs.Archive.{Archive, empty_archive};
 ghost use Rattle.record_adoption.specs.Adoption.{Finds};
 ghost use Rattle.record_store.specs.Stores.{StandsFor};
@@ -83,7 +83,7 @@ pub fn lay_archive<S: Alter>(
 ) -> Result<Store<S>, (NoStore, Connection<S>)>
     requires { conn.in_transaction ≡ false }
     ensures { IfOk result (λ s. HasCleanDisk (state S.Store s.conn)
-        → (state S.Store conn).now.schema ≡ no_schema
+        → IsFree (state S.Store conn).now.schema
         → StandsFor S.Store s (record empty_archive { plan = plan })) }
 {
     let mut store = match Store::create(alloc, conn) {

@@ -1,15 +1,14 @@
-use Rattle.std.proofs.Common.{ℕ, ◌∙◌, sym}
+use Rattle.std.proofs.Common.{◌∙◌, sym}
 use Rattle.sqlite.specs.Held.{state}
-use Rattle.sqlite.specs.Schema.{Schema}
 use Rattle.sqlite.specs.Table.{Table}
 use Rattle.sqlite_schema.specs.declared.schema.Index.{Index}
 use Rattle.record_tables.proofs.LayLemmas.{lays_index}
 use Rattle.record_tables.proofs.lay.define_index.Goals as goal
 
 pub returns-clause-ok : goal.returns-clause-ok
-returns-clause-ok g c = λ (schema : Schema) (at : ℕ) (table : Table) (index : Index) d clean inside.
-    lays_index (state g.S.Store c.args.tx.now.conn.now) (state g.S.Store c.execute.new.self.conn.now) schema
-    c.args.text.now at table index c.in_ok-execute.field-0 d inside (c.in_ok-execute.ensures.runs clean inside)
+returns-clause-ok g c = λ (table : Table) (index : Index) d clean inside.
+    lays_index (state g.S.Store c.args.tx.now.conn.now) (state g.S.Store c.execute.new.self.conn.now)
+    c.args.text.now table index c.in_ok-execute.field-0 d inside (c.in_ok-execute.ensures.runs clean inside)
 
 pub returns-clause-goes_on : goal.returns-clause-goes_on
 returns-clause-goes_on g c clean inside =

@@ -1,13 +1,12 @@
 use Rattle.std.proofs.Common.{◌∙◌, sym}
 use Rattle.sqlite.specs.Held.{state}
-use Rattle.sqlite.specs.Schema.{Schema}
 use Rattle.sqlite.specs.Table.{Table}
 use Rattle.record_tables.proofs.LayLemmas.{lays_table}
 use Rattle.record_tables.proofs.lay.define_table.Goals as goal
 
 pub returns-clause-ok : goal.returns-clause-ok
-returns-clause-ok g c = λ (schema : Schema) (table : Table) d clean inside.
-    lays_table (state g.S.Store c.args.tx.now.conn.now) (state g.S.Store c.execute.new.self.conn.now) schema
+returns-clause-ok g c = λ (table : Table) d clean inside.
+    lays_table (state g.S.Store c.args.tx.now.conn.now) (state g.S.Store c.execute.new.self.conn.now)
     c.args.text.now table c.in_ok-execute.field-0 d inside (c.in_ok-execute.ensures.runs clean inside)
 
 pub returns-clause-goes_on : goal.returns-clause-goes_on

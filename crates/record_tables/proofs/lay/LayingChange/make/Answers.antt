@@ -9,8 +9,8 @@ returns-clause-ok g c clean inside =
     let laid = c.in_ok-lay_tables.ensures.ok (omega (arith, c.fill.ensures.survives.clean)) inside in
     let put = c.in_ok-fill.ensures.ok clean (laid.mode ∙ inside) in
     record {
-      stored = λ has. let empty =
-          laid_empty (state g.S.Store c.args.tx.now.conn.now) (state g.S.Store c.lay_tables.new.tx.conn.now) laid has in
+      stored = λ free. let empty =
+          laid_empty (state g.S.Store c.args.tx.now.conn.now) (state g.S.Store c.lay_tables.new.tx.conn.now) laid free.apart in
           put.stored no_rows empty.0 empty.1 tt;
     }
 
