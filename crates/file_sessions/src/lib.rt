@@ -18,4 +18,4 @@ mod session;
 pub use crashes::crash;
 pub use memory::{memory_is_clean, serve_in_memory};
 pub use session::{EndedSession, NoSession, serve_connection, serve_file, sessions_follow};
-pub use store_files::Closing;
+pub use store_files::{Closing, Hindrance};
