@@ -6,8 +6,8 @@
 //! - `crashes`: what a crash between two commands leaves;
 //! - `memory`: sessions over a store in memory.
 //!
-//! The module `Sessions` of `specs/` says what a session leads to. Which archive files hold, and how a connection to them
-//! ends, is in the crate `store_files`.
+//! The module `Sessions` of `specs/` says what a session leads to, `Refusals` why none is served, and `Unserved` what the
+//! files keep then. Which archive files hold, and how a connection to them ends, is in the crate `store_files`.
 #![tactic(auto)]
 
 mod crashes;
