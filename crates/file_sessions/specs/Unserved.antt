@@ -37,16 +37,16 @@ StoresAt image a = (trees : Trees) × TreesStore trees a × HoldsDatabase image 
 abbrev pub FindsStill : Archive → Image → Type 0
 FindsStill a image = ∥ (FindsAt image a ⊎ StoresAt image a) ∥₁
 
--- What an open that failed does not tell of the files that it leaves: that it took their pages to end in sums as they do,
--- and that it had listed all trees of the database.
+-- What an open that failed does not tell of the files that it leaves: that it took their pages to end in sums where they
+-- do, and that the trees of a store that it had made are numbered.
 abbrev pub IsWellOpened : {D : Type 0} {g : Ghosts D} → Image → Leftover D g → Type 0
 IsWellOpened image (left.Files now) = Unit {0}
 IsWellOpened image (left.Unopened now) = (db : Trees) (held : HoldsDatabase image db) → held.0 ≡ (state_of now).page_size
 IsWellOpened image (left.Store now) = IsTrue (view now).is_numbered
 
 module _ {D : Type 0} {g : Ghosts D} (first : Image) (a : Archive) where
-  -- Where the files held the archive at first, they keep it: those that were not opened as they are, and the others
-  -- whatever faults fell. Of files that the system did not open nothing is said.
+  -- Where the files held the archive at first, they keep it, whatever faults fell. Of files that the system did not open
+  -- nothing is said.
   abbrev pub KeepsUnserved : NoSession D g → Type 0
   KeepsUnserved (Unopened e None) = Unit {0}
   KeepsUnserved (Unopened e (Some rest)) = IsCleanLeft rest → IsWellOpened first rest → (image : Image)
