@@ -56,6 +56,17 @@ finds_a_log_of_another_file() {
         mv -- "$work/log" "$here/store-wal" && over_refuses 65 'no archive' list
 }
 
+# ---- the file alone
+
+# What a session has captured is in the log until it ends, and then in the database file, which has it without a log.
+has_all_in_the_file() {
+    local to session
+    make_archive && mkdir "$here/during" "$here/after" && hold_store 'BEGIN ann 0 0' 'TURN 1 100' 'FINISH 1' || return
+    cp -- "$here/store" "$here/during" && release_store && cp -- "$here/store" "$here/after" &&
+        says "$CAPTURED" list --store "$here/during/store" &&
+        says "${CAPTURED}record 5 class unfiled day 1970-01-01 due never"$'\n' list --store "$here/after/store"
+}
+
 # ---- names
 
 # Names with spaces, line ends, quotation marks and letters outside ASCII, wherever one is typed.
@@ -213,6 +224,7 @@ store_files() {
     count "a page that is damaged" finds_a_damaged_page
     count "a store that another program has" finds_it_taken
     count "a log of another file" finds_a_log_of_another_file
+    count "a database file without its log" has_all_in_the_file
     count "names of all kinds" takes_any_name
     count "holds of all names" lists_any_hold
     count "pipes in the place of files" waits_for_no_pipe

@@ -1,13 +1,13 @@
 -- Why files that hold an archive were not opened.
-use Rattle.std.proofs.Common.{◌≡◌, ◌⊎◌, ◌<◌, ℕ, [], ◌∷◌, List, true, false, Option, Some, None, IfSome, refl, sym, ap}
-use Rattle.std.proofs.Common.{ap₂, subst, ◌∙◌, inl, inr, arith}
+use Rattle.std.proofs.Common.{◌≡◌, ◌⊎◌, List, true, false, Option, Some, None, IfSome, refl, sym, ap}
+use Rattle.std.proofs.Common.{subst, ◌∙◌, inl, inr, arith}
 use Rattle.std.proofs.Math.Logic.{∥∥₁_elim}
 use Rattle.sqlite_disk.specs.declared.Files.{Files}
 use Rattle.sqlite_disk.specs.declared.calls.Calls as calls
 use Rattle.sqlite_disk.specs.declared.start.Start as start
 use Rattle.sqlite_disk.specs.declared.modelled.Modelled.{Modelled}
 use Rattle.sqlite_disk.specs.Modelled.{start_of}
-use Rattle.sqlite_disk.specs.Events.{Event, replay, settled}
+use Rattle.sqlite_disk.specs.Events.{Event, replay}
 use Rattle.sqlite_std_file.specs.File.{IsFresh}
 use Rattle.sqlite_std_file.specs.declared.host.Host.{Host}
 use Rattle.sqlite.specs.Recovery.{Image}
@@ -18,7 +18,7 @@ use Rattle.sqlite.specs.declared.error.Error.{Error}
 use Rattle.sqlite.specs.declared.file.Leftover.{Leftover}
 use Rattle.record_archive.specs.Archive.{Archive}
 use Rattle.store_files.specs.Files.{FindsAt, system_file}
-use Rattle.file_sessions.specs.Refusals.{HasCause, IsRefusedBySystem, StopsOpening}
+use Rattle.file_sessions.specs.Refusals.{HasCause, IsRefusedBySystem}
 use Rattle.file_sessions.specs.declared.session.NoSession.TheVariants.{Unopened}
 
 -- the files recover to a database, or none has been made yet
@@ -31,7 +31,7 @@ module _ {S : Type 0} {g : calls.Ghosts Host} (first : start.Ghosts S) (history 
   seen_first : (f : Modelled Host S g first) (is_log : _) → IsFresh is_log f → (system_file first).seen f ≡ start_of first f
   seen_first f is_log fresh = ap (λ (events : List Event). (replay (start_of first f) events).seen) (history f.calls ∙ fresh.1)
 
-  image_first : (files : Files (Modelled Host S g first)) → IsFresh true files.log → IsFresh false files.db
+  pub image_first : (files : Files (Modelled Host S g first)) → IsFresh true files.log → IsFresh false files.db
       → image_of (system_file first) files ≡ image_at first
   image_first files log db =
       let logged : (system_file first).seen files.log ≡ first.log = seen_first files.log true log ∙ rw log.0 refl in

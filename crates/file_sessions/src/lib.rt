@@ -6,8 +6,8 @@
 //! - `crashes`: what a crash between two commands leaves;
 //! - `memory`: sessions over a store in memory.
 //!
-//! The module `Sessions` of `specs/` says what a session leads to. Which archive files hold, and how a connection to them
-//! ends, is in the crate `store_files`.
+//! The module `Sessions` of `specs/` says what a session leads to, `Refusals` why none is served, and `Unserved` what the
+//! files keep then. Which archive files hold, and how a connection to them ends, is in the crate `store_files`.
 #![tactic(auto)]
 
 mod crashes;
@@ -18,4 +18,4 @@ mod session;
 pub use crashes::crash;
 pub use memory::{memory_is_clean, serve_in_memory};
 pub use session::{EndedSession, NoSession, serve_connection, serve_file, sessions_follow};
-pub use store_files::Closing;
+pub use store_files::{Closing, Hindrance};

@@ -4,7 +4,7 @@ ghost use Rattle.std.specs.Prelude.{◌≡◌, false, true, IfErr, IfOk, IsTrue}
 ghost use Rattle.sqlite.specs.State.{HasCleanDisk};
 ghost use Rattle.sqlite.specs.Held.{state};
 ghost use Rattle.record_archive.specs.Archive.{Archive, IsArchive};
-ghost use Rattle.record_adoption.specs.Adoption.{Finds};
+ghost use Rattle.record_adoption.specs.Adoption.{Finds, LeavesArchive};
 ghost use Rattle.record_archive.specs.Faults.{is_trouble};
 ghost use Rattle.filing_commands.specs.Standing.{opening};
 ghost use Rattle.sqlite.specs.Tree.{Trees};
@@ -21,8 +21,9 @@ use std::alloc::Global;
 /// tables of an empty archive.
 ///
 /// Refused with 88 where the tables or their rows are not an archive's, with 89 (`sqlite`) or with 99 (no memory). The
-/// connection is then handed back. Where it is not refused, no fault has shut the connection, so that whatever a crash
-/// leaves keeps that archive.
+/// connection is then handed back; a crash may leave what it might have left before, or that archive in the tables of
+/// version 2. Where it is not refused, no fault has shut the connection, so that whatever a crash leaves keeps that
+/// archive.
 pub(crate) fn open_desk<S: Alter + Drop>(
     alloc: Global,
     conn: Connection<S>,
@@ -39,6 +40,8 @@ pub(crate) fn open_desk<S: Alter + Drop>(
         → IsTrue (state S.Store d.store.conn).is_open) }
     ensures still_clean { IfErr result
         (λ e. HasCleanDisk (state S.Store e.1) → HasCleanDisk (state S.Store conn)) }
+    ensures left { IfErr result
+        (λ e. LeavesArchive S.Store conn e.1 (Finds (state S.Store conn).now)) }
     ensures refused { IfErr result (λ e. HasCleanDisk (state S.Store e.1) → (a : Archive)
         → Finds (state S.Store conn).now a → IsArchive a → is_trouble e.0 ≡ true) }
 {

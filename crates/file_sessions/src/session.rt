@@ -17,6 +17,7 @@ ghost use Rattle.store_files.specs.Closing.{HasCause as EndsFor, HaveCounted, Ho
 ghost use Rattle.store_files.specs.Files.{FindsAt, KeepsAt, KeepsFiles, system_file};
 ghost use Rattle.file_sessions.specs.Refusals.{HasCause};
 ghost use Rattle.file_sessions.specs.Sessions.{IsDone, IsTold, LeadsTo, LeavesSome};
+ghost use Rattle.file_sessions.specs.Unserved.{HoldsStill, KeepsUnserved};
 
 use crate::opening::open_desk;
 use filing_desk::Desk;
@@ -68,7 +69,8 @@ fn close_desk<D: Disk + Drop>(desk: Desk<Store<FileStore<D>>>) -> (Files<D>, Clo
 /// Serves a session at the desk over a connection to files, and closes them.
 ///
 /// Refused with 88 where the database is not an archive's, with 89 (`sqlite`) or with 99 (no memory), before anything is
-/// read. The files are then given back as they are.
+/// read. The files are then given back as they are: whatever a crash leaves of them recovers to a database that it might
+/// have left before the call, or to one that stores the archive that was found (`kept`).
 pub fn serve_connection<D: Disk + Drop, In: Source, Out: Sink>(
     alloc: Global,
     conn: Connection<FileStore<D>>,
@@ -94,6 +96,9 @@ pub fn serve_connection<D: Disk + Drop, In: Source, Out: Sink>(
     ensures refused { IfErr result (λ e. AreClean D.Disk e.1.log e.1.db
         → HasCleanDisk (file_state conn) × ((a : Archive)
         → Finds (file_state conn).now a → IsArchive a → is_trouble e.0 ≡ true)) }
+    ensures kept { IfErr result (λ e. AreClean D.Disk e.1.log e.1.db → (a : Archive)
+        → Finds (file_state conn).now a → (image : Image)
+        → outcomes D.Disk e.1.log e.1.db image → HoldsStill (file_state conn) a image) }
 {
     sessions_refine_states::<Desk<Store<FileStore<D>>>>();
     let mut desk = match open_desk(alloc, conn) {
@@ -145,6 +150,8 @@ pub fn serve_file<S: Start, In: Source, Out: Sink>(
         → EndsFor (system_file S.Start) 0 it.files it.closing) }
     ensures refused { IfErr result (λ e. (a : Archive) → FindsAt (image_at S.Start) a → IsArchive a
         → HasCause e) }
+    ensures kept { IfErr result (λ e. (a : Archive) → FindsAt (image_at S.Start) a
+        → KeepsUnserved (image_at S.Start) a e) }
 {
     let conn = match Connection::open_from(rt, path, true, start) {
         Ok(conn) => conn,

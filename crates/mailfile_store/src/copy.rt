@@ -189,7 +189,7 @@ fn read_back(rt: &HostRuntime, path: &str) -> Result<Summary, Failure> {
     let summed = summary_of(rt, &mut archive);
     match close_archive(archive) {
         Closing::Copied => summed,
-        Closing::Logged | Closing::Shut | Closing::Cut => Err(Failure::at(
+        Closing::Logged(_) | Closing::Shut | Closing::Cut => Err(Failure::at(
             rt.alloc(),
             Status::TryAgain,
             path,

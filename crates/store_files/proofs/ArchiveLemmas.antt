@@ -1,5 +1,5 @@
 -- What the files keep of the archive that a store over them represents.
-use Rattle.std.proofs.Common.{◌≡◌, [], false, IsTrue, sym, subst}
+use Rattle.std.proofs.Common.{◌≡◌, false, IsTrue, sym, subst}
 use Rattle.sqlite_disk.specs.declared.Disk.{Ghosts}
 use Rattle.sqlite_store.specs.declared.store.FileStore.{FileStore}
 use Rattle.sqlite.specs.Recovery.{Image}
@@ -36,7 +36,7 @@ module _ {D : Type 0} {g : Ghosts D} (store : Store (FileStore D g)) (conn : Hel
 pub holds_alike : (closing : Closing) (P Q : Image → Type 0) → ((image : Image) → P image → Q image) → (image : Image)
     → HoldsBy closing P image → HoldsBy closing Q image
 holds_alike Copied P Q each image h = (each image h.0, each _ h.1)
-holds_alike Logged P Q each image h = each image h
+holds_alike (Logged why) P Q each image h = each image h
 holds_alike Shut P Q each image h = tt
 holds_alike Cut P Q each image h = tt
 

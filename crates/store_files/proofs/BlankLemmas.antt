@@ -1,5 +1,5 @@
 -- Files that hold a database are not files in which none has been made yet, whatever the page size.
-use Rattle.std.proofs.Common.{◌≡◌, ◌≢◌, ◌<◌, ◌≤◌, ◌+◌, ◌-◌, ◌*◌, ℕ, List, [], length, take, min, unwrap_or, Option}
+use Rattle.std.proofs.Common.{◌≡◌, ◌<◌, ◌≤◌, ◌-◌, ◌*◌, ℕ, List, [], length, take, unwrap_or, Option}
 use Rattle.std.proofs.Common.{Some, slice_index, get_or-take, sym, ap, ◌∙◌, inl, inr, arith, refl, length-take}
 use Rattle.sqlite_wal.specs.Format.{part}
 use Rattle.sqlite_wal.specs.Recovery.{Image, pages_after}
@@ -8,7 +8,7 @@ use Rattle.sqlite_wal.proofs.RecoveryLemmas.{replays_once}
 use Rattle.sqlite_wal.proofs.AppendLemmas.{some_value, page_from_pages}
 use Rattle.sqlite_pages.specs.PageMap.{PageMap}
 use Rattle.sqlite_pool.specs.File.{header_in, IsSoundFile}
-use Rattle.sqlite_pool.specs.Stored.{stored_size, reserved, Adopts}
+use Rattle.sqlite_pool.specs.Stored.{stored_size, Adopts}
 use Rattle.sqlite_pool.specs.StoredLaws.{trimmed_some}
 use Rattle.sqlite_pool.specs.Opening.{IsBlankFile}
 use Rattle.sqlite_pool.proofs.ProbeLemmas.{first_byte}

@@ -16,26 +16,27 @@ use Rattle.sqlite.specs.State.{IsLive}
 use Rattle.sqlite.specs.Held.{Held, AreDatabases}
 use Rattle.sqlite.specs.Files.{HoldsDatabase, file_state}
 use Rattle.sqlite.proofs.Theorems.{opens_again}
-use Rattle.store_files.specs.Closing.{HasCause, HaveCounted, HoldsBy, HoldsLeft, HoldsNow, IsTold, LeavesBy}
+use Rattle.store_files.specs.Closing.{HasCause, HaveCounted, HoldsBy, HoldsLeft, HoldsNow, IsLeftOpen, LeavesBy}
 use Rattle.store_files.specs.declared.closing.Closing.{Closing}
 use Rattle.store_files.specs.declared.closing.Closing.TheVariants.{Copied, Logged, Shut, Cut}
+use Rattle.store_files.specs.declared.closing.Hindrance.TheVariants.{NoMemory, Fault}
 
-pub by_closing : (closing : Closing) (Holds : Image → Type 0) (image : Image) → (IsTold closing → Holds image)
+pub by_closing : (closing : Closing) (Holds : Image → Type 0) (image : Image) → (IsLeftOpen closing → Holds image)
     → (closing ≡ Copied → Holds (record image { log = [] })) → HoldsBy closing Holds image
 by_closing Copied Holds image both alone = (both tt, alone refl)
-by_closing Logged Holds image both alone = both tt
+by_closing (Logged why) Holds image both alone = both tt
 by_closing Shut Holds image both alone = tt
 by_closing Cut Holds image both alone = tt
 
-pub by_leaving : (closing : Closing) (Holds : Type 0) → (IsTold closing → Holds) → (closing ≡ Shut → Holds) → LeavesBy closing Holds
+pub by_leaving : (closing : Closing) (Holds : Type 0) → (IsLeftOpen closing → Holds) → (closing ≡ Shut → Holds) → LeavesBy closing Holds
 by_leaving Copied Holds told shut = told tt
-by_leaving Logged Holds told shut = told tt
+by_leaving (Logged why) Holds told shut = told tt
 by_leaving Shut Holds told shut = shut refl
 by_leaving Cut Holds told shut = tt
 
 pub leaves_map : (closing : Closing) (P Q : Type 0) → (P → Q) → LeavesBy closing P → LeavesBy closing Q
 leaves_map Copied P Q f h = f h
-leaves_map Logged P Q f h = f h
+leaves_map (Logged why) P Q f h = f h
 leaves_map Shut P Q f h = f h
 leaves_map Cut P Q f h = tt
 
@@ -74,8 +75,9 @@ pub by_cause : {D : Type 0} (g : Ghosts D) (conn : Held (FileStore D g)) (back m
     → (IsTrue (view mid).is_open → (view mid).is_broken ≡ false)
     → (IsTrue (view last).is_open → (view last).is_broken ≡ (view mid).is_broken)
     → (closing ≡ Shut → IsTrue (view mid).is_broken) → (closing ≡ Cut → IsTrue (view last).is_broken)
+    → (closing ≡ Logged Fault → MoreFaults (faults mid) (faults last))
     → HasCause g (faults conn.store) left closing
-by_cause g conn back mid last closing left files first second third more most early whole same shut cut = go closing refl
+by_cause g conn back mid last closing left files first second third more most early whole same shut cut logged = go closing refl
   where
     failed : IsTrue (view mid).is_broken ⊎ IsTrue (view last).is_broken → MoreFaults (faults conn.store) (faults last)
     failed broken = elim first [
@@ -96,7 +98,8 @@ by_cause g conn back mid last closing left files first second third more most ea
 
     go : (c : Closing) → closing ≡ c → HasCause g (faults conn.store) left c
     go Copied is = tt
-    go Logged is = tt
+    go (Logged NoMemory) is = tt
+    go (Logged Fault) is = (last, files, omega (arith, logged is, more, early))
     go Shut is = (last, files, failed (inl (shut is)))
     go Cut is = (last, files, failed (inr (cut is)))
 
@@ -104,13 +107,15 @@ by_cause g conn back mid last closing left files first second third more most ea
 pub by_fault : {D : Type 0} (g : Ghosts D) (before : ℕ) (left : Files D) (closing : Closing) → HasCause g before left closing → HasCause
     g 0 left closing
 by_fault g before left Copied cause = tt
-by_fault g before left Logged cause = tt
+by_fault g before left (Logged NoMemory) cause = tt
+by_fault g before left (Logged Fault) cause = (cause.0, cause.1, omega (arith, cause.2))
 by_fault g before left Shut cause = (cause.0, cause.1, omega (arith, cause.2))
 by_fault g before left Cut cause = (cause.0, cause.1, omega (arith, cause.2))
 
 pub by_count : {D : Type 0} (g : Ghosts D) (before : ℕ) (left : Files D) (closing : Closing) → HaveCounted g before left → 0 < before
     → HasCause g 0 left closing
 by_count g before left Copied counted some = tt
-by_count g before left Logged counted some = tt
+by_count g before left (Logged NoMemory) counted some = tt
+by_count g before left (Logged Fault) counted some = (counted.0, counted.1, omega (arith, counted.2, some))
 by_count g before left Shut counted some = (counted.0, counted.1, omega (arith, counted.2, some))
 by_count g before left Cut counted some = (counted.0, counted.1, omega (arith, counted.2, some))

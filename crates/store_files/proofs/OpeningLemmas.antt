@@ -1,5 +1,5 @@
 -- What an open finds, by the archive that the files held.
-use Rattle.std.proofs.Common.{◌≡◌, ◌≤◌, ℕ, false, true, List, sym, ap, subst, ◌∙◌, inl, inr, arith}
+use Rattle.std.proofs.Common.{◌≡◌, ℕ, true, List, sym, ap, subst, ◌∙◌, inl, inr, arith}
 use Rattle.std.proofs.Math.Logic.{∥∥₁_elim}
 use Rattle.sqlite_disk.specs.declared.Disk.{Ghosts}
 use Rattle.sqlite_store.specs.declared.store.FileStore.{FileStore}
@@ -37,7 +37,7 @@ same_database x y p q trees =
     let schemas = sound_once x.schema y.schema y.trees (subst (IsSound x.schema) trees p) q in
     λ i. record { schema = schemas i; trees = trees i }
 
-holds_something : (image : Image) (size : ℕ) (pages : PageMap) (wanted : List Wanted) → Adopts size image pages → IsOurs size true wanted pages
+pub holds_something : (image : Image) (size : ℕ) (pages : PageMap) (wanted : List Wanted) → Adopts size image pages → IsOurs size true wanted pages
     → IsNothing image → ⊥
 holds_something image size pages wanted found ours (inl plain) = not_blank size image pages found ours.file.sound _ (omega arith) plain
 holds_something image size pages wanted found ours (inr summed) = not_blank size image pages found ours.file.sound _ (omega arith) summed

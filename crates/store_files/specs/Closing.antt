@@ -12,6 +12,7 @@ use Rattle.sqlite.specs.Files.{HoldsDatabase}
 use Rattle.sqlite.specs.State.{State}
 use Rattle.store_files.specs.declared.closing.Closing.{Closing}
 use Rattle.store_files.specs.declared.closing.Closing.TheVariants.{Copied, Logged, Shut, Cut}
+use Rattle.store_files.specs.declared.closing.Hindrance.TheVariants.{NoMemory}
 
 -- The connection was open, and its database is the one that the files recover to.
 pub record HoldsNow (s : State) (image : Image) : Type 0 where
@@ -27,7 +28,7 @@ HoldsLeft s image = ∥ ((db : Trees) × s.may_leave db × HoldsDatabase image d
 -- copied, of the two files together; and where a fault has shut the store, nothing is known of the last commit.
 abbrev pub HoldsBy : Closing → (Image → Type 0) → Image → Type 0
 HoldsBy Copied Holds image = Holds image × Holds (record image { log = [] })
-HoldsBy Logged Holds image = Holds image
+HoldsBy (Logged why) Holds image = Holds image
 HoldsBy Shut Holds image = Unit {0}
 HoldsBy Cut Holds image = Unit {0}
 
@@ -36,17 +37,18 @@ abbrev pub LeavesBy : Closing → Type 0 → Type 0
 LeavesBy Cut Holds = Unit {0}
 LeavesBy _ Holds = Holds
 
--- no fault of the disk is told
-abbrev pub IsTold : Closing → Type 0
-IsTold Copied = Unit {0}
-IsTold Logged = Unit {0}
-IsTold Shut = ⊥
-IsTold Cut = ⊥
+-- no fault of the disk has shut the store
+abbrev pub IsLeftOpen : Closing → Type 0
+IsLeftOpen Copied = Unit {0}
+IsLeftOpen (Logged why) = Unit {0}
+IsLeftOpen Shut = ⊥
+IsLeftOpen Cut = ⊥
 
--- a fault of the disk is told of an open connection only where the disk has failed once more
+-- A fault of the disk is told of an open connection only where the disk has failed once more. For lack of memory no cause
+-- is known.
 abbrev pub HasCause : {D : Type 0} (g : Ghosts D) → (before : ℕ) → Files D → Closing → Type 0
 HasCause g before files Copied = Unit {0}
-HasCause g before files Logged = Unit {0}
+HasCause g before files (Logged NoMemory) = Unit {0}
 HasCause {D} g before files _ = (last : FileStore D g) × (stored_files last ≡ (files.log, files.db)) × MoreFaults before (faults last)
 
 -- no fault is forgotten

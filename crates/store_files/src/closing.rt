@@ -6,14 +6,25 @@ ghost use Rattle.sqlite.specs.WalReads.{AreClean};
 ghost use Rattle.sqlite.specs.WalFiles.{outcomes};
 ghost use Rattle.sqlite.specs.Recovery.{Image};
 ghost use Rattle.sqlite.specs.Files.{file_state};
-ghost use Rattle.sqlite_store.specs.FileStore.{view, log_frames, HasSpilled};
+ghost use Rattle.sqlite_disk.specs.Disk.{MoreFaults};
+ghost use Rattle.sqlite_store.specs.FileStore.{view, faults, log_frames, HasSpilled};
 ghost use Rattle.sqlite_store.specs.Calls.{IsQuietCall};
 ghost use Rattle.sqlite_trees.specs.View.{IsClean};
-ghost use Rattle.store_files.specs.Closing.{HasCause, HaveCounted, HoldsBy, HoldsLeft, HoldsNow, IsTold, LeavesBy};
+ghost use Rattle.store_files.specs.Closing.{HasCause, HaveCounted, HoldsBy, HoldsLeft, HoldsNow, IsLeftOpen, LeavesBy};
 
 use sqlite::{Connection, FileStore, Files};
 use sqlite_disk::Disk;
+use sqlite_trees::error::StoreError;
 use sqlite_trees::store::Store;
+
+/// Why the log was not copied, where the store is still open.
+#[derive(Clone, Copy, Drop)]
+pub enum Hindrance {
+    /// There was no memory.
+    NoMemory,
+    /// The disk failed, or had no room.
+    Fault,
+}
 
 /// Which of the two files holds the last commit.
 #[derive(Clone, Copy, Drop)]
@@ -21,7 +32,7 @@ pub enum Closing {
     /// The database file alone: what the log had was copied into it.
     Copied,
     /// The two files together. The log could not be copied, and the next opening finds what it has.
-    Logged,
+    Logged(Hindrance),
     /// A fault of the disk had shut the store before, so that it could neither read nor write. Nothing was copied: the
     /// two files keep what was committed before the fault, or what the call in which it fell was to commit.
     Shut,
@@ -29,15 +40,31 @@ pub enum Closing {
     Cut,
 }
 
+/// What hindered a copy of the log, by the error of the store.
+fn hindrance_of(error: StoreError) -> Hindrance
+    ensures { result ≡ Hindrance.Fault → error ≢ StoreError.OutOfMemory }
+{
+    match error {
+        StoreError::OutOfMemory => Hindrance::NoMemory,
+        StoreError::Io
+        | StoreError::Corrupt
+        | StoreError::Full
+        | StoreError::Broken
+        | StoreError::Unstorable => Hindrance::Fault,
+    }
+}
+
 /// Copies what the log has into the database file. Where a fault has shut the store, nothing is touched.
 fn copy_log<D: Disk>(store: &mut FileStore<D>) -> Closing
     ensures quiet { IsQuietCall store.old store.new }
-    ensures open { IsClean (view store.new) → IsTold result → IsTrue (view store.new).is_open }
+    ensures open { IsClean (view store.new) → IsLeftOpen result → IsTrue (view store.new).is_open }
     ensures shut { result ≡ Closing.Shut → store.new ≡ store.old }
     ensures broken { IsClean (view store.new) → result ≡ Closing.Shut
         → IsTrue (view store.old).is_broken }
     ensures cut { IsClean (view store.new) → result ≡ Closing.Cut
         → IsTrue (view store.new).is_broken }
+    ensures logged { IsClean (view store.new) → result ≡ Closing.Logged Hindrance.Fault
+        → MoreFaults (faults store.old) (faults store.new) }
     ensures same { IsTrue (view store.new).is_open → view store.new ≡ view store.old }
     ensures moved { result ≡ Closing.Copied → (HasSpilled store.old → ⊥)
         → log_frames store.new ≡ 0 }
@@ -47,11 +74,11 @@ fn copy_log<D: Disk>(store: &mut FileStore<D>) -> Closing
     }
     match store.checkpoint() {
         Ok(()) => Closing::Copied,
-        Err(_) => {
+        Err(error) => {
             if store.is_broken() {
                 Closing::Cut
             } else {
-                Closing::Logged
+                Closing::Logged(hindrance_of(error))
             }
         }
     }

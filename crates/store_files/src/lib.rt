@@ -16,6 +16,6 @@ mod opening;
 mod places;
 
 pub use archives::{FileArchive, close_archive, create_archive, open_archive};
-pub use closing::{Closing, close, leave};
+pub use closing::{Closing, Hindrance, close, leave};
 pub use fault::NoStore;
 pub use opening::{adopt_found, close_store, lay_archive, open_store};

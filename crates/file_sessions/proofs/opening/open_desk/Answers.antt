@@ -1,4 +1,4 @@
-use Rattle.std.proofs.Common.{true, IsTrue, refl, sym, subst, inl, inr, arith}
+use Rattle.std.proofs.Common.{IsTrue, refl, sym, subst, inl, inr, arith}
 use Rattle.std.proofs.lemmas.Bool.{cases_Bool}
 use Rattle.sqlite.specs.State.{HasCleanDisk}
 use Rattle.sqlite.specs.Held.{Held, state}
@@ -6,6 +6,8 @@ use Rattle.record_archive.specs.Archive.{Archive}
 use Rattle.record_archive.specs.Faults.{is_trouble}
 use Rattle.record_store.specs.Stores as stores
 use Rattle.record_store.specs.declared.store.Store.{Store}
+use Rattle.record_adoption.specs.Adoption.{Finds, LeavesArchive}
+use Rattle.file_sessions.proofs.UnservedLemmas.{leaves_then}
 use Rattle.file_sessions.proofs.opening.open_desk.Goals as goal
 
 pub returns-in-Err-clause-still_clean : goal.returns-in-Err-clause-still_clean
@@ -65,3 +67,9 @@ returns-in-Ok-new-clause-open g c clean =
     let CleanStore : Store g.row.S.Denot → Type 0 = λ s. HasCleanDisk (state g.S.Store s.conn) in
     let OpenStore : Store g.row.S.Denot → Type 0 = λ s. IsTrue (state g.S.Store s.conn).is_open in
     subst OpenStore (sym c.in-Ok-new.ensures.over) (c.in_default.ensures.open (subst CleanStore c.in-Ok-new.ensures.over clean))
+
+pub returns-in-Err-ensure_open-clause-left : goal.returns-in-Err-ensure_open-clause-left
+returns-in-Err-ensure_open-clause-left g c =
+    let Left : Held g.row.S.Denot → Type 0 = λ h. LeavesArchive g.S.Store c.args.conn h (Finds (state g.S.Store c.args.conn).now) in
+    subst Left (sym c.into_connection.ensures) (leaves_then g.S.Store c.args.conn c.in-Ok.store.conn c.ensure_open.new.self.conn
+    (Finds (state g.S.Store c.args.conn).now) c.in-Ok.ensures.crash c.ensure_open.ensures.crash)

@@ -5,7 +5,6 @@ use Rattle.filing_commands.specs.Standing.{opening}
 use Rattle.sqlite.specs.State.{HasCleanDisk}
 use Rattle.std.proofs.Math.Logic.{∥∥₁_map}
 use Rattle.sqlite.specs.Recovery.{Image}
-use Rattle.sqlite.specs.Tree.{Trees}
 use Rattle.record_store.specs.Stores as stores
 use Rattle.record_store.specs.Stores.{Fate, Left, ShutAfter, FateKeeps, MayMeet}
 use Rattle.record_store.specs.declared.store.Store.{Store}
@@ -16,6 +15,7 @@ use Rattle.store_files.specs.Files.{KeepsAt}
 use Rattle.store_files.proofs.ArchiveLemmas.{keeps_left}
 use Rattle.store_files.proofs.ClosingLemmas.{by_count, by_fault, leaves_map}
 use Rattle.file_sessions.proofs.SessionLemmas.{desk_told, done_refines, leaves_refines, left_in, met_first, told_refines}
+use Rattle.file_sessions.proofs.UnservedLemmas.{holds_still}
 use Rattle.file_sessions.proofs.session.serve_connection.Goals as goal
 
 pub returns-clause-served : goal.returns-clause-served
@@ -99,3 +99,8 @@ pub returns-in-Err-clause-refused : goal.returns-in-Err-clause-refused
 returns-in-Err-clause-refused g c honest =
     let clean = c.leave.ensures.clean honest in
     (c.in-Err.ensures.still_clean clean, c.in-Err.ensures.refused clean)
+
+pub returns-in-Err-clause-kept : goal.returns-in-Err-clause-kept
+returns-in-Err-clause-kept g c honest a found image may =
+    holds_still over_files c.args.conn c.in-Err.conn a image c.in-Err.ensures.left (c.leave.ensures.clean honest) found
+    (c.leave.ensures.leaves honest image may)

@@ -1,7 +1,8 @@
-use Rattle.std.proofs.Common.{refl}
+use Rattle.std.proofs.Common.{refl, inl}
 use Rattle.sqlite.specs.WalFiles.{image_at}
 use Rattle.store_files.proofs.OpeningLemmas.{finds_opened}
 use Rattle.file_sessions.proofs.RefusalLemmas.{has_cause}
+use Rattle.file_sessions.proofs.UnservedLemmas.{finds_still, keeps_left}
 use Rattle.file_sessions.proofs.session.serve_file.Goals as goal
 
 pub returns-in-Err-clause-refused : goal.returns-in-Err-clause-refused
@@ -32,3 +33,14 @@ pub returns-in-Err-serve_connection-clause-refused : goal.returns-in-Err-serve_c
 returns-in-Err-serve_connection-clause-refused g c a held is honest =
     let it = c.in-Err-serve_connection.ensures.refused honest in
     it.1 a (finds_opened c.in-Ok.conn (image_at g.S.Start) a (c.in-Ok.ensures.opened it.0) (c.in-Ok.ensures.found it.0) held) is
+
+pub returns-in-Err-clause-kept : goal.returns-in-Err-clause-kept
+returns-in-Err-clause-kept g c a held = keeps_left g.S.Start (λ host. refl) c.in-Err.error c.in-Err.left c.in-Err.ensures.cause a held
+
+pub returns-in-Err-serve_connection-clause-kept : goal.returns-in-Err-serve_connection-clause-kept
+returns-in-Err-serve_connection-clause-kept g c a held honest image may =
+    let it = c.in-Err-serve_connection.ensures in
+    let early = (it.refused honest).0 in
+    let opened = c.in-Ok.ensures.opened early in
+    let found = finds_opened c.in-Ok.conn (image_at g.S.Start) a opened (c.in-Ok.ensures.found early) held in
+    finds_still c.in-Ok.conn image a (λ f. inl refl) opened found (it.kept honest a found image may)

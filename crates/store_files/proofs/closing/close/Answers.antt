@@ -1,5 +1,4 @@
-use Rattle.std.proofs.Common.{◌≡◌, ◌≢◌, not, IsTrue, sym, ap, subst, ◌∙◌, refl, arith}
-use Rattle.std.proofs.Math.Logic.{∥∥₁_map}
+use Rattle.std.proofs.Common.{◌≡◌, not, IsTrue, sym, ap, subst, ◌∙◌, arith}
 use Rattle.sqlite_wal.specs.Reads.{AreClean}
 use Rattle.sqlite_wal.specs.Files.{outcomes}
 use Rattle.sqlite_pool.proofs.StateLemmas.{clean_is, may_leave_is}
@@ -10,14 +9,14 @@ use Rattle.sqlite.specs.Closing.{HoldsAlone}
 use Rattle.sqlite.specs.Held.{AreDatabases}
 use Rattle.sqlite.specs.Files.{file_state}
 use Rattle.sqlite.proofs.Theorems.{copied}
-use Rattle.store_files.specs.Closing.{HoldsLeft, HoldsNow, IsTold}
+use Rattle.store_files.specs.Closing.{HoldsLeft, HoldsNow, IsLeftOpen}
 use Rattle.store_files.specs.declared.closing.Closing.{Closing}
-use Rattle.store_files.specs.declared.closing.Closing.TheVariants.{Copied, Shut}
+use Rattle.store_files.specs.declared.closing.Closing.TheVariants.{Copied}
 use Rattle.store_files.proofs.ClosingLemmas.{by_cause, by_closing, by_leaving, holds_now, left_now, left_some}
 use Rattle.store_files.proofs.closing.close.Goals as goal
 
-told_so : (closing : Closing) → closing ≡ Copied → IsTold closing
-told_so closing is = subst IsTold (sym is) tt
+told_so : (closing : Closing) → closing ≡ Copied → IsLeftOpen closing
+told_so closing is = subst IsLeftOpen (sym is) tt
 
 pub returns-clause-clean : goal.returns-clause-clean
 returns-clause-clean g c honest =
@@ -102,7 +101,7 @@ returns-clause-cause g c honest on =
     by_cause g.D.Disk conn back mid last c.copy_log-closing.result c.close.result (sym c.close.ensures)
     (made.quiet.closes early on) (undone.quiet.closes clean) (done.quiet.closes none) undone.quiet.counts done.quiet.counts
     made.quiet.counts (λ here. (undone.undone.undone here).1)
-    (λ here. ap (λ (v : View). v.is_broken) (done.same here)) (done.broken none) (done.cut none)
+    (λ here. ap (λ (v : View). v.is_broken) (done.same here)) (done.broken none) (done.cut none) (done.logged none)
 
 pub returns-clause-counts : goal.returns-clause-counts
 returns-clause-counts g c =

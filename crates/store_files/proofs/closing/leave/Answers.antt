@@ -1,4 +1,4 @@
-use Rattle.std.proofs.Common.{not, IsTrue, ap, subst, ◌∙◌, arith}
+use Rattle.std.proofs.Common.{not, ap, subst, ◌∙◌, arith}
 use Rattle.sqlite_wal.specs.Reads.{AreClean}
 use Rattle.sqlite_wal.specs.Files.{outcomes}
 use Rattle.sqlite_pool.proofs.StateLemmas.{clean_is, may_leave_is}
