@@ -155,8 +155,20 @@ holds_on = asked (codes "SELECT name, record FROM hold WHERE record >= ?1 AND re
 
 pub asks_between : (schema : Schema) (is : Stands schema hold_table) → AsksFor schema holds_on is.tree
 unfolding everything
-asks_between schema is = asks schema hold_table is holds_on (Some Binary ∷ Some Binary ∷ []) (refl, refl) refl
-    (refl, refl, refl, (tt, tt), ((0, refl, is.named), tt), (tt, tt), (tt, (tt, tt)), (tt, (tt, tt, tt), (tt, tt, tt)), refl, refl, (tt, (tt, tt)), refl)
+asks_between schema is = asks schema hold_table is holds_on (Some Binary ∷ Some Binary ∷ []) (refl, refl) refl (
+  refl,
+  refl,
+  refl,
+  (tt, tt),
+  ((0, refl, is.named), tt),
+  (tt, tt),
+  (tt, (tt, tt)),
+  (tt, (tt, tt, tt), (tt, tt, tt)),
+  refl,
+  refl,
+  (tt, (tt, tt)),
+  refl,
+)
 
 -- ---- looks by keys
 

@@ -87,7 +87,8 @@ one_message m n h =
 
 pub typed_messages : {V : Type 0} (of : V → ℕ) (old new : State) (rows : List Row) (vs : List V) → Shown all_numbers.text [] old new rows
     → AllZip (λ row v. ReadsNumber row (of v)) rows vs → AreTypedMessages old.now
-typed_messages of = typed message_table all_numbers asks_numbers refl refl raw_message (λ (r : RawMessage). r.number) raw_message_row ReadsNumber of one_message
+typed_messages of =
+    typed message_table all_numbers asks_numbers refl refl raw_message (λ (r : RawMessage). r.number) raw_message_row ReadsNumber of one_message
 
 one_record : (r : RawRecord) (q : Record)
     → ReadsRecord (Int r.number ∷ Int r.message ∷ Words r.path ∷ Int r.day ∷ Int r.destroyed ∷ []) q → (x : Record)
@@ -103,7 +104,8 @@ one_record r q h =
 
 pub typed_records : {V : Type 0} (of : V → Record) (old new : State) (rows : List Row) (vs : List V) → Shown all_records.text [] old new rows
     → AllZip (λ row v. ReadsRecord row (of v)) rows vs → AreTypedRecords old.now
-typed_records of = typed record_table all_records asks_records refl refl raw_record (λ (r : RawRecord). r.number) raw_record_row ReadsRecord of one_record
+typed_records of =
+    typed record_table all_records asks_records refl refl raw_record (λ (r : RawRecord). r.number) raw_record_row ReadsRecord of one_record
 
 one_hold : (r : RawHold) (q : HoldEntry) → ReadsHold (Words r.name ∷ Int r.number ∷ []) q → (x : Hold) × (r ≡ raw_hold x)
 one_hold r q h =
@@ -112,7 +114,8 @@ one_hold r q h =
 
 pub typed_holds : {V : Type 0} (of : V → HoldEntry) (old new : State) (rows : List Row) (vs : List V) → Shown all_holds.text [] old new rows
     → AllZip (λ row v. ReadsHold row (of v)) rows vs → AreTypedHolds old.now
-typed_holds of = typed hold_table all_holds asks_holds refl refl raw_hold (λ (r : RawHold). r.id) raw_hold_row ReadsHold of one_hold
+typed_holds of =
+    typed hold_table all_holds asks_holds refl refl raw_hold (λ (r : RawHold). r.id) raw_hold_row ReadsHold of one_hold
 
 abbrev shown_class : RawClass → Row
 shown_class c = Words c.path ∷ Int c.is_open ∷ or_null Words c.schedule ∷ []
@@ -127,7 +130,8 @@ one_class r q h =
 
 pub typed_classes : {V : Type 0} (of : V → ClassEntry) (old new : State) (rows : List Row) (vs : List V) → Shown all_classes.text [] old new rows
     → AllZip (λ row v. ReadsClass row (of v)) rows vs → AreTypedClasses old.now
-typed_classes of = typed class_table all_classes asks_classes refl refl raw_class (λ (r : RawClass). r.id) raw_class_row ReadsClass of one_class
+typed_classes of =
+    typed class_table all_classes asks_classes refl refl raw_class (λ (r : RawClass). r.id) raw_class_row ReadsClass of one_class
 
 abbrev shown_schedule : RawSchedule → Row
 shown_schedule s = Words s.path ∷ Int s.count ∷ Int s.unit ∷ Int s.action ∷ Int s.year_end ∷ []
@@ -144,4 +148,5 @@ one_schedule r q h =
 
 pub typed_schedules : {V : Type 0} (of : V → Rule) (old new : State) (rows : List Row) (vs : List V) → Shown all_schedules.text [] old new rows
     → AllZip (λ row v. ReadsRule row (of v)) rows vs → AreTypedSchedules old.now
-typed_schedules of = typed schedule_table all_schedules asks_schedules refl refl raw_schedule (λ (r : RawSchedule). r.id) raw_schedule_row ReadsRule of one_schedule
+typed_schedules of =
+    typed schedule_table all_schedules asks_schedules refl refl raw_schedule (λ (r : RawSchedule). r.id) raw_schedule_row ReadsRule of one_schedule

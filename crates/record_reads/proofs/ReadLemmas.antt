@@ -44,8 +44,8 @@ pub answers : (q : Asked) (tree : ℕ) (params : Row) (old new : State) (rows : 
 answers q tree params old new rows is h = (reads_as q.text params old new old.now.schema refl _ is.is is.plain is.unlisted rows h).answer Null
 
 module _ {X : Type 0} (d : Described X) (q : Asked) (asks : (schema : Schema) (is : Stands schema d.table) → AsksFor schema q is.tree) (params : Row)
-    (old new : State) (is : Stands old.now.schema d.table) (t : Tables) (stored : old.now.trees is.tree ≡ map d.to_row (d.rows t)) (keyed : AreKeyed t)
-    (rows : List Row) (h : Shown q.text params old new rows) where
+    (old new : State) (is : Stands old.now.schema d.table) (t : Tables) (stored : old.now.trees is.tree ≡ map d.to_row (d.rows t))
+    (keyed : AreKeyed t) (rows : List Row) (h : Shown q.text params old new rows) where
   abbrev asked : Query
   asked = query q is.tree
 
@@ -63,7 +63,8 @@ module _ {X : Type 0} (d : Described X) (q : Asked) (asks : (schema : Schema) (i
       → ((x : X) → eval_all q.columns (params ∷ d.to_row x ∷ []) ≡ show x)
       → ((x y : X) → output_cmp asked (output asked (params ∷ d.to_row x ∷ [])) (output asked (params ∷ d.to_row y ∷ [])) ≡ on d.key int_cmp x y)
       → rows ≡ page asked params (map show (filter p (d.rows t)))
-  by_key p tests show shows in_order = sym (map-id rows) ∙ answer_by_keys asked db params source p tests (λ r. r) show shows refl refl in_order rows answer
+  by_key p tests show shows in_order =
+      sym (map-id rows) ∙ answer_by_keys asked db params source p tests (λ r. r) show shows refl refl in_order rows answer
 
   -- those that pass a test, in an order that has no ties among their values
   module _ {Y : Type 0} (view : X → Y) (out : Y → Output) (outs : (x : X) → output asked (params ∷ d.to_row x ∷ []) ≡ out (view x)) where
@@ -77,7 +78,8 @@ module _ {X : Type 0} (d : Described X) (q : Asked) (asks : (schema : Schema) (i
         let kept : answer.kept ≡ map out (filter p (map view (d.rows t))) =
         answer.distinct ∙ ap (map (output asked)) (answer.grouped ∙ matched) ∙ map-map (output asked) _ _ ∙ map_same _ _ outs xs
         ∙ sym (map-map out view xs) ∙ ap (map out) (sym (filter-map p view (d.rows t))) in
-        let still : IsPermutation (map out (filter p (map view (d.rows t)))) answer.ordered = subst (λ l. IsPermutation l answer.ordered) kept answer.same in
+        let still : IsPermutation (map out (filter p (map view (d.rows t)))) answer.ordered =
+        subst (λ l. IsPermutation l answer.ordered) kept answer.same in
         let sorted : IsPermutation (filter p ys) (filter p (map view (d.rows t))) =
         IsPermutation-sym _ _ (IsPermutation-filter p (map view (d.rows t)) ys same) in
         let whole = IsPermutation-trans (map out (filter p ys)) _ answer.ordered (IsPermutation-map out _ _ sorted) still in
@@ -99,8 +101,8 @@ shows_records old new rows t s keyed h =
 pub shows_numbers : (old new : State) (rows : List Row) (t : Tables) → StoresCommon old.now t → AreKeyed t
     → Shown all_numbers.text [] old new rows → rows ≡ map number_values (numbers_of t)
 shows_numbers old new rows t s keyed h =
-    by_key messages all_numbers asks_numbers [] old new s.schema.messages t s.messages keyed rows h (λ _. true) (λ _. refl) (λ m. number_values m.number)
-    (λ _. refl) (λ x y. last_key (value_cmp-Int (message_key x) (message_key y)))
+    by_key messages all_numbers asks_numbers [] old new s.schema.messages t s.messages keyed rows h (λ _. true) (λ _. refl)
+    (λ m. number_values m.number) (λ _. refl) (λ x y. last_key (value_cmp-Int (message_key x) (message_key y)))
     ∙ ap (map (λ (m : Message). number_values m.number)) (unfiltered t.messages refl)
     ∙ sym (map-map number_values (λ (m : Message). m.number) t.messages)
 
@@ -121,22 +123,25 @@ shows_stored old new rows t s keyed h =
 pub shows_classes : (old new : State) (rows : List Row) (t : Tables) (cs : List ClassEntry) → StoresCommon old.now t
     → AreKeyed t → AreClasses t cs → Shown all_classes.text [] old new rows → rows ≡ map class_values cs
 shows_classes old new rows t cs s keyed are h =
-    by_order classes all_classes asks_classes [] old new s.schema.classes t s.classes keyed rows h class_entry (λ c. (Text c.path ∷ [], class_values c))
-    (λ _. refl) (λ _. true) (λ _. refl) _ (λ x y less. last_key (value_cmp-Text x.path y.path) ∙ less) cs are.same are.in_order
+    by_order classes all_classes asks_classes [] old new s.schema.classes t s.classes keyed rows h class_entry
+    (λ c. (Text c.path ∷ [], class_values c)) (λ _. refl) (λ _. true) (λ _. refl) _
+    (λ x y less. last_key (value_cmp-Text x.path y.path) ∙ less) cs are.same are.in_order
     ∙ ap (map class_values) (unfiltered cs refl)
 
 pub shows_schedules : (old new : State) (rows : List Row) (t : Tables) (rs : List Rule) → Stores old.now t → AreKeyed t
     → AreRules t rs → Shown all_schedules.text [] old new rows → rows ≡ map rule_values rs
 shows_schedules old new rows t rs s keyed are h =
-    by_order schedules all_schedules asks_schedules [] old new s.schema.schedules t s.schedules keyed rows h rule (λ r. (Text r.path ∷ [], rule_values r))
-    (λ _. refl) (λ _. true) (λ _. refl) _ (λ x y less. last_key (value_cmp-Text x.path y.path) ∙ less) rs are.same are.in_order
+    by_order schedules all_schedules asks_schedules [] old new s.schema.schedules t s.schedules keyed rows h rule
+    (λ r. (Text r.path ∷ [], rule_values r)) (λ _. refl) (λ _. true) (λ _. refl) _
+    (λ x y less. last_key (value_cmp-Text x.path y.path) ∙ less) rs are.same are.in_order
     ∙ ap (map rule_values) (unfiltered rs refl)
 
 pub shows_settings : (old new : State) (rows : List Row) (t : Tables) (ps : List Pair) → StoresCommon old.now t
     → AreKeyed t → ArePairs t ps → Shown all_settings.text [] old new rows → rows ≡ map pair_values ps
 shows_settings old new rows t ps s keyed are h =
-    by_order settings all_settings asks_settings [] old new s.schema.settings t s.settings keyed rows h pair (λ x. (Text x.key ∷ [], pair_values x))
-    (λ _. refl) (λ _. true) (λ _. refl) _ (λ x y less. last_key (value_cmp-Text x.key y.key) ∙ less) ps are.same are.in_order
+    by_order settings all_settings asks_settings [] old new s.schema.settings t s.settings keyed rows h pair
+    (λ x. (Text x.key ∷ [], pair_values x)) (λ _. refl) (λ _. true) (λ _. refl) _
+    (λ x y less. last_key (value_cmp-Text x.key y.key) ∙ less) ps are.same are.in_order
     ∙ ap (map pair_values) (unfiltered ps refl)
 
 pub shows_holds : (old new : State) (rows : List Row) (t : Tables) (hs : List HoldEntry) → StoresCommon old.now t

@@ -12,9 +12,11 @@ read_all-requires g c = refl
 pub returns-clause-all : goal.returns-clause-all
 returns-clause-all g c clean =
     if_ok c.read_all.result _ _ (c.read_all.ensures.all clean) (λ all h t s keyed.
-    back due_record_values ReadsDueRecord due_record_of one_due_record h.0 _ all.items (shows_due_records _ _ h.0 c.args.day t s keyed (rw c.to_sql.ensures at h.1.0)) h.1.1)
+    let shown = shows_due_records _ _ h.0 c.args.day t s keyed (rw c.to_sql.ensures at h.1.0) in
+    back due_record_values ReadsDueRecord due_record_of one_due_record h.0 _ all.items shown h.1.1)
 
 pub returns-clause-none : goal.returns-clause-none
 returns-clause-none g c clean is t s keyed fits =
     let found = c.read_all.ensures.none clean is in
-    found.1.1 (readable due_record_values _ _ can_due_record found.0 _ (shows_due_records _ _ found.0 c.args.day t s keyed (rw c.to_sql.ensures at found.1.0)) fits)
+    let shown = shows_due_records _ _ found.0 c.args.day t s keyed (rw c.to_sql.ensures at found.1.0) in
+    found.1.1 (readable due_record_values _ _ can_due_record found.0 _ shown fits)

@@ -6,7 +6,7 @@ use Rattle.sqlite_tied.specs.Compute.{everything}
 use Rattle.sqlite_keyed.proofs.ListLemmas.{slice_get-filter}
 use Rattle.record_archive.specs.Archive.{Message}
 use Rattle.record_tables.specs.Rows.{Tables}
-use Rattle.record_reads.proofs.LookupLemmas.{bodies_numbered, body_values, few_bodies, shows_body, popped}
+use Rattle.record_reads.proofs.LookupLemmas.{body_values, few_bodies, shows_body, popped}
 use Rattle.record_reads.proofs.TypedLemmas.{back, readable_all, handed_on}
 use Rattle.record_reads.proofs.lookup.message_body.Goals as goal
 
@@ -20,17 +20,18 @@ returns-clause-body g c clean = λ (t : Tables) s keyed.
     let n = c.args.number in
     let all = c.in_ok-bodies.bodies.items in
     let shown = shows_body _ _ found.0 n t s keyed (rw c.to_sql.ensures at found.1.0) in
-    let read = back body_values (λ row body. column row 0 ≡ Blob body) (λ v. v.items) (λ body q e. let h = e in cc) found.0 (bodies_numbered n t) all
+    let read = back body_values (λ row body. column row 0 ≡ Blob body) (λ v. v.items) (λ body q e. let h = e in cc) found.0 _ all
     shown found.1.1 in
-    popped (λ v. v.items) all (bodies_numbered n t) _ c.pop.result c.in_ok-bodies.bodies.ok.0 read (few_bodies n t keyed) c.pop.ensures.variant.0 c.pop.ensures.value
-    ∙ slice_get-map (λ (m : Message). m.body) _ 0 ∙ ap (option_map (λ (m : Message). m.body)) (slice_get-filter (λ (m : Message). m.number == n) t.messages)
+    popped (λ v. v.items) all _ _ c.pop.result c.in_ok-bodies.bodies.ok.0 read (few_bodies n t keyed) c.pop.ensures.variant.0 c.pop.ensures.value
+    ∙ slice_get-map (λ (m : Message). m.body) _ 0
+    ∙ ap (option_map (λ (m : Message). m.body)) (slice_get-filter (λ (m : Message). m.number == n) t.messages)
 
 pub returns-in_err-bodies-clause-none : goal.returns-in_err-bodies-clause-none
 returns-in_err-bodies-clause-none g c clean is = λ (t : Tables) s keyed.
     let told = handed_on c.from_residual.result c.in_err-bodies.field-0.0 c.from_residual.ensures.1 is in
     let found = c.in_err-bodies.ensures.none clean (ap (λ f. Err f) told) in
     let n = c.args.number in
-    found.1.1 (readable_all body_values _ (λ body. (body, refl)) found.0 (bodies_numbered n t)
+    found.1.1 (readable_all body_values _ (λ body. (body, refl)) found.0 _
     (shows_body _ _ found.0 n t s keyed (rw c.to_sql.ensures at found.1.0)))
 
 pub returns-in_err-bodies-clause-seen : goal.returns-in_err-bodies-clause-seen

@@ -13,9 +13,11 @@ read_all-requires g c = refl
 pub returns-clause-all : goal.returns-clause-all
 returns-clause-all g c clean =
     if_ok c.read_all.result _ _ (c.read_all.ensures.all clean) (λ all h t s keyed.
-    back record_values ReadsRecord record_of one_record h.0 _ all.items (shows_from _ _ h.0 c.args.from c.args.most t s keyed (rw (c.to_sql.ensures, c.to_sql-2.ensures) at h.1.0)) h.1.1)
+    let asked = rw (c.to_sql.ensures, c.to_sql-2.ensures) at h.1.0 in
+    back record_values ReadsRecord record_of one_record h.0 _ all.items (shows_from _ _ h.0 c.args.from c.args.most t s keyed asked) h.1.1)
 
 pub returns-clause-none : goal.returns-clause-none
 returns-clause-none g c clean is t s keyed fits =
     let found = c.read_all.ensures.none clean is in
-    found.1.1 (readable record_values _ _ can_record found.0 _ (shows_from _ _ found.0 c.args.from c.args.most t s keyed (rw (c.to_sql.ensures, c.to_sql-2.ensures) at found.1.0)) fits)
+    let asked = rw (c.to_sql.ensures, c.to_sql-2.ensures) at found.1.0 in
+    found.1.1 (readable record_values _ _ can_record found.0 _ (shows_from _ _ found.0 c.args.from c.args.most t s keyed asked) fits)
