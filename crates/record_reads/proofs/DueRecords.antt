@@ -5,6 +5,7 @@ use Rattle.std.proofs.Common.{is_eq, int_cmp, true≢false, IsPermutation, arith
 use Rattle.std.specs.List.{AllByRecursion}
 use Rattle.std.specs.Cmp.{IsTotalOrder}
 use Rattle.std.specs.Ordering.{ordering_reverse}
+use Rattle.std.proofs.Math.Bool.{and-true, and-false}
 use Rattle.std.proofs.lemmas.Cmp.{int_cmp_total, on_total, then_total}
 use Rattle.std.proofs.lemmas.List.Elements.{filter-append}
 use Rattle.std.proofs.lemmas.List.Sorted.{IsPermutation-map, IsPermutation-trans}
@@ -27,7 +28,7 @@ use Rattle.sqlite_trees.specs.Tree.{IsAscending}
 use Rattle.sqlite_keyed.specs.Lists.{sort_by, insert_sorted, pairs}
 use Rattle.sqlite_keyed.proofs.ListLemmas.{IsPermutation-flat_map, all_weaker, all-map, all-flat_map, ascending-append}
 use Rattle.sqlite_keyed.proofs.ListLemmas.{ascending-map, ascending_weaker, ascending-filter, filter-map, map-map}
-use Rattle.sqlite_keyed.proofs.ListLemmas.{map-flat_map, flat_map_same_on}
+use Rattle.sqlite_keyed.proofs.ListLemmas.{map-flat_map, flat_map_same_on, filter_same, filter_none, all_of}
 use Rattle.sqlite_keyed.proofs.KeyedLemmas.{Less-from_lt}
 use Rattle.sqlite_keyed.proofs.SortLemmas.{sorted_unique, IsPermutation-sort_by}
 use Rattle.sqlite_keyed.proofs.RuleLemmas.{at_most_one}
@@ -141,21 +142,8 @@ joined rs = flat_map (λ d. map (beside d) (filter (is_of d) rs))
 
 filter_both : (p : Record → Bool) (b : Bool) (d : Due) (rs : List Record)
     → map (beside d) (filter (λ r. p r && b) rs) ≡ cond b (map (beside d) (filter p rs)) []
-filter_both p true d [] = refl
-filter_both p true d (r ∷ rs) = go (p r) (filter_both p true d rs)
-  where
-    go : (c : Bool) → map (beside d) (filter (λ r. p r && true) rs) ≡ map (beside d) (filter p rs)
-        → map (beside d) (cond (c && true) (r ∷ filter (λ r. p r && true) rs) (filter (λ r. p r && true) rs))
-        ≡ map (beside d) (cond c (r ∷ filter p rs) (filter p rs))
-    go true more = ap (λ l. beside d r ∷ l) more
-    go false more = more
-filter_both p false d [] = refl
-filter_both p false d (r ∷ rs) = go (p r) (filter_both p false d rs)
-  where
-    go : (c : Bool) → map (beside d) (filter (λ r. p r && false) rs) ≡ []
-        → map (beside d) (cond (c && false) (r ∷ filter (λ r. p r && false) rs) (filter (λ r. p r && false) rs)) ≡ []
-    go true more = more
-    go false more = more
+filter_both p true d rs = ap (map (beside d)) (filter_same (λ r. p r && true) p (λ r. and-true (p r)) rs)
+filter_both p false d rs = ap (map (beside d)) (filter_none _ rs (all_of _ (λ r. and-false (p r)) rs))
 
 -- the pairs that the query selects are the due days up to the day, each with its record
 asked_is : (day : ℕ) (rs : List Record) (ds : List Due) → filter (is_asked day) (pairs ds rs) ≡ joined rs (filter (is_by day) ds)

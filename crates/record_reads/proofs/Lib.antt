@@ -7,4 +7,3 @@ pub mod StoredDueLemmas
 pub mod Quiet
 pub mod RawLemmas
 pub mod PageReads
-pub mod PlacedHolds

@@ -1,63 +1,11 @@
 -- Due days that rows show.
-use Rattle.std.proofs.Common.{◌≡◌, ◌==◌, ◌&&◌, ℕ, Bool, true, false, List, [], ◌∷◌, map, map-id, codes, refl, sym, ap, ◌∙◌, arith, None, Some}
+use Rattle.std.proofs.Common.{◌≡◌, ◌==◌, ◌&&◌, ℕ, Bool, true, false, List, [], ◌∷◌, map, refl, sym, ap, ◌∙◌, arith}
 use Rattle.std.proofs.lemmas.Bool.Decides.{nat_tests}
 use Rattle.std.specs.Bool.{Decides}
 use Rattle.std.specs.Cmp.Lexicographic.{pointwise}
-use Rattle.sqlite.specs.declared.types.Value.TheVariants.{Null}
-use Rattle.sqlite.specs.Order.{Row}
-use Rattle.sqlite.specs.Term.{col}
-use Rattle.sqlite.specs.Query.{Query, IsAnswer, inner, end}
-use Rattle.sqlite.specs.Command.TheVariants.{Select}
-use Rattle.sqlite.specs.Collation.TheVariants.{Binary}
-use Rattle.sqlite.specs.State.{State, Shown}
-use Rattle.sqlite.proofs.Callers.{reads_as}
-use Rattle.sqlite_sql.specs.Program.{overlay}
-use Rattle.sqlite_tied.specs.Compute.{everything}
-use Rattle.sqlite_value.specs.Keys.{ascending}
-use Rattle.sqlite_value.proofs.OrderLemmas.{value_cmp-Int}
-use Rattle.sqlite_typed.proofs.AnswerLemmas.{last_table, at_end, answer_by_keys, unfiltered}
-use Rattle.sqlite_typed.proofs.TestLemmas.{last_key}
-use Rattle.sqlite.specs.Schema.{Schema}
-use Rattle.record_tables.specs.Tables.{IsArchiveSchema, due_table}
-use Rattle.record_tables.proofs.Described.{seen}
-use Rattle.record_tables.proofs.Compiling.{Draft, Means, no_page, draft_of, means_query_one}
-use Rattle.record_tables.specs.Rows.{Tables, Stores, AreKeyed, Due, due_key, due_row}
+use Rattle.record_tables.specs.Rows.{Due}
 use Rattle.record_tables.specs.Reads.{due_values}
 use Rattle.record_reads.specs.StoredDues.{shows_due}
-use Rattle.record_tables.proofs.Texts.{alone, on_table}
-
--- ---- the query
-
-abbrev pub select_stored : List ℕ
-select_stored = codes "SELECT record, day FROM due_day ORDER BY record"
-
-abbrev stored_draft : ℕ → Draft
-stored_draft tree = draft_of (inner tree end) [] (col 1 0 ∷ col 1 2 ∷ []) ((col 1 0, ascending Binary) ∷ [])
-
-abbrev pub stored_query : ℕ → Query
-stored_query tree = record (on_table tree [] (col 1 0 ∷ col 1 2 ∷ [])) { order = (col 1 0, ascending Binary) ∷ [] }
-
-pub select_stored_is : (schema : Schema) (has : IsArchiveSchema schema)
-    → Means schema select_stored (Select (alone (stored_query has.dues.tree)) (codes "record" ∷ codes "day" ∷ []))
-unfolding everything
-select_stored_is schema has =
-    means_query_one schema due_table has.dues no_page (stored_draft has.dues.tree) (codes "record" ∷ codes "day" ∷ [])
-    (None ∷ Some Binary ∷ []) select_stored (refl, refl) refl refl
-    (refl, refl, refl, (tt, tt), ((0, refl, has.dues.named), tt), (tt, tt), (tt, (tt, tt)), tt, refl, refl, (tt, tt), refl)
-
-pub shows_stored : (old new : State) (rows : List Row) (t : Tables) → Stores old.now t → AreKeyed t
-    → Shown select_stored [] old new rows → rows ≡ map due_values t.dues
-shows_stored old new rows t s keyed h =
-    let is = select_stored_is old.now.schema s.schema in
-    let read = reads_as select_stored [] old new old.now.schema refl _ is.is is.plain is.unlisted rows h in
-    let db = overlay old.now.trees [] in
-    let answer : IsAnswer (stored_query s.schema.dues.tree) db [] rows = read.answer Null in
-    let source = last_table db s.schema.dues.tree due_row due_key t.dues (seen old.now.trees _ ∙ s.dues) keyed.dues (at_end db) in
-    let all = answer_by_keys (stored_query s.schema.dues.tree) db [] source (λ _. true) (λ r. refl) (λ r. r) due_values (λ r.
-    refl) refl refl (λ x y. last_key (value_cmp-Int (due_key x) (due_key y))) rows answer in
-    sym (map-id rows) ∙ all ∙ ap (map due_values) (unfiltered t.dues refl)
-
--- ---- what the rows tell
 
 both_true : (a b : Bool) → (a && b) ≡ true → (a ≡ true) × (b ≡ true)
 both_true true b h = (refl, h)

@@ -1,10 +1,11 @@
 -- The values read from rows are those that the rows show.
-use Rattle.std.proofs.Common.{◌≡◌, ◌<◌, ◌+◌, ◌++◌, ℕ, zero, suc, List, [], ◌∷◌, Bool, true, false, Option, Some, None}
-use Rattle.std.proofs.Common.{map, length, take, get_or, Result, Ok, Err, refl, sym, ap, subst, ◌∙◌, arith, IfOk, IfErr}
+use Rattle.std.proofs.Common.{◌≡◌, ◌<◌, ◌+◌, ◌++◌, ℕ, List, [], ◌∷◌, Bool, true, false, Option, Some, None}
+use Rattle.std.proofs.Common.{map, length, take, get_or, Result, Ok, Err, refl, sym, ap, subst, ◌∙◌, IfOk, IfErr}
 use Rattle.std.proofs.Common.{OnOk, OnErr, IsErrAnd}
 use Rattle.std.proofs.lemmas.List.{take_more}
 use Rattle.std.proofs.lemmas.Result.{err_from_is_err_and}
 use Rattle.std.specs.List.{AllZip, AllByRecursion}
+use Rattle.sqlite_keyed.proofs.ListLemmas.{all_of, all_weaker, all_map}
 use Rattle.sqlite.specs.declared.types.Value.{Value}
 use Rattle.sqlite.specs.declared.types.Value.TheVariants.{Int, Text}
 use Rattle.sqlite.specs.declared.error.Error.{Error}
@@ -29,9 +30,9 @@ pub on_ok : {T E : Type 0} (r : Result T E) (P : Type 0) → P → OnOk r P
 on_ok (Ok x) P p = p
 on_ok (Err e) P p = tt
 
-pub if_ok : {T E : Type 0} (r : Result T E) (P Q : T → Type 0) → ((x : T) → P x → Q x) → IfOk r P → IfOk r Q
-if_ok (Ok x) P Q to h = to x h
-if_ok (Err e) P Q to h = tt
+pub if_ok : {T E : Type 0} (r : Result T E) (P Q : T → Type 0) → IfOk r P → ((x : T) → P x → Q x) → IfOk r Q
+if_ok (Ok x) P Q h to = to x h
+if_ok (Err e) P Q h to = tt
 
 pub if_err_is : {T E : Type 0} (r : Result T E) (e : E) (P : E → Type 0) → r ≡ Err e → IfErr r P → P e
 if_err_is r e P is h = subst (λ x. IfErr x P) is h
@@ -68,30 +69,25 @@ pub zip_next : {A C : Type 0} (P : A → C → Type 0) (xs : List A) (ys : List 
     → AllZip P (take (i + 1) xs) (ys ++ y ∷ [])
 zip_next P xs ys x y i low is h p = rw (take_more xs i x low, ← is) (zip_push P (take i xs) ys x y h p)
 
-pub all_at : {A : Type 0} (P : A → Type 0) (xs : List A) (i : ℕ) (x : A) → i < length xs → x ≡ get_or xs i x → AllByRecursion P xs → P x
-all_at P xs i x low is h = subst P (sym is) (go xs i x low h)
-  where
-    go : (ys : List _) (i : ℕ) (v : _) → i < length ys → AllByRecursion P ys → P (get_or ys i v)
-    go [] i v low all = absurd (omega arith)
-    go (y ∷ ys) zero v low all = all.0
-    go (y ∷ ys) (suc i) v low all = go ys i v (omega arith) all.1
-
 module _ {A V : Type 0} (show : A → List Value) (Reads : List Value → A → Type 0) (of : V → A) (one : (a q : A) → Reads (show a) q → q ≡ a) where
-  pub back : (xs : List A) (qs : List V) → AllZip (λ row v. Reads row (of v)) (map show xs) qs → map of qs ≡ xs
-  back [] [] h = refl
-  back [] (q ∷ qs) h = absurd h
-  back (x ∷ xs) [] h = absurd h
-  back (x ∷ xs) (q ∷ qs) h = let first = one x (of q) h.0 in let others = back xs qs h.1 in cc
+  read_back : (xs : List A) (qs : List V) → AllZip (λ row v. Reads row (of v)) (map show xs) qs → map of qs ≡ xs
+  read_back [] [] h = refl
+  read_back [] (q ∷ qs) h = absurd h
+  read_back (x ∷ xs) [] h = absurd h
+  read_back (x ∷ xs) (q ∷ qs) h = let first = one x (of q) h.0 in let others = read_back xs qs h.1 in cc
 
-pub readable : {A : Type 0} (show : A → List Value) (P : List Value → Type 0) (Fits : A → Type 0)
-    → ((a : A) → Fits a → P (show a)) → (xs : List A) → AllByRecursion Fits xs → AllByRecursion P (map show xs)
-readable show P Fits can [] h = tt
-readable show P Fits can (x ∷ xs) h = (can x h.0, readable show P Fits can xs h.1)
+  -- rows that show these values are read as them
+  pub back : (rows : List (List Value)) (xs : List A) (qs : List V) → rows ≡ map show xs → AllZip (λ row v. Reads row (of v)) rows qs → map of qs ≡ xs
+  back rows xs qs is h = read_back xs qs (subst (λ l. AllZip (λ row v. Reads row (of v)) l qs) is h)
+
+-- rows that show values which can be read can be read
+pub readable : {A : Type 0} (show : A → List Value) (P : List Value → Type 0) (Fits : A → Type 0) → ((a : A) → Fits a → P (show a))
+    → (rows : List (List Value)) (xs : List A) → rows ≡ map show xs → AllByRecursion Fits xs → AllByRecursion P rows
+readable show P Fits can rows xs is h = subst (AllByRecursion P) (sym is) (all_map P show xs (all_weaker Fits (λ a. P (show a)) can xs h))
 
 pub readable_all : {A : Type 0} (show : A → List Value) (P : List Value → Type 0) → ((a : A) → P (show a))
-    → (xs : List A) → AllByRecursion P (map show xs)
-readable_all show P can [] = tt
-readable_all show P can (x ∷ xs) = (can x, readable_all show P can xs)
+    → (rows : List (List Value)) (xs : List A) → rows ≡ map show xs → AllByRecursion P rows
+readable_all show P can rows xs is = subst (AllByRecursion P) (sym is) (all_map P show xs (all_of (λ a. P (show a)) can xs))
 
 -- ---- one row
 

@@ -1,5 +1,6 @@
 pub mod Lookups
 pub mod Quiet
+pub mod Selects
 pub mod RawRows
 pub mod DueRecords
 pub mod StoredDues

@@ -9,8 +9,8 @@ ghost use Rattle.record_reads.specs.Lookups.{WasOpenOnNoArchive};
 ghost use Rattle.record_tables.specs.Steps.{CommitsNothingOf, IsStill, Falls, IsIdle, ReadsAlone, Learns, Rejects, WasOpenOnOk};
 
 use crate::cells::{number_at, text_at};
-use crate::query::rows_of;
-use crate::typed::{FromRow, rows_in};
+use crate::query::read_all;
+use crate::typed::FromRow;
 use record_tables::fault::Fault;
 use record_tables::rows::DueRecordRow;
 use sqlite::types::ToSql;
@@ -55,10 +55,10 @@ pub fn due_records_by<S: Alter>(
     ensures survives { CommitsNothingOf S.Store conn.old conn.new
         (IsArchiveSchema (state S.Store conn.old).now.schema) }
 {
-    let rows = rows_of(
+    read_all(
+        alloc,
         conn,
         "SELECT due_day.record, due_day.day, record.path FROM due_day JOIN record ON record.number = due_day.record WHERE due_day.day <= ?1 ORDER BY due_day.day, due_day.record",
         &[day.to_sql()],
-    )?;
-    rows_in(alloc, rows.as_slice())
+    )
 }

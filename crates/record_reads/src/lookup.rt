@@ -7,40 +7,18 @@ ghost use Rattle.std.specs.Prelude.{◌≡◌, option_map, OnOk, IsTrue};
 ghost use Rattle.std.specs.List.{AllByRecursion};
 ghost use Rattle.sqlite.specs.State.{HasCleanDisk};
 ghost use Rattle.sqlite.specs.Held.{state};
-ghost use Rattle.sqlite.specs.Values.{bound};
-ghost use Rattle.sqlite.specs.Listing.{understood};
-ghost use Rattle.sqlite.proofs.Callers.{IsPlain};
-ghost use Rattle.sqlite.specs.Schema.{Schema};
-ghost use Rattle.record_tables.specs.Tables.{IsArchiveSchema};
 ghost use Rattle.record_tables.specs.Rows.{Tables, Stores, AreKeyed};
 ghost use Rattle.record_tables.specs.Reads.{FitsRecord};
 ghost use Rattle.record_reads.specs.Lookups.{Looks, WasOpenOnNoArchive, record_with, body_with, has_hold_of};
 ghost use Rattle.record_tables.specs.CodeRows.{record_of};
-ghost use Rattle.record_tables.specs.Steps.{Learns, Rejects, ShowsOnOk};
+ghost use Rattle.record_tables.specs.Steps.{Learns, Rejects};
 
-use crate::cells::octets_at;
-use crate::typed::FromRow;
+use crate::query::{read_all, rows_of};
 use record_tables::fault::Fault;
 use record_tables::rows::RecordRow;
 use sqlite::types::{ToSql, ValueRef};
-use sqlite::{Alter, Connection, Error, Row};
+use sqlite::{Alter, Connection, Error};
 use std::alloc::Global;
-
-fn look<S: Alter>(
-    conn: &mut Connection<S>,
-    sql: &str,
-    params: &[ValueRef<'_>],
-) -> Result<Vec<Row>, Error>
-    requires { (schema : Schema) → IsArchiveSchema schema → IsPlain (understood schema sql.now) }
-    ensures shown { ShowsOnOk S.Store conn.old conn.new result sql.now (bound params.now) }
-    ensures open { HasCleanDisk (state S.Store conn.new) → OnOk result
-        (IsTrue (state S.Store conn.old).is_open × IsTrue (state S.Store conn.new).is_open) }
-    ensures looks { Looks S.Store conn.old conn.new }
-{
-    let _settled = conn.is_autocommit();
-    let rows = conn.query_all(sql, params)?;
-    Ok(rows)
-}
 
 /// The record with a number, live or destroyed; `None` where there is none.
 pub fn record_by_number<S: Alter>(
@@ -59,18 +37,13 @@ pub fn record_by_number<S: Alter>(
         (IsTrue (state S.Store conn.old).is_open × IsTrue (state S.Store conn.new).is_open) }
     ensures looks { Looks S.Store conn.old conn.new }
 {
-    let rows = look(
+    let mut records: Vec<RecordRow> = read_all(
+        alloc,
         conn,
         "SELECT number, message, path, day, destroyed FROM record WHERE number = ?1",
         &[number.to_sql()],
     )?;
-    match rows.first() {
-        Some(row) => {
-            let record = RecordRow::from_row(alloc, row)?;
-            Ok(Some(record))
-        }
-        None => Ok(None),
-    }
+    Ok(records.pop())
 }
 
 /// The octets of the message with a number; `None` where there is none.
@@ -89,18 +62,13 @@ pub fn message_body<S: Alter>(
         (IsTrue (state S.Store conn.old).is_open × IsTrue (state S.Store conn.new).is_open) }
     ensures looks { Looks S.Store conn.old conn.new }
 {
-    let rows = look(
+    let mut bodies: Vec<Vec<u8>> = read_all(
+        alloc,
         conn,
         "SELECT body FROM message WHERE number = ?1",
         &[number.to_sql()],
     )?;
-    match rows.first() {
-        Some(row) => {
-            let body = octets_at(alloc, row, 0)?;
-            Ok(Some(body))
-        }
-        None => Ok(None),
-    }
+    Ok(bodies.pop())
 }
 
 /// Whether there is a hold of that name on the record with a number. Refused with the error of `sqlite` alone.
@@ -112,7 +80,7 @@ pub fn has_hold<S: Alter>(conn: &mut Connection<S>, name: &[u8], number: u32) ->
         (IsTrue (state S.Store conn.old).is_open × IsTrue (state S.Store conn.new).is_open) }
     ensures looks { Looks S.Store conn.old conn.new }
 {
-    let rows = look(
+    let rows = rows_of(
         conn,
         "SELECT record FROM hold WHERE name = ?1 AND record = ?2",
         &[ValueRef::Text(name), number.to_sql()],

@@ -14,8 +14,7 @@ ghost use Rattle.record_reads.specs.Lookups.{WasOpenOnNoArchive};
 ghost use Rattle.record_reads.specs.Pages.{records_from, is_between};
 ghost use Rattle.record_tables.specs.Steps.{CommitsNothingOf, IsStill, Falls, IsIdle, ReadsAlone, Learns, Rejects, WasOpenOnOk};
 
-use crate::query::rows_of;
-use crate::typed::rows_in;
+use crate::query::read_all;
 use record_tables::fault::Fault;
 use record_tables::rows::{HoldRow, RecordRow};
 use sqlite::types::ToSql;
@@ -46,12 +45,12 @@ pub fn records_from<S: Alter>(
     ensures survives { CommitsNothingOf S.Store conn.old conn.new
         (IsArchiveSchema (state S.Store conn.old).now.schema) }
 {
-    let rows = rows_of(
+    read_all(
+        alloc,
         conn,
         "SELECT number, message, path, day, destroyed FROM record WHERE number >= ?1 ORDER BY number LIMIT ?2",
         &[from.to_sql(), most.to_sql()],
-    )?;
-    rows_in(alloc, rows.as_slice())
+    )
 }
 
 /// The holds on the records from one number to another, both included, by record and then in byte order of their
@@ -78,10 +77,10 @@ pub fn holds_between<S: Alter>(
     ensures survives { CommitsNothingOf S.Store conn.old conn.new
         (IsArchiveSchema (state S.Store conn.old).now.schema) }
 {
-    let rows = rows_of(
+    read_all(
+        alloc,
         conn,
         "SELECT name, record FROM hold WHERE record >= ?1 AND record <= ?2 ORDER BY record, name",
         &[first.to_sql(), last.to_sql()],
-    )?;
-    rows_in(alloc, rows.as_slice())
+    )
 }

@@ -12,8 +12,7 @@ ghost use Rattle.record_tables.specs.Reads.{hold_entry, FitsHold};
 ghost use Rattle.record_tables.specs.CodeRows.{hold_entry_of};
 ghost use Rattle.record_tables.specs.Steps.{CommitsNothingOf, IsStill, Falls, IsIdle, ReadsAlone, Learns, Rejects, WasOpenOnOk};
 
-use crate::query::rows_of;
-use crate::typed::rows_in;
+use crate::query::read_all;
 use record_tables::fault::Fault;
 use record_tables::rows::HoldRow;
 use sqlite::{Alter, Connection};
@@ -40,6 +39,10 @@ pub fn placed_holds<S: Alter>(
     ensures survives { CommitsNothingOf S.Store conn.old conn.new
         (IsArchiveSchema (state S.Store conn.old).now.schema) }
 {
-    let rows = rows_of(conn, "SELECT name, record FROM hold ORDER BY rowid", &[])?;
-    rows_in(alloc, rows.as_slice())
+    read_all(
+        alloc,
+        conn,
+        "SELECT name, record FROM hold ORDER BY rowid",
+        &[],
+    )
 }

@@ -15,8 +15,7 @@ ghost use Rattle.record_reads.specs.RawRows.{AreTypedRecords, AreTypedMessages, 
 ghost use Rattle.record_tables.specs.CodeRows.{record_of, hold_entry_of, pair_of, class_entry_of, rule_of};
 ghost use Rattle.record_tables.specs.Steps.{CommitsNothingOf, Falls, IsIdle, ReadsAlone, Learns, Rejects, WasOpenOnOk};
 
-use crate::query::rows_of;
-use crate::typed::rows_in;
+use crate::query::read_all;
 use record_tables::fault::Fault;
 use record_tables::rows::{ClassRow, HoldRow, RecordRow, ScheduleRow, SettingRow};
 use sqlite::{Alter, Connection};
@@ -42,12 +41,12 @@ pub fn records<S: Alter>(alloc: Global, conn: &mut Connection<S>) -> Result<Vec<
     ensures survives { CommitsNothingOf S.Store conn.old conn.new
         (HasCommonTables (state S.Store conn.old).now.schema) }
 {
-    let rows = rows_of(
+    read_all(
+        alloc,
         conn,
         "SELECT number, message, path, day, destroyed FROM record ORDER BY number",
         &[],
-    )?;
-    rows_in(alloc, rows.as_slice())
+    )
 }
 
 /// The numbers of all messages, in order.
@@ -69,8 +68,12 @@ pub fn message_numbers<S: Alter>(alloc: Global, conn: &mut Connection<S>) -> Res
     ensures survives { CommitsNothingOf S.Store conn.old conn.new
         (HasCommonTables (state S.Store conn.old).now.schema) }
 {
-    let rows = rows_of(conn, "SELECT number FROM message ORDER BY number", &[])?;
-    rows_in(alloc, rows.as_slice())
+    read_all(
+        alloc,
+        conn,
+        "SELECT number FROM message ORDER BY number",
+        &[],
+    )
 }
 
 /// All holds, by record and then in byte order of their names.
@@ -90,12 +93,12 @@ pub fn holds<S: Alter>(alloc: Global, conn: &mut Connection<S>) -> Result<Vec<Ho
     ensures survives { CommitsNothingOf S.Store conn.old conn.new
         (HasCommonTables (state S.Store conn.old).now.schema) }
 {
-    let rows = rows_of(
+    read_all(
+        alloc,
         conn,
         "SELECT name, record FROM hold ORDER BY record, name",
         &[],
-    )?;
-    rows_in(alloc, rows.as_slice())
+    )
 }
 
 /// All settings, in byte order of their keys.
@@ -113,8 +116,7 @@ pub fn settings<S: Alter>(alloc: Global, conn: &mut Connection<S>) -> Result<Vec
     ensures survives { CommitsNothingOf S.Store conn.old conn.new
         (HasCommonTables (state S.Store conn.old).now.schema) }
 {
-    let rows = rows_of(conn, "SELECT key, value FROM meta ORDER BY key", &[])?;
-    rows_in(alloc, rows.as_slice())
+    read_all(alloc, conn, "SELECT key, value FROM meta ORDER BY key", &[])
 }
 
 /// All classes, in byte order of their paths.
@@ -134,12 +136,12 @@ pub fn classes<S: Alter>(alloc: Global, conn: &mut Connection<S>) -> Result<Vec<
     ensures survives { CommitsNothingOf S.Store conn.old conn.new
         (HasCommonTables (state S.Store conn.old).now.schema) }
 {
-    let rows = rows_of(
+    read_all(
+        alloc,
         conn,
         "SELECT path, is_open, schedule FROM class ORDER BY path",
         &[],
-    )?;
-    rows_in(alloc, rows.as_slice())
+    )
 }
 
 /// All schedules, in byte order of their paths; that of the whole plan has the empty path.
@@ -162,10 +164,10 @@ pub fn schedules<S: Alter>(
     ensures survives { CommitsNothingOf S.Store conn.old conn.new
         (IsArchiveSchema (state S.Store conn.old).now.schema) }
 {
-    let rows = rows_of(
+    read_all(
+        alloc,
         conn,
         "SELECT path, count, unit, action, year_end FROM schedule ORDER BY path",
         &[],
-    )?;
-    rows_in(alloc, rows.as_slice())
+    )
 }

@@ -4,12 +4,13 @@ ghost use Rattle.std.specs.Prelude.{◌≡◌, ◌≢◌, ℕ, List, pos, IfOk, 
 ghost use Rattle.std.specs.List.{AllZip, AllByRecursion};
 ghost use Rattle.sqlite.specs.Order.{column};
 ghost use Rattle.sqlite.specs.declared.types.Value.{Value};
+ghost use Rattle.sqlite.specs.declared.types.Value.TheVariants.{Blob as Octets};
 ghost use Rattle.record_archive.specs.Archive.{Record};
 ghost use Rattle.record_tables.specs.Changes.{ClassEntry, Rule};
 ghost use Rattle.record_tables.specs.Reads.{HoldEntry, Pair, ReadsNumber, FitsNumber, ReadsRecord, FitsRecord, ReadsHold, FitsHold, ReadsPair, ReadsClass, ReadsRule, FitsRule};
 ghost use Rattle.record_tables.specs.CodeRows.{record_of, hold_entry_of, pair_of, class_entry_of, rule_of};
 
-use crate::cells::{flag_at, is_null_at, number_at, text_at};
+use crate::cells::{flag_at, is_null_at, number_at, octets_at, text_at};
 use record_tables::fault::Fault;
 use record_tables::rows::{ClassRow, HoldRow, RecordRow, ScheduleRow, SettingRow};
 use sqlite::Row;
@@ -35,6 +36,16 @@ impl FromRow for u32 {
 
     fn from_row(_alloc: Global, row: &Row) -> Result<u32, Fault> {
         number_at(row, 0)
+    }
+}
+
+impl FromRow for Vec<u8> {
+    ghost reads = { λ row octets. column row 0 ≡ Octets octets.items };
+
+    ghost is_readable = { λ row. (octets : List ℕ) × (column row 0 ≡ Octets octets) };
+
+    fn from_row(alloc: Global, row: &Row) -> Result<Vec<u8>, Fault> {
+        octets_at(alloc, row, 0)
     }
 }
 

@@ -1,44 +1,39 @@
-use Rattle.std.proofs.Common.{◌≡◌, ◌∙◌, ap, slice_get}
+use Rattle.std.proofs.Common.{◌≡◌, ◌∙◌, ap, refl, ◌==◌, Err, option_map}
+use Rattle.sqlite.specs.Order.{column}
+use Rattle.sqlite.specs.declared.types.Value.TheVariants.{Blob}
+use Rattle.std.proofs.lemmas.Option.{slice_get-map}
+use Rattle.sqlite_tied.specs.Compute.{everything}
+use Rattle.sqlite_keyed.proofs.ListLemmas.{slice_get-filter}
+use Rattle.record_archive.specs.Archive.{Message}
 use Rattle.record_tables.specs.Rows.{Tables}
-use Rattle.record_tables.specs.declared.fault.Fault.TheVariants.{NoArchive}
-use Rattle.record_reads.proofs.LookupLemmas.{select_body_is, shows_body, body_is, body_none, body_readable}
-use Rattle.record_reads.proofs.TypedLemmas.{handed_on, never_none}
-use Rattle.sqlite.specs.Held.{state}
+use Rattle.record_reads.proofs.LookupLemmas.{body_values, few_bodies, shows_body, popped}
+use Rattle.record_reads.proofs.TypedLemmas.{back, readable_all, handed_on}
 use Rattle.record_reads.proofs.lookup.message_body.Goals as goal
 
-pub look-requires : goal.look-requires
-look-requires g c = λ schema has. (select_body_is schema has).plain
-
-pub returns-in-Some-clause-body : goal.returns-in-Some-clause-body
-returns-in-Some-clause-body g c clean = λ (t : Tables) s keyed.
-    let rows = c.in_ok-rows.rows.items in
-    let shown = shows_body (state g.S.Store c.args.conn.now) (state g.S.Store c.look.new.conn) rows c.args.number t s
-    keyed (rw c.to_sql.ensures at (c.in_ok-rows.ensures.shown clean)) in
-    let first = c.in-Some.ensures.value ∙ ap (λ l. slice_get l 0) c.deref.ensures.value in
-    body_is c.args.number t rows c.in-Some.row.now _ shown first c.in_ok-body-in-Some.ensures.octets
+pub read_all-requires : goal.read_all-requires
+unfolding everything
+read_all-requires g c = refl
 
 pub returns-clause-body : goal.returns-clause-body
 returns-clause-body g c clean = λ (t : Tables) s keyed.
-    let rows = c.in_ok-rows.rows.items in
-    let shown = shows_body (state g.S.Store c.args.conn.now) (state g.S.Store c.look.new.conn) rows c.args.number t s
-    keyed (rw c.to_sql.ensures at (c.in_ok-rows.ensures.shown clean)) in
-    let first = c.in-None.ensures.value ∙ ap (λ l. slice_get l 0) c.deref.ensures.value in
-    body_none c.args.number t rows shown first
+    let found = c.in_ok-bodies.ensures.all clean in
+    let n = c.args.number in
+    let all = c.in_ok-bodies.bodies.items in
+    let shown = shows_body _ _ found.0 n t s keyed (rw c.to_sql.ensures at found.1.0) in
+    let read = back body_values (λ row body. column row 0 ≡ Blob body) (λ v. v.items) (λ body q e. let h = e in cc) found.0 _ all
+    shown found.1.1 in
+    popped (λ v. v.items) all _ _ c.pop.result c.in_ok-bodies.bodies.ok.0 read (few_bodies n t keyed) c.pop.ensures.variant.0 c.pop.ensures.value
+    ∙ slice_get-map (λ (m : Message). m.body) _ 0
+    ∙ ap (option_map (λ (m : Message). m.body)) (slice_get-filter (λ (m : Message). m.number == n) t.messages)
 
-pub returns-in_err-body-in-Some-clause-none : goal.returns-in_err-body-in-Some-clause-none
-returns-in_err-body-in-Some-clause-none g c clean is = λ (t : Tables) s keyed.
-    let rows = c.in_ok-rows.rows.items in
-    let shown = shows_body (state g.S.Store c.args.conn.now) (state g.S.Store c.look.new.conn) rows c.args.number t s
-    keyed (rw c.to_sql.ensures at (c.in_ok-rows.ensures.shown clean)) in
-    let first = c.in-Some.ensures.value ∙ ap (λ l. slice_get l 0) c.deref.ensures.value in
-    let told : c.in_err-body-in-Some.field-0.0 ≡ NoArchive =
-    handed_on c.from_residual-in_err-body-in-Some.result c.in_err-body-in-Some.field-0.0
-    c.from_residual-in_err-body-in-Some.ensures.1 is in
-    let there = body_readable c.args.number t rows c.in-Some.row.now shown first in
-    (c.in_err-body-in-Some.ensures.none (λ e. cc)).1 there.0 there.1
+pub returns-in_err-bodies-clause-none : goal.returns-in_err-bodies-clause-none
+returns-in_err-bodies-clause-none g c clean is = λ (t : Tables) s keyed.
+    let told = handed_on c.from_residual.result c.in_err-bodies.field-0.0 c.from_residual.ensures.1 is in
+    let found = c.in_err-bodies.ensures.none clean (ap (λ f. Err f) told) in
+    let n = c.args.number in
+    found.1.1 (readable_all body_values _ (λ body. (body, refl)) found.0 _
+    (shows_body _ _ found.0 n t s keyed (rw c.to_sql.ensures at found.1.0)))
 
-pub returns-in_err-rows-clause-none : goal.returns-in_err-rows-clause-none
-returns-in_err-rows-clause-none g c clean is = absurd (never_none c.from_residual.result c.in_err-rows.field-0.0 c.from_residual.ensures.1 is)
-
-pub returns-in_err-rows-clause-seen : goal.returns-in_err-rows-clause-seen
-returns-in_err-rows-clause-seen g c clean is = absurd (never_none c.from_residual.result c.in_err-rows.field-0.0 c.from_residual.ensures.1 is)
+pub returns-in_err-bodies-clause-seen : goal.returns-in_err-bodies-clause-seen
+returns-in_err-bodies-clause-seen g c clean is =
+    c.in_err-bodies.ensures.seen clean (ap (λ f. Err f) (handed_on c.from_residual.result c.in_err-bodies.field-0.0 c.from_residual.ensures.1 is))
