@@ -5,7 +5,7 @@ use Rattle.record_archive.specs.Archive.{Archive}
 use Rattle.record_adoption.specs.Adoption.{Finds, FindsSecond, FindsFirst, FindsNothing, IsKeyed}
 use Rattle.record_store.proofs.AdoptLayouts.{lays_at, rows_left, no_reads, second_reads, first_reads, no_rows}
 use Rattle.record_store.proofs.AdoptLayouts.{second_rows, first_rows, finds_nothing, finds_second, finds_first}
-use Rattle.record_store.proofs.AdoptLayouts.{first_none, typed_empty, typed_second, typed_first}
+use Rattle.record_store.proofs.AdoptLayouts.{first_none, second_none, typed_empty, typed_second, typed_first}
 use Rattle.record_adoption.proofs.AdoptSettled.{keyed_of, leaves_weaker}
 use Rattle.record_store.proofs.store.Store.adopt.Goals as goal
 
@@ -94,6 +94,14 @@ returns-in-First-clause-crash_refused g c =
     IfErr-weaker c.adopt_first.result _ _ (λ e h. leaves_weaker g.S.Store c.args.conn e.1 (λ (a : Archive).
     FindsFirst db a × IsKeyed a) (Finds db) (λ a f. finds_first db a l lays c.in-First.is f) h)
     c.adopt_first.ensures.crash_refused
+
+pub returns-in-Second-clause-no_archive : goal.returns-in-Second-clause-no_archive
+returns-in-Second-clause-no_archive g c =
+    let db = (state g.S.Store c.args.conn).now in
+    let l = c.layout_of.result in
+    let lays = lays_at c.schema.result.now db.schema l c.schema.ensures.value c.layout_of.ensures.empty
+    c.layout_of.ensures.first c.layout_of.ensures.first_with_dues c.layout_of.ensures.second in
+    IfErr-weaker c.adopt_second.result _ _ (λ e h is clean. second_none db l lays c.in-Second.is (h is clean)) c.adopt_second.ensures.no_archive
 
 pub returns-in-First-clause-no_archive : goal.returns-in-First-clause-no_archive
 returns-in-First-clause-no_archive g c =
