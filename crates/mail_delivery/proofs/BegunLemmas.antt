@@ -1,13 +1,13 @@
 -- The capture that a delivery begins, after its BEGIN and TURN.
 use Rattle.std.proofs.Common.{◌≡◌, ◌+◌, ◌++◌, ℕ, List, [], ◌∷◌, Bool, true, false, Option, Some, None, refl, arith}
 use Rattle.std.proofs.Common.{ap, ◌∙◌, sym, subst, inl, inr}
-use Rattle.std.specs.Prelude.{◌==◌, if◌then◌else◌}
+use Rattle.std.specs.Prelude.{◌==◌}
 use Rattle.std.specs.Option.{option_map}
 use Rattle.std.proofs.lemmas.Bool.Decides.{nat_tests}
 use Rattle.sieve_meaning.specs.declared.run_fault.RunFault.{RunFault}
-use Rattle.filing_commands.specs.Answers.{Answer, begun}
+use Rattle.filing_commands.specs.Answers.{Answer}
 use Rattle.filing_commands.specs.Pinning.{BeginState}
-use Rattle.filing_commands.specs.Standing.{Begins, Flight, Standing, Step, TurnStep, begin, begin_state, flight_of, grant, turn, with_turns}
+use Rattle.filing_commands.specs.Standing.{Begins, Flight, Standing, Step, TurnStep, begin_state, flight_of, grant, with_turns}
 use Rattle.mail_delivery.specs.Deliveries.{Goes, HasFault, IsFaulty, TellsFault, first_calls}
 use Rattle.mail_delivery.proofs.FaultLemmas.{fault_answered, told_of}
 

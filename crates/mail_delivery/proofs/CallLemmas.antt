@@ -1,12 +1,12 @@
 -- Calls of a desk, one after the other.
-use Rattle.std.proofs.Common.{◌≡◌, ℕ, List, [], ◌∷◌, ◌++◌, Result, Ok, Err, IsErr, IsErrAnd, Bool, true, false, refl, ap, subst}
+use Rattle.std.proofs.Common.{◌≡◌, List, [], ◌∷◌, ◌++◌, Result, Ok, Err, IsErr, IsErrAnd, Bool, true, false, refl, ap, subst}
 use Rattle.std.specs.Prelude.{◌||◌}
 use Rattle.std.proofs.lemmas.Bool.{false≢true}
 use Rattle.record_archive.specs.Archive.{Archive}
 use Rattle.filing_commands.specs.Answers.{Answer}
 use Rattle.filing_commands.specs.ArchiveAnswers.{is_of_archive}
-use Rattle.filing_commands.specs.Calls.{Calls, Leads}
-use Rattle.filing_commands.specs.Standing.{Command, Standing, Step}
+use Rattle.filing_commands.specs.Calls.{Calls}
+use Rattle.filing_commands.specs.Standing.{Command, Standing}
 use Rattle.filing_commands.specs.declared.fault.DeskFault.{DeskFault}
 use Rattle.mail_delivery.specs.Deliveries.{Call, Goes, Follows, are_of_archive}
 

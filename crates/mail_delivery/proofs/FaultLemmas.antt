@@ -1,7 +1,7 @@
 -- The fault of a capture that has come to its end.
 use Rattle.std.proofs.Common.{◌≡◌, ◌<◌, ℕ, min, List, [], ◌∷◌, Bool, true, false, Option, Some, None, refl, arith}
 use Rattle.std.proofs.Common.{ap, ◌∙◌, sym, subst, inl, inr}
-use Rattle.std.specs.Prelude.{◌==◌, nat_lt, MatchBool, if◌then◌else◌}
+use Rattle.std.specs.Prelude.{◌==◌, nat_lt, MatchBool}
 use Rattle.std.proofs.lemmas.Bool.{false≢true}
 use Rattle.std.proofs.lemmas.Bool.Decides.{nat_tests}
 use Rattle.sieve_meaning.specs.declared.outcome.Outcome.{Outcome}

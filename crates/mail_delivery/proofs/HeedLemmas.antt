@@ -1,5 +1,5 @@
 -- What is done on a fault.
-use Rattle.std.proofs.Common.{◌≡◌, ℕ, List, Bool, true, false, Option, Some, None, Result, Ok, refl, ap, ◌∙◌, sym, subst}
+use Rattle.std.proofs.Common.{◌≡◌, ℕ, List, true, false, Option, Some, None, Ok, refl, ap, ◌∙◌, sym, subst}
 use Rattle.std.proofs.lemmas.Bool.{false≢true}
 use Rattle.sieve_meaning.specs.declared.run_fault.RunFault.{RunFault}
 use Rattle.record_archive.specs.Archive.{Archive, Line}

@@ -85,6 +85,9 @@ fn fault_against<A: Records>(
 ///
 /// What is answered as captured is what FINISH answered, and the desk comes to the state after these calls. A message that
 /// is given up, or that one of the calls refuses, leaves the archive as it was; its capture may stay in flight.
+///
+/// Under `GiveUp` a message is given up for the fault with which its run ended, and one that is captured has no fault.
+/// Under `Capture` none is given up.
 pub fn deliver<A: Records>(
     desk: &mut Desk<A>,
     officer: &[u8],

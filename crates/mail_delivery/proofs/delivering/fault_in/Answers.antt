@@ -4,7 +4,6 @@ use Rattle.std.proofs.Common.{arith}
 use Rattle.filing_machine.specs.StateViews.{is_ended}
 use Rattle.filing_commands.specs.Standing.{flight_of}
 use Rattle.filing_desk.specs.Standing.{IsShownBy}
-use Rattle.mail_delivery.specs.Deliveries.{TellsFault}
 use Rattle.mail_delivery.proofs.FaultLemmas.{held_pinned, told_at_end, told_before}
 use Rattle.mail_delivery.proofs.delivering.fault_in.Goals as goal
 
