@@ -1,1 +1,4 @@
 pub mod CallLemmas
+pub mod FaultLemmas
+pub mod BegunLemmas
+pub mod HeedLemmas

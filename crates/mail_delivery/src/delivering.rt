@@ -1,11 +1,12 @@
 //! One message through a desk.
 
-ghost use Rattle.std.specs.Prelude.{◌≡◌, ℕ, List, IfErr};
+ghost use Rattle.std.specs.Prelude.{◌≡◌, ℕ, List, IfErr, IfOk};
 ghost use Rattle.filing_commands.specs.Limits.{greatest_message};
 ghost use Rattle.filing_commands.specs.Payloads.{IsOf};
+ghost use Rattle.filing_commands.specs.Standing.{Standing, flight_of};
 ghost use Rattle.filing_commands.specs.declared.fault.DeskFault.TheVariants.{NoMemory};
 ghost use Rattle.filing_desk.specs.Standing.{IsClean, StandsFor};
-ghost use Rattle.mail_delivery.specs.Deliveries.{Begins, Delivers};
+ghost use Rattle.mail_delivery.specs.Deliveries.{Begins, Delivers, TellsFault};
 
 use filing_commands::{Capture, DeskFault, Payload, Registry};
 use filing_desk::Desk;
@@ -48,11 +49,18 @@ fn begin_and_run<A: Records>(
 }
 
 /// The fault of a capture that has come to its end, if its run ended with one.
-fn fault_in<A: Records>(desk: &Desk<A>, ticket: u32) -> Result<Option<RunFault>, AllocError> {
-    match desk.in_flight(u64::from(ticket)) {
-        Some((_, machine)) if machine.is_ended() => Ok(machine.outcome()?.fault),
-        _ => Ok(None),
+fn fault_in<A: Records>(desk: &Desk<A>, ticket: u32) -> Result<Option<RunFault>, AllocError>
+    ensures { (s : Standing) → StandsFor A.stands desk.now s
+        → IfOk result (TellsFault (flight_of ticket s.flights)) }
+{
+    let Some((_, machine)) = desk.in_flight(u64::from(ticket)) else {
+        return Ok(None);
+    };
+    if !machine.is_ended() {
+        return Ok(None);
     }
+    let outcome = machine.outcome()?;
+    Ok(outcome.fault)
 }
 
 /// The fault for which a capture is to be given up, if there is one.
@@ -61,7 +69,10 @@ fn fault_against<A: Records>(
     ticket: u32,
     on_fault: OnFault,
 ) -> Result<Option<RunFault>, DeskFault>
-    ensures { IfErr result (λ f. f ≡ NoMemory) }
+    ensures told { on_fault ≡ OnFault.GiveUp → (s : Standing) → StandsFor A.stands desk.now s
+        → IfOk result (TellsFault (flight_of ticket s.flights)) }
+    ensures none { on_fault ≡ OnFault.Capture → IfOk result (λ f. f ≡ None) }
+    ensures refused { IfErr result (λ f. f ≡ NoMemory) }
 {
     match on_fault {
         OnFault::GiveUp => Ok(fault_in(desk, ticket)?),
@@ -74,6 +85,9 @@ fn fault_against<A: Records>(
 ///
 /// What is answered as captured is what FINISH answered, and the desk comes to the state after these calls. A message that
 /// is given up, or that one of the calls refuses, leaves the archive as it was; its capture may stay in flight.
+///
+/// Under `GiveUp` a message is given up for the fault with which its run ended, and one that is captured has no fault.
+/// Under `Capture` none is given up.
 pub fn deliver<A: Records>(
     desk: &mut Desk<A>,
     officer: &[u8],
@@ -83,7 +97,7 @@ pub fn deliver<A: Records>(
 ) -> Result<Delivery, DeskFault>
     ensures { (m : List ℕ) → IsOf greatest_message message m
         → Delivers (IsClean A.clean) (StandsFor A.stands) desk.old officer.now moment m
-        result desk.new }
+        on_fault result desk.new }
 {
     let ticket = begin_and_run(desk, officer, moment, message)?;
     if let Some(fault) = fault_against(desk, ticket, on_fault)? {

@@ -1,4 +1,4 @@
-use Rattle.std.proofs.Common.{◌≡◌, ℕ, [], ◌∷◌, Result, refl, sym, subst, inl, inr}
+use Rattle.std.proofs.Common.{ℕ, [], ◌∷◌, Result, refl, sym, subst, inl, inr}
 use Rattle.filing_commands.specs.Answers.{begun}
 use Rattle.filing_commands.specs.Calls.{Calls}
 use Rattle.filing_commands.specs.CallAnswers.{answer_of_turn}
