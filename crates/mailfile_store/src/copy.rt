@@ -1,136 +1,16 @@
 //! `copy`: a new store with the same archive.
 
-use crate::archive::{Walk, open, store_path};
-use crate::failure::{Failure, Status};
-use crate::output::write_text;
+use crate::files::{lend, no_store, not_made, store_path};
 use clap::ArgMatches;
-use class_plan::{Plan, day_number};
+use class_plan::Plan;
 use record_copy::{CopyFault, copy_alike};
-use record_store::{Entry, Store};
-use sha2::{Digest, Sha256};
+use record_store::Store;
 use sqlite::Alter;
 use std::alloc::Global;
 use std::fs;
+use store_console::{Failure, Status, write_text};
 use store_files::{Closing, FileArchive, close, close_archive, create_archive, open_archive};
-use store_texts::plan_text;
-
-/// What is counted and summed of an archive.
-#[derive(Drop)]
-struct Summing {
-    hasher: Sha256,
-    records: u64,
-    messages: u64,
-    octets: u64,
-    /// The message that was added last.
-    message: u32,
-}
-
-/// How much an archive keeps, and a sum over all of it. Archives with the same sum are the same.
-#[derive(Clone, Copy)]
-struct Summary {
-    records: u64,
-    messages: u64,
-    /// The octets of the messages.
-    octets: u64,
-    sum: [u8; 32],
-}
-
-impl Summing {
-    fn add_number(&mut self, number: i64) {
-        self.hasher.update(number.to_le_bytes().as_slice());
-    }
-
-    /// Adds octets, and before them how many they are.
-    fn add_octets(&mut self, octets: &[u8]) {
-        self.hasher
-            .update((octets.len() as u64).to_le_bytes().as_slice());
-        self.hasher.update(octets);
-    }
-
-    /// Adds a record with its holds.
-    fn add_record(&mut self, entry: &Entry) {
-        self.records = self.records.saturating_add(1);
-        self.add_number(i64::from(entry.number));
-        self.add_number(i64::from(entry.message));
-        self.add_number(i64::from(entry.destroyed));
-        self.add_number(day_number(entry.day));
-        self.add_octets(entry.path.as_slice());
-        self.hasher
-            .update((entry.holds.len() as u64).to_le_bytes().as_slice());
-        for name in entry.holds.iter() {
-            self.add_octets(name.as_slice());
-        }
-    }
-
-    /// Adds the message of a live record, unless it was that of the one before.
-    fn add_message<S: Alter>(
-        &mut self,
-        rt: &HostRuntime,
-        archive: &mut Store<S>,
-        entry: &Entry,
-    ) -> Result<(), Failure> {
-        if entry.destroyed || (self.messages > 0 && self.message == entry.message) {
-            return Ok(());
-        }
-        match archive.message(entry.number) {
-            Ok(octets) => {
-                self.message = entry.message;
-                self.messages = self.messages.saturating_add(1);
-                self.octets = self.octets.saturating_add(octets.len() as u64);
-                self.add_octets(octets.as_slice());
-                Ok(())
-            }
-            Err(fault) => Err(Failure::of_store(rt.alloc(), "the store", fault)),
-        }
-    }
-
-    /// Adds all records and their messages.
-    fn add_all<S: Alter>(
-        &mut self,
-        rt: &HostRuntime,
-        archive: &mut Store<S>,
-    ) -> Result<(), Failure> {
-        let mut walk = Walk::from(1);
-        for _ in 0..u64::MAX {
-            let page = walk.next_page(rt, archive)?;
-            if page.is_empty() {
-                break;
-            }
-            for entry in page.iter() {
-                self.add_record(entry);
-                self.add_message(rt, archive, entry)?;
-            }
-        }
-        Ok(())
-    }
-}
-
-/// Reads a whole archive: its plan, its records with their holds, and its messages.
-fn summary_of<S: Alter>(rt: &HostRuntime, archive: &mut Store<S>) -> Result<Summary, Failure> {
-    let mut summing = Summing {
-        hasher: Sha256::new(),
-        records: 0,
-        messages: 0,
-        octets: 0,
-        message: 0,
-    };
-    let plan = plan_text(rt.alloc(), archive.plan())?;
-    summing.add_octets(plan.as_bytes());
-    summing.add_all(rt, archive)?;
-    let Summing {
-        hasher,
-        records,
-        messages,
-        octets,
-        ..
-    } = summing;
-    Ok(Summary {
-        records,
-        messages,
-        octets,
-        sum: hasher.finalize(),
-    })
-}
+use store_readings::{SumTask, Summary, summary_of};
 
 /// The failure of a copy.
 fn copy_failure(alloc: Global, store: &str, new: &str, fault: CopyFault) -> Failure {
@@ -166,7 +46,7 @@ fn fill(
         Ok(new) => new,
         Err(cause) => {
             close_archive(archive);
-            return Err(Failure::not_made(rt.alloc(), path, cause));
+            return Err(not_made(rt.alloc(), path, cause));
         }
     };
     let mut from = archive.into_connection();
@@ -182,19 +62,10 @@ fn fill(
 
 /// Reads a new store back from its file. All of it is in that file then, and nothing in its log.
 fn read_back(rt: &HostRuntime, path: &str) -> Result<Summary, Failure> {
-    let mut archive = match open_archive(rt, path) {
-        Ok(archive) => archive,
-        Err(cause) => return Err(Failure::not_made(rt.alloc(), path, cause)),
-    };
-    let summed = summary_of(rt, &mut archive);
-    match close_archive(archive) {
-        Closing::Copied => summed,
-        Closing::Logged(_) | Closing::Shut | Closing::Cut => Err(Failure::at(
-            rt.alloc(),
-            Status::TryAgain,
-            path,
-            &"the disk failed",
-        )),
+    match lend(rt, path, SumTask) {
+        Ok((summed, Closing::Copied)) => summed,
+        Ok(_) => Err(Failure::at(rt.alloc(), Status::TryAgain, path, &"the disk failed")),
+        Err(cause) => Err(not_made(rt.alloc(), path, cause)),
     }
 }
 
@@ -239,7 +110,7 @@ fn remove_new(rt: &HostRuntime, path: &str) {
 fn make_new(rt: &HostRuntime, path: &str, plan: &Plan) -> Result<(), Failure> {
     match create_archive(rt, path, plan.copy()?) {
         Ok(()) => Ok(()),
-        Err(cause) => Err(Failure::not_made(rt.alloc(), path, cause)),
+        Err(cause) => Err(not_made(rt.alloc(), path, cause)),
     }
 }
 
@@ -288,10 +159,14 @@ fn settle(
 /// Makes a new store with the archive of another one. Where that fails, no new file is left.
 pub fn copy(rt: &HostRuntime, asked: &ArgMatches<'_>) -> Result<(), Failure> {
     let path = asked.get_str("new").unwrap_or("");
-    let mut archive = open(rt, asked)?;
+    let store = store_path(asked);
+    let mut archive = match open_archive(rt, store) {
+        Ok(archive) => archive,
+        Err(cause) => return Err(no_store(rt.alloc(), store, cause)),
+    };
     match prepare(rt, &mut archive, path) {
         Ok(kept) => {
-            let filled = fill(rt, archive, &kept.plan, store_path(asked), path);
+            let filled = fill(rt, archive, &kept.plan, store, path);
             settle(rt, filled, &kept.summary, path)
         }
         Err(failure) => {

@@ -3,32 +3,18 @@
 //! It works on the desk and the store by their calls, so no octet of a message is ever read as a command.
 #![tactic(auto)]
 
-mod archive;
-mod choice;
-mod clock;
-mod command_line;
 mod copy;
-mod create;
-mod deliver;
-mod dispose;
-mod export;
-mod failure;
-mod holds;
-mod intake;
-mod judge;
-mod list;
-mod output;
-mod plan;
-mod report;
-mod rules;
-mod show;
-mod why;
+mod files;
+mod subcommands;
 
 use clap::{ArgMatches, Error};
-use command_line::{command, words};
-use failure::{Failure, Status};
 use std::alloc::Global;
+use std::env;
+use std::io::ErrorKind;
 use std::process::ExitCode;
+use store_changes::Change;
+use store_commands::command;
+use store_console::{Failure, Status};
 
 /// What a subcommand has come to; none for a name that is no subcommand of its kind.
 type Done = Option<Result<(), Failure>>;
@@ -36,10 +22,10 @@ type Done = Option<Result<(), Failure>>;
 /// Runs a subcommand that makes an archive or changes it.
 fn do_change(rt: &HostRuntime, name: &str, asked: &ArgMatches<'_>) -> Done {
     match name {
-        "create" => Some(create::create(rt, asked)),
-        "plan" => Some(plan::print_or_replace(rt, asked)),
-        "deliver" => Some(deliver::deliver_one(rt, asked)),
-        "intake" => Some(intake::intake(rt, asked)),
+        "create" => Some(subcommands::create(rt, asked)),
+        "plan" => Some(subcommands::plan(rt, asked)),
+        "deliver" => Some(subcommands::deliver(rt, asked)),
+        "intake" => Some(subcommands::intake(rt, asked)),
         _ => None,
     }
 }
@@ -47,12 +33,12 @@ fn do_change(rt: &HostRuntime, name: &str, asked: &ArgMatches<'_>) -> Done {
 /// Runs a subcommand that reads an archive.
 fn do_reading(rt: &HostRuntime, name: &str, asked: &ArgMatches<'_>) -> Done {
     match name {
-        "list" => Some(list::list(rt, asked)),
-        "show" => Some(show::show(rt, asked)),
-        "export" => Some(export::export(rt, asked)),
+        "list" => Some(subcommands::list(rt, asked)),
+        "show" => Some(subcommands::show(rt, asked)),
+        "export" => Some(subcommands::export(rt, asked)),
         "copy" => Some(copy::copy(rt, asked)),
-        "check" => Some(judge::check(rt, asked)),
-        "why" => Some(why::why(rt, asked)),
+        "check" => Some(subcommands::check(rt, asked)),
+        "why" => Some(subcommands::why(rt, asked)),
         _ => None,
     }
 }
@@ -60,10 +46,10 @@ fn do_reading(rt: &HostRuntime, name: &str, asked: &ArgMatches<'_>) -> Done {
 /// Runs a subcommand on holds, destruction and reports.
 fn do_disposal(rt: &HostRuntime, name: &str, asked: &ArgMatches<'_>) -> Done {
     match name {
-        "hold" => Some(holds::hold(rt, asked)),
-        "release" => Some(holds::release(rt, asked)),
-        "dispose" => Some(dispose::dispose(rt, asked)),
-        "report" => Some(report::report(rt, asked)),
+        "hold" => Some(subcommands::change_holds(rt, asked, Change::Place)),
+        "release" => Some(subcommands::change_holds(rt, asked, Change::End)),
+        "dispose" => Some(subcommands::dispose(rt, asked)),
+        "report" => Some(subcommands::report(rt, asked)),
         _ => None,
     }
 }
@@ -105,6 +91,19 @@ fn tell_failure(rt: &HostRuntime, failure: &Failure) -> ExitCode {
             status.code()
         }
         Failure::Reported(status) => status.code(),
+    }
+}
+
+/// The words of the command line, the program's name first. A word that is not UTF-8 is a failure.
+fn words(rt: &HostRuntime) -> Result<Vec<String>, Failure> {
+    match env::args(rt) {
+        Ok(words) => Ok(words.collect(rt.alloc())?),
+        Err(error) if error.kind() == ErrorKind::OutOfMemory => Err(Failure::NoMemory),
+        Err(_) => Err(Failure::told(
+            rt.alloc(),
+            Status::Usage,
+            "a word of the command line is not UTF-8",
+        )),
     }
 }
 

@@ -1,13 +1,10 @@
-//! `create`: a new store.
+//! A plan that is read from a file.
 
-use crate::archive::store_path;
-use crate::failure::{Failure, Status};
-use clap::ArgMatches;
 use class_plan::{Plan, PlanFault};
 use filing_commands::{MAX_PLAN_OCTETS, Payload};
 use payload_files::payload_of_file;
 use std::io::ErrorKind;
-use store_files::create_archive;
+use store_console::{Failure, Status};
 use tool_texts::refusal_text;
 
 /// The number of a plan's text that is too long.
@@ -35,22 +32,12 @@ fn read_text(rt: &HostRuntime, path: &str) -> Result<Vec<u8>, Failure> {
     }
 }
 
-/// The plan of a file.
+/// The plan of a file. `NoInput` where the file cannot be read, and `BadData` with the number where its text is no plan.
 pub fn read_plan(rt: &HostRuntime, path: &str) -> Result<Plan, Failure> {
     let text = read_text(rt, path)?;
     match Plan::from_toml(rt.alloc(), text.as_slice()) {
         Ok(plan) => Ok(plan),
         Err(PlanFault::NoMemory) => Err(Failure::NoMemory),
         Err(fault) => Err(plan_refused(rt, path, fault.number())),
-    }
-}
-
-/// Makes a new store.
-pub fn create(rt: &HostRuntime, asked: &ArgMatches<'_>) -> Result<(), Failure> {
-    let plan = read_plan(rt, asked.get_str("plan").unwrap_or(""))?;
-    let path = store_path(asked);
-    match create_archive(rt, path, plan) {
-        Ok(()) => Ok(()),
-        Err(cause) => Err(Failure::not_made(rt.alloc(), path, cause)),
     }
 }

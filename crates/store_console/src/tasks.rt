@@ -1,40 +1,31 @@
-//! The archive in the file that the command line names.
+//! What is done with an archive, wherever that is kept.
 
-use crate::failure::Failure;
-use clap::ArgMatches;
+use crate::failure::{Failure, Status};
 use record_store::{Entry, Store};
 use sqlite::Alter;
-use store_files::{FileArchive, close_archive, open_archive};
 
 /// How many records a walk reads at a time.
 const PAGE: usize = 4_000;
 
-/// The path of the store.
-pub fn store_path<'a>(asked: &ArgMatches<'a>) -> &'a str {
-    asked.get_str("store").unwrap_or("")
+/// What a subcommand does with an archive. It works on any store and gives it back, so it knows nothing of files.
+pub trait Task: Drop {
+    /// What it comes to.
+    type Answer: Drop;
+
+    /// Does it. The archive is given back whatever fails.
+    fn work_on<S: Alter>(
+        self,
+        rt: &HostRuntime,
+        archive: Store<S>,
+    ) -> (Store<S>, Result<Self::Answer, Failure>);
 }
 
-/// The archive that the command line names.
-pub fn open(rt: &HostRuntime, asked: &ArgMatches<'_>) -> Result<FileArchive, Failure> {
-    let path = store_path(asked);
-    match open_archive(rt, path) {
-        Ok(archive) => Ok(archive),
-        Err(cause) => Err(Failure::no_store(rt.alloc(), path, cause)),
+/// The number of a record, as it is typed. `Usage` where it is none of 32 bits.
+pub fn read_number(rt: &HostRuntime, word: &str) -> Result<u32, Failure> {
+    match word.parse() {
+        Ok(number) => Ok(number),
+        Err(_) => Err(Failure::at(rt.alloc(), Status::Usage, word, &"not a number of a record")),
     }
-}
-
-/// Opens the archive that the command line names, works on it, and closes it.
-pub fn on_archive<T: Drop, F: FnOnce(&mut FileArchive) -> Result<T, Failure>>(
-    rt: &HostRuntime,
-    asked: &ArgMatches<'_>,
-    work: F,
-) -> Result<T, Failure>
-    requires { F.IsAlwaysCallable work }
-{
-    let mut archive = open(rt, asked)?;
-    let done = work(&mut archive);
-    close_archive(archive);
-    done
 }
 
 /// A walk over the records of an archive, by number.
@@ -60,7 +51,7 @@ impl Walk {
         }
     }
 
-    /// The next records; none at the end.
+    /// The next records; none at the end. A failure is that of the store.
     pub fn next_page<S: Alter>(
         &mut self,
         rt: &HostRuntime,

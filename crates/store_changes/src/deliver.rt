@@ -1,23 +1,32 @@
 //! `deliver`: one message from standard input.
 
-use crate::archive::open;
-use crate::clock::now;
-use crate::failure::{Failure, Status};
-use crate::output::{tell, write_text};
 use crate::rules::Filing;
 use clap::ArgMatches;
 use filing_commands::{Capture, DeskFault, MAX_MESSAGE_OCTETS, Payload};
 use mail_delivery::{Delivery, deliver};
 use payload_files::read_payload;
 use record_archive::Records;
+use record_store::Store;
 use sieve_meaning::RunFault;
+use sqlite::Alter;
 use std::alloc::{AllocError, Global};
-use store_files::close_archive;
+use store_console::{Failure, Status, Task, now, tell, write_text};
 use store_texts::captured_line;
 use tool_texts::fault_text;
 
+/// The failure of a call of the desk.
+pub fn desk_failure(alloc: Global, name: &str, fault: DeskFault) -> Failure {
+    let status = match fault {
+        DeskFault::NoMemory => return Failure::NoMemory,
+        DeskFault::BadMoment => Status::Usage,
+        DeskFault::MessageTooLong => Status::BadData,
+        _ => Status::TryAgain,
+    };
+    Failure::numbered(alloc, status, name, fault.refusal().number)
+}
+
 /// The fault of a run in words.
-pub fn fault_words(alloc: Global, fault: RunFault) -> Result<String, AllocError> {
+fn fault_words(alloc: Global, fault: RunFault) -> Result<String, AllocError> {
     let number = fault.number();
     let words = fault_text(number).unwrap_or("the run ended with a fault");
     format!(in alloc; "fault {number}: {words}")
@@ -37,7 +46,7 @@ pub fn given_up_words(alloc: Global, fault: RunFault) -> Result<String, AllocErr
 }
 
 /// The record lines of a capture, each after a text; or that the message was discarded.
-pub fn record_lines(alloc: Global, before: &str, capture: &Capture) -> Result<String, AllocError> {
+fn record_lines(alloc: Global, before: &str, capture: &Capture) -> Result<String, AllocError> {
     let mut text = String::new(alloc);
     for line in capture.lines.as_slice() {
         text.push_str(before)?;
@@ -65,7 +74,7 @@ pub fn report_capture(rt: &HostRuntime, before: &str, capture: &Capture) {
 /// The message on standard input.
 fn read_message(rt: &HostRuntime) -> Result<Payload, Failure> {
     match read_payload(rt.alloc(), rt.stdin(), MAX_MESSAGE_OCTETS) {
-        Ok(Payload::TooLong) => Err(Failure::of_desk(
+        Ok(Payload::TooLong) => Err(desk_failure(
             rt.alloc(),
             "the message",
             DeskFault::MessageTooLong,
@@ -106,10 +115,8 @@ fn deliver_to<A: Records>(
     let officer = filing.officer.as_bytes();
     let done = match deliver(&mut desk, officer, moment, message, filing.on_fault) {
         Ok(delivery) => Ok(delivery),
-        Err(DeskFault::BadMoment) => {
-            Err(Failure::of_desk(rt.alloc(), "--at", DeskFault::BadMoment))
-        }
-        Err(fault) => Err(Failure::of_desk(rt.alloc(), "the message", fault)),
+        Err(DeskFault::BadMoment) => { Err(desk_failure(rt.alloc(), "--at", DeskFault::BadMoment)) }
+        Err(fault) => Err(desk_failure(rt.alloc(), "the message", fault)),
     };
     (desk.into_store(), done)
 }
@@ -122,18 +129,53 @@ fn given_up(rt: &HostRuntime, fault: RunFault) -> Failure {
     }
 }
 
-/// Captures the message on standard input. A store that cannot be had is a reason to try again, so that a mail server
-/// keeps the message.
-pub fn deliver_one(rt: &HostRuntime, asked: &ArgMatches<'_>) -> Result<(), Failure> {
-    let moment = moment_asked(rt, asked)?;
-    let message = read_message(rt)?;
-    let filing = Filing::read(rt, asked)?;
-    let archive = match open(rt, asked) {
-        Ok(archive) => archive,
-        Err(failure) => return Err(failure.kept()),
-    };
-    let (archive, delivered) = deliver_to(rt, archive, &filing, moment, message);
-    close_archive(archive);
+/// `deliver`: captures a message.
+#[derive(Drop)]
+pub struct DeliverTask<'a> {
+    moment: u64,
+    message: Payload,
+    filing: Filing<'a>,
+}
+
+impl<'a> DeliverTask<'a> {
+    /// The task of a command line, with the message on standard input. `Usage` where its moment is none, and `BadData`
+    /// with the number of a message that is too long. It may be done later, `TryAgain`, where the message cannot be
+    /// read, or where rules are at fault and mail is not to go to `unfiled` then.
+    pub fn read(rt: &HostRuntime, asked: &ArgMatches<'a>) -> Result<DeliverTask<'a>, Failure> {
+        let moment = moment_asked(rt, asked)?;
+        let message = read_message(rt)?;
+        let filing = Filing::read(rt, asked)?;
+        Ok(DeliverTask {
+            moment,
+            message,
+            filing,
+        })
+    }
+}
+
+impl Task for DeliverTask<'_> {
+    type Answer = Result<Delivery, Failure>;
+
+    fn work_on<S: Alter>(
+        self,
+        rt: &HostRuntime,
+        archive: Store<S>,
+    ) -> (Store<S>, Result<Self::Answer, Failure>) {
+        let DeliverTask {
+            moment,
+            message,
+            filing,
+        } = self;
+        let (archive, delivered) = deliver_to(rt, archive, &filing, moment, message);
+        (archive, Ok(delivered))
+    }
+}
+
+/// Writes the records of a delivery to standard output. Where its message was given up, that is a failure.
+pub fn report_delivery(
+    rt: &HostRuntime,
+    delivered: Result<Delivery, Failure>,
+) -> Result<(), Failure> {
     match delivered? {
         Delivery::Captured(capture) => {
             report_capture(rt, "", &capture);

@@ -1,16 +1,12 @@
 //! `plan`: the plan of an archive, and another one in its place.
 
-use crate::archive::{Walk, on_archive};
-use crate::choice::is_by;
-use crate::clock::today;
-use crate::create::read_plan;
 use crate::dispose::destroys;
-use crate::failure::{Failure, Status};
-use crate::output::{agrees, write_text};
+use crate::plan_file::read_plan;
 use clap::ArgMatches;
 use class_plan::{Date, Plan, day_number};
 use record_store::{Entry, Store};
 use sqlite::Alter;
+use store_console::{Failure, Status, Task, Walk, agrees, is_by, today, write_text};
 use store_texts::{due_by, plan_of_text, plan_text};
 
 /// How many live records are due today by a plan.
@@ -139,17 +135,49 @@ fn write_plan(rt: &HostRuntime, plan: &Plan) -> Result<(), Failure> {
     write_text(rt, text.as_str())
 }
 
-/// Writes the plan of an archive, or replaces it.
-pub fn print_or_replace(rt: &HostRuntime, asked: &ArgMatches<'_>) -> Result<(), Failure> {
-    match asked.get_str("set") {
-        Some(path) => on_archive(rt, asked, |archive| {
-            replace(rt, archive, path, asked.get_flag("yes"))
-        }),
-        None if asked.get_flag("yes") => Err(Failure::told(
-            rt.alloc(),
-            Status::Usage,
-            "--yes needs the plan of --set",
-        )),
-        None => on_archive(rt, asked, |archive| write_plan(rt, archive.plan())),
+/// `plan`: writes the plan of an archive to standard output, or replaces it.
+#[derive(Clone, Copy)]
+pub enum PlanTask<'a> {
+    /// Writes it.
+    Write,
+    /// Replaces it by the plan of a file.
+    Replace {
+        /// The path of that file.
+        path: &'a str,
+        /// Whether nobody is asked before.
+        is_agreed: bool,
+    },
+}
+
+impl<'a> PlanTask<'a> {
+    /// The task of a command line. `Usage` where `--yes` has no plan to agree to.
+    pub fn read(rt: &HostRuntime, asked: &ArgMatches<'a>) -> Result<PlanTask<'a>, Failure> {
+        let is_agreed = asked.get_flag("yes");
+        match asked.get_str("set") {
+            Some(path) => Ok(PlanTask::Replace { path, is_agreed }),
+            None if is_agreed => Err(Failure::told(
+                rt.alloc(),
+                Status::Usage,
+                "--yes needs the plan of --set",
+            )),
+            None => Ok(PlanTask::Write),
+        }
+    }
+}
+
+impl Task for PlanTask<'_> {
+    type Answer = ();
+
+    fn work_on<S: Alter>(
+        self,
+        rt: &HostRuntime,
+        archive: Store<S>,
+    ) -> (Store<S>, Result<(), Failure>) {
+        let mut archive = archive;
+        let done = match self {
+            PlanTask::Write => write_plan(rt, archive.plan()),
+            PlanTask::Replace { path, is_agreed } => replace(rt, &mut archive, path, is_agreed),
+        };
+        (archive, done)
     }
 }

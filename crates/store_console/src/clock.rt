@@ -4,7 +4,8 @@ use crate::failure::{Failure, Status};
 use class_plan::{Date, date_of, day_number, day_of};
 use std::time::{SystemTime, UNIX_EPOCH};
 
-/// The time of the clock, in seconds since 1970-01-01T00:00:00Z.
+/// The time of the clock, in seconds since 1970-01-01T00:00:00Z. `TryAgain` where there is no clock, or it is before
+/// 1970.
 pub fn now(rt: &HostRuntime) -> Result<u64, Failure> {
     let since = match SystemTime::now(rt) {
         Ok(time) => time.duration_since(UNIX_EPOCH),
@@ -16,7 +17,7 @@ pub fn now(rt: &HostRuntime) -> Result<u64, Failure> {
     }
 }
 
-/// The day of the clock, in UTC.
+/// The day of the clock, in UTC. `TryAgain` also where that is after 2199.
 pub fn today(rt: &HostRuntime) -> Result<Date, Failure> {
     match day_of(now(rt)?) {
         Some(day) => Ok(day),
@@ -52,7 +53,7 @@ fn no_day(rt: &HostRuntime, text: &str) -> Failure {
     )
 }
 
-/// The day that is typed, which may be later than today, or else today.
+/// The day that is typed, which may be later than today, or else today. `Usage` where what is typed is no day.
 pub fn future_day_asked(rt: &HostRuntime, typed: Option<&str>) -> Result<Date, Failure> {
     let Some(text) = typed else {
         return today(rt);
@@ -63,7 +64,8 @@ pub fn future_day_asked(rt: &HostRuntime, typed: Option<&str>) -> Result<Date, F
     }
 }
 
-/// The day that is typed, or else today. A day later than today is refused: nothing is due by it yet.
+/// The day that is typed, or else today. `Usage` where what is typed is no day, or one later than today: nothing is due
+/// by it yet.
 pub fn day_asked(rt: &HostRuntime, typed: Option<&str>) -> Result<Date, Failure> {
     let today = today(rt)?;
     let Some(text) = typed else {
@@ -79,4 +81,9 @@ pub fn day_asked(rt: &HostRuntime, typed: Option<&str>) -> Result<Date, Failure>
         )),
         None => Err(no_day(rt, text)),
     }
+}
+
+/// Whether there is a due day that is not later than a day.
+pub fn is_by(due: Option<Date>, day: Date) -> bool {
+    due.is_some_and(|due| day_number(due) <= day_number(day))
 }

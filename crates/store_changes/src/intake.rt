@@ -1,9 +1,6 @@
 //! `intake`: the new messages of a Maildir.
 
-use crate::archive::open;
-use crate::clock::now;
-use crate::deliver::{given_up_words, report_capture};
-use crate::failure::{Failure, Status};
+use crate::deliver::{desk_failure, given_up_words, report_capture};
 use crate::rules::Filing;
 use clap::ArgMatches;
 use filing_commands::{Capture, MAX_MESSAGE_OCTETS, Payload};
@@ -14,9 +11,11 @@ use maildir::{
 };
 use payload_files::payload_of_file;
 use record_archive::Records;
+use record_store::Store;
+use sqlite::Alter;
 use std::fmt::Display;
 use std::io::{self, IsTerminal};
-use store_files::close_archive;
+use store_console::{Failure, Status, Task, now};
 use tool_texts::named;
 
 /// After how many messages progress is shown.
@@ -51,9 +50,9 @@ impl Tally {
     }
 }
 
-/// Where messages come from, and how they are filed.
+/// `intake`: captures the new messages of a Maildir, and moves them to its folder `cur`.
 #[derive(Drop)]
-struct MailFiling<'a> {
+pub struct IntakeTask<'a> {
     maildir: &'a str,
     filing: Filing<'a>,
 }
@@ -130,7 +129,7 @@ fn file_away(
 fn take_one<A: Records>(
     rt: &HostRuntime,
     desk: &mut Desk<A>,
-    job: &MailFiling<'_>,
+    job: &IntakeTask<'_>,
     name: &str,
 ) -> Result<Taken, Failure> {
     let Some(message) = read_message(rt, job.maildir, name)? else {
@@ -144,7 +143,7 @@ fn take_one<A: Records>(
             name_one(rt, name, &given_up_words(rt.alloc(), fault)?);
             Ok(Taken::GivenUp)
         }
-        Err(fault) => Err(Failure::of_desk(rt.alloc(), name, fault)),
+        Err(fault) => Err(desk_failure(rt.alloc(), name, fault)),
     }
 }
 
@@ -160,7 +159,7 @@ fn show_progress(rt: &HostRuntime, tally: &Tally) {
 fn take_with<A: Records>(
     rt: &HostRuntime,
     desk: &mut Desk<A>,
-    job: &MailFiling<'_>,
+    job: &IntakeTask<'_>,
     names: &[String],
     tally: &mut Tally,
 ) -> Result<usize, Failure> {
@@ -182,7 +181,7 @@ fn take_with<A: Records>(
 fn take_run<A: Records>(
     rt: &HostRuntime,
     archive: A,
-    job: &MailFiling<'_>,
+    job: &IntakeTask<'_>,
     names: &[String],
     tally: &mut Tally,
 ) -> (A, Result<usize, Failure>) {
@@ -198,7 +197,7 @@ fn take_run<A: Records>(
 fn take_all<A: Records>(
     rt: &HostRuntime,
     archive: A,
-    job: &MailFiling<'_>,
+    job: &IntakeTask<'_>,
     names: &[String],
     tally: &mut Tally,
 ) -> (A, Result<(), Failure>) {
@@ -248,7 +247,7 @@ fn movable_mail(rt: &HostRuntime, maildir: &str) -> io::Result<NewMail> {
 fn take_new<A: Records>(
     rt: &HostRuntime,
     archive: A,
-    job: &MailFiling<'_>,
+    job: &IntakeTask<'_>,
 ) -> (A, Result<(), Failure>) {
     let mail = match movable_mail(rt, job.maildir) {
         Ok(mail) => mail,
@@ -269,27 +268,41 @@ fn take_new<A: Records>(
     (archive, ended)
 }
 
-/// Captures the new messages of a Maildir.
-pub fn intake(rt: &HostRuntime, asked: &ArgMatches<'_>) -> Result<(), Failure> {
-    let maildir = asked.get_str("maildir").unwrap_or("");
+/// Finds that a folder is a Maildir.
+fn judge_maildir(rt: &HostRuntime, maildir: &str) -> Result<(), Failure> {
     match has_cur(rt, maildir) {
-        Ok(true) => {}
-        Ok(false) => {
-            return Err(Failure::at(
-                rt.alloc(),
-                Status::NoInput,
-                maildir,
-                &"no Maildir: it has no folder cur",
-            ));
-        }
-        Err(error) => return Err(maildir_failure(rt, maildir, error)),
+        Ok(true) => Ok(()),
+        Ok(false) => Err(Failure::at(
+            rt.alloc(),
+            Status::NoInput,
+            maildir,
+            &"no Maildir: it has no folder cur",
+        )),
+        Err(error) => Err(maildir_failure(rt, maildir, error)),
     }
-    let job = MailFiling {
-        maildir,
-        filing: Filing::read(rt, asked)?,
-    };
-    let archive = open(rt, asked)?;
-    let (archive, ended) = take_new(rt, archive, &job);
-    close_archive(archive);
-    ended
+}
+
+impl<'a> IntakeTask<'a> {
+    /// The task of a command line. `NoInput` where it names no Maildir. It may be done later, `TryAgain`, where the
+    /// Maildir cannot be looked at, or where rules are at fault and mail is not to go to `unfiled` then.
+    pub fn read(rt: &HostRuntime, asked: &ArgMatches<'a>) -> Result<IntakeTask<'a>, Failure> {
+        let maildir = asked.get_str("maildir").unwrap_or("");
+        judge_maildir(rt, maildir)?;
+        Ok(IntakeTask {
+            maildir,
+            filing: Filing::read(rt, asked)?,
+        })
+    }
+}
+
+impl Task for IntakeTask<'_> {
+    type Answer = ();
+
+    fn work_on<S: Alter>(
+        self,
+        rt: &HostRuntime,
+        archive: Store<S>,
+    ) -> (Store<S>, Result<(), Failure>) {
+        take_new(rt, archive, &self)
+    }
 }

@@ -1,16 +1,15 @@
 //! Which records a list or an export has.
 
-use crate::clock::day_asked;
-use crate::failure::{Failure, Status};
 use clap::ArgMatches;
-use class_plan::{Date, Plan, day_number};
+use class_plan::{Date, Plan};
 use record_store::Entry;
+use store_console::{Failure, Status, day_asked, is_by, read_number};
 
 /// Which records a list or an export has: those that meet each condition that is given.
-#[derive(Clone, Copy)]
-pub struct Choice<'a> {
+#[derive(Drop)]
+pub struct Choice {
     /// In this class or below it.
-    class: Option<&'a str>,
+    class: Option<String>,
     /// Live, and due by this day.
     due: Option<Date>,
     /// Kept by a hold.
@@ -29,22 +28,9 @@ fn is_within(path: &[u8], class: &str) -> bool {
     }
 }
 
-/// Whether there is a due day that is not later than a day.
-pub fn is_by(due: Option<Date>, day: Date) -> bool {
-    due.is_some_and(|due| day_number(due) <= day_number(day))
-}
-
-/// The number of a record, as it is typed.
-pub fn read_number(rt: &HostRuntime, word: &str) -> Result<u32, Failure> {
-    match word.parse() {
-        Ok(number) => Ok(number),
-        Err(_) => Err(Failure::at(rt.alloc(), Status::Usage, word, &"not a number of a record")),
-    }
-}
-
-impl<'a> Choice<'a> {
+impl Choice {
     /// The choice of a command line.
-    pub fn read(rt: &HostRuntime, asked: &ArgMatches<'a>) -> Result<Choice<'a>, Failure> {
+    pub fn read(rt: &HostRuntime, asked: &ArgMatches<'_>) -> Result<Choice, Failure> {
         let due = match asked.get_str("due") {
             Some(text) => Some(day_asked(rt, Some(text))?),
             None => None,
@@ -53,8 +39,12 @@ impl<'a> Choice<'a> {
             Some(word) => read_number(rt, word)?,
             None => 1,
         };
+        let class = match asked.get_str("class") {
+            Some(class) => Some(String::from_str(rt.alloc(), class)?),
+            None => None,
+        };
         Ok(Choice {
-            class: asked.get_str("class"),
+            class,
             due,
             is_held: asked.get_flag("held"),
             is_live: asked.get_flag("live"),
@@ -64,11 +54,11 @@ impl<'a> Choice<'a> {
 
     /// Finds that the class is one of the plan.
     pub fn judge(&self, rt: &HostRuntime, plan: &Plan) -> Result<(), Failure> {
-        match self.class {
+        match &self.class {
             Some(class) if plan.schedule_of(class.as_bytes()).is_none() => Err(Failure::at(
                 rt.alloc(),
                 Status::BadData,
-                class,
+                class.as_str(),
                 &"no class of the plan",
             )),
             _ => Ok(()),
@@ -77,8 +67,8 @@ impl<'a> Choice<'a> {
 
     /// Whether a record is one of these.
     pub fn has(&self, entry: &Entry) -> bool {
-        let in_class = match self.class {
-            Some(class) => is_within(entry.path.as_slice(), class),
+        let in_class = match &self.class {
+            Some(class) => is_within(entry.path.as_slice(), class.as_str()),
             None => true,
         };
         let is_due = match self.due {

@@ -1,13 +1,9 @@
 //! `check`: what an archive holds.
 
-use crate::archive::{Walk, on_archive};
-use crate::clock::today;
-use crate::failure::Failure;
-use crate::output::write_text;
-use clap::ArgMatches;
-use class_plan::{Date, day_number};
+use class_plan::Date;
 use record_store::{Entry, Store};
 use sqlite::Alter;
+use store_console::{Failure, Task, Walk, is_by, today, write_text};
 
 /// What an archive holds.
 #[derive(Clone, Copy)]
@@ -43,10 +39,7 @@ impl Contents {
         if !entry.holds.is_empty() {
             self.held = self.held.saturating_add(1);
         }
-        if entry
-            .due
-            .is_some_and(|due| day_number(due) <= day_number(today))
-        {
+        if is_by(entry.due, today) {
             self.due = self.due.saturating_add(1);
         }
         self.add_message(rt, archive, entry)
@@ -118,7 +111,20 @@ fn write_contents<S: Alter>(rt: &HostRuntime, archive: &mut Store<S>) -> Result<
     write_text(rt, text.as_str())
 }
 
-/// Judges a whole store, and says what it holds.
-pub fn check(rt: &HostRuntime, asked: &ArgMatches<'_>) -> Result<(), Failure> {
-    on_archive(rt, asked, |archive| write_contents(rt, archive))
+/// `check`: reads a whole store, and writes to standard output what it holds.
+#[derive(Clone, Copy)]
+pub struct CheckTask;
+
+impl Task for CheckTask {
+    type Answer = ();
+
+    fn work_on<S: Alter>(
+        self,
+        rt: &HostRuntime,
+        archive: Store<S>,
+    ) -> (Store<S>, Result<(), Failure>) {
+        let mut archive = archive;
+        let done = write_contents(rt, &mut archive);
+        (archive, done)
+    }
 }

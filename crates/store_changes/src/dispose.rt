@@ -1,15 +1,11 @@
 //! `dispose`: what is due, and its destruction.
 
-use crate::archive::{Walk, on_archive};
-use crate::choice::read_number;
-use crate::clock::{day_asked, now};
-use crate::failure::{Failure, Status};
-use crate::output::{tell, write_text};
 use clap::ArgMatches;
 use class_plan::{Action, Date, Plan, Schedule};
 use record_store::{Entry, Line, Store, StoreFault};
 use sqlite::Alter;
 use std::alloc::{AllocError, Global};
+use store_console::{Failure, Status, Task, Walk, day_asked, now, read_number, tell, write_text};
 use store_texts::{Certificate, captured_line, certificate_line, sum_of};
 
 /// How many records are read at a time in a search for others of one message.
@@ -233,7 +229,7 @@ fn destroy_all<S: Alter>(
     Ok(())
 }
 
-/// Lists or destroys what is due by a day.
+/// Writes or destroys what is due by a day; of records whose numbers were typed, these alone.
 fn dispose_by<S: Alter>(
     rt: &HostRuntime,
     archive: &mut Store<S>,
@@ -252,8 +248,34 @@ fn dispose_by<S: Alter>(
     Ok(())
 }
 
-/// Lists what is due and may be destroyed, and with `--yes` destroys it; of records whose numbers were typed, these alone.
-pub fn dispose(rt: &HostRuntime, asked: &ArgMatches<'_>) -> Result<(), Failure> {
-    let day = day_asked(rt, asked.get_str("day"))?;
-    on_archive(rt, asked, |archive| dispose_by(rt, archive, day, asked))
+/// `dispose`: writes what is due and may be destroyed, or destroys it.
+#[derive(Clone, Copy)]
+pub struct DisposeTask<'a, 'w> {
+    day: Date,
+    asked: &'w ArgMatches<'a>,
+}
+
+impl<'a, 'w> DisposeTask<'a, 'w> {
+    /// The task of a command line. `Usage` where its day is none, or has not come yet.
+    pub fn read(
+        rt: &HostRuntime,
+        asked: &'w ArgMatches<'a>,
+    ) -> Result<DisposeTask<'a, 'w>, Failure> {
+        let day = day_asked(rt, asked.get_str("day"))?;
+        Ok(DisposeTask { day, asked })
+    }
+}
+
+impl Task for DisposeTask<'_, '_> {
+    type Answer = ();
+
+    fn work_on<S: Alter>(
+        self,
+        rt: &HostRuntime,
+        archive: Store<S>,
+    ) -> (Store<S>, Result<(), Failure>) {
+        let mut archive = archive;
+        let done = dispose_by(rt, &mut archive, self.day, self.asked);
+        (archive, done)
+    }
 }

@@ -1,8 +1,6 @@
 //! `export`: records as files, with a manifest.
 
-use crate::archive::{Walk, on_archive};
 use crate::choice::Choice;
-use crate::failure::{Failure, Status};
 use crate::list::row_of;
 use clap::ArgMatches;
 use record_store::{Entry, Store};
@@ -11,6 +9,7 @@ use std::alloc::{AllocError, Global};
 use std::fs::{self, File, OpenOptions};
 use std::io::{self, ErrorKind, Write};
 use std::os::unix::fs::OpenOptionsExt;
+use store_console::{Failure, Status, Task, Walk};
 use store_texts::{Kept, MANIFEST_HEADER, manifest_row, sum_of};
 
 /// The permissions of a file of an export, as of a store.
@@ -158,7 +157,7 @@ fn export_records<S: Alter>(
     rt: &HostRuntime,
     archive: &mut Store<S>,
     export: &mut ExportFiles<'_>,
-    choice: &Choice<'_>,
+    choice: &Choice,
 ) -> Result<(), Failure> {
     let mut walk = Walk::from(choice.from);
     for _ in 0..u64::MAX {
@@ -178,7 +177,7 @@ fn export_to<S: Alter>(
     rt: &HostRuntime,
     archive: &mut Store<S>,
     folder: &str,
-    choice: &Choice<'_>,
+    choice: &Choice,
 ) -> Result<(), Failure> {
     choice.judge(rt, archive.plan())?;
     make_folder(rt, folder)?;
@@ -193,9 +192,33 @@ fn export_to<S: Alter>(
     export_records(rt, archive, &mut export, choice)
 }
 
-/// Exports records to a folder.
-pub fn export(rt: &HostRuntime, asked: &ArgMatches<'_>) -> Result<(), Failure> {
-    let choice = Choice::read(rt, asked)?;
-    let folder = asked.get_str("folder").unwrap_or("");
-    on_archive(rt, asked, |archive| export_to(rt, archive, folder, &choice))
+/// `export`: writes the chosen records to files of a folder.
+#[derive(Drop)]
+pub struct ExportTask<'a> {
+    choice: Choice,
+    folder: &'a str,
+}
+
+impl<'a> ExportTask<'a> {
+    /// The task of a command line. `Usage` where a day or a number of it is none.
+    pub fn read(rt: &HostRuntime, asked: &ArgMatches<'a>) -> Result<ExportTask<'a>, Failure> {
+        Ok(ExportTask {
+            choice: Choice::read(rt, asked)?,
+            folder: asked.get_str("folder").unwrap_or(""),
+        })
+    }
+}
+
+impl Task for ExportTask<'_> {
+    type Answer = ();
+
+    fn work_on<S: Alter>(
+        self,
+        rt: &HostRuntime,
+        archive: Store<S>,
+    ) -> (Store<S>, Result<(), Failure>) {
+        let mut archive = archive;
+        let done = export_to(rt, &mut archive, self.folder, &self.choice);
+        (archive, done)
+    }
 }

@@ -1,23 +1,8 @@
-//! The command line.
+//! The command line of `mailfile-store`: its subcommands, each with its words and an example.
+#![tactic(auto)]
 
-use crate::failure::{Failure, Status};
 use clap::{Arg, ArgAction, Command};
 use std::alloc::{AllocError, Global};
-use std::env;
-use std::io::ErrorKind;
-
-/// The words of the command line, the program's name first. A word that is not UTF-8 is a failure.
-pub fn words(rt: &HostRuntime) -> Result<Vec<String>, Failure> {
-    match env::args(rt) {
-        Ok(words) => Ok(words.collect(rt.alloc())?),
-        Err(error) if error.kind() == ErrorKind::OutOfMemory => Err(Failure::NoMemory),
-        Err(_) => Err(Failure::told(
-            rt.alloc(),
-            Status::Usage,
-            "a word of the command line is not UTF-8",
-        )),
-    }
-}
 
 /// A word that must be given.
 fn word<'a>(alloc: Global, id: &'a str, name: &'a str) -> Arg<'a> {
@@ -338,7 +323,7 @@ fn with_disposal<'a>(alloc: Global, command: Command<'a>) -> Result<Command<'a>,
     with(command, report(alloc))
 }
 
-/// The whole command line, with all subcommands.
+/// The whole command line, with all subcommands. The only error is out of memory.
 pub fn command<'a>(alloc: Global) -> Result<Command<'a>, AllocError> {
     let command = Command::new(alloc, "mailfile-store")
         .version("0.1.0")

@@ -1,14 +1,11 @@
 //! `report`: one page of HTML on what is kept, what is due and what is held.
 
-use crate::archive::{Walk, on_archive, store_path};
-use crate::clock::{future_day_asked, now, today};
-use crate::failure::{Failure, Status};
-use crate::output::write_text;
 use clap::ArgMatches;
 use class_plan::{Date, Plan};
 use record_store::{Entry, Store};
 use report_page::{Heading, Page, Record, Report, ReportFault};
 use sqlite::Alter;
+use store_console::{Failure, Status, Task, Walk, future_day_asked, now, today, write_text};
 use store_texts::moment_text;
 
 /// The failure of a report.
@@ -103,12 +100,36 @@ fn report_by<S: Alter>(
     write_page(rt, archive.plan(), &report, file, day)
 }
 
-/// Writes a report as a page of HTML.
-pub fn report(rt: &HostRuntime, asked: &ArgMatches<'_>) -> Result<(), Failure> {
-    let day = future_day_asked(rt, asked.get_str("day"))?;
-    on_archive(
-        rt,
-        asked,
-        |archive| report_by(rt, archive, store_path(asked), day),
-    )
+/// `report`: writes a report by a day to standard output, as a page of HTML.
+#[derive(Clone, Copy)]
+pub struct ReportTask<'a> {
+    /// The file that the page names.
+    file: &'a str,
+    day: Date,
+}
+
+impl<'a> ReportTask<'a> {
+    /// The task of a command line, on the archive in this file. `Usage` where its day is none.
+    pub fn read(
+        rt: &HostRuntime,
+        asked: &ArgMatches<'_>,
+        file: &'a str,
+    ) -> Result<ReportTask<'a>, Failure> {
+        let day = future_day_asked(rt, asked.get_str("day"))?;
+        Ok(ReportTask { file, day })
+    }
+}
+
+impl Task for ReportTask<'_> {
+    type Answer = ();
+
+    fn work_on<S: Alter>(
+        self,
+        rt: &HostRuntime,
+        archive: Store<S>,
+    ) -> (Store<S>, Result<(), Failure>) {
+        let mut archive = archive;
+        let done = report_by(rt, &mut archive, self.file, self.day);
+        (archive, done)
+    }
 }

@@ -1,15 +1,12 @@
 //! Why something is not done, and the status by which that is told.
 
-use filing_commands::DeskFault;
 use record_store::{Cause, StoreFault};
-use rules_folder::RulesFault;
 use std::alloc::{AllocError, AllocFailed, Global};
 use std::fmt::Display;
 use std::process::ExitCode;
-use store_files::NoStore;
 use tool_texts::refusal_text;
 
-/// The statuses of `sysexits`.
+/// The statuses of `sysexits` with which the program ends.
 #[derive(Clone, Copy)]
 pub enum Status {
     /// The command line is wrong.
@@ -43,8 +40,9 @@ impl Status {
 /// Why something is not done.
 #[derive(Drop)]
 pub enum Failure {
-    /// The reader of the output has gone.
+    /// The reader of the output has gone, which is not reported.
     Closed,
+    /// Reported as out of memory.
     NoMemory,
     /// Reported in these words.
     Told(Status, String),
@@ -56,6 +54,14 @@ impl Failure {
     /// A failure that is reported in these words.
     pub fn told(alloc: Global, status: Status, words: &str) -> Failure {
         match String::from_str(alloc, words) {
+            Ok(text) => Failure::Told(status, text),
+            Err(_) => Failure::NoMemory,
+        }
+    }
+
+    /// A failure that is reported by the reason alone.
+    pub fn by<T: Display>(alloc: Global, status: Status, reason: &T) -> Failure {
+        match format!(in alloc; "{reason}") {
             Ok(text) => Failure::Told(status, text),
             Err(_) => Failure::NoMemory,
         }
@@ -78,32 +84,8 @@ impl Failure {
         }
     }
 
-    /// The failure of a store that cannot be had.
-    pub fn no_store(alloc: Global, path: &str, cause: NoStore) -> Failure {
-        let status = match cause {
-            NoStore::NotThere | NoStore::NoFile | NoStore::System(_) => Status::NoInput,
-            NoStore::There | NoStore::StrayLog => Status::CannotMake,
-            NoStore::Busy | NoStore::Full | NoStore::Disk => Status::TryAgain,
-            NoStore::NoMemory => return Failure::NoMemory,
-            _ => Status::BadData,
-        };
-        Failure::at(alloc, status, path, &cause)
-    }
-
-    /// The failure of a store that cannot be made.
-    pub fn not_made(alloc: Global, path: &str, cause: NoStore) -> Failure {
-        if let NoStore::NotThere = cause {
-            return Failure::at(alloc, Status::CannotMake, path, &"no such folder");
-        }
-        match Failure::no_store(alloc, path, cause) {
-            Failure::Told(Status::NoInput | Status::BadData, text) => {
-                Failure::Told(Status::CannotMake, text)
-            }
-            failure => failure,
-        }
-    }
-
-    /// The failure of a call of the store.
+    /// The failure of a call of the store, at something of this name. A refusal is `BadData` with its number; what the
+    /// database refuses is `TryAgain`.
     pub fn of_store(alloc: Global, name: &str, fault: StoreFault) -> Failure {
         match fault {
             StoreFault::NoMemory => Failure::NoMemory,
@@ -127,26 +109,7 @@ impl Failure {
         }
     }
 
-    /// The failure of a call of the desk.
-    pub fn of_desk(alloc: Global, name: &str, fault: DeskFault) -> Failure {
-        let status = match fault {
-            DeskFault::NoMemory => return Failure::NoMemory,
-            DeskFault::BadMoment => Status::Usage,
-            DeskFault::MessageTooLong => Status::BadData,
-            _ => Status::TryAgain,
-        };
-        Failure::numbered(alloc, status, name, fault.refusal().number)
-    }
-
-    /// The failure of an officer's rules.
-    pub fn of_rules(alloc: Global, fault: &RulesFault) -> Failure {
-        match format!(in alloc; "{fault}") {
-            Ok(text) => Failure::Told(Status::TryAgain, text),
-            Err(_) => Failure::NoMemory,
-        }
-    }
-
-    /// The same failure with the status by which a mail server keeps its mail.
+    /// The same failure with `TryAgain`, by which a mail server keeps its mail.
     pub fn kept(self) -> Failure {
         match self {
             Failure::Told(_, text) => Failure::Told(Status::TryAgain, text),

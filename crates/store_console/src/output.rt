@@ -13,7 +13,7 @@ fn write_failure(alloc: Global, error: Error) -> Failure {
     }
 }
 
-/// Writes octets to standard output.
+/// Writes octets to standard output. `Closed` where its reader has gone, and `NotWritten` where they cannot be written.
 pub fn write(rt: &HostRuntime, octets: &[u8]) -> Result<(), Failure> {
     match rt.stdout().write_all(octets) {
         Ok(()) => Ok(()),
@@ -21,17 +21,17 @@ pub fn write(rt: &HostRuntime, octets: &[u8]) -> Result<(), Failure> {
     }
 }
 
-/// Writes a text to standard output.
+/// Writes a text to standard output, as `write` does.
 pub fn write_text(rt: &HostRuntime, text: &str) -> Result<(), Failure> {
     write(rt, text.as_bytes())
 }
 
-/// Tells a person something beside the output.
+/// Tells a person something on standard error, after the name of the program.
 pub fn tell(rt: &HostRuntime, text: &str) {
     let _ = eprintln!(rt; "mailfile-store: {text}");
 }
 
-/// Whether a person says yes to a question, which only a terminal can.
+/// Whether a person says yes to a question. No where standard input is no terminal, without asking.
 pub fn agrees(rt: &HostRuntime, question: &str) -> bool {
     if !rt.stdin().is_terminal() {
         return false;

@@ -1,14 +1,11 @@
 //! `show`: the message of a record.
 
-use crate::archive::on_archive;
-use crate::choice::read_number;
-use crate::failure::Failure;
-use crate::output::{write, write_text};
 use clap::ArgMatches;
 use mail_head::read_head;
 use mail_words::value_of;
 use record_store::Store;
 use sqlite::Alter;
+use store_console::{Failure, Task, read_number, write, write_text};
 use tool_texts::{named, quoted};
 
 /// Writes the fields of a message as the archive reads them, a line each, numbered from 1.
@@ -45,11 +42,43 @@ fn read_message<S: Alter>(
     }
 }
 
+/// `show`: reads the message of a record.
+#[derive(Clone, Copy)]
+pub struct ShowTask<'a> {
+    /// The number as it is typed, which names the record where it is refused.
+    word: &'a str,
+    number: u32,
+}
+
+impl<'a> ShowTask<'a> {
+    /// The task of a command line. `Usage` where its number is none.
+    pub fn read(rt: &HostRuntime, asked: &ArgMatches<'a>) -> Result<ShowTask<'a>, Failure> {
+        let word = asked.get_str("number").unwrap_or("");
+        let number = read_number(rt, word)?;
+        Ok(ShowTask { word, number })
+    }
+}
+
+impl Task for ShowTask<'_> {
+    type Answer = Vec<u8>;
+
+    fn work_on<S: Alter>(
+        self,
+        rt: &HostRuntime,
+        archive: Store<S>,
+    ) -> (Store<S>, Result<Vec<u8>, Failure>) {
+        let mut archive = archive;
+        let message = read_message(rt, &mut archive, self.word, self.number);
+        (archive, message)
+    }
+}
+
 /// Writes the message of a record, octet by octet, or with `--fields` its header.
-pub fn show(rt: &HostRuntime, asked: &ArgMatches<'_>) -> Result<(), Failure> {
-    let word = asked.get_str("number").unwrap_or("");
-    let number = read_number(rt, word)?;
-    let message = on_archive(rt, asked, |archive| read_message(rt, archive, word, number))?;
+pub fn write_shown(
+    rt: &HostRuntime,
+    asked: &ArgMatches<'_>,
+    message: Vec<u8>,
+) -> Result<(), Failure> {
     if asked.get_flag("fields") {
         write_fields(rt, message.as_slice())
     } else {

@@ -1,13 +1,11 @@
 //! `list`: the records, a line each.
 
-use crate::archive::{Walk, on_archive};
 use crate::choice::Choice;
-use crate::failure::Failure;
-use crate::output::{write, write_text};
 use clap::ArgMatches;
 use record_store::{Entry, Store};
 use sqlite::Alter;
 use std::alloc::{AllocError, Global};
+use store_console::{Failure, Task, Walk, write, write_text};
 use store_texts::{LIST_HEADER, Row, json_object, listed_line, listed_row};
 
 /// How records are written.
@@ -57,7 +55,7 @@ fn push_record(
 fn write_page(
     rt: &HostRuntime,
     page: &[Entry],
-    choice: &Choice<'_>,
+    choice: &Choice,
     form: Form,
     is_first: bool,
 ) -> Result<bool, Failure> {
@@ -77,7 +75,7 @@ fn write_page(
 fn write_records<S: Alter>(
     rt: &HostRuntime,
     archive: &mut Store<S>,
-    choice: &Choice<'_>,
+    choice: &Choice,
     form: Form,
 ) -> Result<(), Failure> {
     let mut walk = Walk::from(choice.from);
@@ -96,7 +94,7 @@ fn write_records<S: Alter>(
 fn write_list<S: Alter>(
     rt: &HostRuntime,
     archive: &mut Store<S>,
-    choice: &Choice<'_>,
+    choice: &Choice,
     form: Form,
 ) -> Result<(), Failure> {
     let (before, after) = match form {
@@ -110,15 +108,44 @@ fn write_list<S: Alter>(
     write_text(rt, after)
 }
 
-/// Lists records.
-pub fn list(rt: &HostRuntime, asked: &ArgMatches<'_>) -> Result<(), Failure> {
-    let choice = Choice::read(rt, asked)?;
-    let form = if asked.get_flag("csv") {
+/// The form of a command line.
+fn form_asked(asked: &ArgMatches<'_>) -> Form {
+    if asked.get_flag("csv") {
         Form::Csv
     } else if asked.get_flag("json") {
         Form::Json
     } else {
         Form::Lines
-    };
-    on_archive(rt, asked, |archive| write_list(rt, archive, &choice, form))
+    }
+}
+
+/// `list`: writes the chosen records to standard output.
+#[derive(Drop)]
+pub struct ListTask {
+    choice: Choice,
+    form: Form,
+}
+
+impl ListTask {
+    /// The task of a command line. `Usage` where a day or a number of it is none.
+    pub fn read(rt: &HostRuntime, asked: &ArgMatches<'_>) -> Result<ListTask, Failure> {
+        Ok(ListTask {
+            choice: Choice::read(rt, asked)?,
+            form: form_asked(asked),
+        })
+    }
+}
+
+impl Task for ListTask {
+    type Answer = ();
+
+    fn work_on<S: Alter>(
+        self,
+        rt: &HostRuntime,
+        archive: Store<S>,
+    ) -> (Store<S>, Result<(), Failure>) {
+        let mut archive = archive;
+        let done = write_list(rt, &mut archive, &self.choice, self.form);
+        (archive, done)
+    }
 }

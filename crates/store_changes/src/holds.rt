@@ -1,18 +1,17 @@
 //! `hold` and `release`: records that must not be destroyed.
 
-use crate::archive::on_archive;
-use crate::choice::read_number;
-use crate::failure::{Failure, Status};
-use crate::output::{tell, write_text};
 use clap::ArgMatches;
 use record_store::{Store, StoreFault};
 use sqlite::Alter;
+use store_console::{Failure, Status, Task, read_number, tell, write_text};
 use tool_texts::is_name;
 
 /// What is done with a hold.
 #[derive(Clone, Copy)]
-enum Change {
+pub enum Change {
+    /// It is placed on a record.
     Place,
+    /// It ends.
     End,
 }
 
@@ -85,32 +84,64 @@ fn change_all<S: Alter>(
     Ok(())
 }
 
-/// Changes holds as the command line says.
-fn change_holds(rt: &HostRuntime, asked: &ArgMatches<'_>, change: Change) -> Result<(), Failure> {
-    let name = asked.get_str("name").unwrap_or("");
-    if !is_name(name.as_bytes()) {
-        return Err(Failure::at(
-            rt.alloc(),
-            Status::Usage,
-            name,
-            &"a hold's name is 1 to 64 octets from 33 to 126",
-        ));
+/// Finds that a text is the name of a hold.
+fn judge_name(rt: &HostRuntime, name: &str) -> Result<(), Failure> {
+    if is_name(name.as_bytes()) {
+        return Ok(());
     }
+    Err(Failure::at(
+        rt.alloc(),
+        Status::Usage,
+        name,
+        &"a hold's name is 1 to 64 octets from 33 to 126",
+    ))
+}
+
+/// Changes holds as the command line says.
+fn change_by<S: Alter>(
+    rt: &HostRuntime,
+    archive: &mut Store<S>,
+    change: Change,
+    asked: &ArgMatches<'_>,
+) -> Result<(), Failure> {
+    let name = asked.get_str("name").unwrap_or("");
     let words = asked.get_strs("numbers").unwrap_or(&[]);
-    judge_numbers(rt, words)?;
-    on_archive(
-        rt,
-        asked,
-        |archive| change_all(rt, archive, change, name, words),
-    )
+    change_all(rt, archive, change, name, words)
 }
 
-/// Places a hold on records.
-pub fn hold(rt: &HostRuntime, asked: &ArgMatches<'_>) -> Result<(), Failure> {
-    change_holds(rt, asked, Change::Place)
+/// `hold` and `release`: changes the hold of a name on records.
+#[derive(Clone, Copy)]
+pub struct HoldTask<'a, 'w> {
+    change: Change,
+    /// The command line, whose name and numbers are judged.
+    asked: &'w ArgMatches<'a>,
 }
 
-/// Ends a hold on records.
-pub fn release(rt: &HostRuntime, asked: &ArgMatches<'_>) -> Result<(), Failure> {
-    change_holds(rt, asked, Change::End)
+impl<'a, 'w> HoldTask<'a, 'w> {
+    /// The task of a command line. `Usage` where its name is no name of a hold, or a number of a record is none.
+    pub fn read(
+        rt: &HostRuntime,
+        asked: &'w ArgMatches<'a>,
+        change: Change,
+    ) -> Result<HoldTask<'a, 'w>, Failure> {
+        let name = asked.get_str("name").unwrap_or("");
+        judge_name(rt, name)?;
+        let words = asked.get_strs("numbers").unwrap_or(&[]);
+        judge_numbers(rt, words)?;
+        Ok(HoldTask { change, asked })
+    }
+}
+
+impl Task for HoldTask<'_, '_> {
+    type Answer = ();
+
+    fn work_on<S: Alter>(
+        self,
+        rt: &HostRuntime,
+        archive: Store<S>,
+    ) -> (Store<S>, Result<(), Failure>) {
+        let mut archive = archive;
+        let done = change_by(rt, &mut archive, self.change, self.asked);
+        (archive, done)
+    }
 }

@@ -1,12 +1,11 @@
 //! The rules by which mail is filed, and what is done where they are at fault.
 
-use crate::failure::Failure;
-use crate::output::tell;
 use clap::ArgMatches;
 use filing_desk::Desk;
 use mail_delivery::OnFault;
 use record_archive::Records;
 use rules_folder::{Rules, RulesFault, read_rules, set_rules};
+use store_console::{Failure, Status, tell};
 
 /// How mail is filed.
 #[derive(Drop)]
@@ -19,7 +18,7 @@ pub struct Filing<'a> {
 
 /// Reports a fault of rules. It is no failure where mail may go to `unfiled` then.
 fn excuse(rt: &HostRuntime, fault: &RulesFault, on_fault: OnFault) -> Result<(), Failure> {
-    let failure = Failure::of_rules(rt.alloc(), fault);
+    let failure = Failure::by(rt.alloc(), Status::TryAgain, fault);
     if !fault.is_of_rules() || matches!(on_fault, OnFault::GiveUp) {
         return Err(failure);
     }

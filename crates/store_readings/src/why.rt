@@ -1,10 +1,6 @@
 //! `why`: why a record is in its class, and whether the rules of today would file its message there again.
 
-use crate::archive::on_archive;
-use crate::choice::read_number;
-use crate::failure::{Failure, Status};
 use crate::list::row_of;
-use crate::output::{write, write_text};
 use clap::ArgMatches;
 use class_plan::{Date, Plan, day_number};
 use filing_commands::Payload;
@@ -16,6 +12,7 @@ use run_inquiry::{
 };
 use sieve_meaning::{Location, Outcome};
 use sqlite::Alter;
+use store_console::{Failure, Status, Task, read_number, write, write_text};
 use store_texts::{listed_line, plan_text};
 
 /// The seconds of a day.
@@ -23,7 +20,7 @@ const DAY: u64 = 86_400;
 
 /// A record as it was captured, with the plan of today.
 #[derive(Drop)]
-struct Captured {
+pub struct Captured {
     entry: Entry,
     /// None where it is destroyed.
     message: Option<Vec<u8>>,
@@ -81,7 +78,7 @@ fn read_scripts(rt: &HostRuntime, folder: &str, officer: &str) -> Result<Scripts
     let alloc = rt.alloc();
     let rules = match read_rules(rt, folder, officer) {
         Ok(rules) => rules,
-        Err(fault) => return Err(Failure::of_rules(alloc, &fault)),
+        Err(fault) => return Err(Failure::by(alloc, Status::TryAgain, &fault)),
     };
     let mut main = None;
     let mut others = Vec::new(alloc);
@@ -257,16 +254,44 @@ fn explain(
     write_parting(rt, &today, &former)
 }
 
+/// `why`: reads a record with its message and the plan.
+#[derive(Clone, Copy)]
+pub struct WhyTask<'a> {
+    /// The number as it is typed, which names the record where it is refused.
+    word: &'a str,
+    number: u32,
+}
+
+impl<'a> WhyTask<'a> {
+    /// The task of a command line. `Usage` where its number is none.
+    pub fn read(rt: &HostRuntime, asked: &ArgMatches<'a>) -> Result<WhyTask<'a>, Failure> {
+        let word = asked.get_str("number").unwrap_or("");
+        let number = read_number(rt, word)?;
+        Ok(WhyTask { word, number })
+    }
+}
+
+impl Task for WhyTask<'_> {
+    type Answer = Captured;
+
+    fn work_on<S: Alter>(
+        self,
+        rt: &HostRuntime,
+        archive: Store<S>,
+    ) -> (Store<S>, Result<Captured, Failure>) {
+        let mut archive = archive;
+        let captured = read_captured(rt, &mut archive, self.word, self.number);
+        (archive, captured)
+    }
+}
+
 /// Writes why a record is in its class: the record, a report on the run of today's rules over its message at its day,
 /// and whether that files it there again; with the rules of former times also where their run differs.
-pub fn why(rt: &HostRuntime, asked: &ArgMatches<'_>) -> Result<(), Failure> {
-    let word = asked.get_str("number").unwrap_or("");
-    let number = read_number(rt, word)?;
-    let captured = on_archive(
-        rt,
-        asked,
-        |archive| read_captured(rt, archive, word, number),
-    )?;
+pub fn write_why(
+    rt: &HostRuntime,
+    asked: &ArgMatches<'_>,
+    captured: Captured,
+) -> Result<(), Failure> {
     match &captured.message {
         Some(message) => explain(rt, asked, &captured, message.as_slice()),
         None => {
