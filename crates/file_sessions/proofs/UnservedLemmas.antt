@@ -36,6 +36,7 @@ use Rattle.sqlite.proofs.FileLemmas.{is_something}
 use Rattle.sqlite.proofs.ListingLemmas.{empty_is_sound}
 use Rattle.sqlite.proofs.StateLemmas.{survives_then}
 use Rattle.sqlite.proofs.Theorems.{opens_again}
+use Rattle.record_tables.proofs.Standing.{nothing_is_free}
 use Rattle.record_tables.specs.Tables.{no_schema}
 use Rattle.record_tables.specs.Steps.{CommitsNothing}
 use Rattle.record_archive.specs.Archive.{Archive, empty_archive}
@@ -96,7 +97,7 @@ finds_empty image a trees held empty is =
       db = record { schema = no_schema; trees = trees };
       sound = empty_is_sound trees empty.1;
       held = ∣ held ∣₁;
-      has = inr (refl, is);
+      has = inr (nothing_is_free, is);
     })
 
 module _ {S : Type 0} {g : calls.Ghosts Host} (first : start.Ghosts S) (history : (host : Host) → g.history host ≡ host.log.events) where
