@@ -1,7 +1,9 @@
-use Rattle.std.proofs.Common.{refl, inr}
+use Rattle.std.proofs.Common.{refl, inr, subst, sym}
 use Rattle.sqlite.specs.Steps.{over_memory}
 use Rattle.sqlite_trees.proofs.Doubt.{no_doubt}
 use Rattle.record_archive.specs.Archive.{empty_archive}
+use Rattle.record_tables.specs.Tables.{IsFree}
+use Rattle.record_tables.proofs.Standing.{nothing_is_free}
 use Rattle.filing_commands.specs.Standing.{opening}
 use Rattle.sqlite.specs.State.{HasCleanDisk}
 use Rattle.sqlite.specs.Held.{state}
@@ -25,7 +27,8 @@ returns-in-Ok-open_desk-clause-served g c heard said =
     let led = told_refines IsClean (StandsFor (stores.StandsFor over_memory))
     (λ desk. MayMeet over_memory desk.store) FateKeeps law.served law.answered law.cut_in_answer law.cut_in_ending
     serve.result _ _ _ _ _ told (no_doubt _ refl) in
-    let l = led.1 (opening empty_archive) (c.in-Ok-open_desk.ensures.stands led.0 empty_archive (inr (c.in-Ok.ensures.empty.2, refl))) in
+    let free = subst IsFree (sym c.in-Ok.ensures.empty.2) nothing_is_free in
+    let l = led.1 (opening empty_archive) (c.in-Ok-open_desk.ensures.stands led.0 empty_archive (inr (free, refl))) in
     (l.to, l.is_one)
 
 pub returns-in-Ok-open_desk-clause-done : goal.returns-in-Ok-open_desk-clause-done
@@ -34,5 +37,6 @@ returns-in-Ok-open_desk-clause-done g c =
     let led = done_refines IsClean (StandsFor (stores.StandsFor over_memory))
     (λ desk. MayMeet over_memory desk.store) FateKeeps c.sessions_refine_states.ensures.done _ _ _ _
     c.serve.ensures.done (no_doubt _ refl) in
-    let l = led.1 (opening empty_archive) (c.in-Ok-open_desk.ensures.stands led.0 empty_archive (inr (c.in-Ok.ensures.empty.2, refl))) in
+    let free = subst IsFree (sym c.in-Ok.ensures.empty.2) nothing_is_free in
+    let l = led.1 (opening empty_archive) (c.in-Ok-open_desk.ensures.stands led.0 empty_archive (inr (free, refl))) in
     (l.to, l.is_one)

@@ -19,7 +19,7 @@ returns-in-Err-clause-refused g c clean a found is =
       | inl trouble ↦ trouble
       | inr none ↦
           let no = c.in-Err.ensures.no_archive (c.in-Err.ensures.trouble none) clean in
-          absurd (elim found [ inl rows ↦ no.1 a rows.0 is | inr empty ↦ no.0 empty.0 ])
+          absurd (elim found [ inl rows ↦ no.1 a rows.0 is | inr empty ↦ no.0 empty.0.none ])
     ]
 
 pub returns-in-Ok-new-clause-clean : goal.returns-in-Ok-new-clause-clean
