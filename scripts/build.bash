@@ -253,7 +253,7 @@ build() {
     if ! { build_libraries "$name" "$provers" "$total" && unlock_crates && build_program "$name"; }; then
         tail -n 40 -- "$folder/out/build.log" >&2
         if grep -q killed "$folder/out/build.log"; then
-            echo "$self: a prover was killed, most likely for want of memory" >&2
+            echo "$self: a prover was killed, most likely for lack of memory" >&2
         fi
         give_up "the program was not built"
     fi

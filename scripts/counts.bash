@@ -27,7 +27,7 @@ group() {
 
 # Counts a group of a given size: the lines of a file that match one pattern passed, and those that match another failed. If
 # none failed but the number of passed ones is not the given size, that is a failure too, so that an empty report never passes.
-told() {
+reported() {
     group_passed=$(grep -c -E "$4" "$3")
     group_failed=$(grep -c -E "$5" "$3")
     if ((group_failed == 0 && group_passed != $2)); then

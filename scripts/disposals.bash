@@ -69,7 +69,7 @@ certifies() {
         shows_run
 }
 
-# A certificate tells where the message is kept, and octets are spoken of only where it is gone.
+# A certificate says where the message is kept, and octets are spoken of only where it is gone.
 certifies_what_keeps_the_message() {
     local facts
     make_due_in_two_classes || return
@@ -90,7 +90,7 @@ destroys_nothing_for_review() {
         over_says $'record 3 class finance/tax day 2023-11-16 due 2023-11-17\n' list --due "$(date -u +%F)" && over_says '' dispose --yes
 }
 
-tells_certificates_that_are_lost() {
+reports_lost_certificates() {
     make_due && over release audit 6 || return
     status=0
     ./mailfile-store dispose --store "$here/store" --yes > /dev/full 2> "$work/error" || status=$?
@@ -99,7 +99,7 @@ tells_certificates_that_are_lost() {
 }
 
 # The reader has gone before the certificate is written.
-tells_certificates_that_nobody_reads() {
+reports_unread_certificates() {
     local to
     make_due && over release audit 6 || return
     exec {to}> >(:)
@@ -113,7 +113,7 @@ tells_certificates_that_nobody_reads() {
 
 # ---- plans
 
-# What is told of another plan: the due dates that move, the records that are due, and those that may be destroyed.
+# What is reported of another plan: the due dates that move, the records that are due, and those that may be destroyed.
 changes_of() {
     printf 'due dates that move: %s\nrecords that are due at once: %s\nrecords that may be destroyed at once: %s\n' "$@"
 }
@@ -170,8 +170,8 @@ disposals() {
     count "a disposal of other numbers" disposes_of_no_other_number
     count "certificates of a message in two classes" certifies_what_keeps_the_message
     count "a disposal of what is to be reviewed" destroys_nothing_for_review
-    count "certificates that cannot be written" tells_certificates_that_are_lost
-    count "certificates that nobody reads" tells_certificates_that_nobody_reads
+    count "certificates that cannot be written" reports_lost_certificates
+    count "certificates that nobody reads" reports_unread_certificates
     count "another plan" replaces_its_plan
     count "what another plan changes" tells_what_a_plan_changes
     count "plans that are refused" refuses_plans

@@ -76,7 +76,7 @@ records_of() {
 }
 
 # The record lines in some replies, without one that is cut off.
-told_records() {
+reported_records() {
     if [[ -n $(tail -c 1 -- "$1") ]]; then
         sed '$d' -- "$1"
     else
@@ -85,13 +85,13 @@ told_records() {
 }
 
 # Whether a store has each record that was reported, in order, at most a given number more, and no gap in their numbers.
-keeps_what_was_told() {
-    local told kept
+keeps_what_was_reported() {
+    local reported kept
     records_of "$1" > "$work/kept"
-    told_records "$2" > "$work/told"
-    told=$(wc -l < "$work/told")
+    reported_records "$2" > "$work/reported"
+    reported=$(wc -l < "$work/reported")
     kept=$(wc -l < "$work/kept")
-    ((told <= kept && kept <= told + $3)) && head -n "$told" -- "$work/kept" | cmp -s - "$work/told" &&
+    ((reported <= kept && kept <= reported + $3)) && head -n "$reported" -- "$work/kept" | cmp -s - "$work/reported" &&
         cut -d ' ' -f 2 -- "$work/kept" | cmp -s - <(seq 1 "$kept")
 }
 
@@ -114,7 +114,7 @@ kill_after() {
         kill -KILL "$process"
         wait "$process"
     } 2> "$work/said"
-    keeps_what_was_told "$store" "$work/replies" 1 && goes_on "$store"
+    keeps_what_was_reported "$store" "$work/replies" 1 && goes_on "$store"
 }
 
 # The least time of five runs of the session of captures, in microseconds.
@@ -150,7 +150,7 @@ serve_limited() (
 survives_a_limit() {
     rm -f -- "$work/limited"*
     serve_limited "$1" "$work/limited" | cat > "$work/replies"
-    keeps_what_was_told "$work/limited" "$work/replies" 1 && goes_on "$work/limited"
+    keeps_what_was_reported "$work/limited" "$work/replies" 1 && goes_on "$work/limited"
 }
 
 # Whether the same holds, and a session met the limit: a command was refused 89.
@@ -164,7 +164,7 @@ survives_a_full_disk() {
     mount -t tmpfs -o "size=$1k" none "$work/disk" || return
     serve "$store" < "$work/session" > "$work/replies"
     mount -o remount,size=64m "$work/disk" && grep -q -x "refused 89" "$work/replies" &&
-        keeps_what_was_told "$store" "$work/replies" 1 && goes_on "$store"
+        keeps_what_was_reported "$store" "$work/replies" 1 && goes_on "$store"
     local status=$?
     umount "$work/disk"
     return "$status"
@@ -248,24 +248,24 @@ note_outcome() {
     if (($2 == 3)); then
         echo "$what was refused"
     elif grep -q -x "refused 89" "$work/answer"; then
-        echo "$what told a refusal"
+        echo "$what reported a refusal"
     else
-        echo "$what told $(if cmp -s "$work/told" "$work/all"; then echo all; else echo "some of the first records, or none"; fi)"
+        echo "$what reported $(if cmp -s "$work/reported" "$work/all"; then echo all; else echo "some of the first records, or none"; fi)"
     fi >> "$work/outcomes"
 }
 
 # Whether a damaged store reports the first of its records and nothing else, or is refused and stays as it is.
-tells_no_other() {
+reports_no_other() {
     local status=0
     cp -- "$1" "$work/before"
     echo "DUE 9999-12-31" | serve "$1" > "$work/answer" || status=$?
-    grep '^record ' "$work/answer" > "$work/told"
+    grep '^record ' "$work/answer" > "$work/reported"
     note_outcome "$2" "$status"
     if ((status == 3)); then
         [[ ! -s $work/answer ]] && cmp -s "$1" "$work/before"
         return
     fi
-    ((status == 0)) && head -n "$(wc -l < "$work/told")" -- "$work/all" | cmp -s - "$work/told" &&
+    ((status == 0)) && head -n "$(wc -l < "$work/reported")" -- "$work/all" | cmp -s - "$work/reported" &&
         ! grep -v '^record ' "$work/answer" | grep -q -v -E -x '(ok|end|refused 89)'
 }
 
@@ -277,12 +277,12 @@ copy_store() {
 
 # Whether the store reports no other records when one of its files, named by its ending, is cut off at a place.
 survives_a_cut() {
-    copy_store && truncate -s "$2" -- "$work/damaged$1" && tells_no_other "$work/damaged" "$3 cut off"
+    copy_store && truncate -s "$2" -- "$work/damaged$1" && reports_no_other "$work/damaged" "$3 cut off"
 }
 
 # Whether the same holds when an octet of a file is changed.
 survives_an_octet() {
-    copy_store && printf '\x5a' | dd of="$work/damaged$1" bs=1 seek="$2" conv=notrunc status=none && tells_no_other "$work/damaged" "$3 with another octet"
+    copy_store && printf '\x5a' | dd of="$work/damaged$1" bs=1 seek="$2" conv=notrunc status=none && reports_no_other "$work/damaged" "$3 with another octet"
 }
 
 # Cuts a file of the store off at each page, and changes an octet of each page. The arguments are the file's ending, its name, and

@@ -53,7 +53,7 @@ try_edits() {
     for name in "$@"; do
         (cd -- "$work/tree" && exec rt must-fail "$name") > "$work/said" 2>&1 &
         wait "$!" || tail -n 20 "$work/said"
-        told "must-fail edits of $name" "$(edits_in "crates/$name/must-fail" "crates/$name/must-fail-finer")" "$work/said" \
+        reported "must-fail edits of $name" "$(edits_in "crates/$name/must-fail" "crates/$name/must-fail-finer")" "$work/said" \
             '^rt: must-fail .*: refused, as it must be' '^rt: .*: (NOT REFUSED|BAD EDIT)'
     done
 }
@@ -154,11 +154,11 @@ gate() {
     local status=0 before=$failed
     rt ci > "$work/gate" 2>&1 &
     wait "$!" || status=$?
-    told proofs "$(crates | wc -l)" "$work/gate" '^rt: [a-z0-9_]+ (proved$|is kept: )' '^rt: .* NOT PROVED'
-    told "must-fail edits" "$(edits_in crates/*/must-fail)" "$work/gate" \
+    reported proofs "$(crates | wc -l)" "$work/gate" '^rt: [a-z0-9_]+ (proved$|is kept: )' '^rt: .* NOT PROVED'
+    reported "must-fail edits" "$(edits_in crates/*/must-fail)" "$work/gate" \
         '^rt: must-fail .*: refused, as it must be' '^rt: .*: (NOT REFUSED|BAD EDIT)'
-    told tests "$(with_tests)" "$work/gate" '^rt: .*: its tests passed$' '^rt: .*: its tests FAILED$'
-    told "programs, each built by two compilers" $((2 * $(with_file src/main.rt))) "$work/gate" \
+    reported tests "$(with_tests)" "$work/gate" '^rt: .*: its tests passed$' '^rt: .*: its tests FAILED$'
+    reported "programs, each built by two compilers" $((2 * $(with_file src/main.rt))) "$work/gate" \
         '^rt: .* ran( \(.*\))?, and wrote' '^rt: [a-z_]+( \(.*\))?: (the program|what the program)'
     if ((status != 0)); then
         if ((failed == before)); then

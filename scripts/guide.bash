@@ -53,7 +53,7 @@ play_page() {
 guide() {
     read_page
     (play_page) > "$work/played"
-    told "commands of docs/GUIDE.md" "${#typed[@]}" "$work/played" '^ok$' '^failed: '
+    reported "commands of docs/GUIDE.md" "${#typed[@]}" "$work/played" '^ok$' '^failed: '
     grep -v '^ok$' "$work/played"
 }
 
@@ -62,7 +62,7 @@ if [[ ${BASH_SOURCE[0]} == "$0" ]]; then
     cd -- "$root" || exit 125
     work=$(mktemp -d) || exit 125
     trap 'rm -rf -- "$work"' EXIT
-    told() {
+    reported() {
         echo "$1: $(grep -c -E "$4" "$3") of $2 as shown"
         ! grep -q -E "$5" "$3"
     }

@@ -77,19 +77,19 @@ has_all_files() {
     (cd -- "$BOX" && find new cur -type f -exec sha256sum -- {} +) | sed 's:  \(new\|cur\)/:  :; s/:2,$//' | sort -k 2 | cmp - "$work/sums"
 }
 
-# Whether an intake that was ended has lost nothing: each message that was moved has a record, and so has each that was told. At most
+# Whether an intake that was ended has lost nothing: each message that was moved has a record, and so has each that was reported. At most
 # one more has one; then it is the first in `new`. Sets `twice` to its sum, or to nothing.
 is_between() {
-    local moved records told
+    local moved records reported
     moved=$(moved)
     records=$(records_there)
-    told=$(grep -c ': record .* due ....-..-..$' "$work/told")
+    reported=$(grep -c ': record .* due ....-..-..$' "$work/reported")
     echo "$moved" >> "$work/moved"
     twice=
     if ((records == moved + 1)); then
         twice=$(find "$BOX/new" -type f -printf '%f\n' | sort | head -n 1 | xargs -I NAME sha256sum -- "$BOX/new/NAME" | cut -d ' ' -f 1)
     fi
-    has_all_files && ((moved <= told && told <= records)) && [[ $records -eq $moved || -n $twice ]]
+    has_all_files && ((moved <= reported && reported <= records)) && [[ $records -eq $moved || -n $twice ]]
 }
 
 # The sums of the messages in the archive, by their numbers.
@@ -110,8 +110,8 @@ is_completed() {
 start_intake() {
     local user=()
     ((EUID > 0)) || user=(setpriv --reuid=65534 --regid=65534 --clear-groups)
-    rm -f -- "$work/told"
-    "${user[@]}" "$work/mailfile-store" intake --store "$TAKEN" --rules "$work/rules" ann "$BOX" > "$work/told" 2> "$work/lost" &
+    rm -f -- "$work/reported"
+    "${user[@]}" "$work/mailfile-store" intake --store "$TAKEN" --rules "$work/rules" ann "$BOX" > "$work/reported" 2> "$work/lost" &
     process=$!
 }
 
@@ -161,7 +161,7 @@ limited() (
 intake_survives_a_limit() {
     local twice status=0
     lay_maildir || return
-    limited "$1" take_over > "$work/told" 2> "$work/error" || status=$?
+    limited "$1" take_over > "$work/reported" 2> "$work/error" || status=$?
     ((status == 75)) && is_between && is_completed
 }
 
@@ -172,7 +172,7 @@ deliver_by() {
     "$@" > "$work/said" 2> "$work/error" || status=$?
 }
 
-# Whether the last delivery has ended by 75, told why, and captured nothing.
+# Whether the last delivery has ended by 75, said why, and captured nothing.
 has_captured_nothing() {
     ((status == 75)) && [[ ! -s $work/said && -s $work/error && $(on_store list) == "$kept" ]]
 }
@@ -211,7 +211,7 @@ grow_disk() {
 fills_the_disk() {
     local twice status=0
     lay_maildir || return
-    take_over > "$work/told" 2> "$work/error" || status=$?
+    take_over > "$work/reported" 2> "$work/error" || status=$?
     ((status == 75)) && grow_disk && is_between && is_completed
 }
 
@@ -282,16 +282,16 @@ survives_a_move() {
 survives_a_move_meanwhile() {
     local process twice='' status=0
     lay_maildir && start_intake || return
-    until [[ -s $work/told ]]; do :; done
+    until [[ -s $work/reported ]]; do :; done
     mv -- "$TAKEN" "$work/away" && ends_by 75 '' deliver_long && wait "$process" || status=$?
     mv -- "$work/away" "$TAKEN" && ((status == 0)) && is_between && is_completed
 }
 
-# Whether a second intake and a delivery are told that the store is taken, while the first takes each message over.
+# Whether a second intake and a delivery report that the store is taken, while the first captures each message.
 keeps_others_out() {
     local process twice='' status=0
     lay_maildir && start_intake || return
-    until [[ -s $work/told ]]; do :; done
+    until [[ -s $work/reported ]]; do :; done
     kill -STOP "$process" && ends_by 75 'another program has' take_over && ends_by 75 'another program has' deliver_long || status=$?
     kill -CONT "$process" && wait "$process" && ((status == 0)) && is_between && [[ $(moved) -eq $MESSAGES ]] && is_completed
 }

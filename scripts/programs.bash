@@ -156,7 +156,7 @@ give_up_on_dist() {
     give_up "$1; get dist/ again (git checkout -- dist), or prove and build from the sources (./prove --build)"
 }
 
-# Unpacks a program of dist/ into a file. Anything but what MANIFEST says is told, and never started.
+# Unpacks a program of dist/ into a file. A program other than the one in MANIFEST is reported, and never started.
 unpack_to() {
     local gz=dist/${1//_/-}.gz piped
     command -v gzip > /dev/null ||

@@ -51,7 +51,7 @@ play_sessions() {
     [[ $scratch == "$work" ]] || rm -rf -- "$scratch"
     cat -- "$work"/played.* > "$work/played"
     grep -v '^ok ' "$work/played"
-    told sessions "${#sessions[@]}" "$work/played" '^ok ' '^failed: '
+    reported sessions "${#sessions[@]}" "$work/played" '^ok ' '^failed: '
 }
 
 # The sessions and folders of parts in a folder.

@@ -23,13 +23,13 @@ shows_run() {
     return 1
 }
 
-# Whether the program does what its words say, and tells nothing.
+# Whether the program does what its words say, and writes nothing to standard error.
 does() {
     run "$@"
     ((status == 0)) && [[ ! -s $work/error ]] || shows_run
 }
 
-# Whether the program answers with exactly that text, and tells nothing.
+# Whether the program answers with exactly that text, and writes nothing to standard error.
 says() {
     run "${@:2}"
     ((status == 0)) && [[ ! -s $work/error && $(cat -- "$work/said"; echo .) == "$1." ]] || shows_run

@@ -33,7 +33,7 @@ if [[ -f $stage/slow-$1 ]]; then
 fi
 if [[ $1 == run ]]; then
     [[ ! -f $stage/edits ]] || cp "$stage/edits" ../low/src/lib.rt
-    printf '#!/bin/sh\n[ "$1" != --version ] || exec test ! -e %s\necho told "$@"\n[ "$1" != wait ] || exec sleep 60\nexit 7\n' \
+    printf '#!/bin/sh\n[ "$1" != --version ] || exec test ! -e %s\necho ran "$@"\n[ "$1" != wait ] || exec sleep 60\nexit 7\n' \
         "$stage/foreign" > "out/$name"
     chmod +x "out/$name"
     exit
@@ -67,13 +67,13 @@ start() {
 # Whether a start builds the program and then runs it.
 builds() {
     start mailfile "$@"
-    [[ $? -eq 7 && -s $stage/calls && $(< "$work/answer") == "told${1+ $1}" ]] && grep -q "^mailfile: built in" "$work/error"
+    [[ $? -eq 7 && -s $stage/calls && $(< "$work/answer") == "ran${1+ $1}" ]] && grep -q "^mailfile: built in" "$work/error"
 }
 
 # Whether a start runs the program at once.
 serves() {
     start mailfile "$@"
-    [[ $? -eq 7 && ! -e $stage/calls && $(< "$work/answer") == "told${1+ $1}" && ! -s $work/error ]]
+    [[ $? -eq 7 && ! -e $stage/calls && $(< "$work/answer") == "ran${1+ $1}" && ! -s $work/error ]]
 }
 
 # Whether a start of a script ends with a status and a line on standard error, and writes nothing to standard output.
@@ -139,7 +139,7 @@ sees_an_edit_while_building() {
 
 serves_from_anywhere() (
     ln -s -- "$stage/tree/mailfile" "$stage/link"
-    cd / && [[ $(CDPATH=$stage PATH=$path TMPDIR=/nowhere "$stage/link" a 2> "$work/error") == "told a" ]]
+    cd / && [[ $(CDPATH=$stage PATH=$path TMPDIR=/nowhere "$stage/link" a 2> "$work/error") == "ran a" ]]
 )
 
 goes_on_after_a_failure() {
@@ -257,7 +257,7 @@ serves_at_once() {
     done
     for start in {1..4}; do
         wait "${starts[start - 1]}"
-        [[ $? -eq 7 && $(< "$work/answer.$start") == "told $start" ]] || return
+        [[ $? -eq 7 && $(< "$work/answer.$start") == "ran $start" ]] || return
     done
     [[ ! -s $work/error.all && $(find "$stage/tree/out" -type f | wc -l) -eq 3 ]]
 }
@@ -266,7 +266,7 @@ serves_after_other_edits() {
     echo edited > "$stage/tree/crates/apart/src/main.rt" && echo 'other: low' >> "$stage/tree/crates.txt" && serves c && fresh && serves d
 }
 
-# A file in dist/ that is cut off, or is another program: it is told, and neither run nor replaced by a build.
+# A file in dist/ that is cut off, or is another program: it is reported, and neither run nor replaced by a build.
 refuses_a_damaged_file() {
     local file=$stage/tree/dist/mailfile.gz status=0
     cp -- "$file" "$stage/whole.gz"
@@ -330,7 +330,7 @@ serves_from_a_fixed_checkout() {
 installs() {
     fresh && start install "$stage/prefix" && start install "$stage/prefix" && [[ -f $stage/prefix/share/man/man1/mailfile-tool.1 ]] &&
         grep -q "$stage/prefix/bin is not on the path" "$work/answer" && mv -- "$stage/tree" "$stage/moved" || return
-    [[ $("$stage/prefix/bin/mailfile" a) == "told a" ]]
+    [[ $("$stage/prefix/bin/mailfile" a) == "ran a" ]]
     local status=$?
     mv -- "$stage/moved" "$stage/tree"
     return "$status"
