@@ -147,12 +147,25 @@ with_tests() {
     grep -l -r -F '#[test]' crates/*/src | cut -d / -f 2 | sort -u | wc -l
 }
 
+# The memory counted for each check of the gate, in megabytes: the four largest take some 20,000 together.
+readonly CHECK_MEMORY=5000
+
+# How many checks the gate makes side by side: one for each processor, where memory holds them. Left to itself, rt counts more memory for
+# each check than it takes, and a fourth processor is idle half of the time.
+checks() {
+    local free processors
+    free=$(($(free_memory) / CHECK_MEMORY))
+    processors=$(nproc)
+    ((free > 0)) || free=1
+    echo $((free < processors ? free : processors))
+}
+
 # Runs the gate, with a group for each thing that it does. A failure that no group counts is a group of its own. The gate keeps on
 # this machine what it has proved, and says of a crate that it "is kept" where nothing that its proof reads has changed since. Tests
 # whose own proof fails do not run, so their group counts that too.
 gate() {
     local status=0 before=$failed
-    rt ci > "$work/gate" 2>&1 &
+    RT_JOBS=${RT_JOBS:-$(checks)} rt ci > "$work/gate" 2>&1 &
     wait "$!" || status=$?
     reported proofs "$(crates | wc -l)" "$work/gate" '^rt: [a-z0-9_]+ (proved$|is kept: )' '^rt: .* NOT PROVED'
     reported "must-fail edits" "$(edits_in crates/*/must-fail)" "$work/gate" \
