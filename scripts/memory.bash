@@ -31,14 +31,18 @@ is_as_noted() {
     fi
 }
 
-# All that the store has, as other starts of the programs tell it.
+# All that the store has, as starts of mailfile-store tell it.
 whole_archive() {
     rm -rf -- "$here/out"
-    echo "DUE 9999-12-31" | "$program" --store "$here/store" && "$keeper" plan --store "$here/store" &&
-        "$keeper" check --store "$here/store" && "$keeper" export --store "$here/store" "$here/out" && cat -- "$here/out/manifest.csv"
+    "$keeper" plan --store "$here/store" && "$keeper" check --store "$here/store" && "$keeper" export --store "$here/store" "$here/out" &&
+        cat -- "$here/out/manifest.csv"
 }
 
+# Whether a later session finds the archive, and all of it is as it should be. That session ends with all in the file, so a file of the
+# same octets has the same archive.
 has_the_archive() {
+    echo "DUE 9999-12-31" | "$program" --store "$here/store" > "$here/due" 2>&1 && is_as_noted "$1" due || return
+    is_as_noted "$1" store && (($1 > 0)) && return
     whole_archive > "$here/archive" 2>&1 && is_as_noted "$1" archive
 }
 
@@ -261,11 +265,12 @@ is_between() {
     ((records == moved)) || twice=$((moved + 1))
 }
 
-# Whether all messages are moved and in the archive, in their order, and none twice but the one that is said to be. The days are those of
-# the clock, so they are not compared.
+# Whether all messages are moved and in the archive, in their order, and none twice but the one that is said to be. Where the file has
+# other octets, the days are not compared: they are those of the clock.
 has_taken_all() {
     local moved
     has_all_mail && ((moved == 3)) && [[ $(find "$here/Maildir" -type f | wc -l) -eq 3 ]] || return
+    is_as_noted "$1" store && (($1 > 0)) && return
     rm -rf -- "$here/out"
     "$keeper" export --store "$here/store" "$here/out" && cut -d , -f 2,7,8 "$here/out/manifest.csv" > "$here/all" || return
     uniq "$here/all" > "$here/mail" && is_as_noted "$1" mail && (($(wc -l < "$here/all") == 6 + ${#twice})) &&
