@@ -13,7 +13,7 @@ readonly PAGE=4096 LOG_HEAD=32 FRAME_HEAD=24
 clear_up() {
     ! declare -F stop_postfix > /dev/null || stop_postfix
     umount -- "$work/disk" 2> /dev/null
-    rm -rf -- "$work"
+    rm -rf -- "$work" ${in_memory:+"$in_memory"}
 }
 
 # The sessions that are also cut, by number.
@@ -354,83 +354,4 @@ files() {
     damages
     count "a second program" refuses_a_second
     group "two programs on one store"
-}
-
-# Which allocation of a run is refused, counted from the start of the program and not of the session.
-readonly REFUSED=20000
-
-# For four of the sessions that are also cut, in memory and in files: the first allocation of the session that is refused, and
-# the last one. A later session opens its store by the same allocations as the first, so these are not refused again.
-readonly SWEEPS='1 memory 1 1500
-2 memory 1300 1700
-3 memory 1300 1850
-4 memory 1300 4150
-1 files 1 3950
-2 files 3800 4150
-3 files 3800 4250
-4 files 3800 6950'
-
-# One in this many allocations is refused over memory. Over files, where a run takes longer, it is one in ten times this many.
-step=7
-
-# Writes a case for each allocation of a sweep, in the folders of the lanes by turns.
-write_cases() {
-    local session=$1 place=$2 request every=$step lane=0
-    [[ $place == memory ]] || every=$((10 * step))
-    commands_of "${CUT[session]}" > "$work/lines"
-    for ((request = $4; request >= $3; request -= every)); do
-        { echo "$place $((REFUSED - request))" && cat -- "$work/lines"; } > "$work/cases.$lane/$session-$place-$(printf '%05d' "$request")"
-        lane=$(((lane + 1) % lanes))
-    done
-}
-
-# Reports the cases of a sweep: a line of counts, and those that went wrong. The last case must meet no refusal, so that none is left
-# out.
-judge_sweep() {
-    awk -v sweep="$1-$2-" '
-        /^== / { text = ""; next }
-        index($0, "case=" sweep) == 1 {
-            split(text, word, " ")
-            times = word[3]
-            if ($2 == "run=ended" && $3 == "status=0" && text ~ /^played, with [0-9]+ attempts again\n(allocations: [a-z0-9 ]*\n)?$/) { good++; again += times > 0 }
-            else if ($2 == "run=ended" && $3 == "status=1") { own++; times = 0 }
-            else { bad++; print "failed: " $0; printf "%s", text }
-            if ($1 > greatest) { greatest = $1; last = times }
-        }
-        { text = text $0 "\n" }
-        END {
-            printf "session %s: %d runs answered alike, %d of them tried something again; in %d a request of the tester was refused\n", sweep, good, again, own
-            exit bad > 0 || good == 0 || last > 0
-        }' "$work/said"
-}
-
-# Plays the cases of a lane.
-play_cases() {
-    (cd -- "$work/tree/crates/growth" && exec rt try --steps 1000 --fail-alloc "$REFUSED" --cases "$work/cases.$1") > "$work/said.$1" 2>&1
-}
-
-# Refuses allocations of some sessions, in as many lanes as processors and memory allow, each of which builds the program.
-memory() {
-    local session place first last lane lanes
-    [[ -n $(kit) ]] || give_up "there is no command rt of a Rattle kit"
-    lanes=$(provers) || exit
-    if ! { mkdir -- "$work/tree" && lay_beside growth "$work/tree"; }; then
-        give_up "there is no place for a copy of the tree"
-    fi
-    for ((lane = 0; lane < lanes; lane++)); do
-        mkdir -- "$work/cases.$lane" || give_up "there is no place for the cases"
-    done
-    while read -r session place first last; do
-        write_cases "$session" "$place" "$first" "$last"
-    done <<< "$SWEEPS"
-    for ((lane = 0; lane < lanes; lane++)); do
-        play_cases "$lane" &
-    done
-    wait
-    cat -- "$work"/said.* > "$work/said"
-    grep -q '^case=' "$work/said" || tail -n 20 -- "$work/said"
-    while read -r session place first last; do
-        count "session $session over $place" judge_sweep "$session" "$place"
-    done <<< "$SWEEPS"
-    group "memory that is refused"
 }
