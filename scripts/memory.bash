@@ -345,7 +345,7 @@ refuse_each() {
     grep failed: "$work/told" | sort -n | head -n 20
     cut -d ' ' -f 2 -- "$work/told" | sort | uniq -c |
         awk -v title="$title" '{ printf "%s%d %s", NR == 1 ? title ": " : ", ", $1, $2 } END { print "" }'
-    told "$title" $((all + 1)) "$work/told" '^[0-9]+ [a-z]+$' 'failed:'
+    reported "$title" $((all + 1)) "$work/told" '^[0-9]+ [a-z]+$' 'failed:'
 }
 
 # Refuses each allocation of the sessions that are also cut, in memory and in files, and of a delivery and an intake.
