@@ -87,7 +87,7 @@ unfolding request_of verb_named row next_as day_of number_of number_in days_from
 destroy_asked = refl
 
 one_word_more : request_of (codes "DUE 2024-02-29 ") ≡ BadWord
-unfolding request_of verb_named row next_as
+unfolding request_of verb_named row next_as day_of number_in
 one_word_more = refl
 
 no_command : request_of (codes "due 2024-02-29") ≡ Unknown

@@ -59,5 +59,5 @@ next_as read (word ∷ words) = with_rest (read word) words
 
 -- What was taken is the first of the old words, and the new ones are those after it. Where it is not of that kind,
 -- nothing was taken.
-abbrev pub Takes : {A : Type 0} → (read : List ℕ → Option A) → Option A → (old new : List (List ℕ)) → Type 0
-Takes read taken old new = next_as read old ≡ with_rest taken new
+abbrev pub TakesWord : {A : Type 0} → (read : List ℕ → Option A) → Option A → (old new : List (List ℕ)) → Type 0
+TakesWord read taken old new = next_as read old ≡ with_rest taken new

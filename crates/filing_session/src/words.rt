@@ -5,7 +5,7 @@ ghost use Rattle.std.specs.Char.{is_ascii_digit};
 ghost use Rattle.std.specs.List.{list_all};
 ghost use Rattle.class_plan.specs.Calendar.{number_of_day};
 ghost use Rattle.filing_session.specs.Dates.{day_of};
-ghost use Rattle.filing_session.specs.Words.{words_of, are_digits as are_digits_of, number_in, number_of, greatest_number, greatest_length, greatest_count, is_name_octet, is_name as is_name_of, name_of, Takes};
+ghost use Rattle.filing_session.specs.Words.{words_of, are_digits as are_digits_of, number_in, number_of, greatest_number, greatest_length, greatest_count, is_name_octet, is_name as is_name_of, name_of, TakesWord};
 ghost use Rattle.filing_session.specs.WordsLeft.{words_left};
 
 use crate::dates::read_day;
@@ -36,7 +36,7 @@ impl<'a> Words<'a> {
         Words { rest: Some(line) }
     }
 
-    /// Takes the next word; none after the last one.
+    /// TakesWord the next word; none after the last one.
     pub fn next(&mut self) -> Option<&'a [u8]>
         ensures some { IfSome result (λ w. words_left self.old ≡ w.now ∷ words_left self.new) }
         ensures none { IfNone result (words_left self.old ≡ []) }
@@ -54,56 +54,56 @@ impl<'a> Words<'a> {
         }
     }
 
-    /// Takes the next word as a path, which any word is, also an empty one. None after the last word.
+    /// TakesWord the next word as a path, which any word is, also an empty one. None after the last word.
     pub fn path(&mut self) -> Option<&'a [u8]>
-        ensures { Takes Some (option_map (λ p. p.now) result) (words_left self.old)
+        ensures { TakesWord Some (option_map (λ p. p.now) result) (words_left self.old)
             (words_left self.new) }
     {
         self.next()
     }
 
-    /// Takes the next word as a name: 1 to 64 octets from 33 to 126. None for any other word.
+    /// TakesWord the next word as a name: 1 to 64 octets from 33 to 126. None for any other word.
     pub fn name(&mut self) -> Option<&'a [u8]>
-        ensures { Takes name_of (option_map (λ n. n.now) result) (words_left self.old)
+        ensures { TakesWord name_of (option_map (λ n. n.now) result) (words_left self.old)
             (words_left self.new) }
     {
         let word = self.next()?;
         is_name(word).then_some(word)
     }
 
-    /// Takes the next word as the number of a record, a ticket or a moment: decimal, without a leading zero, at most
+    /// TakesWord the next word as the number of a record, a ticket or a moment: decimal, without a leading zero, at most
     /// 18,446,744,073,709,551,615. None for any other word.
     pub fn number(&mut self) -> Option<u64>
-        ensures { Takes (number_of greatest_number) result (words_left self.old)
+        ensures { TakesWord (number_of greatest_number) result (words_left self.old)
             (words_left self.new) }
     {
         read_number_to(self.next()?, u64::MAX)
     }
 
-    /// Takes the next word as the length of a payload in octets: decimal, without a leading zero, at most
+    /// TakesWord the next word as the length of a payload in octets: decimal, without a leading zero, at most
     /// 4,294,967,295. None for any other word.
     pub fn size(&mut self) -> Option<usize>
-        ensures { Takes (number_of greatest_length) result (words_left self.old)
+        ensures { TakesWord (number_of greatest_length) result (words_left self.old)
             (words_left self.new) }
     {
         let size = read_number_to(self.next()?, MAX_LENGTH)?;
         Some(size as usize)
     }
 
-    /// Takes the next word as a number of steps: decimal, without a leading zero, at most 1,000,000. None for any other
+    /// TakesWord the next word as a number of steps: decimal, without a leading zero, at most 1,000,000. None for any other
     /// word.
     pub fn count(&mut self) -> Option<u32>
-        ensures { Takes (number_of greatest_count) result (words_left self.old)
+        ensures { TakesWord (number_of greatest_count) result (words_left self.old)
             (words_left self.new) }
     {
         let count = read_number_to(self.next()?, MAX_COUNT)?;
         Some(count as u32)
     }
 
-    /// Takes the next word as a day, `YYYY-MM-DD`: a date that the calendar has, in the years 1970 to 9999. None for
+    /// TakesWord the next word as a day, `YYYY-MM-DD`: a date that the calendar has, in the years 1970 to 9999. None for
     /// any other word.
     pub fn day(&mut self) -> Option<Day>
-        ensures { Takes day_of (option_map (λ d. number_of_day d.date) result)
+        ensures { TakesWord day_of (option_map (λ d. number_of_day d.date) result)
             (words_left self.old) (words_left self.new) }
     {
         read_day(self.next()?)
