@@ -1,4 +1,4 @@
-use Rattle.std.proofs.Common.{◌≡◌, ◌-◌, ℕ, arith, refl, [], inl, inr, ap, sym, ◌∙◌, subst, Err}
+use Rattle.std.proofs.Common.{arith, refl, [], inl, inr, ap, sym, ◌∙◌, subst}
 use Rattle.std.proofs.lemmas.List.{append-nil}
 use Rattle.filing_session.specs.Session.{EndsByInput}
 use Rattle.filing_session.specs.Replies.{answer_of}

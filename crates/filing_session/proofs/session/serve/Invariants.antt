@@ -1,4 +1,4 @@
-use Rattle.std.proofs.Common.{◌≡◌, ◌+◌, ◌-◌, ◌≤◌}
+use Rattle.std.proofs.Common.{◌≡◌, ◌-◌, ◌≤◌}
 use Rattle.filing_commands.specs.Calls.{Calls}
 use Rattle.filing_session.specs.Session.{session_of, left_by}
 use Rattle.filing_session.proofs.Served.{Doing}
