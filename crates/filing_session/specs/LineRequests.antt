@@ -32,31 +32,31 @@ abbrev pub Arguments : Type 0
 Arguments = List (List ℕ) → LineRequest
 
 -- a word that is missing, or not of its kind, is wrong
-abbrev pub taken : {A : Type 0} → Option (A × List (List ℕ)) → (A → Arguments) → LineRequest
-taken (Some next) more = more next.0 next.1
-taken None more = BadWord
+abbrev pub with_word : {A : Type 0} → Option (A × List (List ℕ)) → (A → Arguments) → LineRequest
+with_word (Some next) more = more next.0 next.1
+with_word None more = BadWord
 
 -- any word, also an empty one
 abbrev pub path : (List ℕ → Arguments) → Arguments
-path more words = taken (next_as Some words) more
+path more words = with_word (next_as Some words) more
 
 abbrev pub name : (List ℕ → Arguments) → Arguments
-name more words = taken (next_as name_of words) more
+name more words = with_word (next_as name_of words) more
 
 -- the number of a record, a ticket or a moment
 abbrev pub number : (ℕ → Arguments) → Arguments
-number more words = taken (next_as (number_of greatest_number) words) more
+number more words = with_word (next_as (number_of greatest_number) words) more
 
 -- the number of steps that a TURN grants
 abbrev pub count : (ℕ → Arguments) → Arguments
-count more words = taken (next_as (number_of greatest_count) words) more
+count more words = with_word (next_as (number_of greatest_count) words) more
 
 abbrev pub day : (ℕ → Arguments) → Arguments
-day more words = taken (next_as day_of words) more
+day more words = with_word (next_as day_of words) more
 
 -- the length of a payload
 abbrev pub size : (ℕ → Arguments) → Arguments
-size more words = taken (next_as (number_of greatest_length) words) more
+size more words = with_word (next_as (number_of greatest_length) words) more
 
 -- no more words
 abbrev pub done : LineRequest → Arguments
@@ -96,11 +96,11 @@ row verb.Due = (codes "DUE", day λ last. alone (plain (due last)))
 row verb.Destroy = (codes "DESTROY", number λ n. day λ last. alone (plain (destroy n last)))
 row verb.Quit = (codes "QUIT", done Quit)
 
-abbrev pub named : Verb → List ℕ × Verb
-named v = ((row v).0, v)
+abbrev pub entry_of : Verb → List ℕ × Verb
+entry_of v = ((row v).0, v)
 
 abbrev pub verbs : List (List ℕ × Verb)
-verbs = map named (verb.Class ∷ verb.Plan ∷ verb.Script ∷ verb.Global ∷ verb.Active ∷ verb.Inactive ∷ verb.Image
+verbs = map entry_of (verb.Class ∷ verb.Plan ∷ verb.Script ∷ verb.Global ∷ verb.Active ∷ verb.Inactive ∷ verb.Image
     ∷ verb.File ∷ verb.Try ∷ verb.Begin ∷ verb.Turn ∷ verb.Finish ∷ verb.Hold ∷ verb.Release ∷ verb.Due ∷ verb.Destroy
     ∷ verb.Quit ∷ [])
 
@@ -109,17 +109,17 @@ verb_in [] word = None
 verb_in (entry ∷ entries) word = if bytes_eq entry.0 word then Some entry.1 else verb_in entries word
 
 -- the command of that name
-unfoldable pub verb_named : (word : List ℕ) → Option Verb
-verb_named word = verb_in verbs word
+unfoldable pub verb_of : (word : List ℕ) → Option Verb
+verb_of word = verb_in verbs word
 
-abbrev pub asked_by : Option Verb → Arguments
-asked_by (Some v) words = (row v).1 words
-asked_by None words = Unknown
+abbrev pub request_by_verb : Option Verb → Arguments
+request_by_verb (Some v) words = (row v).1 words
+request_by_verb None words = Unknown
 
 -- the first word is the command's name
 abbrev pub request_of_words : List (List ℕ) → LineRequest
 request_of_words [] = Unknown
-request_of_words (word ∷ words) = asked_by (verb_named word) words
+request_of_words (word ∷ words) = request_by_verb (verb_of word) words
 
 unfoldable pub request_of : (line : List ℕ) → LineRequest
 request_of line = request_of_words (words_of line)
@@ -135,6 +135,6 @@ request_view ask.Unknown = Unknown
 request_view ask.BadWord = BadWord
 
 -- what was read of a command's words, where no more than these are left
-abbrev pub ended : Option Request → Arguments
-ended (Some request) words = done (request_view request) words
-ended None words = BadWord
+abbrev pub request_at_end : Option Request → Arguments
+request_at_end (Some request) words = done (request_view request) words
+request_at_end None words = BadWord

@@ -130,9 +130,9 @@ fn verb_in(mut table: &[(&[u8], Verb)], word: &[u8]) -> Option<Verb>
 }
 
 /// The verb that a word is.
-#[tactic(auto, unfolding(crate::specs::LineRequests::verb_named, crate::specs::LineRequests::row))]
+#[tactic(auto, unfolding(crate::specs::LineRequests::verb_of, crate::specs::LineRequests::row))]
 fn verb_of(word: &[u8]) -> Option<Verb>
-    ensures { result ≡ spec.verb_named word.now }
+    ensures { result ≡ spec.verb_of word.now }
 {
     verb_in(&VERBS, word)
 }
@@ -141,7 +141,7 @@ fn verb_of(word: &[u8]) -> Option<Verb>
 #[tactic(auto, unfolding(crate::specs::LineRequests::row))]
 fn read_arguments<'a>(verb: Verb, words: &mut Words<'a>) -> Option<Request<'a>>
     ensures { (spec.row verb).1 (words_left words.old)
-        ≡ spec.ended result (words_left words.new) }
+        ≡ spec.request_at_end result (words_left words.new) }
 {
     match verb {
         Verb::Class => Some(Alone(NoPayload::AddClass(words.path()?))),
