@@ -1,9 +1,9 @@
 -- What a crash leaves of a run of desks.
-use Rattle.std.proofs.Common.{◌≡◌, ◌⊎◌, ◌&&◌, inl, inr, zero, suc, List, [], ◌∷◌, Bool, true, false, not, refl, sym, subst}
+use Rattle.std.proofs.Common.{◌≡◌, ◌⊎◌, ◌&&◌, inl, inr, zero, suc, List, [], ◌∷◌, Bool, true, false, not, refl, subst}
 use Rattle.record_archive.specs.Archive.{Archive}
 use Rattle.filing_commands.specs.Answers.{Answer}
 use Rattle.filing_commands.specs.Calls.{Calls}
-use Rattle.filing_commands.specs.Standing.{Command, Standing, Step, is_refusal}
+use Rattle.filing_commands.specs.Standing.{Standing, is_refusal}
 use Rattle.filing_session.specs.Crashes.{AreUndone, IsLeftOf, is_carried_out}
 use Rattle.filing_session.specs.Laws.{is_item_of_archive}
 use Rattle.filing_session.specs.Session.{Item, Call, UnknownCommand, WrongWord, ItemStep, Run}

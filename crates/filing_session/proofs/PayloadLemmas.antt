@@ -1,7 +1,7 @@
 -- Payloads that are read, and commands whose payloads are there.
 use Rattle.std.proofs.Common.{◌≡◌, ℕ, ◌+◌, ◌-◌, ◌<◌, ◌≤◌, ◌++◌, [], List, Bool, true, false, length, take, drop, arith}
 use Rattle.std.proofs.Common.{ap, sym, ◌∙◌, refl, length-append}
-use Rattle.std.specs.Prelude.{nat_le, Option, Some, None, replicate}
+use Rattle.std.specs.Prelude.{nat_le, Some, replicate}
 use Rattle.std.specs.Bool.{then_some}
 use Rattle.std.proofs.lemmas.Bool.Decides.{nat_tests}
 use Rattle.std.proofs.lemmas.List.{length-take, length-replicate, length-drop, take-append-le, drop_at, drop-drop}
@@ -9,7 +9,7 @@ use Rattle.std.proofs.Math.Seq.{take-add}
 use Rattle.filing_commands.specs.Standing.{Command}
 use Rattle.filing_commands.specs.Payloads.{IsOf}
 use Rattle.filing_commands.specs.declared.payload.Payload.{Payload}
-use Rattle.filing_session.specs.Payloads.{AreRead, IsRead, IsSized, IsWithin, Takes}
+use Rattle.filing_session.specs.Payloads.{AreRead, IsRead, IsWithin, Takes}
 use Rattle.filing_session.specs.Session.{Got, Call, with_payload, with_payloads}
 
 fits_whole : (size length : ℕ) → size ≤ length → nat_le size length ≡ true

@@ -18,27 +18,25 @@ later_holds false y e = e
 
 module _ {D I : Type 0} (clean : D → Type 0) (stands : D → Standing → Type 0) (may_leave : D → I → Type 0)
     (keeps : I → Archive → Type 0) where
+  none_leads : (old new : D) → new ≡ old → (s : Standing) → stands old s → Leads stands new (λ to. to ≡ s)
+  none_leads old new same s there =
+      let P : D → Type 0 = λ d. stands d s in record { to = s; is_one = refl; there = subst P (sym same) there }
+
+  -- a line that is refused changes nothing
+  refused_leads : {R : Type 0} (old new : D) → R × (new ≡ old) → (s : Standing) → stands old s
+      → Leads stands new (λ to. R × (to ≡ s))
+  refused_leads old new step s there =
+      let led = none_leads old new step.1 s there in record { to = led.to; is_one = (step.0, led.is_one); there = led.there }
+
   pub item_refines : (i : Item) (a : Answer) → Refines clean stands (λ old. ItemStep (Calls clean stands may_leave keeps) old i a) (λ s.
       ItemStep Step s i a)
   item_refines (Call c) a old new step ok = (step.was_clean ok, step.leads (λ from_archive. ok))
-  item_refines UnknownCommand a old new step ok = (
-    subst clean step.1 ok,
-    λ s there. let P : D → Type 0 = λ d. stands d s in
-        record { to = s; is_one = (step.0, refl); there = subst P (sym step.1) there },
-  )
-  item_refines WrongWord a old new step ok = (
-    subst clean step.1 ok,
-    λ s there. let P : D → Type 0 = λ d. stands d s in
-        record { to = s; is_one = (step.0, refl); there = subst P (sym step.1) there },
-  )
+  item_refines UnknownCommand a old new step ok = (subst clean step.1 ok, refused_leads old new step)
+  item_refines WrongWord a old new step ok = (subst clean step.1 ok, refused_leads old new step)
 
   pub run_refines : (items : List Item) (answers : List Answer)
       → Refines clean stands (λ old. Run (Calls clean stands may_leave keeps) old items answers) (λ s. Run Step s items answers)
-  run_refines [] [] old new run ok = (
-    subst clean run ok,
-    λ s there. let P : D → Type 0 = λ d. stands d s in
-        record { to = s; is_one = refl; there = subst P (sym run) there },
-  )
+  run_refines [] [] old new run ok = (subst clean run ok, none_leads old new run)
   run_refines (i ∷ items) (a ∷ answers) old new run ok =
       let rest = run_refines items answers run.0 new run.2 ok in
       let first = item_refines i a old run.0 run.1 rest.0 in (
@@ -74,15 +72,13 @@ module _ {D I : Type 0} (clean : D → Type 0) (stands : D → Standing → Type
   item_leads : (i : Item) (a : Answer) (old new : D) → ItemStep (SureCalls clean stands may_leave keeps) old i a new → (s : Standing)
       → stands old s → Leads stands new (λ to. ItemStep Step s i a to)
   item_leads (Call c) a old new step s there = step.0.leads step.1 s there
-  item_leads UnknownCommand a old new step s there = let P : D → Type 0 = λ d. stands d s in
-      record { to = s; is_one = (step.0, refl); there = subst P (sym step.1) there }
-  item_leads WrongWord a old new step s there = let P : D → Type 0 = λ d. stands d s in
-      record { to = s; is_one = (step.0, refl); there = subst P (sym step.1) there }
+  item_leads UnknownCommand a old new step s there = refused_leads old new step s there
+  item_leads WrongWord a old new step s there = refused_leads old new step s there
 
   pub run_leads : (items : List Item) (answers : List Answer) (old new : D)
       → Run (SureCalls clean stands may_leave keeps) old items answers new → (s : Standing) → stands old s
       → Leads stands new (λ to. Run Step s items answers to)
-  run_leads [] [] old new run s there = let P : D → Type 0 = λ d. stands d s in record { to = s; is_one = refl; there = subst P (sym run) there }
+  run_leads [] [] old new run s there = none_leads old new run s there
   run_leads (i ∷ items) (a ∷ answers) old new run s there =
       let mid = item_leads i a old run.0 run.1 s there in
       let end = run_leads items answers run.0 new run.2 mid.to mid.there in

@@ -4,12 +4,12 @@ use Rattle.std.specs.Fmt.{digits}
 use Rattle.jiff_core.specs.Calendar.{days_from_civil, day_count, days_of_years, days_of_months}
 use Rattle.sieve_meaning.specs.declared.run_fault.RunFault.TheVariants.{ClassNotOpen}
 use Rattle.filing_commands.specs.Answers.{begun, running, ended, captured, listed}
-use Rattle.filing_commands.specs.Office.{activate, destroy, due, hold}
-use Rattle.filing_commands.specs.Standing.{plain, turn}
-use Rattle.filing_session.specs.LineRequests.{Alone, Begin, SetScript, Unknown, BadWord, request_of}
+use Rattle.filing_commands.specs.Office.{activate, destroy, due, hold, set_script}
+use Rattle.filing_commands.specs.Standing.{plain, begin, turn}
+use Rattle.filing_session.specs.LineRequests.{Alone, One, Unknown, BadWord, request_of, row, verb_of}
 use Rattle.filing_session.specs.Dates.{day_of, day_octets}
 use Rattle.filing_session.specs.Replies.{reply_octets}
-use Rattle.filing_session.specs.Words.{number_in, number_of}
+use Rattle.filing_session.specs.Words.{next_as, number_in, number_of}
 
 -- days: 2023-11-14 is day 19675, and 2024-02-29 day 19782
 day_read : day_of (codes "2023-11-14") ≡ Some 19675
@@ -47,51 +47,51 @@ leap_day_told = refl
 
 -- what lines ask
 turn_asked : request_of (codes "TURN 1 1000000") ≡ Alone (turn 1 1000000)
-unfolding request_of number_of number_in
+unfolding request_of verb_of row next_as number_of number_in
 turn_asked = refl
 
 too_many_turns : request_of (codes "TURN 1 1000001") ≡ BadWord
-unfolding request_of number_of number_in
+unfolding request_of verb_of row next_as number_of number_in
 too_many_turns = refl
 
-begin_asked : request_of (codes "BEGIN ann 1700000000 12") ≡ Begin (codes "ann") 1700000000 12
-unfolding request_of number_of number_in
+begin_asked : request_of (codes "BEGIN ann 1700000000 12") ≡ One 12 (λ message. begin (codes "ann") 1700000000 message)
+unfolding request_of verb_of row next_as number_of number_in
 begin_asked = refl
 
-script_asked : request_of (codes "SCRIPT ann main 35") ≡ SetScript (codes "ann") (codes "main") 35
-unfolding request_of number_of number_in
+script_asked : request_of (codes "SCRIPT ann main 35") ≡ One 35 (λ text. plain (set_script (codes "ann") (codes "main") text))
+unfolding request_of verb_of row next_as number_of number_in
 script_asked = refl
 
 no_name : request_of (codes "ACTIVE ann ") ≡ BadWord
-unfolding request_of
+unfolding request_of verb_of row next_as
 no_name = refl
 
 active_asked : request_of (codes "ACTIVE ann main") ≡ Alone (plain (activate (codes "ann") (codes "main")))
-unfolding request_of
+unfolding request_of verb_of row next_as
 active_asked = refl
 
 hold_asked : request_of (codes "HOLD case-7 1") ≡ Alone (plain (hold (codes "case-7") 1))
-unfolding request_of number_of number_in
+unfolding request_of verb_of row next_as number_of number_in
 hold_asked = refl
 
 leading_zero : request_of (codes "HOLD case-7 01") ≡ BadWord
-unfolding request_of number_of number_in
+unfolding request_of verb_of row next_as number_of number_in
 leading_zero = refl
 
 due_asked : request_of (codes "DUE 2024-02-29") ≡ Alone (plain (due 19782))
-unfolding request_of day_of number_in days_from_civil day_count days_of_years days_of_months
+unfolding request_of verb_of row next_as day_of number_in days_from_civil day_count days_of_years days_of_months
 due_asked = refl
 
 destroy_asked : request_of (codes "DESTROY 1 2023-11-14") ≡ Alone (plain (destroy 1 19675))
-unfolding request_of day_of number_of number_in days_from_civil day_count days_of_years days_of_months
+unfolding request_of verb_of row next_as day_of number_of number_in days_from_civil day_count days_of_years days_of_months
 destroy_asked = refl
 
 one_word_more : request_of (codes "DUE 2024-02-29 ") ≡ BadWord
-unfolding request_of
+unfolding request_of verb_of row next_as day_of number_in
 one_word_more = refl
 
 no_command : request_of (codes "due 2024-02-29") ≡ Unknown
-unfolding request_of
+unfolding request_of verb_of row next_as
 no_command = refl
 
 -- what is answered

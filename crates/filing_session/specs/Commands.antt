@@ -22,12 +22,12 @@ command_of (none.Release name number) = plain (office.release name.now number)
 command_of (none.Due day) = plain (office.due (number_of_day day.date))
 command_of (none.Destroy number day) = plain (office.destroy number (number_of_day day.date))
 
-abbrev pub one_command : OnePayload → (payload : List ℕ) → Command
-one_command one.SetPlan payload = plain (office.set_plan payload)
-one_command (one.SetScript officer name) payload = plain (office.set_script officer.now name.now payload)
-one_command (one.SetGlobal name) payload = plain (office.set_global name.now payload)
-one_command (one.SetImage officer) payload = plain (office.set_image officer.now payload)
-one_command (one.Begin officer moment) payload = begin officer.now moment payload
+abbrev pub one_command : OnePayload → List ℕ → Command
+one_command one.SetPlan = λ payload. plain (office.set_plan payload)
+one_command (one.SetScript officer name) = λ payload. plain (office.set_script officer.now name.now payload)
+one_command (one.SetGlobal name) = λ payload. plain (office.set_global name.now payload)
+one_command (one.SetImage officer) = λ payload. plain (office.set_image officer.now payload)
+one_command (one.Begin officer moment) = λ payload. begin officer.now moment payload
 
 abbrev pub one_limit : OnePayload → ℕ
 one_limit one.SetPlan = greatest_plan
@@ -36,9 +36,9 @@ one_limit (one.SetGlobal name) = greatest_script
 one_limit (one.SetImage officer) = greatest_image
 one_limit (one.Begin officer moment) = greatest_message
 
-abbrev pub two_command : TwoPayloads → (first second : List ℕ) → Command
-two_command two.File first second = plain (office.file first second)
-two_command two.Try first second = plain (office.try_image first second)
+abbrev pub two_command : TwoPayloads → List ℕ → List ℕ → Command
+two_command two.File = λ first second. plain (office.file first second)
+two_command two.Try = λ first second. plain (office.try_image first second)
 
 abbrev pub two_limits : TwoPayloads → ℕ × ℕ
 two_limits two.File = (greatest_script, greatest_message)

@@ -1,36 +1,24 @@
--- What a command line asks.
-use Rattle.std.specs.Prelude.{ℕ, List, [], ◌∷◌, ◌&&◌, if◌then◌else◌, Option, Some, None, codes}
+-- What a command line asks: the table of the commands.
+use Rattle.std.specs.Prelude.{ℕ, List, [], ◌∷◌, if◌then◌else◌, Option, Some, None, codes, map}
 use Rattle.std.specs.Str.{bytes_eq}
-use Rattle.filing_commands.specs.Office.{add_class, activate, deactivate, hold, release, due, destroy}
-use Rattle.filing_commands.specs.Standing.{Command, plain, turn, finish}
-use Rattle.filing_session.specs.Words.{words_of, number_of, greatest_number, greatest_length, greatest_count, is_name}
+use Rattle.filing_commands.specs.Office.{add_class, set_plan, set_script, set_global, activate, deactivate, set_image, file, try_image, hold, release, due, destroy}
+use Rattle.filing_commands.specs.Standing.{Command, plain, begin, turn, finish}
+use Rattle.filing_session.specs.Words.{words_of, number_of, greatest_number, greatest_length, greatest_count, name_of, next_as}
 use Rattle.filing_session.specs.Dates.{day_of}
-use Rattle.filing_session.specs.Commands.{command_of}
-use Rattle.filing_session.specs.declared.requests.OnePayload.{OnePayload}
-use Rattle.filing_session.specs.declared.requests.OnePayload.TheVariants as one
-use Rattle.filing_session.specs.declared.requests.TwoPayloads.{TwoPayloads}
-use Rattle.filing_session.specs.declared.requests.TwoPayloads.TheVariants as two
+use Rattle.filing_session.specs.Commands.{command_of, one_command, two_command}
 use Rattle.filing_session.specs.declared.requests.Request.{Request}
 use Rattle.filing_session.specs.declared.requests.Request.TheVariants as ask
+use Rattle.filing_session.specs.declared.requests.Verb.{Verb}
+use Rattle.filing_session.specs.declared.requests.Verb.TheVariants as verb
 
--- what a line asks; lengths are those of payloads, in octets
+-- what a line asks
 pub data LineRequest : Type 0 where
   -- a command that has no payload
   Alone : Command → LineRequest
-  -- to take over a plan
-  SetPlan : (text : ℕ) → LineRequest
-  -- to keep a script of an officer under a name
-  SetScript : (officer name : List ℕ) (text : ℕ) → LineRequest
-  -- to keep a global script under a name
-  SetGlobal : (name : List ℕ) (text : ℕ) → LineRequest
-  -- to set an image as an officer's program
-  SetImage : (officer : List ℕ) (image : ℕ) → LineRequest
-  -- to begin a capture of a message by an officer's program at a moment
-  Begin : (officer : List ℕ) (moment message : ℕ) → LineRequest
-  -- to file a message by a script
-  File : (script message : ℕ) → LineRequest
-  -- to run an image on a message
-  Try : (image message : ℕ) → LineRequest
+  -- a command of a payload, which has this length in octets
+  One : (size : ℕ) → (List ℕ → Command) → LineRequest
+  -- a command of two payloads, which have these lengths in octets
+  Two : (first second : ℕ) → (List ℕ → List ℕ → Command) → LineRequest
   -- to end
   Quit : LineRequest
   -- nothing: its first word names no command
@@ -38,156 +26,115 @@ pub data LineRequest : Type 0 where
   -- nothing: a word, or the number of words, is wrong
   BadWord : LineRequest
 
--- ---- the arguments of each command
+-- ---- what the words after a command's name ask, word by word
 
-abbrev pub with_number : (ℕ → LineRequest) → Option ℕ → LineRequest
-with_number ask (Some n) = ask n
-with_number ask None = BadWord
+abbrev pub Arguments : Type 0
+Arguments = List (List ℕ) → LineRequest
 
-abbrev pub with_numbers : (ℕ → ℕ → LineRequest) → (first second : Option ℕ) → LineRequest
-with_numbers ask (Some first) (Some second) = ask first second
-with_numbers ask (Some first) None = BadWord
-with_numbers ask None second = BadWord
+-- a word that is missing, or not of its kind, is wrong
+abbrev pub with_word : {A : Type 0} → Option (A × List (List ℕ)) → (A → Arguments) → LineRequest
+with_word (Some next) more = more next.0 next.1
+with_word None more = BadWord
 
--- any one word, also an empty one, is a path
-abbrev pub class_of : List (List ℕ) → LineRequest
-class_of (path ∷ []) = Alone (plain (add_class path))
-class_of _ = BadWord
+-- any word, also an empty one
+abbrev pub path : (List ℕ → Arguments) → Arguments
+path more words = with_word (next_as Some words) more
 
-abbrev pub plan_of : List (List ℕ) → LineRequest
-plan_of (text ∷ []) = with_number SetPlan (number_of greatest_length text)
-plan_of _ = BadWord
+abbrev pub name : (List ℕ → Arguments) → Arguments
+name more words = with_word (next_as name_of words) more
 
-abbrev pub script_of : List (List ℕ) → LineRequest
-script_of (officer ∷ name ∷ text ∷ []) =
-    if is_name officer && is_name name then with_number (SetScript officer name) (number_of greatest_length text)
-    else BadWord
-script_of _ = BadWord
+-- the number of a record, a ticket or a moment
+abbrev pub number : (ℕ → Arguments) → Arguments
+number more words = with_word (next_as (number_of greatest_number) words) more
 
-abbrev pub global_of : List (List ℕ) → LineRequest
-global_of (name ∷ text ∷ []) = if is_name name then with_number (SetGlobal name) (number_of greatest_length text)
-    else BadWord
-global_of _ = BadWord
+-- the number of steps that a TURN grants
+abbrev pub count : (ℕ → Arguments) → Arguments
+count more words = with_word (next_as (number_of greatest_count) words) more
 
-abbrev pub active_of : List (List ℕ) → LineRequest
-active_of (officer ∷ name ∷ []) = if is_name officer && is_name name then Alone (plain (activate officer name))
-    else BadWord
-active_of _ = BadWord
+abbrev pub day : (ℕ → Arguments) → Arguments
+day more words = with_word (next_as day_of words) more
 
-abbrev pub inactive_of : List (List ℕ) → LineRequest
-inactive_of (officer ∷ []) = if is_name officer then Alone (plain (deactivate officer)) else BadWord
-inactive_of _ = BadWord
+-- the length of a payload
+abbrev pub size : (ℕ → Arguments) → Arguments
+size more words = with_word (next_as (number_of greatest_length) words) more
 
-abbrev pub image_of : List (List ℕ) → LineRequest
-image_of (officer ∷ image ∷ []) = if is_name officer
-    then with_number (SetImage officer) (number_of greatest_length image) else BadWord
-image_of _ = BadWord
+-- no more words
+abbrev pub done : LineRequest → Arguments
+done request [] = request
+done request (word ∷ words) = BadWord
 
-abbrev pub file_of : List (List ℕ) → LineRequest
-file_of (script ∷ message ∷
-    []) = with_numbers File (number_of greatest_length script) (number_of greatest_length message)
-file_of _ = BadWord
+abbrev pub alone : Command → Arguments
+alone command = done (Alone command)
 
-abbrev pub try_of : List (List ℕ) → LineRequest
-try_of (image ∷ message ∷ []) = with_numbers Try (number_of greatest_length image) (number_of greatest_length message)
-try_of _ = BadWord
+-- the length of the payload is the last word
+abbrev pub payload : (List ℕ → Command) → Arguments
+payload command = size λ octets. done (One octets command)
 
-abbrev pub begin_of : List (List ℕ) → LineRequest
-begin_of (officer ∷ moment ∷ message ∷ []) =
-    if is_name officer then with_numbers (Begin officer) (number_of greatest_number moment)
-    (number_of greatest_length message) else BadWord
-begin_of _ = BadWord
+-- those of both payloads are the last words
+abbrev pub payloads : (List ℕ → List ℕ → Command) → Arguments
+payloads command = size λ first. size λ second. done (Two first second command)
 
-abbrev pub turn_of : List (List ℕ) → LineRequest
-turn_of (ticket ∷ count ∷
-    []) = with_numbers (λ t k. Alone (turn t k)) (number_of greatest_number ticket) (number_of greatest_count count)
-turn_of _ = BadWord
+-- ---- the table
 
-abbrev pub finish_of : List (List ℕ) → LineRequest
-finish_of (ticket ∷ []) = with_number (λ t. Alone (finish t)) (number_of greatest_number ticket)
-finish_of _ = BadWord
+-- each command: its name, the words after it with the payloads that these announce, and what it is to the desk
+unfoldable pub row : Verb → List ℕ × Arguments
+row verb.Class = (codes "CLASS", path λ class. alone (plain (add_class class)))
+row verb.Plan = (codes "PLAN", payload λ text. plain (set_plan text))
+row verb.Script = (codes "SCRIPT", name λ officer. name λ script. payload λ text. plain (set_script officer script text))
+row verb.Global = (codes "GLOBAL", name λ script. payload λ text. plain (set_global script text))
+row verb.Active = (codes "ACTIVE", name λ officer. name λ script. alone (plain (activate officer script)))
+row verb.Inactive = (codes "INACTIVE", name λ officer. alone (plain (deactivate officer)))
+row verb.Image = (codes "IMAGE", name λ officer. payload λ image. plain (set_image officer image))
+row verb.File = (codes "FILE", payloads λ script message. plain (file script message))
+row verb.Try = (codes "TRY", payloads λ image message. plain (try_image image message))
+row verb.Begin = (codes "BEGIN", name λ officer. number λ moment. payload λ message. begin officer moment message)
+row verb.Turn = (codes "TURN", number λ ticket. count λ steps. alone (turn ticket steps))
+row verb.Finish = (codes "FINISH", number λ ticket. alone (finish ticket))
+row verb.Hold = (codes "HOLD", name λ hold_name. number λ n. alone (plain (hold hold_name n)))
+row verb.Release = (codes "RELEASE", name λ hold_name. number λ n. alone (plain (release hold_name n)))
+row verb.Due = (codes "DUE", day λ last. alone (plain (due last)))
+row verb.Destroy = (codes "DESTROY", number λ n. day λ last. alone (plain (destroy n last)))
+row verb.Quit = (codes "QUIT", done Quit)
 
-abbrev pub hold_of : List (List ℕ) → LineRequest
-hold_of (name ∷ number ∷ []) = if is_name name
-    then with_number (λ r. Alone (plain (hold name r))) (number_of greatest_number number) else BadWord
-hold_of _ = BadWord
+abbrev pub entry_of : Verb → List ℕ × Verb
+entry_of v = ((row v).0, v)
 
-abbrev pub release_of : List (List ℕ) → LineRequest
-release_of (name ∷ number ∷ []) = if is_name name
-    then with_number (λ r. Alone (plain (release name r))) (number_of greatest_number number) else BadWord
-release_of _ = BadWord
+abbrev pub verbs : List (List ℕ × Verb)
+verbs = map entry_of (verb.Class ∷ verb.Plan ∷ verb.Script ∷ verb.Global ∷ verb.Active ∷ verb.Inactive ∷ verb.Image
+    ∷ verb.File ∷ verb.Try ∷ verb.Begin ∷ verb.Turn ∷ verb.Finish ∷ verb.Hold ∷ verb.Release ∷ verb.Due ∷ verb.Destroy
+    ∷ verb.Quit ∷ [])
 
-abbrev pub due_of : List (List ℕ) → LineRequest
-due_of (date ∷ []) = with_number (λ d. Alone (plain (due d))) (day_of date)
-due_of _ = BadWord
+abbrev pub verb_in : List (List ℕ × Verb) → (word : List ℕ) → Option Verb
+verb_in [] word = None
+verb_in (entry ∷ entries) word = if bytes_eq entry.0 word then Some entry.1 else verb_in entries word
 
-abbrev pub destroy_of : List (List ℕ) → LineRequest
-destroy_of (number ∷ date ∷
-    []) = with_numbers (λ r d. Alone (plain (destroy r d))) (number_of greatest_number number) (day_of date)
-destroy_of _ = BadWord
+-- the command of that name
+unfoldable pub verb_of : (word : List ℕ) → Option Verb
+verb_of word = verb_in verbs word
 
-abbrev pub quit_of : List (List ℕ) → LineRequest
-quit_of [] = Quit
-quit_of (word ∷ words) = BadWord
+abbrev pub request_by_verb : Option Verb → Arguments
+request_by_verb (Some v) words = (row v).1 words
+request_by_verb None words = Unknown
 
--- ---- by the command's name
-
--- the commands of plans, scripts and officers
-abbrev pub officer_request : (name : List ℕ) → (words : List (List ℕ)) → LineRequest
-officer_request name words =
-    if bytes_eq name (codes "CLASS") then class_of words
-    else if bytes_eq name (codes "PLAN") then plan_of words
-    else if bytes_eq name (codes "SCRIPT") then script_of words
-    else if bytes_eq name (codes "GLOBAL") then global_of words
-    else if bytes_eq name (codes "ACTIVE") then active_of words
-    else if bytes_eq name (codes "INACTIVE") then inactive_of words
-    else if bytes_eq name (codes "IMAGE") then image_of words
-    else Unknown
-
--- those of dry runs and captures
-abbrev pub capture_request : (name : List ℕ) → (words : List (List ℕ)) → LineRequest
-capture_request name words =
-    if bytes_eq name (codes "FILE") then file_of words
-    else if bytes_eq name (codes "TRY") then try_of words
-    else if bytes_eq name (codes "BEGIN") then begin_of words
-    else if bytes_eq name (codes "TURN") then turn_of words
-    else if bytes_eq name (codes "FINISH") then finish_of words
-    else officer_request name words
-
--- and those of records, and QUIT
-abbrev pub request_by_name : (name : List ℕ) → (words : List (List ℕ)) → LineRequest
-request_by_name name words =
-    if bytes_eq name (codes "HOLD") then hold_of words
-    else if bytes_eq name (codes "RELEASE") then release_of words
-    else if bytes_eq name (codes "DUE") then due_of words
-    else if bytes_eq name (codes "DESTROY") then destroy_of words
-    else if bytes_eq name (codes "QUIT") then quit_of words
-    else capture_request name words
-
+-- the first word is the command's name
 abbrev pub request_of_words : List (List ℕ) → LineRequest
 request_of_words [] = Unknown
-request_of_words (name ∷ words) = request_by_name name words
+request_of_words (word ∷ words) = request_by_verb (verb_of word) words
 
 unfoldable pub request_of : (line : List ℕ) → LineRequest
 request_of line = request_of_words (words_of line)
 
 -- ---- a request as the program has it
 
-abbrev pub one_payload_request : OnePayload → (size : ℕ) → LineRequest
-one_payload_request one.SetPlan size = SetPlan size
-one_payload_request (one.SetScript officer name) size = SetScript officer.now name.now size
-one_payload_request (one.SetGlobal name) size = SetGlobal name.now size
-one_payload_request (one.SetImage officer) size = SetImage officer.now size
-one_payload_request (one.Begin officer moment) size = Begin officer.now moment size
-
-abbrev pub two_payloads_request : TwoPayloads → (first second : ℕ) → LineRequest
-two_payloads_request two.File first second = File first second
-two_payloads_request two.Try first second = Try first second
-
 abbrev pub request_view : Request → LineRequest
 request_view (ask.Alone command) = Alone (command_of command)
-request_view (ask.One command size) = one_payload_request command size
-request_view (ask.Two command first second) = two_payloads_request command first second
+request_view (ask.One command octets) = One octets (one_command command)
+request_view (ask.Two command first second) = Two first second (two_command command)
 request_view ask.Quit = Quit
 request_view ask.Unknown = Unknown
 request_view ask.BadWord = BadWord
+
+-- what was read of a command's words, where no more than these are left
+abbrev pub request_at_end : Option Request → Arguments
+request_at_end (Some request) words = done (request_view request) words
+request_at_end None words = BadWord

@@ -1,10 +1,9 @@
 -- The commands of a session's octets, the runs of a desk that they lead to, and the octets of its answers.
 use Rattle.std.specs.Prelude.{◌≡◌, ◌⊎◌, ℕ, zero, suc, ◌+◌, List, [], ◌∷◌, ◌++◌, if◌then◌else◌, nat_le, None, length, take, drop, codes, flat_map}
 use Rattle.filing_commands.specs.Answers.{Answer, refused}
-use Rattle.filing_commands.specs.Office as office
-use Rattle.filing_commands.specs.Standing.{Command, plain, begin}
+use Rattle.filing_commands.specs.Standing.{Command}
 use Rattle.filing_session.specs.Lines.{Line, Whole, TooLong, Cut, End, line_of}
-use Rattle.filing_session.specs.LineRequests.{LineRequest, Alone, SetPlan, SetScript, SetGlobal, SetImage, Begin, File, Try, Quit, Unknown, BadWord, request_of}
+use Rattle.filing_session.specs.LineRequests.{LineRequest, Alone, One, Two, Quit, Unknown, BadWord, request_of}
 use Rattle.filing_session.specs.Replies.{reply_octets}
 use Rattle.filing_session.specs.Streams.{IsAfter}
 use Rattle.filing_session.specs.declared.items.SessionEnd.{SessionEnd}
@@ -43,13 +42,8 @@ with_payloads first second command rest =
 
 abbrev pub start_by_request : LineRequest → (rest : List ℕ) → InputStart
 start_by_request (Alone command) rest = Got (Call command) rest
-start_by_request (SetPlan text) rest = with_payload text (λ p. plain (office.set_plan p)) rest
-start_by_request (SetScript officer name text) rest = with_payload text (λ p. plain (office.set_script officer name p)) rest
-start_by_request (SetGlobal name text) rest = with_payload text (λ p. plain (office.set_global name p)) rest
-start_by_request (SetImage officer image) rest = with_payload image (λ p. plain (office.set_image officer p)) rest
-start_by_request (Begin officer moment message) rest = with_payload message (λ p. begin officer moment p) rest
-start_by_request (File script message) rest = with_payloads script message (λ s m. plain (office.file s m)) rest
-start_by_request (Try image message) rest = with_payloads image message (λ i m. plain (office.try_image i m)) rest
+start_by_request (One size command) rest = with_payload size command rest
+start_by_request (Two first second command) rest = with_payloads first second command rest
 start_by_request Quit rest = Stop ending.Quit rest
 start_by_request Unknown rest = Got UnknownCommand rest
 start_by_request BadWord rest = Got WrongWord rest

@@ -1,5 +1,5 @@
 -- Words of a command line, and the numbers and names that they are.
-use Rattle.std.specs.Prelude.{ℕ, List, Bool, ◌&&◌, ◌==◌, nat_lt, nat_le, if◌then◌else◌, Option, Some, None, length, slice_index}
+use Rattle.std.specs.Prelude.{◌≡◌, ℕ, List, [], ◌∷◌, Bool, ◌&&◌, ◌==◌, nat_lt, nat_le, if◌then◌else◌, Option, Some, None, length, slice_index}
 use Rattle.std.specs.Char.{is_ascii_digit}
 use Rattle.std.specs.List.{slice_split, list_all}
 use Rattle.std.specs.Str.Parse.{digits_value}
@@ -43,3 +43,21 @@ is_name_octet o = nat_le 33 o && nat_le o 126
 
 abbrev pub is_name : List ℕ → Bool
 is_name word = nat_lt 0 (length word) && nat_le (length word) 64 && list_all is_name_octet word
+
+abbrev pub name_of : List ℕ → Option (List ℕ)
+name_of word = if is_name word then Some word else None
+
+-- what is read of a word, with the words after it
+abbrev pub with_rest : {A : Type 0} → Option A → (rest : List (List ℕ)) → Option (A × List (List ℕ))
+with_rest (Some value) rest = Some (value, rest)
+with_rest None rest = None
+
+-- the first word as what it is read as, with the words after it; none where it is not of that kind, or there is no word
+unfoldable pub next_as : {A : Type 0} → (read : List ℕ → Option A) → List (List ℕ) → Option (A × List (List ℕ))
+next_as read [] = None
+next_as read (word ∷ words) = with_rest (read word) words
+
+-- What was taken is the first of the old words, and the new ones are those after it. Where it is not of that kind,
+-- nothing was taken.
+abbrev pub TakesWord : {A : Type 0} → (read : List ℕ → Option A) → Option A → (old new : List (List ℕ)) → Type 0
+TakesWord read taken old new = next_as read old ≡ with_rest taken new

@@ -5,17 +5,16 @@ ghost use Rattle.std.specs.Prelude.{◌≡◌, None};
 ghost use Rattle.filing_commands.specs.Answers.{refused as refused_answer};
 ghost use Rattle.filing_commands.specs.Calls.{Calls, CallsWith, CallsWithTwo};
 ghost use Rattle.filing_commands.specs.Faults.{refused_by};
-ghost use Rattle.filing_commands.specs.CallAnswers.{answer_of_capture, answer_of_done, answer_of_lines, answer_of_outcome, answer_of_ticket, answer_of_turn};
+ghost use Rattle.filing_commands.specs.CallAnswers.{answer_of_done, answer_of_outcome};
 ghost use Rattle.filing_session.specs.Commands.{command_of, one_command, one_limit, two_command, two_limits};
 ghost use Rattle.filing_session.specs.Replies.{answer_of};
 
 use crate::reply::Reply;
 use crate::requests::{NoPayload, OnePayload, TwoPayloads};
 use filing_commands::{
-    Capture, DeskFault, MAX_IMAGE_OCTETS, MAX_MESSAGE_OCTETS, MAX_PLAN_OCTETS, MAX_SCRIPT_OCTETS,
-    Payload, Refusal, Registry, Turn,
+    DeskFault, MAX_IMAGE_OCTETS, MAX_MESSAGE_OCTETS, MAX_PLAN_OCTETS, MAX_SCRIPT_OCTETS, Payload,
+    Refusal, Registry,
 };
-use record_archive::Line;
 use sieve_meaning::Outcome;
 
 /// A refusal that has no offset.
@@ -55,46 +54,6 @@ fn reply_of_outcome(outcome: Result<Outcome, DeskFault>) -> Reply
     }
 }
 
-/// The reply to `BEGIN`.
-fn reply_of_ticket(ticket: Result<(u32, u32), DeskFault>) -> Reply
-    ensures { answer_of result ≡ answer_of_ticket ticket }
-{
-    match ticket {
-        Ok((ticket, budget)) => Reply::Begun { ticket, budget },
-        Err(fault) => reply_of_fault(fault),
-    }
-}
-
-/// The reply to `TURN`.
-fn reply_of_turn(turn: Result<Turn, DeskFault>) -> Reply
-    ensures { answer_of result ≡ answer_of_turn turn }
-{
-    match turn {
-        Ok(turn) => Reply::Turned(turn),
-        Err(fault) => reply_of_fault(fault),
-    }
-}
-
-/// The reply to `FINISH`.
-fn reply_of_capture(capture: Result<Capture, DeskFault>) -> Reply
-    ensures { answer_of result ≡ answer_of_capture capture }
-{
-    match capture {
-        Ok(capture) => Reply::Captured(capture),
-        Err(fault) => reply_of_fault(fault),
-    }
-}
-
-/// The reply to a due list.
-fn reply_of_lines(lines: Result<Vec<Line>, DeskFault>) -> Reply
-    ensures { answer_of result ≡ answer_of_lines lines }
-{
-    match lines {
-        Ok(lines) => Reply::Listed(lines),
-        Err(fault) => reply_of_fault(fault),
-    }
-}
-
 /// Executes a command without a payload.
 pub fn do_alone<R: Registry>(registry: &mut R, command: &NoPayload<'_>) -> Reply
     ensures { Calls R.clean R.stands R.may_leave R.keeps registry.old (command_of command.now)
@@ -107,11 +66,20 @@ pub fn do_alone<R: Registry>(registry: &mut R, command: &NoPayload<'_>) -> Reply
             registry.deactivate(officer);
             Reply::Done
         }
-        NoPayload::Turn { ticket, count } => reply_of_turn(registry.turn(*ticket, *count)),
-        NoPayload::Finish(ticket) => reply_of_capture(registry.finish(*ticket)),
+        NoPayload::Turn { ticket, count } => match registry.turn(*ticket, *count) {
+            Ok(turn) => Reply::Turned(turn),
+            Err(fault) => reply_of_fault(fault),
+        },
+        NoPayload::Finish(ticket) => match registry.finish(*ticket) {
+            Ok(capture) => Reply::Captured(capture),
+            Err(fault) => reply_of_fault(fault),
+        },
         NoPayload::Hold { name, number } => reply_of_done(registry.hold(name, *number)),
         NoPayload::Release { name, number } => reply_of_done(registry.release(name, *number)),
-        NoPayload::Due(day) => reply_of_lines(registry.due(day.date)),
+        NoPayload::Due(day) => match registry.due(day.date) {
+            Ok(lines) => Reply::Listed(lines),
+            Err(fault) => reply_of_fault(fault),
+        },
         NoPayload::Destroy { number, day } => reply_of_done(registry.destroy(*number, day.date)),
     }
 }
@@ -151,9 +119,10 @@ pub fn do_one<R: Registry>(registry: &mut R, command: OnePayload<'_>, payload: P
         }
         OnePayload::SetGlobal(name) => reply_of_done(registry.set_global(name, &payload)),
         OnePayload::SetImage(officer) => reply_of_done(registry.set_image(officer, &payload)),
-        OnePayload::Begin { officer, moment } => reply_of_ticket(registry.begin(
-            officer, moment, payload,
-        )),
+        OnePayload::Begin { officer, moment } => match registry.begin(officer, moment, payload) {
+            Ok((ticket, budget)) => Reply::Begun { ticket, budget },
+            Err(fault) => reply_of_fault(fault),
+        },
     }
 }
 

@@ -17,6 +17,7 @@ pub struct Input<R> {
     inner: R,
     ahead: Ahead,
     tally: Tally,
+    /// How many reads met the end of the input. As with `tally`, contracts alone read it.
     ends: u64,
 }
 

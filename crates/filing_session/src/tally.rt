@@ -6,6 +6,9 @@ ghost use Rattle.filing_session.specs.Streams.{Counts, CountsInARow, is_failed};
 use crate::stream::Trouble;
 
 /// How many calls of a stream failed, and how many were interrupted. Each count stays at its greatest value, 2^64 - 1.
+///
+/// Contracts alone read the counts: by them `serve` says that a fault has its cause. They are fields all the same,
+/// since a ghost field holds a fact about the other fields, and no number that a call could change.
 #[derive(Drop)]
 pub struct Tally {
     /// How many calls failed, and were not only interrupted.

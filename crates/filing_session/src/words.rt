@@ -1,11 +1,15 @@
 //! The words of a command line, and the numbers and names among them.
 
-ghost use Rattle.std.specs.Prelude.{◌≡◌, ◌≤◌, ◌∷◌, [], Some, None, true, nat_le, if◌then◌else◌, IfSome, IfNone};
+ghost use Rattle.std.specs.Prelude.{◌≡◌, ◌≤◌, ◌∷◌, [], Some, None, true, nat_le, if◌then◌else◌, IfSome, IfNone, option_map};
 ghost use Rattle.std.specs.Char.{is_ascii_digit};
 ghost use Rattle.std.specs.List.{list_all};
-ghost use Rattle.filing_session.specs.Words.{words_of, are_digits as are_digits_of, number_in, number_of, greatest_number, greatest_length, greatest_count, is_name_octet, is_name as is_name_of};
+ghost use Rattle.class_plan.specs.Calendar.{number_of_day};
+ghost use Rattle.filing_session.specs.Dates.{day_of};
+ghost use Rattle.filing_session.specs.Words.{words_of, are_digits as are_digits_of, number_in, number_of, greatest_number, greatest_length, greatest_count, is_name_octet, is_name as is_name_of, name_of, TakesWord};
 ghost use Rattle.filing_session.specs.WordsLeft.{words_left};
 
+use crate::dates::read_day;
+use crate::day::Day;
 use std::str;
 
 /// How many octets a name has at most.
@@ -23,6 +27,7 @@ pub struct Words<'a> {
     rest: Option<&'a [u8]>,
 }
 
+#[tactic(auto, unfolding(crate::specs::Words::next_as))]
 impl<'a> Words<'a> {
     /// All words of a line.
     pub fn new(line: &'a [u8]) -> Words<'a>
@@ -31,7 +36,7 @@ impl<'a> Words<'a> {
         Words { rest: Some(line) }
     }
 
-    /// Takes the next word; none after the last one.
+    /// TakesWord the next word; none after the last one.
     pub fn next(&mut self) -> Option<&'a [u8]>
         ensures some { IfSome result (λ w. words_left self.old ≡ w.now ∷ words_left self.new) }
         ensures none { IfNone result (words_left self.old ≡ []) }
@@ -47,6 +52,61 @@ impl<'a> Words<'a> {
                 Some(&text[..at])
             }
         }
+    }
+
+    /// TakesWord the next word as a path, which any word is, also an empty one. None after the last word.
+    pub fn path(&mut self) -> Option<&'a [u8]>
+        ensures { TakesWord Some (option_map (λ p. p.now) result) (words_left self.old)
+            (words_left self.new) }
+    {
+        self.next()
+    }
+
+    /// TakesWord the next word as a name: 1 to 64 octets from 33 to 126. None for any other word.
+    pub fn name(&mut self) -> Option<&'a [u8]>
+        ensures { TakesWord name_of (option_map (λ n. n.now) result) (words_left self.old)
+            (words_left self.new) }
+    {
+        let word = self.next()?;
+        is_name(word).then_some(word)
+    }
+
+    /// TakesWord the next word as the number of a record, a ticket or a moment: decimal, without a leading zero, at most
+    /// 18,446,744,073,709,551,615. None for any other word.
+    pub fn number(&mut self) -> Option<u64>
+        ensures { TakesWord (number_of greatest_number) result (words_left self.old)
+            (words_left self.new) }
+    {
+        read_number_to(self.next()?, u64::MAX)
+    }
+
+    /// TakesWord the next word as the length of a payload in octets: decimal, without a leading zero, at most
+    /// 4,294,967,295. None for any other word.
+    pub fn size(&mut self) -> Option<usize>
+        ensures { TakesWord (number_of greatest_length) result (words_left self.old)
+            (words_left self.new) }
+    {
+        let size = read_number_to(self.next()?, MAX_LENGTH)?;
+        Some(size as usize)
+    }
+
+    /// TakesWord the next word as a number of steps: decimal, without a leading zero, at most 1,000,000. None for any other
+    /// word.
+    pub fn count(&mut self) -> Option<u32>
+        ensures { TakesWord (number_of greatest_count) result (words_left self.old)
+            (words_left self.new) }
+    {
+        let count = read_number_to(self.next()?, MAX_COUNT)?;
+        Some(count as u32)
+    }
+
+    /// TakesWord the next word as a day, `YYYY-MM-DD`: a date that the calendar has, in the years 1970 to 9999. None for
+    /// any other word.
+    pub fn day(&mut self) -> Option<Day>
+        ensures { TakesWord day_of (option_map (λ d. number_of_day d.date) result)
+            (words_left self.old) (words_left self.new) }
+    {
+        read_day(self.next()?)
     }
 }
 
@@ -113,33 +173,6 @@ fn read_number_to(word: &[u8], greatest: u64) -> Option<u64>
     }
 }
 
-/// The number of a record, a ticket or a moment: decimal, without a leading zero, at most 18,446,744,073,709,551,615.
-pub fn read_number(word: &[u8]) -> Option<u64>
-    ensures { result ≡ number_of greatest_number word.now }
-{
-    read_number_to(word, u64::MAX)
-}
-
-/// The length of a payload in octets: decimal, without a leading zero, at most 4,294,967,295.
-pub fn read_length(word: &[u8]) -> Option<usize>
-    ensures { result ≡ number_of greatest_length word.now }
-{
-    match read_number_to(word, MAX_LENGTH) {
-        Some(length) => Some(length as usize),
-        None => None,
-    }
-}
-
-/// A number of steps: decimal, without a leading zero, at most 1,000,000.
-pub fn read_count(word: &[u8]) -> Option<u32>
-    ensures { result ≡ number_of greatest_count word.now }
-{
-    match read_number_to(word, MAX_COUNT) {
-        Some(count) => Some(count as u32),
-        None => None,
-    }
-}
-
 /// Whether all octets are from 33 to 126.
 fn are_graphic(word: &[u8]) -> bool
     ensures { result ≡ list_all is_name_octet word.now }
@@ -148,7 +181,7 @@ fn are_graphic(word: &[u8]) -> bool
 }
 
 /// Whether a word is a name: 1 to 64 octets from 33 to 126.
-pub fn is_name(word: &[u8]) -> bool
+fn is_name(word: &[u8]) -> bool
     ensures { result ≡ is_name_of word.now }
 {
     (1..=NAME_OCTETS).contains(&word.len()) && are_graphic(word)

@@ -1,4 +1,4 @@
-use Rattle.std.proofs.Common.{◌≡◌, ◌+◌, ◌-◌, ◌≤◌, [], length}
+use Rattle.std.proofs.Common.{◌≡◌, ◌-◌, ◌≤◌, [], length}
 use Rattle.filing_session.proofs.FirstLine.{line_from}
 use Rattle.filing_session.specs.Streams.{most_with}
 use Rattle.filing_session.proofs.lines.read_line.Given as goal

@@ -1,4 +1,4 @@
-use Rattle.std.proofs.Common.{◌≡◌, ◌+◌, ◌-◌, ◌≤◌, ◌++◌}
+use Rattle.std.proofs.Common.{◌≡◌, ◌-◌, ◌≤◌, ◌++◌}
 use Rattle.std.specs.Prelude.{vec_len, vec_capacity}
 use Rattle.filing_session.specs.Streams.{most_with}
 use Rattle.filing_session.proofs.payload.fill.Given as goal

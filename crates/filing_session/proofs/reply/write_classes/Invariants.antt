@@ -1,4 +1,4 @@
-use Rattle.std.proofs.Common.{◌≡◌, ◌+◌, ◌≤◌, ◌++◌, take}
+use Rattle.std.proofs.Common.{◌≡◌, ◌≤◌, ◌++◌, take}
 use Rattle.std.specs.Prelude.{flat_map}
 use Rattle.filing_session.specs.Replies.{class_octets}
 use Rattle.filing_session.specs.Streams.{most_with}

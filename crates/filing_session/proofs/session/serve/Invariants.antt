@@ -1,4 +1,4 @@
-use Rattle.std.proofs.Common.{◌≡◌, ◌+◌, ◌-◌, ◌≤◌}
+use Rattle.std.proofs.Common.{◌≡◌, ◌-◌, ◌≤◌}
 use Rattle.filing_commands.specs.Calls.{Calls}
 use Rattle.filing_session.specs.Session.{session_of, left_by}
 use Rattle.filing_session.proofs.Served.{Doing}
@@ -8,7 +8,7 @@ use Rattle.filing_session.proofs.session.serve.Given as goal
 abbrev pub invariant-loop : goal.invariant-loop
 invariant-loop g l = record {
   doing : Doing (Calls g.R.Registry.clean g.R.Registry.stands g.R.Registry.may_leave g.R.Registry.keeps) g.S.Source.tells g.K.Sink.tells l.counter
-      (1000000 - l.counter) (session_of 1000000 (g.S.Source.left l.fn.source)) l.fn.registry
+      (session_of 1000000 (g.S.Source.left l.fn.source)) l.fn.registry
       (g.K.Sink.written l.fn.sink) (g.S.Source.left l.source) l.registry (g.K.Sink.written l.sink);
   unread : g.S.Source.tells → left_by 1000000 (g.S.Source.left l.fn.source) ≡ left_by (1000000 - l.counter) (g.S.Source.left l.source);
   ends : g.S.Source.ends l.fn.source ≤ g.S.Source.ends l.source;

@@ -1,4 +1,4 @@
-use Rattle.std.proofs.Common.{◌≡◌, ◌+◌, ◌-◌, ◌≤◌, ◌++◌, take, length}
+use Rattle.std.proofs.Common.{◌≡◌, ◌-◌, ◌≤◌, ◌++◌, take, length}
 use Rattle.filing_session.specs.Streams.{most_with}
 use Rattle.filing_session.proofs.stream.write_all.Given as goal
 
