@@ -1,7 +1,7 @@
 # shellcheck shell=bash
 # shellcheck disable=SC2317,SC2015 # count calls its checks by their names, and `|| shows_run` only reports
 # Tests what ./mailfile-store does with files: stores that cannot be had, names of all kinds, pipes and links in the place of files,
-# folders that may not be written, and a sqlite3 beside it. ./test sources this file after store.bash.
+# folders that may not be written, a disk that fails, and a sqlite3 beside it. ./test sources this file after store.bash.
 
 : "${work:?}"
 
@@ -178,6 +178,33 @@ needs_its_folder() {
     ((result == 0)) && has_captured
 }
 
+# ---- a disk that fails
+
+# Delivers a message over a disk that fails at the n-th call that waits for it.
+delivers_as_it_fails() {
+    status=0
+    strace -f -o "$here/trace" -e trace=fdatasync -e inject="fdatasync:error=EIO:when=$1" "$(program_of mailfile_store)" deliver \
+        --store "$here/store" --rules "$here/rules" --at 0 ann < "$here/mail/1" > "$work/said" 2> "$work/error" || status=$?
+}
+
+# Wherever the disk fails, a delivery ends with 0 only where the store has its record. Otherwise it prints none and ends with 75, also
+# where the disk fails after the capture.
+fails_in_a_delivery() {
+    local at is_doubted=no
+    for ((at = 1; at < 100; at++)); do
+        make_store && delivers_as_it_fails "$at" || return
+        grep -q INJECTED "$here/trace" || break
+        if ((status == 0)); then
+            over_says $'record 1 class finance day 1970-01-01 due 1977-01-01\n' list || return
+        elif ((status != 75)) || [[ -s $work/said || ! -s $work/error ]]; then
+            shows_run || return
+        elif grep -q 'store: the disk failed, and what was done may not be kept$' "$work/error"; then
+            is_doubted=yes
+        fi
+    done
+    ((status == 0 && at > 1 && at < 100)) && [[ $is_doubted == yes ]] || shows_run
+}
+
 # ---- sqlite3
 
 finds_no_archive() {
@@ -236,6 +263,9 @@ store_files() {
         count "a Maildir that may not be written" captures_nothing_it_cannot_move
         count "a Maildir that may not be opened" may_not_open_a_maildir
         count "a store in a folder that may not be written" needs_its_folder
+    fi
+    if strace -o "$work/error" true > "$work/said" 2>&1; then
+        count "a disk that fails in a delivery" fails_in_a_delivery
     fi
     if command -v sqlite3 > "$work/said"; then
         count "a database that is no archive" finds_no_archive

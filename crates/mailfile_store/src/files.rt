@@ -1,12 +1,15 @@
-//! The archive in a file, which is opened, lent to a task and closed here alone.
+//! Archives in files, which are opened, closed and made here alone.
 
-use clap::ArgMatches;
+use class_plan::Plan;
+use sqlite::Unknown;
 use std::alloc::Global;
-use store_console::{Failure, Status, Task};
-use store_files::{Closing, NoStore, close_archive, open_archive};
+use std::fs;
+use store_console::{Failure, Status};
+use store_files::{Closing, NoStore, close, create_archive, open_archive};
+use store_subcommands::{Archives, Closed, LastTask};
 
 /// The failure of a store that cannot be had.
-pub fn no_store(alloc: Global, path: &str, cause: NoStore) -> Failure {
+fn no_store(alloc: Global, path: &str, cause: NoStore) -> Failure {
     let status = match cause {
         NoStore::NotThere | NoStore::NoFile | NoStore::System(_) => Status::NoInput,
         NoStore::There | NoStore::StrayLog => Status::CannotMake,
@@ -17,45 +20,51 @@ pub fn no_store(alloc: Global, path: &str, cause: NoStore) -> Failure {
     Failure::at(alloc, status, path, &cause)
 }
 
-/// The failure of a store that cannot be made.
-pub fn not_made(alloc: Global, path: &str, cause: NoStore) -> Failure {
-    if let NoStore::NotThere = cause {
-        return Failure::at(alloc, Status::CannotMake, path, &"no such folder");
+/// How files were closed that were left in this way.
+fn closed_by(closing: Closing) -> Closed {
+    match closing {
+        Closing::Copied => Closed::Whole,
+        Closing::Logged(_) => Closed::WithLog,
+        Closing::Shut | Closing::Cut => Closed::Doubtful,
     }
-    match no_store(alloc, path, cause) {
-        Failure::Told(Status::NoInput | Status::BadData, text) => {
-            Failure::Told(Status::CannotMake, text)
+}
+
+/// Archives, each in the file at its path and the log beside it.
+#[derive(Clone, Copy)]
+pub struct FileArchives;
+
+impl Archives for FileArchives {
+    fn lend<T: LastTask>(
+        &self,
+        rt: &HostRuntime,
+        path: &str,
+        task: T,
+    ) -> Result<(Result<T::Answer, Failure>, Closed), Failure> {
+        match open_archive(rt, path, Unknown) {
+            Ok(archive) => {
+                let (conn, done) = task.end(rt, archive);
+                let (_files, closing) = close(conn);
+                Ok((done, closed_by(closing)))
+            }
+            Err(cause) => Err(no_store(rt.alloc(), path, cause)),
         }
-        failure => failure,
     }
-}
 
-/// The path of the store.
-pub fn store_path<'a>(asked: &ArgMatches<'a>) -> &'a str {
-    asked.get_str("store").unwrap_or("")
-}
+    fn create(&self, rt: &HostRuntime, path: &str, plan: Plan) -> Result<(), Failure> {
+        match create_archive(rt, path, plan, Unknown) {
+            Ok(_files) => Ok(()),
+            Err(NoStore::NotThere) => {
+                Err(Failure::at(rt.alloc(), Status::CannotMake, path, &"no such folder"))
+            }
+            Err(cause) => Err(no_store(rt.alloc(), path, cause)),
+        }
+    }
 
-/// Opens the archive in the file at a path, lends it to a task, and closes it. Answers what the task came to, and how the
-/// files were left.
-pub fn lend<T: Task>(
-    rt: &HostRuntime,
-    path: &str,
-    task: T,
-) -> Result<(Result<T::Answer, Failure>, Closing), NoStore> {
-    let archive = open_archive(rt, path)?;
-    let (archive, done) = task.work_on(rt, archive);
-    Ok((done, close_archive(archive)))
-}
-
-/// Does a task on the archive that the command line names.
-pub fn on_archive<T: Task>(
-    rt: &HostRuntime,
-    asked: &ArgMatches<'_>,
-    task: T,
-) -> Result<T::Answer, Failure> {
-    let path = store_path(asked);
-    match lend(rt, path, task) {
-        Ok((done, _)) => done,
-        Err(cause) => Err(no_store(rt.alloc(), path, cause)),
+    fn remove(&self, rt: &HostRuntime, path: &str) {
+        for ending in ["-wal", "-shm", "-journal", ""] {
+            if let Ok(file) = format!(in rt.alloc(); "{path}{ending}") {
+                let _ = fs::remove_file(rt, file.as_str());
+            }
+        }
     }
 }

@@ -1,6 +1,7 @@
 -- What the files keep of the archive that a store over them represents.
 use Rattle.std.proofs.Common.{◌≡◌, false, IsTrue, sym, subst}
 use Rattle.sqlite_disk.specs.declared.Disk.{Ghosts}
+use Rattle.sqlite_disk.specs.declared.Files.{Files}
 use Rattle.sqlite_store.specs.declared.store.FileStore.{FileStore}
 use Rattle.sqlite.specs.Recovery.{Image}
 use Rattle.sqlite.specs.State.{HasCleanDisk}
@@ -11,8 +12,8 @@ use Rattle.record_archive.specs.Archive.{Archive}
 use Rattle.record_adoption.specs.Keeping.{StoresArchive}
 use Rattle.record_store.specs.Stores.{StandsFor, TreesKeep}
 use Rattle.record_store.specs.declared.store.Store.{Store}
-use Rattle.store_files.specs.Closing.{HoldsBy, HoldsNow}
-use Rattle.store_files.specs.Files.{KeepsAt}
+use Rattle.store_files.specs.Closing.{HoldsBy, HoldsNow, IsLeftOpen}
+use Rattle.store_files.specs.Files.{KeepsAt, KeepsFiles, KeepsTogether}
 use Rattle.store_files.specs.declared.closing.Closing.{Closing}
 use Rattle.store_files.specs.declared.closing.Closing.TheVariants.{Copied, Logged, Shut, Cut}
 
@@ -39,6 +40,14 @@ holds_alike Copied P Q each image h = (each image h.0, each _ h.1)
 holds_alike (Logged why) P Q each image h = each image h
 holds_alike Shut P Q each image h = tt
 holds_alike Cut P Q each image h = tt
+
+-- where no fault has shut the store, the two files together keep what it had
+pub keeps_both : {D : Type 0} (g : Ghosts D) (closing : Closing) (files : Files D) (a : Archive) → IsLeftOpen closing
+    → KeepsFiles g closing files a → KeepsTogether g files a
+keeps_both g Copied files a left keeps image may = (keeps image may).0
+keeps_both g (Logged why) files a left keeps image may = keeps image may
+keeps_both g Shut files a left keeps image may = absurd left
+keeps_both g Cut files a left keeps image may = absurd left
 
 -- files that hold trees which keep an archive
 pub keeps_left : (image : Image) (trees : Trees) (a : Archive) → HoldsDatabase image trees → TreesKeep trees a → KeepsAt a image

@@ -42,6 +42,18 @@ pub holds_something : (image : Image) (size : ℕ) (pages : PageMap) (wanted : L
 holds_something image size pages wanted found ours (inl plain) = not_blank size image pages found ours.file.sound _ (omega arith) plain
 holds_something image size pages wanted found ours (inr summed) = not_blank size image pages found ours.file.sound _ (omega arith) summed
 
+-- files that held nothing are opened as a database with no table
+pub free_opened : {D : Type 0} {g : Ghosts D} (conn : Held (FileStore D g)) (image : Image) → IsOpened conn
+    → FindsIn image (file_state conn) → IsNothing image → IsFree (file_state conn).now.schema
+free_opened conn image opened found none =
+    let live = opened.1 opened.0.is_open in
+    elim found.reads [
+      | inl read ↦ absurd (∥∥₁_elim read.4 (λ x y. absurd x) (λ ours. holds_something image read.0 read.1 read.2 read.3 ours none))
+      | inr empty ↦
+          let plain = sound_once _ _ _ live.1 (empty_is_sound _ empty.1.1) in
+          subst IsFree (sym (ap (λ (db : Database). db.schema) opened.0.clean ∙ plain)) nothing_is_free
+    ]
+
 pub finds_opened : {D : Type 0} {g : Ghosts D} (conn : Held (FileStore D g)) (image : Image) (a : Archive) → IsOpened conn
     → FindsIn image (file_state conn) → FindsAt image a → Finds (file_state conn).now a
 finds_opened conn image a opened found (inl held) =
@@ -50,14 +62,7 @@ finds_opened conn image a opened found (inl held) =
     let same = same_database (file_state conn).committed held.db live.1 held.sound trees in
     let Has : Database → Type 0 = λ db. Finds db a in
     subst Has (sym (opened.0.clean ∙ same)) held.has
-finds_opened conn image a opened found (inr none) =
-    let live = opened.1 opened.0.is_open in
-    elim found.reads [
-      | inl read ↦ absurd (∥∥₁_elim read.4 (λ x y. absurd x) (λ ours. holds_something image read.0 read.1 read.2 read.3 ours none.0))
-      | inr empty ↦
-          let plain = sound_once _ _ _ live.1 (empty_is_sound _ empty.1.1) in
-          inr (subst IsFree (sym (ap (λ (db : Database). db.schema) opened.0.clean ∙ plain)) nothing_is_free, none.1)
-    ]
+finds_opened conn image a opened found (inr none) = inr (free_opened conn image opened found none.0, none.1)
 
 pub finds_kept : (image : Image) (a : Archive) → KeepsAt a image → FindsAt image a
 finds_kept image a keeps =

@@ -10,6 +10,8 @@ use Rattle.sqlite_disk.specs.Events.{replay}
 use Rattle.sqlite_disk.specs.History.{MayLeave}
 use Rattle.sqlite.specs.Recovery.{Image}
 use Rattle.sqlite.specs.WalFiles.{outcomes}
+use Rattle.sqlite.specs.WalReads.{AreClean}
+use Rattle.class_plan.specs.Plans.{Listing}
 use Rattle.sqlite.specs.Effect.{Database, IsDatabase}
 use Rattle.sqlite.specs.Files.{HoldsDatabase, IsNothing}
 use Rattle.record_archive.specs.Archive.{Archive, IsArchive, empty_archive}
@@ -41,6 +43,16 @@ KeepsAt a image = Holds Keeps image a
 -- database file with no log where that was copied. Where a fault has shut the store, see `LeavesBy`.
 abbrev pub KeepsFiles : {D : Type 0} → Ghosts D → Closing → Files D → Archive → Type 0
 KeepsFiles g closing files a = (image : Image) → outcomes g files.log files.db image → HoldsBy closing (KeepsAt a) image
+
+-- however the files are left, also by a crash, the two together recover to a database that keeps the archive
+abbrev pub KeepsTogether : {D : Type 0} → Ghosts D → Files D → Archive → Type 0
+KeepsTogether g files a = (image : Image) → outcomes g files.log files.db image → KeepsAt a image
+
+-- These files held nothing. While the disk returns what was written, the two together now keep an archive of this plan
+-- without records.
+abbrev pub KeepsNew : {D : Type 0} → Ghosts D → (before : Image) → Listing → Files D → Type 0
+KeepsNew g before plan files = AreClean g files.log files.db → IsNothing before →
+    KeepsTogether g files (record empty_archive { plan = plan })
 
 -- a file of the system, as a disk
 abbrev pub system_file : {C S : Type 0} {g : calls.Ghosts C} (first : start.Ghosts S) → Ghosts (Modelled C S g first)

@@ -40,6 +40,20 @@ pub enum Closing {
     Cut,
 }
 
+impl Closing {
+    /// Whether the files keep what the store had in the end: the database file alone, or the two files together. It is not
+    /// so where a fault of the disk had shut the store, or fell while the log was copied.
+    pub fn keeps_archive(self) -> bool
+        ensures kept { IsTrue result → IsLeftOpen self }
+        ensures lost { result ≡ false → IsLeftOpen self → ⊥ }
+    {
+        match self {
+            Closing::Copied | Closing::Logged(_) => true,
+            Closing::Shut | Closing::Cut => false,
+        }
+    }
+}
+
 /// What hindered a copy of the log, by the error of the store.
 fn hindrance_of(error: StoreError) -> Hindrance
     ensures { result ≡ Hindrance.Fault → error ≢ StoreError.OutOfMemory }

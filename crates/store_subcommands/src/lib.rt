@@ -1,0 +1,20 @@
+//! The subcommands of `mailfile-store`, over archives that are kept anywhere.
+//!
+//! - `archives`: where archives are kept, and a task that is done on one of them;
+//! - `subcommands`: what each subcommand does, by its task or by a library of its own;
+//! - `copy`: a new archive with all that another one has;
+//! - `reports`: why something was not done, for a person and as a status;
+//! - `program`: the command line, and the subcommand that it names.
+//!
+//! It knows nothing of files, so it is proved beside what opens them. No contract speaks of a command line or a terminal:
+//! these calls are only proved to be safe, and tests of the program show what they do.
+#![tactic(auto)]
+
+mod archives;
+mod copy;
+mod program;
+mod reports;
+mod subcommands;
+
+pub use archives::{Archives, Closed, LastTask};
+pub use program::serve;
