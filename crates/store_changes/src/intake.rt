@@ -64,6 +64,15 @@ fn name_one<T: Display>(rt: &HostRuntime, name: &str, reason: &T) {
     }
 }
 
+/// Names a message that stays since its file cannot be had. Without memory for that, the intake fails.
+fn name_unread(rt: &HostRuntime, name: &str, error: io::Error) -> Result<(), Failure> {
+    if let io::ErrorKind::OutOfMemory = error.kind() {
+        return Err(Failure::NoMemory);
+    }
+    name_one(rt, name, &error);
+    Ok(())
+}
+
 /// The failure of the Maildir.
 fn maildir_failure(rt: &HostRuntime, maildir: &str, error: io::Error) -> Failure {
     let status = match error.kind() {
@@ -75,20 +84,25 @@ fn maildir_failure(rt: &HostRuntime, maildir: &str, error: io::Error) -> Failure
 }
 
 /// Whether a message can be taken over; where it cannot, that is reported.
-fn is_for_us(rt: &HostRuntime, maildir: &str, name: &str, path: &str) -> bool {
+fn is_for_us(
+    rt: &HostRuntime,
+    maildir: &str,
+    name: &str,
+    path: &str,
+) -> Result<bool, Failure> {
     match (is_message(rt, path), is_in_cur(rt, maildir, name)) {
-        (Ok(true), Ok(false)) => return true,
+        (Ok(true), Ok(false)) => return Ok(true),
         (Ok(false), _) => name_one(rt, name, &"not a regular file"),
         (_, Ok(true)) => name_one(rt, name, &"cur has a message of this name"),
-        (Err(error), _) | (_, Err(error)) => name_one(rt, name, &error),
+        (Err(error), _) | (_, Err(error)) => name_unread(rt, name, error)?,
     }
-    false
+    Ok(false)
 }
 
 /// The octets of a message; none where it stays, which is reported.
 fn read_message(rt: &HostRuntime, maildir: &str, name: &str) -> Result<Option<Payload>, Failure> {
     let path = new_path(rt.alloc(), maildir, name)?;
-    if !is_for_us(rt, maildir, name, path.as_str()) {
+    if !is_for_us(rt, maildir, name, path.as_str())? {
         return Ok(None);
     }
     match payload_of_file(rt, path.as_str(), MAX_MESSAGE_OCTETS) {
@@ -98,7 +112,7 @@ fn read_message(rt: &HostRuntime, maildir: &str, name: &str) -> Result<Option<Pa
         }
         Ok(message) => Ok(Some(message)),
         Err(error) => {
-            name_one(rt, name, &error);
+            name_unread(rt, name, error)?;
             Ok(None)
         }
     }

@@ -2,7 +2,7 @@
 
 use crate::archives::Archives;
 use crate::copy::copy;
-use crate::reports::{code_of, report_usage, tell_failure};
+use crate::reports::{end_with, report_usage};
 use crate::subcommands;
 use clap::{ArgMatches, Error};
 use std::alloc::Global;
@@ -101,12 +101,6 @@ fn words(rt: &HostRuntime) -> Result<Vec<String>, Failure> {
 fn read_matches<'a>(alloc: Global, words: &'a [String]) -> Result<ArgMatches<'a>, Error> {
     let command = command(alloc)?;
     command.try_get_matches_from(words)
-}
-
-/// Ends after a failure, which is told.
-fn end_with(rt: &HostRuntime, failure: &Failure) -> ExitCode {
-    tell_failure(rt, failure);
-    code_of(failure)
 }
 
 /// Executes the words of the command line.

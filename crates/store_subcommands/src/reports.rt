@@ -1,11 +1,16 @@
 //! Why something was not done, for a person and as a status.
 
 use clap::Error;
+use clap::error::ErrorKind;
 use std::process::ExitCode;
 use store_console::{Failure, Status, tell};
 
-/// Tells on standard error what `clap` reports, and answers its status. For `--help` it is no fault.
+/// Tells on standard error what `clap` reports, and answers its status. For `--help` it is no fault. Where there was no
+/// memory to read the command line, that may work later, as with any other lack of memory.
 pub fn report_usage(rt: &HostRuntime, error: &Error) -> ExitCode {
+    if let ErrorKind::OutOfMemory = error.kind() {
+        return end_with(rt, &Failure::NoMemory);
+    }
     let _ = error.print(rt);
     if error.use_stderr() {
         Status::Usage.code()
@@ -30,4 +35,10 @@ pub fn code_of(failure: &Failure) -> ExitCode {
         Failure::NoMemory => Status::TryAgain.code(),
         Failure::Told(status, _) | Failure::Reported(status) => status.code(),
     }
+}
+
+/// Ends after a failure, which is told.
+pub fn end_with(rt: &HostRuntime, failure: &Failure) -> ExitCode {
+    tell_failure(rt, failure);
+    code_of(failure)
 }
