@@ -1,11 +1,11 @@
 -- Days of words, and the texts of days.
 use Rattle.std.proofs.Common.{◌≡◌, ℕ, ◌<◌, ◌≤◌, ◌++◌, List, [], append_assoc, Bool, true, false, Option, Some, None}
-use Rattle.std.proofs.Common.{take, drop, refl, sym, ap, ◌∙◌, arith, subst, FitsSigned, w8, w16, Result, Ok, Err, ℤ}
+use Rattle.std.proofs.Common.{take, drop, refl, sym, ap, ◌∙◌, arith, subst, FitsSigned, w8, w16, to_z, Result, Ok, Err, ℤ}
 use Rattle.std.proofs.Common.{pos, negsuc, ◌≤ℤ◌, ◌<ℤ◌, unsigned_abs, decimal, codes}
 use Rattle.std.specs.Prelude.{if◌then◌else◌, ◌&&◌, nat_le, IsOk, IfOk, ◌↔◌}
 use Rattle.std.proofs.lemmas.Bool.{false≢true}
 use Rattle.std.proofs.lemmas.Bool.Decides.{nat_tests}
-use Rattle.std.proofs.lemmas.Int.{by_lt_z}
+use Rattle.std.proofs.lemmas.Int.{by_lt_z, to_z_pos}
 use Rattle.std.proofs.lemmas.List.{append-nil}
 use Rattle.jiff.specs.Words.{epoch_day, IsBetween, IsDate, IsYmd, days_in_month}
 use Rattle.jiff_core.specs.declared.civil.date.Date.{Date}
@@ -103,28 +103,36 @@ parts_civil y m d y' m' d' ey em ed is =
     subst (λ z. IsDate y' m' z) (sym ed) (subst (λ z.
     IsDate y' z (pos d)) (sym em) (subst (λ z. IsDate z (pos m) (pos d)) (sym ey) is))
 
-pub made : {E : Type 0} (r : Result Date E) (y m d : ℕ) (y' m' d' : ℤ) (date : Date) → 1970 ≤ y → y' ≡ pos y
-    → m' ≡ pos m → d' ≡ pos d → (IsOk r ↔ IsDate y' m' d') → IfOk r (IsYmd y' m' d') → r ≡ Ok date
-    → Some (number_of_day date) ≡ real_day (Some (date_of y m d))
-made {E} r y m d y' m' d' date low ey em ed iff ymd e =
-    let Fits : Result Date E → Type 0 = λ x. IsOk x ↔ IsDate y' m' d' in
-    let Parts : Result Date E → Type 0 = λ x. IfOk x (IsYmd y' m' d') in
-    let is : IsDate y' m' d' = (subst Fits e iff).0 refl in
-    let parts : IsYmd y' m' d' date = subst Parts e ymd in
-    real y m d date low (civil_parts y m d y' m' d' ey em ed is) (parts.0 ∙ ey, parts.1 ∙ em, parts.2 ∙ ed)
+module _ {E : Type 0} (r : Result Date E) (y m d : ℕ) (low : 1970 ≤ y) (year : y ≤ 9999) (month : m ≤ 12) (day : d ≤ 31)
+    (iff : IsOk r ↔ IsDate (to_z w16 y) (to_z w8 m) (to_z w8 d)) (ymd : IfOk r (IsYmd (to_z w16 y) (to_z w8 m) (to_z w8 d))) where
+  same_year : to_z w16 y ≡ pos y
+  same_year = to_z_pos w16 y (omega arith)
 
-pub made_none : {E : Type 0} (r : Result Date E) (y m d : ℕ) (y' m' d' : ℤ) (f : E) → y' ≡ pos y → m' ≡ pos m
-    → d' ≡ pos d → (IsOk r ↔ IsDate y' m' d') → r ≡ Err f → None ≡ real_day (Some (date_of y m d))
-made_none {E} r y m d y' m' d' f ey em ed iff e =
-    let Fits : Result Date E → Type 0 = λ x. IsOk x ↔ IsDate y' m' d' in
-    unreal y m d (λ is. false≢true ((subst Fits e iff).1 (parts_civil y m d y' m' d' ey em ed is)))
+  same_month : to_z w8 m ≡ pos m
+  same_month = to_z_pos w8 m (omega arith)
 
-pub made_year : {E : Type 0} (r : Result Date E) (y : ℕ) (y' m' d' : ℤ) (date : Date) → 1970 ≤ y → y' ≡ pos y
-    → IfOk r (IsYmd y' m' d') → r ≡ Ok date → pos 1970 ≤ℤ date.year
-made_year {E} r y y' m' d' date low ey ymd e =
-    let Parts : Result Date E → Type 0 = λ x. IfOk x (IsYmd y' m' d') in
-    let year : date.year ≡ pos y = (subst Parts e ymd).0 ∙ ey in
-    rw year (omega (arith, signed_arith))
+  same_day : to_z w8 d ≡ pos d
+  same_day = to_z_pos w8 d (omega arith)
+
+  parts_of : (date : Date) → r ≡ Ok date → IsYmd (to_z w16 y) (to_z w8 m) (to_z w8 d) date
+  parts_of date e = let P : Result Date E → Type 0 = λ x. IfOk x (IsYmd (to_z w16 y) (to_z w8 m) (to_z w8 d)) in subst P e ymd
+
+  pub made : (date : Date) → r ≡ Ok date → Some (number_of_day date) ≡ real_day (Some (date_of y m d))
+  made date e =
+      let P : Result Date E → Type 0 = λ x. IsOk x ↔ IsDate (to_z w16 y) (to_z w8 m) (to_z w8 d) in
+      let parts = parts_of date e in
+      real y m d date low (civil_parts y m d _ _ _ same_year same_month same_day ((subst P e iff).0 refl))
+      (parts.0 ∙ same_year, parts.1 ∙ same_month, parts.2 ∙ same_day)
+
+  pub made_none : (f : E) → r ≡ Err f → None ≡ real_day (Some (date_of y m d))
+  made_none f e =
+      let P : Result Date E → Type 0 = λ x. IsOk x ↔ IsDate (to_z w16 y) (to_z w8 m) (to_z w8 d) in
+      unreal y m d (λ is. false≢true ((subst P e iff).1 (parts_civil y m d _ _ _ same_year same_month same_day is)))
+
+  pub made_year : (date : Date) → r ≡ Ok date → pos 1970 ≤ℤ date.year
+  made_year date e =
+      let year : date.year ≡ pos y = (parts_of date e).0 ∙ same_year in
+      rw year (omega (arith, signed_arith))
 
 pub day_in_range : (d : Date) → pos 1970 ≤ℤ d.year → IsBetween (pos 0) (pos 2932896) (epoch_day d)
 day_in_range d h = let top = epoch_day_range d in (from_zero d h, omega (arith, signed_arith))

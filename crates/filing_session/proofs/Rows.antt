@@ -1,12 +1,12 @@
 -- The definitions on worked rows.
-use Rattle.std.proofs.Common.{◌≡◌, ◌∷◌, [], codes, pos, Some, None, refl}
+use Rattle.std.proofs.Common.{◌≡◌, ℕ, List, ◌∷◌, [], codes, pos, Some, None, refl}
 use Rattle.std.specs.Fmt.{digits}
 use Rattle.jiff_core.specs.Calendar.{days_from_civil, day_count, days_of_years, days_of_months}
 use Rattle.sieve_meaning.specs.declared.run_fault.RunFault.TheVariants.{ClassNotOpen}
 use Rattle.filing_commands.specs.Answers.{begun, running, ended, captured, listed}
 use Rattle.filing_commands.specs.Office.{activate, destroy, due, hold, set_script}
 use Rattle.filing_commands.specs.Standing.{plain, begin, turn}
-use Rattle.filing_session.specs.LineRequests.{Alone, One, Unknown, BadWord, request_of, row, verb_of}
+use Rattle.filing_session.specs.LineRequests.{LineRequest, Alone, One, Unknown, BadWord, request_of, row, verb_of}
 use Rattle.filing_session.specs.Dates.{day_of, day_octets}
 use Rattle.filing_session.specs.Replies.{reply_octets}
 use Rattle.filing_session.specs.Words.{next_as, number_in, number_of}
@@ -45,53 +45,57 @@ leap_day_told : day_octets 19782 ≡ codes "2024-02-29"
 unfolding day_octets digits
 leap_day_told = refl
 
--- what lines ask
-turn_asked : request_of (codes "TURN 1 1000000") ≡ Alone (turn 1 1000000)
-unfolding request_of verb_of row next_as number_of number_in
+-- what lines ask, with all that this computes with
+asked : List ℕ → LineRequest
+unfolding request_of verb_of row next_as day_of number_of number_in days_from_civil day_count days_of_years days_of_months
+asked line = request_of line
+
+turn_asked : asked (codes "TURN 1 1000000") ≡ Alone (turn 1 1000000)
+unfolding asked
 turn_asked = refl
 
-too_many_turns : request_of (codes "TURN 1 1000001") ≡ BadWord
-unfolding request_of verb_of row next_as number_of number_in
+too_many_turns : asked (codes "TURN 1 1000001") ≡ BadWord
+unfolding asked
 too_many_turns = refl
 
-begin_asked : request_of (codes "BEGIN ann 1700000000 12") ≡ One 12 (λ message. begin (codes "ann") 1700000000 message)
-unfolding request_of verb_of row next_as number_of number_in
+begin_asked : asked (codes "BEGIN ann 1700000000 12") ≡ One 12 (λ message. begin (codes "ann") 1700000000 message)
+unfolding asked
 begin_asked = refl
 
-script_asked : request_of (codes "SCRIPT ann main 35") ≡ One 35 (λ text. plain (set_script (codes "ann") (codes "main") text))
-unfolding request_of verb_of row next_as number_of number_in
+script_asked : asked (codes "SCRIPT ann main 35") ≡ One 35 (λ text. plain (set_script (codes "ann") (codes "main") text))
+unfolding asked
 script_asked = refl
 
-no_name : request_of (codes "ACTIVE ann ") ≡ BadWord
-unfolding request_of verb_of row next_as
+no_name : asked (codes "ACTIVE ann ") ≡ BadWord
+unfolding asked
 no_name = refl
 
-active_asked : request_of (codes "ACTIVE ann main") ≡ Alone (plain (activate (codes "ann") (codes "main")))
-unfolding request_of verb_of row next_as
+active_asked : asked (codes "ACTIVE ann main") ≡ Alone (plain (activate (codes "ann") (codes "main")))
+unfolding asked
 active_asked = refl
 
-hold_asked : request_of (codes "HOLD case-7 1") ≡ Alone (plain (hold (codes "case-7") 1))
-unfolding request_of verb_of row next_as number_of number_in
+hold_asked : asked (codes "HOLD case-7 1") ≡ Alone (plain (hold (codes "case-7") 1))
+unfolding asked
 hold_asked = refl
 
-leading_zero : request_of (codes "HOLD case-7 01") ≡ BadWord
-unfolding request_of verb_of row next_as number_of number_in
+leading_zero : asked (codes "HOLD case-7 01") ≡ BadWord
+unfolding asked
 leading_zero = refl
 
-due_asked : request_of (codes "DUE 2024-02-29") ≡ Alone (plain (due 19782))
-unfolding request_of verb_of row next_as day_of number_in days_from_civil day_count days_of_years days_of_months
+due_asked : asked (codes "DUE 2024-02-29") ≡ Alone (plain (due 19782))
+unfolding asked
 due_asked = refl
 
-destroy_asked : request_of (codes "DESTROY 1 2023-11-14") ≡ Alone (plain (destroy 1 19675))
-unfolding request_of verb_of row next_as day_of number_of number_in days_from_civil day_count days_of_years days_of_months
+destroy_asked : asked (codes "DESTROY 1 2023-11-14") ≡ Alone (plain (destroy 1 19675))
+unfolding asked
 destroy_asked = refl
 
-one_word_more : request_of (codes "DUE 2024-02-29 ") ≡ BadWord
-unfolding request_of verb_of row next_as day_of number_in
+one_word_more : asked (codes "DUE 2024-02-29 ") ≡ BadWord
+unfolding asked
 one_word_more = refl
 
-no_command : request_of (codes "due 2024-02-29") ≡ Unknown
-unfolding request_of verb_of row next_as
+no_command : asked (codes "due 2024-02-29") ≡ Unknown
+unfolding asked
 no_command = refl
 
 -- what is answered

@@ -36,7 +36,7 @@ impl<'a> Words<'a> {
         Words { rest: Some(line) }
     }
 
-    /// TakesWord the next word; none after the last one.
+    /// Takes the next word; none after the last one.
     pub fn next(&mut self) -> Option<&'a [u8]>
         ensures some { IfSome result (λ w. words_left self.old ≡ w.now ∷ words_left self.new) }
         ensures none { IfNone result (words_left self.old ≡ []) }
@@ -54,7 +54,7 @@ impl<'a> Words<'a> {
         }
     }
 
-    /// TakesWord the next word as a path, which any word is, also an empty one. None after the last word.
+    /// Takes the next word as a path, which any word is, also an empty one. None after the last word.
     pub fn path(&mut self) -> Option<&'a [u8]>
         ensures { TakesWord Some (option_map (λ p. p.now) result) (words_left self.old)
             (words_left self.new) }
@@ -62,7 +62,7 @@ impl<'a> Words<'a> {
         self.next()
     }
 
-    /// TakesWord the next word as a name: 1 to 64 octets from 33 to 126. None for any other word.
+    /// Takes the next word as a name: 1 to 64 octets from 33 to 126. None for any other word.
     pub fn name(&mut self) -> Option<&'a [u8]>
         ensures { TakesWord name_of (option_map (λ n. n.now) result) (words_left self.old)
             (words_left self.new) }
@@ -71,7 +71,7 @@ impl<'a> Words<'a> {
         is_name(word).then_some(word)
     }
 
-    /// TakesWord the next word as the number of a record, a ticket or a moment: decimal, without a leading zero, at most
+    /// Takes the next word as the number of a record, a ticket or a moment: decimal, without a leading zero, at most
     /// 18,446,744,073,709,551,615. None for any other word.
     pub fn number(&mut self) -> Option<u64>
         ensures { TakesWord (number_of greatest_number) result (words_left self.old)
@@ -80,7 +80,7 @@ impl<'a> Words<'a> {
         read_number_to(self.next()?, u64::MAX)
     }
 
-    /// TakesWord the next word as the length of a payload in octets: decimal, without a leading zero, at most
+    /// Takes the next word as the length of a payload in octets: decimal, without a leading zero, at most
     /// 4,294,967,295. None for any other word.
     pub fn size(&mut self) -> Option<usize>
         ensures { TakesWord (number_of greatest_length) result (words_left self.old)
@@ -90,7 +90,7 @@ impl<'a> Words<'a> {
         Some(size as usize)
     }
 
-    /// TakesWord the next word as a number of steps: decimal, without a leading zero, at most 1,000,000. None for any other
+    /// Takes the next word as a number of steps: decimal, without a leading zero, at most 1,000,000. None for any other
     /// word.
     pub fn count(&mut self) -> Option<u32>
         ensures { TakesWord (number_of greatest_count) result (words_left self.old)
@@ -100,7 +100,7 @@ impl<'a> Words<'a> {
         Some(count as u32)
     }
 
-    /// TakesWord the next word as a day, `YYYY-MM-DD`: a date that the calendar has, in the years 1970 to 9999. None for
+    /// Takes the next word as a day, `YYYY-MM-DD`: a date that the calendar has, in the years 1970 to 9999. None for
     /// any other word.
     pub fn day(&mut self) -> Option<Day>
         ensures { TakesWord day_of (option_map (λ d. number_of_day d.date) result)
