@@ -20,7 +20,7 @@ use Rattle.record_tables.specs.Rows.{Tables}
 use Rattle.record_tables.specs.Reads.{HoldEntry, hold_entry, hold_cmp as row_cmp, AreHolds}
 use Rattle.record_rows.specs.SoundRows.{hold_cmp}
 use Rattle.record_archive.specs.Archive.{Archive, Hold, is_hold}
-use Rattle.record_adoption.specs.Adoption.{named_hold, sorted_holds}
+use Rattle.record_adoption.specs.Adoption.{AreOnce, named_hold, sorted_holds}
 use Rattle.record_adoption.specs.Counts.{tally}
 use Rattle.record_adoption.specs.Keeping.{hold_of}
 use Rattle.record_adoption.proofs.Sorting.{rises-sort}
@@ -64,22 +64,19 @@ apart x y h =
     ∙ and-swap (y.number == x.number) (bytes_eq y.name x.name) ∙ h
 
 -- no two holds are the same by record and name
-pub holds_apart : (a : Archive) → IsAscending (λ (x y : Hold). is_hold x.name x.number y ≡ false) a.holds
-    → IsAscending (λ x y. is_eq (row_cmp x y) ≡ false) (map named_hold a.holds)
+pub holds_apart : (a : Archive) → AreOnce a.holds → IsAscending (λ x y. is_eq (row_cmp x y) ≡ false) (map named_hold a.holds)
 holds_apart a once =
     ascending-map (λ x y. is_eq (row_cmp x y) ≡ false) named_hold a.holds (ascending_weaker _ (λ (x y : Hold).
     is_eq (row_cmp (named_hold x) (named_hold y)) ≡ false) apart a.holds once)
 
-pub holds_rise : (a : Archive) → IsAscending (λ (x y : Hold). is_hold x.name x.number y ≡ false) a.holds
-    → IsAscending (λ x y. row_cmp x y ≡ Less) (sorted_holds a)
+pub holds_rise : (a : Archive) → AreOnce a.holds → IsAscending (λ x y. row_cmp x y ≡ Less) (sorted_holds a)
 holds_rise a once = rises-sort row_cmp named_total (map named_hold a.holds) (holds_apart a once)
 
 pub holds_permuted : (a : Archive) → IsPermutation (sorted_holds a) (map named_hold a.holds)
 holds_permuted a = IsPermutation-sort_by row_cmp named_total (map named_hold a.holds)
 
 -- the holds of the table are the archive's, in order
-pub are_named : (t : Tables) (a : Archive) → map hold_of t.holds ≡ a.holds
-    → IsAscending (λ (x y : Hold). is_hold x.name x.number y ≡ false) a.holds → AreHolds t (sorted_holds a)
+pub are_named : (t : Tables) (a : Archive) → map hold_of t.holds ≡ a.holds → AreOnce a.holds → AreHolds t (sorted_holds a)
 are_named t a same once =
     let them : map named_hold a.holds ≡ map hold_entry t.holds = ap (map named_hold) (sym same) ∙ map-map named_hold hold_of t.holds in
     record {
@@ -95,8 +92,7 @@ unfolding IsStrictlySortedBy
 sorted_by c [] h = tt
 sorted_by c (x ∷ xs) h = (h.0, sorted_by c xs h.1)
 
-pub holds_sorted : (a : Archive) → IsAscending (λ (x y : Hold). is_hold x.name x.number y ≡ false) a.holds
-    → IsStrictlySortedBy hold_cmp (sorted_holds a)
+pub holds_sorted : (a : Archive) → AreOnce a.holds → IsStrictlySortedBy hold_cmp (sorted_holds a)
 holds_sorted a once =
     sorted_by hold_cmp (sorted_holds a) (ascending_weaker _ (λ x y.
     hold_cmp x y ≡ Less) less_is (sorted_holds a) (holds_rise a once))

@@ -1,5 +1,5 @@
 -- The rows of a plan are in order, fit, and are of one plan alone.
-use Rattle.std.proofs.Common.{◌≡◌, ◌<◌, ◌^◌, ℕ, Bool, true, false, List, [], ◌∷◌, map, codes, Option, Some, None}
+use Rattle.std.proofs.Common.{◌≡◌, ◌<◌, ◌^◌, ℕ, Bool, true, false, List, [], ◌∷◌, map, Option, Some, None}
 use Rattle.std.proofs.Common.{Ordering, Less, nat_cmp, refl, sym, ap, subst, ◌∙◌, arith, IsPermutation}
 use Rattle.std.proofs.lemmas.List.Elements.{recursion_from_All}
 use Rattle.std.proofs.lemmas.List.Sorted.{IsPermutation-refl}
@@ -21,9 +21,9 @@ use Rattle.record_tables.specs.Changes.{ClassEntry, Rule}
 use Rattle.record_tables.specs.Reads.{class_entry, rule, pair, AreClasses, AreRules, ArePairs, FitsRule}
 use Rattle.record_rows.specs.Rules.{rule_at, with_own, own_rules, rules_of, entry_of_row, classes_of, flag, action_number}
 use Rattle.record_rows.specs.Merge.{schedule_in, merge}
-use Rattle.record_rows.specs.Texts.{text_row, HasTexts}
+use Rattle.record_rows.specs.Texts.{HasTexts}
 use Rattle.record_rows.proofs.FirstRows.{texts-rules, texts-classes}
-use Rattle.record_adoption.specs.Adoption.{first_pairs}
+use Rattle.record_adoption.specs.Adoption.{first_pairs, second_pairs}
 use Rattle.record_rows.proofs.Merged.{schedule_back, merged-rows}
 
 abbrev path_cmp : List ℕ → List ℕ → Ordering
@@ -31,6 +31,7 @@ path_cmp = slice_cmp nat_cmp
 
 -- ---- in order
 
+-- rows of a plan in any view keep the order of their paths
 paths_above : {X : Type 0} (path : X → List ℕ) (view : Row → X) → ((r : Row) → path (view r) ≡ r.path)
     → (q : List ℕ) (rows : List Row) → AllByRecursion (λ y. path_cmp q y ≡ Less) (paths_of rows)
     → AllByRecursion (λ x. path_cmp q (path x) ≡ Less) (map view rows)
@@ -38,8 +39,7 @@ paths_above path view same q [] h = tt
 paths_above path view same q (r ∷ rows) h = (ap (path_cmp q) (same r) ∙ h.0, paths_above path view same q rows h.1)
 
 pub rows_rise : {X : Type 0} (path : X → List ℕ) (view : Row → X) → ((r : Row) → path (view r) ≡ r.path)
-    → (rows : List Row) → IsStrictlySortedBy path_cmp (paths_of rows)
-    → IsAscending (λ x y. path_cmp (path x) (path y) ≡ Less) (map view rows)
+    → (rows : List Row) → IsStrictlySortedBy path_cmp (paths_of rows) → IsAscending (λ x y. path_cmp (path x) (path y) ≡ Less) (map view rows)
 unfolding IsStrictlySortedBy
 rows_rise path view same [] h = tt
 rows_rise path view same (r ∷ rows) h = (
@@ -48,32 +48,31 @@ rows_rise path view same (r ∷ rows) h = (
   rows_rise path view same rows h.1,
 )
 
-pub classes_listed : (t : Tables) (p : Listing) → IsPlan p → IsPermutation (map class_entry t.classes) (classes_of p) → AreClasses t (classes_of p)
-classes_listed t p is same = record { same = same; in_order = rows_rise (λ (c : ClassEntry). c.path) entry_of_row (λ r. refl) p.rows is.in_order }
+-- so the classes of the table are in order, with their texts or without
+pub classes_listed : (view : Row → ClassEntry) → ((r : Row) → (view r).path ≡ r.path) → (t : Tables) (p : Listing) → IsPlan p
+    → IsPermutation (map class_entry t.classes) (map view p.rows) → AreClasses t (map view p.rows)
+classes_listed view path t p is same = record { same = same; in_order = rows_rise (λ (c : ClassEntry). c.path) view path p.rows is.in_order }
 
-own_above : (q path : List ℕ) (o : Option Schedule) (rules : List Rule) → path_cmp q path ≡ Less
-    → AllByRecursion (λ (r : Rule). path_cmp q r.path ≡ Less) rules
-    → AllByRecursion (λ (r : Rule). path_cmp q r.path ≡ Less) (with_own path o rules)
-own_above q path None rules e h = h
-own_above q path (Some s) rules e h = (e, h)
+-- the rules have paths after this one
+abbrev AreAfter : List ℕ → List Rule → Type 0
+AreAfter q = AllByRecursion (λ (r : Rule). path_cmp q r.path ≡ Less)
 
-rules_above : (q : List ℕ) (rows : List Row) → AllByRecursion (λ y. path_cmp q y ≡ Less) (paths_of rows)
-    → AllByRecursion (λ (r : Rule). path_cmp q r.path ≡ Less) (own_rules rows)
+-- the paths of the rules ascend
+abbrev Rise : List Rule → Type 0
+Rise = IsAscending (λ (x y : Rule). path_cmp x.path y.path ≡ Less)
+
+rules_above : (q : List ℕ) (rows : List Row) → AllByRecursion (λ y. path_cmp q y ≡ Less) (paths_of rows) → AreAfter q (own_rules rows)
 rules_above q [] h = tt
-rules_above q (r ∷ rows) h = own_above q r.path r.schedule (own_rules rows) h.0 (rules_above q rows h.1)
+rules_above q (r ∷ rows) h =
+    let rest = rules_above q rows h.1 in
+    elim r.schedule as (λ o. AreAfter q (with_own r.path o (own_rules rows))) [ None ↦ rest | Some s ↦ (h.0, rest) ]
 
-own_rises : (path : List ℕ) (o : Option Schedule) (rules : List Rule)
-    → AllByRecursion (λ (r : Rule). path_cmp path r.path ≡ Less) rules
-    → IsAscending (λ (x y : Rule). path_cmp x.path y.path ≡ Less) rules
-    → IsAscending (λ (x y : Rule). path_cmp x.path y.path ≡ Less) (with_own path o rules)
-own_rises path None rules low up = up
-own_rises path (Some s) rules low up = (low, up)
-
-own_rise : (rows : List Row) → IsStrictlySortedBy path_cmp (paths_of rows)
-    → IsAscending (λ (x y : Rule). path_cmp x.path y.path ≡ Less) (own_rules rows)
+own_rise : (rows : List Row) → IsStrictlySortedBy path_cmp (paths_of rows) → Rise (own_rules rows)
 unfolding IsStrictlySortedBy
 own_rise [] h = tt
-own_rise (r ∷ rows) h = own_rises r.path r.schedule (own_rules rows) (rules_above r.path rows h.0) (own_rise rows h.1)
+own_rise (r ∷ rows) h =
+    let rest = own_rise rows h.1 in
+    elim r.schedule as (λ o. Rise (with_own r.path o (own_rules rows))) [ None ↦ rest | Some s ↦ (rules_above r.path rows h.0, rest) ]
 
 -- no path is empty, so the root's row comes first
 first_path : (q : List ℕ) → is_path q ≡ true → path_cmp [] q ≡ Less
@@ -91,17 +90,11 @@ rules_listed t p is same = record {
   in_order = (rules_above [] p.rows (root_above p.rows p.rows (recursion_from_All (IsClass p.rows) p.rows is.classes)), own_rise p.rows is.in_order);
 }
 
-pub version_paired : (t : Tables) → map pair t.settings ≡ record { key = codes "version"; value = codes "2" } ∷ []
-    → ArePairs t (record { key = codes "version"; value = codes "2" } ∷ [])
-version_paired t same =
-    record {
-      same = subst (IsPermutation (map pair t.settings)) same (IsPermutation-refl (map pair t.settings));
-      in_order = (tt, tt);
-    }
-
-pub texts_listed : (t : Tables) (p : Listing) → IsPlan p
-    → IsPermutation (map class_entry t.classes) (map text_row p.rows) → AreClasses t (map text_row p.rows)
-texts_listed t p is same = record { same = same; in_order = rows_rise (λ (c : ClassEntry). c.path) text_row (λ r. refl) p.rows is.in_order }
+pub version_paired : (t : Tables) → map pair t.settings ≡ second_pairs → ArePairs t second_pairs
+version_paired t same = record {
+  same = subst (IsPermutation (map pair t.settings)) same (IsPermutation-refl (map pair t.settings));
+  in_order = (tt, tt);
+}
 
 pub first_paired : (t : Tables) (root : List ℕ) → IsPermutation (map pair t.settings) (first_pairs root) → ArePairs t (first_pairs root)
 first_paired t root same = record { same = same; in_order = ((refl, tt), (tt, tt)) }

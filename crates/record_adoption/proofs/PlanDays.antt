@@ -4,25 +4,16 @@ use Rattle.std.proofs.Common.{is_some, unwrap_or, List, [], ◌∷◌, ◌++◌,
 use Rattle.std.proofs.Common.{None, refl, sym, ap, subst, ◌∙◌, arith}
 use Rattle.std.specs.List.{AllByRecursion}
 use Rattle.std.proofs.lemmas.List.{take_more, map-append}
-use Rattle.std.proofs.lemmas.List.Elements.{recursion_from_All}
+use Rattle.std.proofs.lemmas.List.Elements.{All-from_recursion, filter-append, recursion_from_All}
 use Rattle.sqlite_trees.specs.Tree.{IsAscending}
-use Rattle.sqlite_keyed.proofs.ListLemmas.{all_weaker, ascending-append}
+use Rattle.sqlite_keyed.proofs.ListLemmas.{all_weaker, all-filter, all_map, all_unmap, all-slice_get, ascending-append}
 use Rattle.class_plan.specs.Calendar.{due_on}
 use Rattle.class_plan.specs.Plans.{Listing}
 use Rattle.record_archive.specs.Archive.{Record, Archive, IsArchive, IsRecord}
 use Rattle.record_tables.specs.Rows.{Due}
 use Rattle.record_tables.specs.Changes.{AreAscending}
-use Rattle.record_adoption.specs.Keeping.{has_due, due_row, dues_in}
+use Rattle.record_adoption.specs.Keeping.{AreBelow, has_due, due_row, dues_in}
 use Rattle.record_adoption.specs.Faults.{AreInOrder}
-
-filter-append : {X : Type 0} (p : X → Bool) (xs ys : List X) → filter p (xs ++ ys) ≡ filter p xs ++ filter p ys
-filter-append p [] ys = refl
-filter-append p (x ∷ xs) ys = go (p x) (filter-append p xs ys)
-  where
-    go : (b : Bool) → filter p (xs ++ ys) ≡ filter p xs ++ filter p ys
-        → cond b (x ∷ filter p (xs ++ ys)) (filter p (xs ++ ys)) ≡ cond b (x ∷ filter p xs) (filter p xs) ++ filter p ys
-    go true more = ap (λ l. x ∷ l) more
-    go false more = more
 
 abbrev alone : Listing → Archive
 alone p = record { plan = p; messages = []; records = []; holds = [] }
@@ -40,7 +31,7 @@ dues_next p f vs v i low is =
 -- ---- a due day after the last of those that ascend
 
 below_last : {V : Type 0} (f : V → Due) (vs : List V) (v : V) (n i : ℕ) → AreAscending (map f vs) → i + 1 ≡ length vs
-    → Some v ≡ slice_get vs i → (f v).number < n → AllByRecursion (λ (d : Due). d.number < n) (map f vs)
+    → Some v ≡ slice_get vs i → (f v).number < n → AreBelow n (map f vs)
 below_last f [] v n i up long at low = tt
 below_last f (x ∷ []) v n zero up long at low = let same : v ≡ x = cc in (subst (λ y. (f y).number < n) same low, tt)
 below_last f (x ∷ []) v n (suc i) up long at low = absurd (omega arith)
@@ -51,7 +42,7 @@ below_last f (x ∷ y ∷ vs) v n (suc i) up long at low =
     (omega (arith, first, more.0), more)
 
 pub after_last : {V : Type 0} (f : V → Due) (vs : List V) (v : V) (n : ℕ) → AreAscending (map f vs)
-    → Some v ≡ slice_get vs (length vs - 1) → (f v).number < n → AllByRecursion (λ (d : Due). d.number < n) (map f vs)
+    → Some v ≡ slice_get vs (length vs - 1) → (f v).number < n → AreBelow n (map f vs)
 after_last f [] v n up at low = tt
 after_last f (x ∷ vs) v n up at low = below_last f (x ∷ vs) v n (length (x ∷ vs) - 1) up (omega arith) at low
 
@@ -60,24 +51,17 @@ is_got [] i low none = absurd (omega arith)
 is_got (x ∷ vs) zero low none = absurd cc
 is_got (x ∷ vs) (suc i) low none = is_got vs i (omega arith) none
 
-pub after_none : {V : Type 0} (f : V → Due) (vs : List V) (n : ℕ) → None ≡ slice_get vs (length vs - 1)
-    → AllByRecursion (λ (d : Due). d.number < n) (map f vs)
+pub after_none : {V : Type 0} (f : V → Due) (vs : List V) (n : ℕ) → None ≡ slice_get vs (length vs - 1) → AreBelow n (map f vs)
 after_none f [] n none = tt
 after_none f (x ∷ vs) n none = absurd (is_got (x ∷ vs) (length (x ∷ vs) - 1) (omega arith) none)
 
-last_at : {V : Type 0} (f : V → Due) (vs : List V) (v : V) (n i : ℕ)
-    → AllByRecursion (λ (d : Due). d.number < n) (map f vs) → Some v ≡ slice_get vs i → (f v).number < n
-last_at f [] v n zero all at = absurd cc
-last_at f [] v n (suc i) all at = absurd cc
-last_at f (x ∷ vs) v n zero all at = let same : v ≡ x = cc in subst (λ y. (f y).number < n) (sym same) all.0
-last_at f (x ∷ vs) v n (suc i) all at = last_at f vs v n i all.1 at
-
 pub last_below : {V : Type 0} (f : V → Due) (vs : List V) (v : V) (n : ℕ)
-    → AllByRecursion (λ (d : Due). d.number < n) (map f vs) → Some v ≡ slice_get vs (length vs - 1) → (f v).number < n
-last_below f vs v n all at = last_at f vs v n (length vs - 1) all at
+    → AreBelow n (map f vs) → Some v ≡ slice_get vs (length vs - 1) → (f v).number < n
+last_below f vs v n all at =
+    all-slice_get (λ x. (f x).number < n) vs (length vs - 1) v (sym at) (all_unmap (λ (d : Due). d.number < n) f vs all)
 
 pub rises_after : {V : Type 0} (f : V → Due) (vs : List V) (v : V) → AreAscending (map f vs)
-    → AllByRecursion (λ (d : Due). d.number < (f v).number) (map f vs) → AreAscending (map f (vs ++ v ∷ []))
+    → AreBelow (f v).number (map f vs) → AreAscending (map f (vs ++ v ∷ []))
 rises_after f vs v up below =
     subst AreAscending (sym (map-append f vs (v ∷ [])))
     (ascending-append (λ (x y : Due). x.number < y.number) (map f vs) (f v ∷ []) up (tt, tt)
@@ -106,14 +90,12 @@ one_with_day p r day live h =
 
 at_mapped : {V : Type 0} (f : V → Record) (P : Record → Type 0) (vs : List V) (v : V) (i : ℕ) → i < length vs
     → v ≡ get_or vs i v → AllByRecursion P (map f vs) → P (f v)
-at_mapped f P [] v i low is all = absurd (omega arith)
-at_mapped f P (x ∷ vs) v zero low is all = subst (λ y. P (f y)) (sym is) all.0
-at_mapped f P (x ∷ vs) v (suc i) low is all = at_mapped f P vs v i (omega arith) is all.1
+at_mapped f P vs v i low is all =
+    subst (λ y. P (f y)) (sym is) (All-from_recursion (λ x. P (f x)) vs (all_unmap P f vs all) i v low)
 
 -- the records before a place have numbers below that of the one there
 before_place : {V : Type 0} (f : V → Record) (vs : List V) (v : V) (i : ℕ) → i < length vs → v ≡ get_or vs i v
-    → IsAscending (λ (x y : Record). x.number < y.number) (map f vs)
-    → AllByRecursion (λ (r : Record). r.number < (f v).number) (map f (take i vs))
+    → IsAscending (λ (x y : Record). x.number < y.number) (map f vs) → AllByRecursion (λ (r : Record). r.number < (f v).number) (map f (take i vs))
 before_place f [] v i low is up = absurd (omega arith)
 before_place f (x ∷ vs) v zero low is up = tt
 before_place f (x ∷ vs) v (suc i) low is up = (
@@ -121,22 +103,14 @@ before_place f (x ∷ vs) v (suc i) low is up = (
   before_place f vs v i (omega arith) is up.1,
 )
 
-dues_below : (p : Listing) (n : ℕ) (rs : List Record) → AllByRecursion (λ (r : Record). r.number < n) rs
-    → AllByRecursion (λ (d : Due). d.number < n) (dues_in p rs)
-dues_below p n [] h = tt
-dues_below p n (r ∷ rs) h = go (has_due (alone p) r) (dues_below p n rs h.1)
-  where
-    go : (b : Bool) → AllByRecursion (λ (d : Due). d.number < n) (dues_in p rs)
-        → AllByRecursion (λ (d : Due).
-        d.number < n) (map (due_row (alone p))
-        (cond b (r ∷ filter (has_due (alone p)) rs) (filter (has_due (alone p)) rs)))
-    go true more = (h.0, more)
-    go false more = more
+dues_below : (p : Listing) (n : ℕ) (rs : List Record) → AllByRecursion (λ (r : Record). r.number < n) rs → AreBelow n (dues_in p rs)
+dues_below p n rs h =
+    all_map (λ (d : Due). d.number < n) (due_row (alone p)) (filter (has_due (alone p)) rs)
+    (all-filter (λ (r : Record). r.number < n) (has_due (alone p)) rs h)
 
 -- the due days of the records before a place have numbers below that of the record there
 pub dues_before : {V : Type 0} (p : Listing) (f : V → Record) (vs : List V) (v : V) (i : ℕ) → i < length vs
-    → v ≡ get_or vs i v → AreInOrder (map f vs)
-    → AllByRecursion (λ (d : Due). d.number < (f v).number) (dues_in p (map f (take i vs)))
+    → v ≡ get_or vs i v → AreInOrder (map f vs) → AreBelow (f v).number (dues_in p (map f (take i vs)))
 dues_before p f vs v i low is order = dues_below p (f v).number (map f (take i vs)) (before_place f vs v i low is order.numbers)
 
 pub day_at : {V : Type 0} (f : V → Record) (vs : List V) (v : V) (i : ℕ) → i < length vs → v ≡ get_or vs i v

@@ -1,12 +1,14 @@
 -- Lists that are sorted by an order without ties.
-use Rattle.std.proofs.Common.{◌≡◌, Bool, true, false, cond, List, [], ◌∷◌, filter, refl, sym, ap, ◌∙◌, Ordering, Less}
-use Rattle.std.proofs.Common.{Equal, Greater, is_gt, is_eq, true≢false}
+use Rattle.std.proofs.Common.{◌≡◌, zero, suc, Bool, true, false, cond, List, [], ◌∷◌, filter, refl, sym, ap, ◌∙◌, Ordering, Less}
+use Rattle.std.proofs.Common.{Equal, Greater, is_lt, is_gt, is_eq, true≢false, arith, add-one, IsSorted}
+use Rattle.std.proofs.lemmas.List.Sorted.{IsPermutation-sym, IsPermutation-trans}
 use Rattle.std.specs.List.{AllByRecursion}
 use Rattle.std.specs.Cmp.{IsTotalOrder}
 use Rattle.std.specs.Ordering.{ordering_reverse}
 use Rattle.sqlite_trees.specs.Tree.{IsAscending}
 use Rattle.sqlite_keyed.specs.Lists.{sort_by, insert_sorted}
-use Rattle.sqlite_keyed.proofs.ListLemmas.{all_weaker, all-filter}
+use Rattle.sqlite_keyed.proofs.ListLemmas.{all_weaker, ascending-filter, IsPermutation-filter}
+use Rattle.sqlite_keyed.proofs.SortLemmas.{IsPermutation-sort_by, sorted_unique}
 
 module _ {X : Type 0} (cmp : X → X → Ordering) (total : IsTotalOrder cmp) where
   all-insert : (P : X → Type 0) (new : X) (xs : List X) → P new → AllByRecursion P xs → AllByRecursion P (insert_sorted cmp new xs)
@@ -41,46 +43,17 @@ module _ {X : Type 0} (cmp : X → X → Ordering) (total : IsTotalOrder cmp) wh
   rises-sort [] apart = tt
   rises-sort (x ∷ xs) apart = rises-insert x _ (all-sort _ xs apart.0) (rises-sort xs apart.1)
 
-  insert_first : (x : X) (xs : List X) → AllByRecursion (λ y. cmp x y ≡ Less) xs → insert_sorted cmp x xs ≡ x ∷ xs
-  insert_first x [] h = refl
-  insert_first x (y ∷ xs) h = ap (λ o. cond (is_gt o) (y ∷ insert_sorted cmp x xs) (x ∷ y ∷ xs)) h.0
+  -- a list that rises is sorted
+  sorted : (xs : List X) → Rises xs → IsSorted cmp xs
+  sorted [] up k d low high = absurd (omega arith)
+  sorted (x ∷ []) up k d low high = absurd (omega arith)
+  sorted (x ∷ y ∷ xs) up zero d low high = ap is_lt (total.antisymm y x ∙ ap ordering_reverse up.0.0)
+  sorted (x ∷ y ∷ xs) up (suc k) d low high = rw add-one (rw add-one at (sorted (y ∷ xs) up.1 k d (omega arith) (omega arith)))
 
-  module _ (u : X → Bool) where
-    passed_over : (x : X) (xs : List X) → u x ≡ false → filter u (insert_sorted cmp x xs) ≡ filter u xs
-    passed_over x [] out = rw out refl
-    passed_over x (y ∷ xs) out = go (is_gt (cmp x y)) (passed_over x xs out)
-      where
-        go : (b : Bool) → filter u (insert_sorted cmp x xs) ≡ filter u xs
-            → filter u (cond b (y ∷ insert_sorted cmp x xs) (x ∷ y ∷ xs)) ≡ filter u (y ∷ xs)
-        go true more = ap (λ l. cond (u y) (y ∷ l) l) more
-        go false more = rw out refl
-
-    put_in : (x : X) (xs : List X) → Rises xs → AllByRecursion (λ y. is_eq (cmp x y) ≡ false) xs → u x ≡ true
-        → filter u (insert_sorted cmp x xs) ≡ insert_sorted cmp x (filter u xs)
-    put_in x [] up apart kept = rw kept refl
-    put_in x (y ∷ xs) up apart kept = go (cmp x y) refl (put_in x xs up.1 apart.1 kept)
-      where
-        later : (b : Bool) → cmp x y ≡ Greater → filter u (insert_sorted cmp x xs) ≡ insert_sorted cmp x (filter u xs)
-            → cond b (y ∷ filter u (insert_sorted cmp x xs)) (filter u (insert_sorted cmp x xs))
-            ≡ insert_sorted cmp x (cond b (y ∷ filter u xs) (filter u xs))
-        later true e more = ap (λ l. y ∷ l) more ∙ sym (ap (λ o. cond (is_gt o) (y ∷ insert_sorted cmp x (filter u xs)) (x ∷ y ∷ filter u xs)) e)
-        later false e more = more
-
-        go : (o : Ordering) → cmp x y ≡ o → filter u (insert_sorted cmp x xs) ≡ insert_sorted cmp x (filter u xs)
-            → filter u (cond (is_gt o) (y ∷ insert_sorted cmp x xs) (x ∷ y ∷ xs)) ≡ insert_sorted cmp x (filter u (y ∷ xs))
-        go Less e more =
-            let above : AllByRecursion (λ z. cmp x z ≡ Less) (y ∷ xs) = (e, all_weaker _ (λ z. cmp x z ≡ Less) (λ z. total.trans x y z e) xs up.0) in
-            ap (λ b. cond b (x ∷ filter u (y ∷ xs)) (filter u (y ∷ xs))) kept
-            ∙ sym (insert_first x (filter u (y ∷ xs)) (all-filter _ u (y ∷ xs) above))
-        go Equal e more = absurd (true≢false (sym (ap is_eq e) ∙ apart.0))
-        go Greater e more = later (u y) e more
-
-    -- filtering before sorting or after it gives the same
-    pub filter-sort_by : (xs : List X) → IsUntied xs → filter u (sort_by cmp xs) ≡ sort_by cmp (filter u xs)
-    filter-sort_by [] apart = refl
-    filter-sort_by (x ∷ xs) apart = go (u x) refl (filter-sort_by xs apart.1)
-      where
-        go : (b : Bool) → u x ≡ b → filter u (sort_by cmp xs) ≡ sort_by cmp (filter u xs)
-            → filter u (insert_sorted cmp x (sort_by cmp xs)) ≡ sort_by cmp (cond b (x ∷ filter u xs) (filter u xs))
-        go true e more = put_in x (sort_by cmp xs) (rises-sort xs apart.1) (all-sort _ xs apart.0) e ∙ ap (insert_sorted cmp x) more
-        go false e more = passed_over x (sort_by cmp xs) e ∙ more
+  -- filtering before sorting or after it gives the same
+  pub filter-sort_by : (u : X → Bool) (xs : List X) → IsUntied xs → filter u (sort_by cmp xs) ≡ sort_by cmp (filter u xs)
+  filter-sort_by u xs apart =
+      let back = IsPermutation-filter u xs (sort_by cmp xs) (IsPermutation-sym _ _ (IsPermutation-sort_by cmp total xs)) in
+      sorted_unique cmp total (sort_by cmp (filter u xs)) (filter u (sort_by cmp xs)) (rises-sort (filter u xs) (ascending-filter _ u xs apart))
+      (IsPermutation-trans _ _ _ (IsPermutation-sort_by cmp total (filter u xs)) back)
+      (sorted (filter u (sort_by cmp xs)) (ascending-filter _ u (sort_by cmp xs) (rises-sort xs apart)))

@@ -15,8 +15,9 @@ use Rattle.record_tables.specs.Tables.{HasNone, IsFree, IsFirstSchema, IsArchive
 use Rattle.record_archive.specs.Archive.{Message, Record, Archive, Hold, IsArchive, empty_archive, is_hold, next_number}
 use Rattle.record_tables.specs.Rows.{Tables, Due, Stores, StoresFirst, StoresCommon, AreKeyed}
 use Rattle.record_tables.specs.Changes.{ClassEntry, Rule}
-use Rattle.record_tables.specs.Reads.{HoldEntry, Pair, class_entry, pair, hold_cmp, ArePairs, AreClasses, AreRules}
-use Rattle.record_tables.specs.CodeRows.{record_of, hold_entry_of, class_entry_of, rule_of, due_of}
+use Rattle.record_tables.specs.Reads.{HoldEntry, Pair, class_entry, pair, hold_cmp, AreHolds, ArePairs, AreClasses, AreRules}
+use Rattle.record_tables.specs.Reads.{FitsRecord, FitsNumber, FitsHold, numbers_of}
+use Rattle.record_tables.specs.CodeRows.{record_of, hold_entry_of, pair_of, class_entry_of, rule_of, due_of}
 use Rattle.record_tables.specs.Steps.{IsIdle, Falls, CommitsNothingOf}
 use Rattle.record_reads.specs.Quiet.{IsQuiet}
 use Rattle.record_reads.specs.RawRows.{AreTypedMessages, AreTypedRecords, AreTypedHolds, AreTypedClasses, AreTypedSchedules}
@@ -25,11 +26,11 @@ use Rattle.record_rows.specs.Rules.{rules_of, classes_of}
 use Rattle.record_rows.specs.Texts.{text_row}
 use Rattle.record_adoption.specs.Counts.{count_at}
 use Rattle.record_adoption.specs.Keeping.{Keeps, StoresArchive, hold_of, hold_count, live_count, due_rows}
-use Rattle.record_adoption.specs.declared.overview.ArchiveRows.{ArchiveRows}
+use Rattle.record_adoption.specs.declared.common_rows.ArchiveRows.{ArchiveRows}
+use Rattle.record_adoption.specs.declared.common_rows.CommonRows.{CommonRows}
 use Rattle.record_adoption.specs.declared.overview.Overview.{Overview}
 use Rattle.record_adoption.specs.declared.plan_rows.PlanRows.{PlanRows}
 use Rattle.record_adoption.specs.declared.settle.Contents.{Contents}
-use Rattle.record_adoption.specs.declared.text_rows.TextRows.{TextRows}
 
 -- ---- the rows of a database
 
@@ -71,15 +72,6 @@ AreOnce hs = IsAscending (λ (x y : Hold). is_hold x.name x.number y ≡ false) 
 pub record IsKeyed (a : Archive) : Type 0 where
   pub plan : IsPlan a.plan
   pub once : AreOnce a.holds
-
--- the messages, records and holds, which both versions keep alike
-pub record FindsCommon (db : Database) (a : Archive) : Type 0 where
-  pub tables : Tables
-  pub stored : StoresCommon db tables
-  pub keyed : AreKeyed tables
-  pub messages : tables.messages ≡ a.messages
-  pub records : tables.records ≡ a.records
-  pub holds : map hold_of tables.holds ≡ a.holds
 
 -- no table has one of the archive's names, as before the empty archive is created, and none has a foreign key
 abbrev pub FindsNothing : Database → Archive → Type 0
@@ -177,33 +169,71 @@ named_hold h = record { name = h.name; number = h.number }
 abbrev pub sorted_holds : Archive → List HoldEntry
 sorted_holds a = sort_by hold_cmp (map named_hold a.holds)
 
-pub record TellsRows (r : ArchiveRows) (a : Archive) : Type 0 where
-  pub records : map record_of r.records.items ≡ a.records
-  pub messages : r.messages.items ≡ map (λ (m : Message). m.number) a.messages
-  pub holds : map hold_entry_of r.holds.items ≡ sorted_holds a
+-- records, numbers of messages, and holds, as they are read
+pub record ArchiveLists : Type 0 where
+  pub records : List Record
+  pub messages : List ℕ
+  pub holds : List HoldEntry
+
+-- the same with settings and classes
+pub record CommonLists : Type 0 where
+  pub archive : ArchiveLists
+  pub settings : List Pair
+  pub classes : List ClassEntry
+
+abbrev pub lists_of : ArchiveRows → ArchiveLists
+lists_of r = record { records = map record_of r.records.items; messages = r.messages.items; holds = map hold_entry_of r.holds.items }
+
+abbrev pub common_lists : CommonRows → CommonLists
+common_lists r = record { archive = lists_of r.archive; settings = map pair_of r.settings.items; classes = map class_entry_of r.classes.items }
+
+abbrev pub archive_lists : Archive → ArchiveLists
+archive_lists a = record { records = a.records; messages = map (λ (m : Message). m.number) a.messages; holds = sorted_holds a }
+
+-- the archive's, with these settings and classes
+abbrev pub lists_with : List Pair → List ClassEntry → Archive → CommonLists
+lists_with ps cs a = record { archive = archive_lists a; settings = ps; classes = cs }
+
+-- the tables that both versions have contain these rows; each key is there once
+pub record HasLists (db : Database) (l : CommonLists) : Type 0 where
+  pub tables : Tables
+  pub stored : StoresCommon db tables
+  pub keyed : AreKeyed tables
+  pub records : tables.records ≡ l.archive.records
+  pub messages : numbers_of tables ≡ l.archive.messages
+  pub holds : AreHolds tables l.archive.holds
+  pub settings : ArePairs tables l.settings
+  pub classes : AreClasses tables l.classes
+
+-- the numbers fit in 32 bits
+pub record AreSmall (l : ArchiveLists) : Type 0 where
+  pub records : AllByRecursion FitsRecord l.records
+  pub messages : AllByRecursion FitsNumber l.messages
+  pub holds : AllByRecursion FitsHold l.holds
+
+-- the accepted rows are an archive's, and the numbers of the records fit in 32 bits
+pub record IsJudged (p : Listing) (l : ArchiveLists) : Type 0 where
+  pub rows : AreRows p l.records l.messages l.holds
+  pub small : AllByRecursion (λ (x : Record). x.number < 2 ^ 32) l.records
+
+-- the rows are those of version 1 with the plan
+pub record TellsFirst (r : CommonRows) (p : Listing) : Type 0 where
+  pub settings : map pair_of r.settings.items ≡ first_pairs (text_of p.root)
+  pub classes : map class_entry_of r.classes.items ≡ map text_row p.rows
+
+-- the one setting of version 2
+abbrev pub second_pairs : List Pair
+second_pairs = record { key = codes "version"; value = codes "2" } ∷ []
+
+-- the rows, with these schedules, are those of version 2 with the plan
+pub record TellsSecond (r : CommonRows) (rs : List Rule) (p : Listing) : Type 0 where
+  pub settings : map pair_of r.settings.items ≡ second_pairs
+  pub rules : rs ≡ rules_of p
+  pub classes : map class_entry_of r.classes.items ≡ classes_of p
 
 pub record TellsPlan (r : PlanRows) (p : Listing) : Type 0 where
   pub rules : map rule_of r.rules.items ≡ rules_of p
   pub classes : map class_entry_of r.classes.items ≡ classes_of p
-
--- what is read from rows that may be no plan's
-pub record ShowsPlan (r : PlanRows) (ps : List Pair) (rs : List Rule) (cs : List ClassEntry) : Type 0 where
-  pub settings : ps ≡ record { key = codes "version"; value = codes "2" } ∷ []
-  pub rules : map rule_of r.rules.items ≡ rs
-  pub classes : map class_entry_of r.classes.items ≡ cs
-
-pub record ShowsTexts (r : TextRows) (ps : List Pair) (cs : List ClassEntry) : Type 0 where
-  pub settings : ps ≡ first_pairs r.root.items
-  pub classes : map class_entry_of r.classes.items ≡ cs
-
--- the accepted rows are an archive's, and the numbers of the records fit in 32 bits
-pub record IsJudged (p : Listing) (r : ArchiveRows) : Type 0 where
-  pub rows : AreRows p (map record_of r.records.items) r.messages.items (map hold_entry_of r.holds.items)
-  pub small : AllByRecursion (λ (x : Record). x.number < 2 ^ 32) (map record_of r.records.items)
-
-pub record TellsTexts (r : TextRows) (p : Listing) : Type 0 where
-  pub root : r.root.items ≡ text_of p.root
-  pub classes : map class_entry_of r.classes.items ≡ map text_row p.rows
 
 -- what a store over the archive keeps beside the connection, and the due days
 pub record IsOverview (f : Overview) (a : Archive) : Type 0 where
@@ -233,10 +263,13 @@ LeavesArchive g old new Is = Survives (state g old) (state g new) (λ (trees : T
 abbrev pub TellsContents : Contents → Archive → Type 0
 TellsContents r a = TellsPlan r.plan_rows a.plan × IsOverview r.overview a
 
--- the archive that is found in this way before is stored with its due days, if this is its plan and these are its due days
+-- the archive is found in this way, and this is its plan, and these are its due days
+abbrev pub FindsWith : (Database → Archive → Type 0) → PlanRows → List Due → Database → Archive → Type 0
+FindsWith FindsIn plan dues db a = FindsIn db a × TellsPlan plan a.plan × (dues ≡ due_rows a)
+
+-- each such archive that is found before is stored with these due days
 abbrev pub IsSettled : (Database → Archive → Type 0) → PlanRows → List Due → (old new : Database) → Type 0
-IsSettled FindsIn plan dues old new = (a : Archive) → FindsIn old a → TellsPlan plan a.plan → dues ≡ due_rows a →
-    StoresArchive new a
+IsSettled FindsIn plan dues old new = (a : Archive) → FindsWith FindsIn plan dues old a → StoresArchive new a
 
 -- a crash leaves what it might have left before, or tables that keep each archive that is found in this way before
 abbrev pub LeavesFound : {S : Type 0} → Ghosts S → (old new : Held S) → (Database → Archive → Type 0) →

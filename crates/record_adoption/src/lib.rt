@@ -2,6 +2,7 @@
 //! where they are wrong.
 #![tactic(auto)]
 
+mod common_rows;
 mod counts;
 mod overview;
 mod plan_days;

@@ -8,12 +8,14 @@ ghost use Rattle.record_tables.specs.Changes.{AreAscending};
 ghost use Rattle.record_tables.specs.Steps.{ReadsAlone, Learns, Rejects, Relates, FailsStill, Makes};
 ghost use Rattle.record_tables.specs.CodeRows.{due_of};
 ghost use Rattle.record_archive.specs.Archive.{Archive};
-ghost use Rattle.record_adoption.specs.Keeping.{StoresArchive, due_rows};
-ghost use Rattle.record_adoption.specs.Adoption.{FindsSecond, FindsFirst, IsKeyed, TellsPlan, IsOverview, Sees, LeavesArchive, IsSoundSecond, IsSoundFirst, FindsNone, IsSettled, TellsContents, LeavesFound, AreTypedSecond, AreTypedFirst};
+ghost use Rattle.record_adoption.specs.Keeping.{StoresArchive};
+ghost use Rattle.record_adoption.specs.Adoption.{FindsSecond, FindsFirst, IsKeyed, IsOverview, Sees, LeavesArchive, IsSoundSecond, IsSoundFirst, FindsNone, FindsWith, IsSettled, TellsContents, LeavesFound, AreTypedSecond, AreTypedFirst};
 
-use crate::overview::{Overview, archive_rows, gather};
-use crate::plan_rows::{PlanRows, plan_in, plan_rows, rows_of_plan};
-use crate::text_rows::{plan_in_texts, text_rows};
+use crate::common_rows::common_rows;
+use crate::overview::{Overview, gather};
+use crate::plan_rows::{PlanRows, plan_in, rows_of_plan};
+use crate::text_rows::plan_in_texts;
+use record_reads::read::schedules;
 use record_reads::stored_dues::are_dues;
 use record_tables::fault::Fault;
 use record_tables::lay::move_first;
@@ -44,8 +46,7 @@ fn settle_dues<S: Alter>(
     ensures err { FailsStill S.Store conn.old conn.new result }
     ensures falls { HasCleanDisk (state S.Store conn.new) → HasCleanDisk (state S.Store conn.old) }
     ensures crash { LeavesArchive S.Store conn.old conn.new
-        (λ a. FindsSecond (state S.Store conn.old).now a
-        × TellsPlan plan.now a.plan × (map due_of dues.now ≡ due_rows a)) }
+        (FindsWith FindsSecond plan.now (map due_of dues.now) (state S.Store conn.old).now) }
 {
     let are_stored = are_dues(conn, dues)?;
     if are_stored {
@@ -69,8 +70,7 @@ fn move_over<S: Alter>(
     ensures err { FailsStill S.Store conn.old conn.new result }
     ensures falls { HasCleanDisk (state S.Store conn.new) → HasCleanDisk (state S.Store conn.old) }
     ensures crash { LeavesArchive S.Store conn.old conn.new
-        (λ a. FindsFirst (state S.Store conn.old).now a
-        × TellsPlan plan.now a.plan × (map due_of dues.now ≡ due_rows a)) }
+        (FindsWith FindsFirst plan.now (map due_of dues.now) (state S.Store conn.old).now) }
 {
     move_first(conn, plan.rules.as_slice(), plan.classes.as_slice(), dues)?;
     Ok(())
@@ -90,10 +90,11 @@ fn read_second<S: Alter>(alloc: Global, conn: &mut Connection<S>) -> Result<Cont
         (IsArchiveSchema (state S.Store conn.old).now.schema) }
     ensures sees { Sees S.Store IsArchiveSchema conn.old conn.new }
 {
-    let plan_rows = plan_rows(alloc, conn)?;
-    let rows = archive_rows(alloc, conn)?;
-    let plan = plan_in(alloc, &plan_rows)?;
-    let overview = gather(alloc, plan, &rows)?;
+    let rows = common_rows(alloc, conn)?;
+    let rules = schedules(alloc, conn)?;
+    let plan = plan_in(alloc, &rows, rules.as_slice())?;
+    let plan_rows = rows_of_plan(alloc, &plan)?;
+    let overview = gather(alloc, plan, &rows.archive)?;
     Ok(Contents {
         plan_rows,
         overview,
@@ -114,11 +115,10 @@ fn read_first<S: Alter>(alloc: Global, conn: &mut Connection<S>) -> Result<Conte
         (HasCommonTables (state S.Store conn.old).now.schema) }
     ensures sees { Sees S.Store HasCommonTables conn.old conn.new }
 {
-    let texts = text_rows(alloc, conn)?;
-    let rows = archive_rows(alloc, conn)?;
-    let plan = plan_in_texts(alloc, &texts)?;
+    let rows = common_rows(alloc, conn)?;
+    let plan = plan_in_texts(alloc, &rows)?;
     let plan_rows = rows_of_plan(alloc, &plan)?;
-    let overview = gather(alloc, plan, &rows)?;
+    let overview = gather(alloc, plan, &rows.archive)?;
     Ok(Contents {
         plan_rows,
         overview,

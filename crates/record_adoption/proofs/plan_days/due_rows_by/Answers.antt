@@ -3,7 +3,7 @@ use Rattle.record_tables.specs.CodeRows.{record_of}
 use Rattle.record_tables.specs.declared.fault.Fault.TheVariants.{NoMemory, NoArchive}
 use Rattle.record_adoption.specs.Keeping.{AreBelow, dues_in}
 use Rattle.record_adoption.proofs.PlanDays.{dues_next, dues_before, day_at}
-use Rattle.record_adoption.proofs.AdoptSettled.{handed_on}
+use Rattle.record_reads.proofs.TypedLemmas.{handed_on}
 use Rattle.record_adoption.proofs.plan_days.due_rows_by.Goals as goal
 
 pub loop-row-preserved : goal.loop-row-preserved

@@ -1,116 +1,36 @@
-use Rattle.std.proofs.Common.{ap, subst, Err, inr, sym}
-use Rattle.sqlite.specs.State.{HasCleanDisk}
-use Rattle.sqlite.specs.Held.{state}
-use Rattle.record_tables.specs.Tables.{HasCommonTables}
+use Rattle.std.proofs.Common.{ap, subst}
 use Rattle.record_archive.specs.Archive.{Archive}
-use Rattle.record_adoption.specs.Adoption.{FindsFirst, IsKeyed, TellsPlan}
-use Rattle.record_adoption.proofs.AdoptReads.{sees_then, kept_then, common_after, first_common, first_found, archive_of, first_told}
-use Rattle.record_adoption.proofs.AdoptRows.{judged_archive}
-use Rattle.record_adoption.proofs.AdoptSettled.{handed_on, keyed_of}
-use Rattle.sqlite.specs.Effect.{Database}
-use Rattle.record_adoption.specs.Adoption.{AreTypedRows}
+use Rattle.record_adoption.specs.Adoption.{CommonLists, TellsPlan}
+use Rattle.record_adoption.proofs.AdoptReads.{first_lists, first_listed, first_read, first_sound, tells_first, refused}
+use Rattle.record_adoption.proofs.AdoptRows.{archive_small}
+use Rattle.record_adoption.proofs.AdoptSettled.{keyed_of}
 use Rattle.record_adoption.proofs.settle.read_first.Goals as goal
-
-pub returns-in_err-rows-clause-sees : goal.returns-in_err-rows-clause-sees
-returns-in_err-rows-clause-sees g c =
-    sees_then g.S.Store HasCommonTables c.args.conn.now c.text_rows.new.conn c.archive_rows.new.conn
-    c.text_rows.ensures.sees c.in_ok-texts.ensures.same (c.archive_rows.ensures.sees)
-
-pub returns-in_err-plan-clause-sees : goal.returns-in_err-plan-clause-sees
-returns-in_err-plan-clause-sees g c =
-    sees_then g.S.Store HasCommonTables c.args.conn.now c.text_rows.new.conn c.archive_rows.new.conn
-    c.text_rows.ensures.sees c.in_ok-texts.ensures.same (c.archive_rows.ensures.sees)
-
-pub returns-in_err-overview-clause-sees : goal.returns-in_err-overview-clause-sees
-returns-in_err-overview-clause-sees g c =
-    sees_then g.S.Store HasCommonTables c.args.conn.now c.text_rows.new.conn c.archive_rows.new.conn
-    c.text_rows.ensures.sees c.in_ok-texts.ensures.same (c.archive_rows.ensures.sees)
-
-pub returns-in_err-plan_rows-clause-sees : goal.returns-in_err-plan_rows-clause-sees
-returns-in_err-plan_rows-clause-sees g c =
-    sees_then g.S.Store HasCommonTables c.args.conn.now c.text_rows.new.conn c.archive_rows.new.conn
-    c.text_rows.ensures.sees c.in_ok-texts.ensures.same (c.archive_rows.ensures.sees)
-
-pub returns-clause-sees : goal.returns-clause-sees
-returns-clause-sees g c =
-    sees_then g.S.Store HasCommonTables c.args.conn.now c.text_rows.new.conn c.archive_rows.new.conn
-    c.text_rows.ensures.sees c.in_ok-texts.ensures.same (c.archive_rows.ensures.sees)
-
-pub returns-clause-same : goal.returns-clause-same
-returns-clause-same g c =
-    kept_then g.S.Store HasCommonTables c.args.conn.now c.text_rows.new.conn c.archive_rows.new.conn
-    c.in_ok-texts.ensures.same c.archive_rows.ensures.sees.falls c.in_ok-rows.ensures.same
-
-pub returns-in_err-texts-clause-none : goal.returns-in_err-texts-clause-none
-returns-in_err-texts-clause-none g c clean is = λ (a : Archive) h archive.
-    let e = handed_on c.from_residual.result c.in_err-texts.field-0.0 c.from_residual.ensures.1 is in
-    c.in_err-texts.ensures.none clean (ap (λ f. Err f) e) a h (keyed_of a archive)
 
 pub returns-in_err-rows-clause-none : goal.returns-in_err-rows-clause-none
 returns-in_err-rows-clause-none g c clean is = λ (a : Archive) h archive.
-    let old = state g.S.Store c.args.conn.now in
-    let mid = state g.S.Store c.text_rows.new.conn in
-    let clean1 : HasCleanDisk mid = c.archive_rows.ensures.sees.falls clean in
-    let k = common_after old mid a (first_found old.now a h) (c.in_ok-texts.ensures.same clean1 (first_common old.now.schema h.stored.schema)) in
-    let e = handed_on c.from_residual-in_err-rows.result c.in_err-rows.field-0.0 c.from_residual-in_err-rows.ensures.1 is in
-    c.in_err-rows.ensures.none clean (ap (λ f. Err f) e) a k archive
+    c.in_err-rows.ensures.none clean (refused c.from_residual.ensures.1 is) (first_lists a)
+    (first_listed h (keyed_of a archive)) (archive_small a archive)
 
 pub returns-in_err-plan-clause-none : goal.returns-in_err-plan-clause-none
 returns-in_err-plan-clause-none g c clean is = λ (a : Archive) h archive.
-    let old = state g.S.Store c.args.conn.now in
-    let mid = state g.S.Store c.text_rows.new.conn in
-    let clean1 : HasCleanDisk mid = c.archive_rows.ensures.sees.falls clean in
-    let k = common_after old mid a (first_found old.now a h) (c.in_ok-texts.ensures.same clean1 (first_common old.now.schema h.stored.schema)) in
-    let e = handed_on c.from_residual-in_err-plan.result c.in_err-plan.field-0.0 c.from_residual-in_err-plan.ensures.1 is in
-    c.in_err-plan.ensures.none (ap (λ f. Err f) e) a.plan archive.plan (c.in_ok-texts.ensures.tells clean1 a h (keyed_of a archive))
+    let lists = c.in_ok-rows.ensures.tells clean (first_lists a) (first_listed h (keyed_of a archive)) in
+    c.in_err-plan.ensures.none (refused c.from_residual-in_err-plan.ensures.1 is) a.plan archive.plan (tells_first a lists)
 
 pub returns-in_err-overview-clause-none : goal.returns-in_err-overview-clause-none
 returns-in_err-overview-clause-none g c clean is = λ (a : Archive) h archive.
-    let old = state g.S.Store c.args.conn.now in
-    let mid = state g.S.Store c.text_rows.new.conn in
-    let clean1 : HasCleanDisk mid = c.archive_rows.ensures.sees.falls clean in
-    let k = common_after old mid a (first_found old.now a h) (c.in_ok-texts.ensures.same clean1 (first_common old.now.schema h.stored.schema)) in
-    let keyed = keyed_of a archive in
-    let e = handed_on c.from_residual-in_err-overview.result c.in_err-overview.field-0.0 c.from_residual-in_err-overview.ensures.1 is in
-    let same = c.in_ok-plan.ensures.plan a.plan archive.plan (c.in_ok-texts.ensures.tells clean1 a h keyed) in
-    c.in_err-overview.ensures.none (ap (λ f. Err f) e) a same (c.in_ok-rows.ensures.tells clean a k keyed.once) archive
+    let lists = c.in_ok-rows.ensures.tells clean (first_lists a) (first_listed h (keyed_of a archive)) in
+    let plan = c.in_ok-plan.ensures.plan a.plan archive.plan (tells_first a lists) in
+    c.in_err-overview.ensures.none (refused c.from_residual-in_err-overview.ensures.1 is) a plan (ap (λ (l : CommonLists). l.archive) lists) archive
 
 pub returns-clause-found : goal.returns-clause-found
 returns-clause-found g c clean = λ (a : Archive) h keyed.
-    let old = state g.S.Store c.args.conn.now in
-    let mid = state g.S.Store c.text_rows.new.conn in
-    let clean1 : HasCleanDisk mid = c.archive_rows.ensures.sees.falls clean in
-    let k = common_after old mid a (first_found old.now a h) (c.in_ok-texts.ensures.same clean1 (first_common old.now.schema h.stored.schema)) in
-    let tells = c.in_ok-texts.ensures.tells clean1 a h keyed in
-    let same = c.in_ok-plan.ensures.plan a.plan keyed.plan tells in (
-      subst (TellsPlan c.in_ok-plan_rows.plan_rows) same c.in_ok-plan_rows.ensures,
-      c.in_ok-overview.ensures.found a same keyed (c.in_ok-rows.ensures.tells clean a k keyed.once),
+    let lists = c.in_ok-rows.ensures.tells clean (first_lists a) (first_listed h keyed) in
+    let plan = c.in_ok-plan.ensures.plan a.plan keyed.plan (tells_first a lists) in (
+      subst (TellsPlan c.in_ok-plan_rows.plan_rows) plan c.in_ok-plan_rows.ensures,
+      c.in_ok-overview.ensures.found a plan keyed (ap (λ (l : CommonLists). l.archive) lists),
     )
 
 pub returns-clause-sound : goal.returns-clause-sound
 returns-clause-sound g c clean = λ t ps cs d.
-    let old = state g.S.Store c.args.conn.now in
-    let mid = state g.S.Store c.text_rows.new.conn in
-    let clean1 : HasCleanDisk mid = c.archive_rows.ensures.sees.falls clean in
-    let p = c.in_ok-plan.plan in
-    let a = archive_of t p in
-    let told = c.in_ok-texts.ensures.sound clean1 t ps cs d in
-    let finds : FindsFirst old.now a = first_told old.now t ps cs c.in_ok-texts.texts p d told c.in_ok-plan.ensures.sound.1 in
-    let k = common_after old mid a (first_found old.now a finds) (c.in_ok-texts.ensures.same clean1 (first_common old.now.schema d.stored.schema)) in
-    let keyed : IsKeyed a = record { plan = c.in_ok-plan.ensures.sound.0; once = d.holds } in
-    record {
-      archive = a;
-      rows = inr finds;
-      is =
-          judged_archive a c.in_ok-rows.rows keyed (c.in_ok-rows.ensures.tells clean a k d.holds)
-          c.in_ok-overview.ensures.sound;
-    }
-
-pub returns-clause-typed : goal.returns-clause-typed
-returns-clause-typed g c clean = λ has.
-    let clean1 : HasCleanDisk (state g.S.Store c.text_rows.new.conn) = c.archive_rows.ensures.sees.falls clean in
-    let one = (c.in_ok-texts.ensures.same clean1 has).0.now_is in
-    record {
-      rows = subst AreTypedRows one (c.in_ok-rows.ensures.typed clean (subst (λ (d : Database). HasCommonTables d.schema) (sym one) has));
-      classes = c.in_ok-texts.ensures.typed clean1 has;
-    }
+    let lists = c.in_ok-rows.ensures.tells clean _ (first_read c.in_ok-plan.plan d) in
+    first_sound d lists c.in_ok-plan.ensures.sound.0 c.in_ok-plan.ensures.sound.1 c.in_ok-overview.ensures.sound
