@@ -25,14 +25,8 @@ use Rattle.record_store.specs.Stores.{StandsFor}
 use Rattle.record_archive.specs.declared.fault.ArchiveRefusal.{ArchiveRefusal}
 use Rattle.record_archive.specs.declared.fault.ArchiveRefusal.TheVariants as fault
 use Rattle.record_store.specs.declared.store.Store.{Store}
-use Rattle.record_store.proofs.HoldLemmas.{found_passes}
+use Rattle.record_store.proofs.HoldLemmas.{any-map, found_passes, is_number, same_number}
 use Rattle.record_store.proofs.DueLemmas.{held_if, free_if}
-
-is_number : (m n : ℕ) → (m == n) ≡ true → m ≡ n
-is_number m n h = grind arith
-
-same_number : (m n : ℕ) → int_eq (pos m) (pos n) ≡ (m == n)
-same_number m n = grind (arith, ints)
 
 later_number : (m n : ℕ) → n < m → (m == n) ≡ false
 later_number m n h = grind arith
@@ -49,10 +43,6 @@ never : (l q : Bool) → (l && (q && false)) ≡ false
 never l q = ap (λ b. l && b) (and_false q) ∙ and_false l
 
 -- ---- lists whose elements are tested in two ways
-
-any-map : {X Y : Type 0} (p : Y → Bool) (q : X → Bool) (f : X → Y) → ((x : X) → q x ≡ p (f x)) → (xs : List X) → list_any q xs ≡ list_any p (map f xs)
-any-map p q f same [] = refl
-any-map p q f same (x ∷ xs) = λ i. same x i || any-map p q f same xs i
 
 tally-map : {X Y : Type 0} (p : Y → Bool) (q : X → Bool) (f : X → Y) → ((x : X) → q x ≡ p (f x)) → (xs : List X) → tally q xs ≡ tally p (map f xs)
 tally-map p q f same [] = refl

@@ -65,7 +65,7 @@ day_is (Some d) = refl
 due_cmp_total : IsTotalOrder reads.due_cmp
 due_cmp_total = then_total (on_total (λ (d : Due). pos d.day) int_cmp_total) (on_total (λ (d : Due). pos d.number) int_cmp_total)
 
-le_is : (m n : ℕ) → int_le (pos m) (pos n) ≡ nat_le m n
+pub le_is : (m n : ℕ) → int_le (pos m) (pos n) ≡ nat_le m n
 le_is m n = grind (arith, ints)
 
 same_key : (n : ℕ) → int_eq (pos n) (pos n) ≡ true
