@@ -11,7 +11,7 @@ use Rattle.record_tables.specs.declared.layout.Layout.TheVariants.{Empty, First,
 use Rattle.record_tables.specs.Rows.{Tables}
 use Rattle.record_tables.specs.Changes.{ClassEntry, Rule}
 use Rattle.record_tables.specs.Reads.{Pair}
-use Rattle.record_archive.specs.Archive.{Archive, IsArchive}
+use Rattle.record_archive.specs.Archive.{Archive}
 use Rattle.record_adoption.specs.Adoption.{Finds, FindsRows, FindsSecond, FindsFirst, FindsNothing, FindsNone, HasNoArchive}
 use Rattle.record_adoption.specs.Adoption.{HasRows, HasTypedRows, AreTypedSecond, AreTypedFirst, IsKeyed, ReadsSecond}
 use Rattle.record_adoption.specs.Adoption.{ReadsFirst, LeavesArchive, LeavesFound}

@@ -1,7 +1,7 @@
 -- A class that is added: its row, and the due days, which stay.
 use Rattle.std.proofs.Common.{◌≡◌, ℕ, Bool, true, false, cond, ◌&&◌, ◌||◌, List, [], ◌∷◌, ◌++◌, map, filter, Option}
 use Rattle.std.proofs.Common.{Some, None, is_some, option_map, option_and_then, unwrap_or, Ordering, Less, Equal}
-use Rattle.std.proofs.Common.{Greater, nat_cmp, is_eq, Ok, refl, sym, ap, subst, ◌∙◌, rules, true≢false, IsPermutation}
+use Rattle.std.proofs.Common.{Greater, nat_cmp, is_eq, Ok, refl, sym, ap, subst, ◌∙◌, true≢false, IsPermutation}
 use Rattle.std.specs.Str.{bytes_eq}
 use Rattle.std.specs.List.{AllByRecursion, All}
 use Rattle.std.specs.Cmp.Lexicographic.{slice_cmp}

@@ -21,7 +21,7 @@ use Rattle.record_store.specs.Faults.{StoreFault, fault_of}
 use Rattle.record_archive.specs.Faults.{WhereRefused, is_trouble}
 use Rattle.class_plan.specs.Plans.{Listing}
 use Rattle.record_adoption.specs.Keeping.{StoresArchive, live_count, hold_count}
-use Rattle.record_store.specs.Stores.{StandsFor, Becomes, Obeys, Leaves, LeavesAll, LeavesMade, TreesKeep}
+use Rattle.record_store.specs.Stores.{StandsFor, Obeys, Leaves, LeavesAll, LeavesMade, TreesKeep}
 use Rattle.record_archive.specs.declared.fault.ArchiveRefusal.{ArchiveRefusal}
 use Rattle.record_store.specs.declared.store.Store.{Store}
 

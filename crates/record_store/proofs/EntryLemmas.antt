@@ -1,9 +1,9 @@
 -- The entries of a page are those of the archive.
 use Rattle.std.proofs.Common.{◌≡◌, ◌<◌, ◌≤◌, ◌+◌, ◌-◌, ◌^◌, ◌==◌, ℕ, zero, suc, pos, Bool, true, false, not, ◌&&◌, ◌||◌}
-use Rattle.std.proofs.Common.{cond, List, [], ◌∷◌, length, map, filter, take, drop, slice_get, nat_le, nat_lt, Option}
-use Rattle.std.proofs.Common.{Some, None, int_cmp, int_le, nat_cmp, Ordering, Less, Equal, Greater, is_gt, refl, sym}
+use Rattle.std.proofs.Common.{cond, List, [], ◌∷◌, length, map, filter, take, drop, slice_get, nat_le, nat_lt}
+use Rattle.std.proofs.Common.{Some, int_cmp, int_le, nat_cmp, Ordering, Less, Equal, Greater, is_gt, refl, sym}
 use Rattle.std.proofs.Common.{ap, ap₂, subst, ◌∙◌, arith, min, true≢false}
-use Rattle.std.specs.List.{AllByRecursion, All, list_any}
+use Rattle.std.specs.List.{AllByRecursion, list_any}
 use Rattle.std.specs.Cmp.{IsTotalOrder}
 use Rattle.std.specs.Cmp.Lexicographic.{slice_cmp}
 use Rattle.std.specs.Ordering.{ordering_then}
@@ -27,7 +27,7 @@ use Rattle.record_adoption.specs.Adoption.{named_hold, sorted_holds}
 use Rattle.record_adoption.specs.Keeping.{hold_count}
 use Rattle.record_adoption.proofs.AdoptHolds.{named_total, cmp_is, holds_apart, holds_rise, holds_permuted}
 use Rattle.record_adoption.proofs.Sorting.{all-sort, filter-sort_by}
-use Rattle.record_store.specs.Entries.{Entry, listed, entry_of, hold_names, records_from, entries_from, names_at_front}
+use Rattle.record_store.specs.Entries.{listed, entry_of, hold_names, records_from, names_at_front}
 use Rattle.record_store.specs.Entries.{listed_beside, is_on_any, AreHoldsOf, IsPage}
 use Rattle.record_store.proofs.DueLemmas.{map_same_on, free_if}
 use Rattle.record_store.proofs.EntryReads.{all_taken}

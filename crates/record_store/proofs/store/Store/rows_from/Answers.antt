@@ -17,7 +17,7 @@ returns-in-Ok g c =
             c.in-Ok.ensures.all clean kept.tables kept.stored kept.keyed ∙ from_told a kept.tables c.args.from c.args.most kept.keeps.records,
       );
       falls = made.falls;
-      open = λ (a : Archive) s clean.
+      «open» = λ (a : Archive) s clean.
           let kept = s.rows (made.falls clean) (c.in-Ok.ensures.was_open clean) in
           (c.in-Ok.ensures.same clean kept.stored.schema).0.is_open;
       cause = λ a s clean. tt;
@@ -34,7 +34,7 @@ returns-in-Err g c =
         λ clean. no_refusal _ c.in-Err.fault c.lost_or.ensures,
       );
       falls = made.falls;
-      open = λ a s clean. tt;
+      «open» = λ a s clean. tt;
       cause = λ (a : Archive) s clean. not_own-lost_or _ c.in-Err.fault c.lost_or.ensures (λ e.
           let kept = s.rows (made.falls clean) (c.in-Err.ensures.seen clean (ap Err e)) in
           let fit = page_fits c.args.from c.args.most kept.tables.records (fits_kept a _ kept s.archive) in
