@@ -1,5 +1,5 @@
 -- Another plan: its rows, and the due days by it.
-use Rattle.std.proofs.Common.{◌≡◌, ◌-◌, ℕ, pos, Bool, true, false, cond}
+use Rattle.std.proofs.Common.{◌≡◌, ℕ, pos, Bool, true, false, cond}
 use Rattle.std.proofs.Common.{is_some, List, [], ◌∷◌, Some}
 use Rattle.std.proofs.Common.{Ok, refl, sym, ap, subst, ◌∙◌, rules}
 use Rattle.std.specs.Str.{bytes_eq}

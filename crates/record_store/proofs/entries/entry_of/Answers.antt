@@ -1,4 +1,4 @@
-use Rattle.std.proofs.Common.{◌≡◌, ◌∙◌, pos, true, false, option_map, unsigned_abs, arith, ap, ap₂}
+use Rattle.std.proofs.Common.{◌≡◌, ◌∙◌, pos, option_map, unsigned_abs, arith, ap, ap₂}
 use Rattle.std.proofs.lemmas.Int.{ints}
 use Rattle.jiff.specs.Words.{epoch_day}
 use Rattle.class_plan.specs.Calendar.{due_on}
