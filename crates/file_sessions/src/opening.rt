@@ -1,6 +1,6 @@
 //! The desk over a database.
 
-ghost use Rattle.std.specs.Prelude.{◌≡◌, false, true, IfErr, IfOk, IsTrue};
+ghost use Rattle.std.specs.Prelude.{◌≡◌, false, true, IfErr, IfOk, IsTrue, OnOk};
 ghost use Rattle.sqlite.specs.State.{HasCleanDisk};
 ghost use Rattle.sqlite.specs.Held.{state};
 ghost use Rattle.record_archive.specs.Archive.{Archive, IsArchive};
@@ -8,6 +8,7 @@ ghost use Rattle.record_adoption.specs.Adoption.{Finds, LeavesArchive};
 ghost use Rattle.record_archive.specs.Faults.{is_trouble};
 ghost use Rattle.filing_commands.specs.Standing.{opening};
 ghost use Rattle.sqlite.specs.Tree.{Trees};
+ghost use Rattle.record_store.specs.Layouts.{HasArchiveTablesOrNone};
 ghost use Rattle.record_store.specs.Stores as stores;
 ghost use Rattle.record_store.specs.Stores.{TreesKeep};
 ghost use Rattle.filing_desk.specs.Standing.{StandsFor};
@@ -38,6 +39,7 @@ pub(crate) fn open_desk<S: Alter + Drop>(
         → (state S.Store d.store.conn).may_leave trees → TreesKeep trees a) }
     ensures open { IfOk result (λ d. HasCleanDisk (state S.Store d.store.conn)
         → IsTrue (state S.Store d.store.conn).is_open) }
+    ensures layout { OnOk result (HasArchiveTablesOrNone (state S.Store conn).now.schema) }
     ensures still_clean { IfErr result
         (λ e. HasCleanDisk (state S.Store e.1) → HasCleanDisk (state S.Store conn)) }
     ensures left { IfErr result

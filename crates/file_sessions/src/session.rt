@@ -1,6 +1,6 @@
 //! A session over the store in two files.
 
-ghost use Rattle.std.specs.Prelude.{◌≡◌, false, true, IfErr, IfOk, IsTrue};
+ghost use Rattle.std.specs.Prelude.{◌≡◌, false, true, IfErr, IfOk, IsTrue, OnOk};
 ghost use Rattle.sqlite.specs.State.{HasCleanDisk};
 ghost use Rattle.sqlite.specs.WalReads.{AreClean};
 ghost use Rattle.sqlite.specs.WalFiles.{image_at, outcomes};
@@ -11,10 +11,11 @@ ghost use Rattle.record_adoption.specs.Adoption.{Finds};
 ghost use Rattle.record_archive.specs.Faults.{is_trouble};
 ghost use Rattle.filing_commands.specs.Standing.{Standing};
 ghost use Rattle.filing_session.specs.Session.{session_in};
+ghost use Rattle.record_store.specs.Layouts.{HasArchiveTablesOrNone};
 ghost use Rattle.record_store.specs.Stores as stores;
 ghost use Rattle.filing_desk.specs.Standing.{StandsFor};
 ghost use Rattle.store_files.specs.Closing.{HasCause as EndsFor, HaveCounted, HoldsLeft, LeavesBy};
-ghost use Rattle.store_files.specs.Files.{FindsAt, KeepsAt, KeepsFiles, system_file};
+ghost use Rattle.store_files.specs.Files.{FindsAt, HoldsTables, KeepsAt, KeepsFiles, system_file};
 ghost use Rattle.file_sessions.specs.Refusals.{HasCause};
 ghost use Rattle.file_sessions.specs.Sessions.{IsDone, IsTold, LeadsTo, LeavesSome};
 ghost use Rattle.file_sessions.specs.Unserved.{HoldsStill, KeepsUnserved};
@@ -93,6 +94,7 @@ pub fn serve_connection<D: Disk + Drop, In: Source, Out: Sink>(
     ensures shut { IfOk result (λ it. AreClean D.Disk it.files.log it.files.db
         → HasCleanDisk (file_state conn) × ((a : Archive)
         → Finds (file_state conn).now a → EndsFor D.Disk 0 it.files it.closing)) }
+    ensures layout { OnOk result (HasArchiveTablesOrNone (file_state conn).now.schema) }
     ensures refused { IfErr result (λ e. AreClean D.Disk e.1.log e.1.db
         → HasCleanDisk (file_state conn) × ((a : Archive)
         → Finds (file_state conn).now a → IsArchive a → is_trouble e.0 ≡ true)) }
@@ -121,7 +123,8 @@ pub fn serve_connection<D: Disk + Drop, In: Source, Out: Sink>(
 /// written are the answers of its commands there, and the files keep the archive that it leads to, also over a crash.
 /// Whatever faults of the disk shut the store, and wherever a crash falls, the files keep the archive after the first
 /// of the commands, among them all that the archive has carried out (`left`). `Shut` and `Cut` are told only where the
-/// disk has failed (`shut`). Of octets it says what the streams tell of theirs. What the files held, and how a write
+/// disk has failed (`shut`). A session is served only where the files hold an archive's tables, or none of their names
+/// (`layout`). Of octets it says what the streams tell of theirs. What the files held, and how a write
 /// that a crash cuts short is read, is what `S` says. No code knows it, so this holds whatever it is.
 ///
 /// No session is served, and nothing is read, where the files cannot be opened, where they hold no archive (88), and
@@ -148,6 +151,8 @@ pub fn serve_file<S: Start, In: Source, Out: Sink>(
     ensures shut { IfOk result (λ it. AreClean (system_file S.Start) it.files.log it.files.db
         → (a : Archive) → FindsAt (image_at S.Start) a
         → EndsFor (system_file S.Start) 0 it.files it.closing) }
+    ensures layout { IfOk result (λ it. AreClean (system_file S.Start) it.files.log it.files.db
+        → HoldsTables HasArchiveTablesOrNone (image_at S.Start)) }
     ensures refused { IfErr result (λ e. (a : Archive) → FindsAt (image_at S.Start) a → IsArchive a
         → HasCause e) }
     ensures kept { IfErr result (λ e. (a : Archive) → FindsAt (image_at S.Start) a

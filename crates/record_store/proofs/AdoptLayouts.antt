@@ -1,31 +1,38 @@
 -- Which version's rows a layout may have.
 use Rattle.std.proofs.Common.{◌≡◌, ◌⊎◌, inl, inr, subst, List, codes}
 use Rattle.sqlite.specs.Schema.{Schema}
+use Rattle.sqlite.specs.Store.{Ghosts}
 use Rattle.sqlite.specs.Effect.{Database}
+use Rattle.sqlite.specs.Held.{Held, state}
 use Rattle.record_tables.specs.Tables.{Stands, Lacks, HasNone, IsFirstSchema, IsArchiveSchema, HasCommonTables, due_table}
+use Rattle.record_tables.specs.Layout.{IsLayout}
 use Rattle.record_tables.specs.declared.layout.Layout.{Layout}
 use Rattle.record_tables.specs.declared.layout.Layout.TheVariants.{Empty, First, FirstWithDues, Second}
 use Rattle.record_tables.specs.Rows.{Tables}
 use Rattle.record_tables.specs.Changes.{ClassEntry, Rule}
 use Rattle.record_tables.specs.Reads.{Pair}
-use Rattle.record_archive.specs.Archive.{Archive, IsArchive}
-use Rattle.record_adoption.specs.Adoption.{Finds, FindsRows, FindsSecond, FindsFirst, FindsNothing, HasNoArchive}
+use Rattle.record_archive.specs.Archive.{Archive}
+use Rattle.record_adoption.specs.Adoption.{Finds, FindsRows, FindsSecond, FindsFirst, FindsNothing, FindsNone, HasNoArchive}
 use Rattle.record_adoption.specs.Adoption.{HasRows, HasTypedRows, AreTypedSecond, AreTypedFirst, IsKeyed, ReadsSecond}
-use Rattle.record_adoption.specs.Adoption.{ReadsFirst}
+use Rattle.record_adoption.specs.Adoption.{ReadsFirst, LeavesArchive, LeavesFound}
 use Rattle.record_adoption.specs.Keeping.{StoresArchive}
 use Rattle.record_adoption.proofs.AdoptReads.{first_common}
+use Rattle.record_adoption.proofs.AdoptSettled.{leaves_weaker}
+use Rattle.record_store.specs.Layouts.{HasArchiveTables}
 
--- the layout of each schema that has an archive's tables, or none of their names
+-- what `layout_of` says of a schema
 pub record Lays (schema : Schema) (l : Layout) : Type 0 where
+  pub is : IsLayout schema l
   pub empty : HasNone schema → l ≡ Empty
   pub first : IsFirstSchema schema → Lacks schema (codes "due_day") → l ≡ First
   pub dated : IsFirstSchema schema → Stands schema due_table → l ≡ FirstWithDues
   pub second : IsArchiveSchema schema → l ≡ Second
 
-pub lays_at : (s t : Schema) (l : Layout) → s ≡ t → (HasNone s → l ≡ Empty)
+pub lays_at : (s t : Schema) (l : Layout) → s ≡ t → IsLayout s l → (HasNone s → l ≡ Empty)
     → (IsFirstSchema s → Lacks s (codes "due_day") → l ≡ First) → (IsFirstSchema s → Stands s due_table → l ≡ FirstWithDues)
     → (IsArchiveSchema s → l ≡ Second) → Lays t l
-lays_at s t l e empty first dated second = subst (λ x. Lays x l) e (record { empty = empty; first = first; dated = dated; second = second })
+lays_at s t l e is empty first dated second =
+    subst (λ x. Lays x l) e (record { is = is; empty = empty; first = first; dated = dated; second = second })
 
 abbrev pub IsFirst : Layout → Type 0
 IsFirst l = (l ≡ First) ⊎ (l ≡ FirstWithDues)
@@ -57,20 +64,47 @@ pub finds_nothing : (db : Database) (a : Archive) (l : Layout) → Lays db.schem
 finds_nothing db a l lays is (inl h) = absurd (no_rows db a l lays is h.0)
 finds_nothing db a l lays is (inr h) = h
 
-pub finds_second : (db : Database) (a : Archive) (l : Layout) → Lays db.schema l → l ≡ Second → Finds db a → FindsSecond db a × IsKeyed a
-finds_second db a l lays is (inl h) = (second_rows db a l lays is h.0, h.1)
-finds_second db a l lays is (inr h) = absurd (let k : l ≡ Empty = lays.empty h.0.none in cc)
+-- the tables are a version's, and an archive is found in their rows in this way alone
+pub record IsVersion (db : Database) (FindsIn : Database → Archive → Type 0) : Type 0 where
+  pub tables : HasArchiveTables db.schema
+  pub named : HasNone db.schema → ⊥
+  pub only : (a : Archive) → FindsRows db a → FindsIn db a
 
-pub finds_first : (db : Database) (a : Archive) (l : Layout) → Lays db.schema l → IsFirst l → Finds db a → FindsFirst db a × IsKeyed a
-finds_first db a l lays is (inl h) = (first_rows db a l lays is h.0, h.1)
-finds_first db a l lays is (inr h) = absurd (first_not_empty l is (lays.empty h.0.none))
+pub is_second : (db : Database) (l : Layout) → Lays db.schema l → l ≡ Second → IsVersion db FindsSecond
+is_second db l lays is = record {
+  tables = inr (inr (subst (IsLayout db.schema) is lays.is));
+  named = λ none. let k : l ≡ Empty = lays.empty none in cc;
+  only = λ a found. second_rows db a l lays is found;
+}
 
-pub second_none : (db : Database) (l : Layout) → Lays db.schema l → l ≡ Second
-    → ((a : Archive) → FindsSecond db a → IsArchive a → ⊥) → HasNoArchive db
-second_none db l lays is none = ((λ e. let k : l ≡ Empty = lays.empty e in cc), λ a rows archive. none a (second_rows db a l lays is rows) archive)
+first_tables : (schema : Schema) (l : Layout) → IsLayout schema l → IsFirst l → HasArchiveTables schema
+first_tables schema l laid (inl e) = inl (subst (IsLayout schema) e laid)
+first_tables schema l laid (inr e) = inr (inl (subst (IsLayout schema) e laid))
 
-pub first_none : (db : Database) (l : Layout) → Lays db.schema l → IsFirst l → ((a : Archive) → FindsFirst db a → IsArchive a → ⊥) → HasNoArchive db
-first_none db l lays is none = ((λ e. first_not_empty l is (lays.empty e)), λ a rows archive. none a (first_rows db a l lays is rows) archive)
+pub is_first : (db : Database) (l : Layout) → Lays db.schema l → IsFirst l → IsVersion db FindsFirst
+is_first db l lays is = record {
+  tables = first_tables db.schema l lays.is is;
+  named = λ none. first_not_empty l is (lays.empty none);
+  only = λ a found. first_rows db a l lays is found;
+}
+
+pub no_tables : (schema : Schema) (l : Layout) → Lays schema l → l ≡ Empty → HasNone schema
+no_tables schema l lays is = subst (IsLayout schema) is lays.is
+
+module _ (db : Database) (FindsIn : Database → Archive → Type 0) (version : IsVersion db FindsIn) where
+  finds_so : (a : Archive) → Finds db a → FindsIn db a × IsKeyed a
+  finds_so a (inl h) = (version.only a h.0, h.1)
+  finds_so a (inr h) = absurd (version.named h.0.none)
+
+  pub finds_none : FindsNone FindsIn db → HasNoArchive db
+  finds_none none = (version.named, λ a rows archive. none a (version.only a rows) archive)
+
+-- what a crash leaves keeps each archive that is found
+pub leaves_version : {S : Type 0} (g : Ghosts S) (old new : Held S) (FindsIn : Database → Archive → Type 0)
+    → IsVersion (state g old).now FindsIn → LeavesFound g old new FindsIn IsKeyed → LeavesArchive g old new (Finds (state g old).now)
+leaves_version g old new FindsIn version left =
+    leaves_weaker g old new (λ (a : Archive). FindsIn (state g old).now a × IsKeyed a) (Finds (state g old).now)
+    (finds_so (state g old).now FindsIn version) left
 
 -- ---- rows of any kind
 

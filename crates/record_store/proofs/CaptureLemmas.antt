@@ -6,7 +6,7 @@ use Rattle.std.specs.List.{AllByRecursion, All, list_any}
 use Rattle.std.proofs.lemmas.List.{take_more, map-append, length-map, append-nil, length-take-le}
 use Rattle.std.proofs.lemmas.List.Elements.{All-push, All-weaker, All-from_recursion, recursion_from_All}
 use Rattle.sqlite_trees.specs.Tree.{IsAscending}
-use Rattle.sqlite_keyed.proofs.ListLemmas.{ascending-map, ascending-filter}
+use Rattle.sqlite_keyed.proofs.ListLemmas.{all-append, all_weaker, ascending-append, ascending-map, ascending-filter}
 use Rattle.sqlite.specs.Effect.{Database}
 use Rattle.sqlite.specs.State.{State}
 use Rattle.class_plan.specs.Plans.{Listing, has}
@@ -24,10 +24,6 @@ use Rattle.record_adoption.specs.Keeping.{StoresArchive, has_due, due_row, due_r
 
 -- ---- lists that ascend
 
-all_append : {X : Type 0} (P : X → Type 0) (xs ys : List X) → AllByRecursion P xs → AllByRecursion P ys → AllByRecursion P (xs ++ ys)
-all_append P [] ys h k = k
-all_append P (x ∷ xs) ys h k = (h.0, all_append P xs ys h.1 k)
-
 all_front : {X : Type 0} (P : X → Type 0) (xs ys : List X) → AllByRecursion P (xs ++ ys) → AllByRecursion P xs
 all_front P [] ys h = tt
 all_front P (x ∷ xs) ys h = (h.0, all_front P xs ys h.1)
@@ -36,10 +32,6 @@ all_last : {X : Type 0} (P : X → Type 0) (xs : List X) (y : X) → AllByRecurs
 all_last P [] y h = h.0
 all_last P (x ∷ xs) y h = all_last P xs y h.1
 
-all_weaker : {X : Type 0} (P Q : X → Type 0) → ((x : X) → P x → Q x) → (xs : List X) → AllByRecursion P xs → AllByRecursion Q xs
-all_weaker P Q f [] h = tt
-all_weaker P Q f (x ∷ xs) h = (f x h.0, all_weaker P Q f xs h.1)
-
 asc_front : {X : Type 0} (R : X → X → Type 0) (xs ys : List X) → IsAscending R (xs ++ ys) → IsAscending R xs
 asc_front R [] ys up = tt
 asc_front R (x ∷ xs) ys up = (all_front (R x) xs ys up.0, asc_front R xs ys up.1)
@@ -47,11 +39,6 @@ asc_front R (x ∷ xs) ys up = (all_front (R x) xs ys up.0, asc_front R xs ys up
 asc_last : {X : Type 0} (R : X → X → Type 0) (xs : List X) (y : X) → IsAscending R (xs ++ y ∷ []) → AllByRecursion (λ x. R x y) xs
 asc_last R [] y up = tt
 asc_last R (x ∷ xs) y up = (all_last (R x) xs y up.0, asc_last R xs y up.1)
-
-asc_append : {X : Type 0} (R : X → X → Type 0) (xs ys : List X) → IsAscending R xs → IsAscending R ys
-    → AllByRecursion (λ x. AllByRecursion (R x) ys) xs → IsAscending R (xs ++ ys)
-asc_append R [] ys up more apart = more
-asc_append R (x ∷ xs) ys up more apart = (all_append (R x) xs ys up.0 apart.0, asc_append R xs ys up.1 more apart.1)
 
 -- ---- due days, one after another
 
@@ -171,7 +158,7 @@ records_next f old mid new n day vs v i low is one two =
     ∙ ap (λ k. records_of n n day so_far
     ++ record { number = n + k; message = n; path = f v; day = day; destroyed = false } ∷ []) count) in
     let past : (t : Tables) → IsPastRecords n t → IsPastRecords (n + i) (with_records (records_of n n day so_far) t) =
-    λ t h. all_append (λ (r : Record). r.number < n + i) t.records (records_of n n day so_far)
+    λ t h. all-append (λ (r : Record). r.number < n + i) t.records (records_of n n day so_far)
     (all_weaker _ (λ (r : Record). r.number < n + i) (λ r k. omega (arith, k)) t.records h)
     (all_weaker _ (λ (r : Record). r.number < n + i) (λ r k. omega (arith, k.1, count)) _ (below_all n n day so_far)) in
     puts_as old new (IsPastRecords n) (IsPastRecords n) _ (with_records (records_of n n day (map f (take (i + 1) vs)))) (λ t h. h)
@@ -305,7 +292,7 @@ records_rise : (a : Archive) → IsArchive a → (body : List ℕ) (day : ℕ) (
     → IsAscending (λ (x y : Record). x.number < y.number) (after_capture a body day (q ∷ qs)).records
 records_rise a is body day q qs =
     let n = next_number a in
-    asc_append (λ (x y : Record). x.number < y.number) a.records (new_records a day (q ∷ qs)) is.in_order (new_rise n n day (q ∷ qs))
+    ascending-append (λ (x y : Record). x.number < y.number) a.records (new_records a day (q ∷ qs)) is.in_order (new_rise n n day (q ∷ qs))
     (all_weaker (λ (x : Record). x.number < n) (λ (x : Record). AllByRecursion (λ (y : Record). x.number < y.number) (new_records a day (q ∷ qs)))
     (λ x low. all_weaker (λ (y : Record). (n ≤ y.number) × (y.number < n + length (q ∷ qs))) (λ (y : Record).
     x.number < y.number) (λ y h. omega (arith, low, h.0)) (new_records a day (q ∷ qs)) (below_all n n day (q ∷ qs)))
@@ -335,9 +322,9 @@ captured_is_archive a body day q qs is low room classes =
     new_are b n day one low there n (q ∷ qs) (omega arith) room (recursion_from_All _ (q ∷ qs) classes) in
     record {
       plan = is.plan;
-      records = All-from_recursion (IsRecord b) b.records (all_append (IsRecord b) a.records (new_records a day (q ∷ qs)) old more);
+      records = All-from_recursion (IsRecord b) b.records (all-append (IsRecord b) a.records (new_records a day (q ∷ qs)) old more);
       in_order = records_rise a is body day q qs;
-      messages = asc_append (λ (x y : Message). x.number < y.number) a.messages (new ∷ []) is.messages (
+      messages = ascending-append (λ (x y : Message). x.number < y.number) a.messages (new ∷ []) is.messages (
         tt,
         tt,
       ) (all_weaker (λ (m : Message). m.number < n) (λ (m : Message).

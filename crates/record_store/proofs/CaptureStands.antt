@@ -114,10 +114,6 @@ pub has_its_room : (a : Archive) (ps : List (List ℕ)) → next_number a + leng
 has_its_room a [] h = refl
 has_its_room a (q ∷ qs) h = grind arith
 
-pub has_no_room : (a : Archive) (ps : List (List ℕ)) → 0 < length ps → 2 ^ 32 < next_number a + length ps → has_room a ps ≡ false
-has_no_room a [] some h = absurd (omega arith)
-has_no_room a (q ∷ qs) some h = grind arith
-
 pub is_captured : (a : Archive) (body : List ℕ) (day : ℕ) (ps : List (List ℕ)) → has_room a ps ≡ true
     → capture a body day ps ≡ Ok (after_capture a body day ps)
 is_captured a body day ps h = rw h refl
@@ -131,6 +127,13 @@ obeys_captured g new a body day ps lines room s told = (
   told
       ∙ sym (lines_are a (next_number a) (next_number a) day ps),
 )
+
+-- where there is no class, nothing is captured
+pub obeys_nowhere : {S : Type 0} (g : Ghosts S) (new : Store S) (a : Archive) (body : List ℕ) (day : ℕ)
+    (ps : List (List ℕ)) (lines : List Line) → length ps ≡ 0 → lines ≡ [] → StandsFor g new a
+    → Becomes g new (capture a body day ps) × (lines ≡ capture_lines a day ps)
+obeys_nowhere g new a body day [] lines none is s = (s, is)
+obeys_nowhere g new a body day (q ∷ qs) lines none is s = absurd (omega (arith, none))
 
 pub leaves_command : {S : Type 0} (g : Ghosts S) (old new : Store S) (body : List ℕ) (day : ℕ) (ps : List (List ℕ)) → old.next + length ps ≤ 2 ^ 32
     → LeavesMade g old new (λ a. Ok (after_capture a body day ps)) (λ a. after_capture a body day ps) → Leaves g old new (λ a. capture a body day ps)

@@ -1,17 +1,14 @@
 -- Which refusals are the store's own, and why they don't come.
-use Rattle.std.proofs.Common.{◌≡◌, ◌==◌, ℕ, Bool, true, false, not, cond, ◌||◌, List, [], ◌∷◌, find, Option, Some, None}
-use Rattle.std.proofs.Common.{Result, Ok, Err, IfErr, IsErrAnd, refl, sym, ap, subst, ◌∙◌}
+use Rattle.std.proofs.Common.{◌≡◌, ◌==◌, ℕ, Bool, true, false, not, cond, ◌||◌, List, [], ◌∷◌, find, Some, None}
+use Rattle.std.proofs.Common.{Result, Ok, Err, IfErr, IsErrAnd, refl, sym, ap, subst, ◌∙◌, true≢false}
 use Rattle.std.specs.List.{AllByRecursion}
 use Rattle.std.proofs.lemmas.List.Elements.{recursion_from_All}
 use Rattle.sqlite.specs.Store.{Ghosts}
 use Rattle.sqlite.specs.Effect.{Database}
 use Rattle.sqlite.specs.State.{HasCleanDisk}
 use Rattle.sqlite.specs.Held.{state}
-use Rattle.sqlite.specs.declared.error.Error.{Error}
-use Rattle.sqlite.specs.declared.error.Error.TheVariants.{SqliteFailure}
-use Rattle.sqlite.specs.declared.error.ErrorCode.TheVariants.{OutOfMemory}
 use Rattle.record_archive.specs.Archive.{Message, Record, Archive, IsArchive, IsRecord, record_at, has_number, has_message, body_of}
-use Rattle.record_archive.specs.Faults.{is_trouble}
+use Rattle.record_archive.specs.Faults.{WhereRefused, is_trouble}
 use Rattle.record_archive.specs.declared.fault.ArchiveFault.TheVariants.{Refused, Database as Told, NoMemory}
 use Rattle.record_tables.specs.Reads.{FitsRecord}
 use Rattle.record_tables.specs.declared.fault.Fault.{Fault}
@@ -20,25 +17,16 @@ use Rattle.record_adoption.specs.Keeping.{StoresArchive}
 use Rattle.record_adoption.proofs.AdoptRows.{records_fit}
 use Rattle.record_store.specs.Stores.{StandsFor, IsNeverOwn}
 use Rattle.record_store.specs.declared.store.Store.{Store}
-use Rattle.record_store.specs.Faults.{StoreFault, fault_of, fault_of_read, lost_or, is_own}
+use Rattle.record_store.specs.Faults.{StoreFault, lost_or, is_own}
 use Rattle.record_store.specs.declared.fault.Cause.TheVariants.{Sqlite, Lost, Busy}
 
 -- ---- refusals
 
-pub not_own-fault_of : (e : Error) → is_own (fault_of e) ≡ false
-not_own-fault_of (SqliteFailure OutOfMemory) = refl
-not_own-fault_of e = refl
-
-pub not_own-read : (f : Fault) → is_own (fault_of_read f) ≡ false
-not_own-read reads.NoMemory = refl
-not_own-read (reads.Sqlite e) = refl
-not_own-read reads.NoArchive = refl
-
 -- where a read finds an archive, nothing is lost
-pub not_own-lost_or : (f : Fault) → (f ≡ reads.NoArchive → ⊥) → is_own (lost_or f) ≡ false
-not_own-lost_or reads.NoMemory none = refl
-not_own-lost_or (reads.Sqlite e) none = refl
-not_own-lost_or reads.NoArchive none = absurd (none refl)
+pub not_own-lost_or : (e : StoreFault) (f : Fault) → e ≡ lost_or f → (f ≡ reads.NoArchive → ⊥) → is_own e ≡ false
+not_own-lost_or e reads.NoMemory same none = ap is_own same
+not_own-lost_or e (reads.Sqlite error) same none = ap is_own same
+not_own-lost_or e reads.NoArchive same none = absurd (none refl)
 
 pub not_own-trouble : (f : StoreFault) → (is_trouble f ≡ true → ⊥) → is_own f ≡ false
 not_own-trouble (Refused r) none = refl
@@ -47,11 +35,14 @@ not_own-trouble (Told Lost) none = absurd (none refl)
 not_own-trouble (Told Busy) none = absurd (none refl)
 not_own-trouble NoMemory none = refl
 
--- the refusal of a read is a trouble
-pub is_trouble-lost_or : (f : Fault) → is_trouble (lost_or f) ≡ true
+is_trouble-lost_or : (f : Fault) → is_trouble (lost_or f) ≡ true
 is_trouble-lost_or reads.NoMemory = refl
 is_trouble-lost_or (reads.Sqlite e) = refl
 is_trouble-lost_or reads.NoArchive = refl
+
+-- a read is not refused by the archive
+pub no_refusal : (e : StoreFault) (f : Fault) → e ≡ lost_or f → WhereRefused (λ r. ⊥) e
+no_refusal e f same r is = true≢false (sym (ap is_trouble same ∙ is_trouble-lost_or f) ∙ ap is_trouble is)
 
 -- ---- a refusal that `?` passes on
 

@@ -1,7 +1,7 @@
 -- A class that is added: its row, and the due days, which stay.
 use Rattle.std.proofs.Common.{◌≡◌, ℕ, Bool, true, false, cond, ◌&&◌, ◌||◌, List, [], ◌∷◌, ◌++◌, map, filter, Option}
 use Rattle.std.proofs.Common.{Some, None, is_some, option_map, option_and_then, unwrap_or, Ordering, Less, Equal}
-use Rattle.std.proofs.Common.{Greater, nat_cmp, is_eq, Ok, refl, sym, ap, subst, ◌∙◌, rules, true≢false, IsPermutation}
+use Rattle.std.proofs.Common.{Greater, nat_cmp, is_eq, Ok, refl, sym, ap, subst, ◌∙◌, true≢false, IsPermutation}
 use Rattle.std.specs.Str.{bytes_eq}
 use Rattle.std.specs.List.{AllByRecursion, All}
 use Rattle.std.specs.Cmp.Lexicographic.{slice_cmp}
@@ -30,6 +30,7 @@ use Rattle.record_store.specs.Revisions.{with_plan, IsClassAdded}
 use Rattle.record_adoption.specs.Keeping.{StoresArchive, has_due, due_row, due_rows}
 use Rattle.record_store.specs.Stores.{Leaves, LeavesMade}
 use Rattle.record_store.specs.declared.store.Store.{Store}
+use Rattle.record_store.proofs.HoldLemmas.{same_name}
 
 -- ---- the plan
 
@@ -67,9 +68,6 @@ own_say : (o : Option Row) → option_and_then (λ (r : Row). r.schedule) o ≡ 
 own_say None = refl
 own_say (Some r) = refl
 
-same_path : (q r : List ℕ) → bytes_eq q r ≡ true → q ≡ r
-same_path q r h = search rules
-
 none_at : (rows : List Row) (path : List ℕ) → has rows path ≡ false → own_at rows path ≡ None
 none_at rows path h = go (row_at path rows) h
   where
@@ -82,7 +80,7 @@ own_same path xs h y =
     own_say (row_at y (with_row (open_row path) xs)) ∙ say-put (λ (r : Row). r.schedule) None y (open_row path) xs ∙ go (bytes_eq y path) refl
   where
     go : (b : Bool) → bytes_eq y path ≡ b → cond b None (unwrap_or (option_map (λ (r : Row). r.schedule) (row_at y xs)) None) ≡ own_at xs y
-    go true e = sym (ap (own_at xs) (same_path y path e) ∙ none_at xs path h)
+    go true e = sym (ap (own_at xs) (same_name y path e) ∙ none_at xs path h)
     go false e = sym (own_say (row_at y xs))
 
 first_same : (p : Listing) (path : List ℕ) → has p.rows path ≡ false → (qs : List (List ℕ)) → first_own (with_class p path) qs ≡ first_own p qs

@@ -13,6 +13,7 @@ use Rattle.sqlite.specs.declared.error.ErrorCode.TheVariants.{OutOfMemory}
 use Rattle.sqlite.proofs.StateLemmas.{survives_then, survives_weaker}
 use Rattle.record_tables.specs.Rows.{Tables}
 use Rattle.record_tables.specs.Changes.{Turns}
+use Rattle.record_tables.specs.Steps.{CommitsNothing}
 use Rattle.record_reads.specs.Lookups.{Looks}
 use Rattle.record_archive.specs.Archive.{Archive, IsArchive, next_number}
 use Rattle.record_adoption.specs.Counts.{count_at}
@@ -20,7 +21,7 @@ use Rattle.record_store.specs.Faults.{StoreFault, fault_of}
 use Rattle.record_archive.specs.Faults.{WhereRefused, is_trouble}
 use Rattle.class_plan.specs.Plans.{Listing}
 use Rattle.record_adoption.specs.Keeping.{StoresArchive, live_count, hold_count}
-use Rattle.record_store.specs.Stores.{StandsFor, Becomes, Obeys, Leaves, LeavesAll, LeavesMade, TreesKeep}
+use Rattle.record_store.specs.Stores.{StandsFor, Obeys, Leaves, LeavesAll, LeavesMade, TreesKeep}
 use Rattle.record_archive.specs.declared.fault.ArchiveRefusal.{ArchiveRefusal}
 use Rattle.record_store.specs.declared.store.Store.{Store}
 
@@ -28,10 +29,6 @@ use Rattle.record_store.specs.declared.store.Store.{Store}
 pub is_trouble-fault_of : (e : Error) → is_trouble (fault_of e) ≡ true
 is_trouble-fault_of (SqliteFailure OutOfMemory) = refl
 is_trouble-fault_of e = refl
-
-becomes : {S : Type 0} (g : Ghosts S) (new : Store S) (r : Result Archive ArchiveRefusal) (b : Archive) → r ≡ Ok b
-    → StandsFor g new b → Becomes g new r
-becomes g new r b e s = subst (Becomes g new) (sym e) s
 
 -- the archive, the database or the memory refuses
 pub obeys_refused : {S X : Type 0} (g : Ghosts S) (old new : Store S) (result : Result X StoreFault) (f : StoreFault)
@@ -41,6 +38,11 @@ pub obeys_refused : {S X : Type 0} (g : Ghosts S) (old new : Store S) (result : 
 obeys_refused {X = X} g old new (Err e) f command Answers is same h = let P : StoreFault
     → Type 0 = λ x. Obeys {X = X} g old new (Err x) command Answers in subst P (sym same) h
 obeys_refused g old new (Ok x) f command Answers is same h = absurd (false≢true is)
+
+-- a disk that is clean after a call was clean before it
+pub fell : {S : Type 0} (g : Ghosts S) (old new : Held S) (P : Trees → Type 0) → Survives (state g old) (state g new) P
+    → HasCleanDisk (state g new) → HasCleanDisk (state g old)
+fell g old new P one clean = omega (arith, one.clean, clean)
 
 -- the same store with a plan that is equal
 pub stands_planned : {S : Type 0} (g : Ghosts S) (old : Store S) (p : Listing) (a : Archive) → p ≡ old.plan
@@ -55,17 +57,6 @@ stands_planned g old p a same s = record {
   archive = s.archive;
   rows = s.rows;
 }
-
--- the command is carried out
-pub obeys_done : {S : Type 0} (g : Ghosts S) (old mid new : Store S) (command : Archive → Result Archive ArchiveRefusal) (change : Archive → Archive)
-    → ((a : Archive) → StandsFor g old a → StandsFor g mid a × (HasCleanDisk (state g mid.conn) → command a ≡ Ok (change a)))
-    → ((a : Archive) → StandsFor g mid a → command a ≡ Ok (change a) → StandsFor g new (change a))
-    → (HasCleanDisk (state g new.conn) → HasCleanDisk (state g mid.conn))
-    → HasCleanDisk (state g new.conn) → (a : Archive) → StandsFor g old a → Becomes g new (command a) × Unit {0}
-obeys_done g old mid new command change judged made falls clean a s =
-    let j = judged a s in
-    let e = j.1 (falls clean) in
-    (becomes g new (command a) (change a) e (made a j.0 e), tt)
 
 -- what a crash leaves of the command
 pub leaves_done : {S : Type 0} (g : Ghosts S) (old mid new : Store S) (command : Archive → Result Archive ArchiveRefusal) (change : Archive → Archive)
@@ -84,6 +75,12 @@ pub leaves_refused : {S : Type 0} (g : Ghosts S) (old new : Store S) (command : 
     → LeavesAll g old new → Leaves g old new command
 leaves_refused g old new command looked a s is_open =
     survives_weaker (state g old.conn) (state g new.conn) _ _ (λ _ db none. absurd (none is_open)) (looked a s)
+
+-- nothing of it is committed
+pub leaves_nothing : {S : Type 0} (g : Ghosts S) (old new : Store S) (command : Archive → Result Archive ArchiveRefusal)
+    → CommitsNothing g old.conn new.conn → Leaves g old new command
+leaves_nothing g old new command none a s is_open =
+    survives_weaker (state g old.conn) (state g new.conn) _ _ (λ _ db no. absurd no) none
 
 -- two looks, the second on a connection that the first left open
 pub leaves_on : {S : Type 0} (g : Ghosts S) (old mid new : Store S) → ((a : Archive) → StandsFor g old a → StandsFor g mid a)

@@ -3,7 +3,6 @@ use Rattle.std.proofs.Common.{◌≡◌, ◌+◌, ◌-◌, ◌<◌, ◌≤◌, �
 use Rattle.std.proofs.Common.{◌||◌, List, [], ◌∷◌, map, filter, find, Option, Some, None, MatchOption, Result, Ok, Err}
 use Rattle.std.proofs.Common.{refl, sym, ap, subst, ◌∙◌, arith, true≢false}
 use Rattle.std.specs.List.{AllByRecursion, list_any}
-use Rattle.std.proofs.lemmas.Int.{ints}
 use Rattle.std.proofs.lemmas.List.Elements.{All-from_recursion, recursion_from_All}
 use Rattle.sqlite_trees.specs.Tree.{IsAscending}
 use Rattle.sqlite_keyed.specs.Lists.{delete_where, update_where}
@@ -14,7 +13,7 @@ use Rattle.sqlite.specs.Effect.{Database}
 use Rattle.record_archive.specs.Archive.{Message, Record, Archive, Hold, IsArchive, IsRecord, destroy_by, destroys}
 use Rattle.record_archive.specs.Archive.{is_by_any, record_at, has_number, has_message, is_live, is_held, is_named}
 use Rattle.record_archive.specs.Archive.{is_shared, next_number, past_all, destruction_of, messages_without, without}
-use Rattle.record_tables.specs.Rows.{Due}
+use Rattle.record_tables.specs.Rows.{Due, StoresKeyed, Tables}
 use Rattle.record_tables.specs.Changes as tables
 use Rattle.class_plan.specs.Calendar.{due_on}
 use Rattle.class_plan.specs.Plans.{schedule_at}
@@ -25,14 +24,8 @@ use Rattle.record_store.specs.Stores.{StandsFor}
 use Rattle.record_archive.specs.declared.fault.ArchiveRefusal.{ArchiveRefusal}
 use Rattle.record_archive.specs.declared.fault.ArchiveRefusal.TheVariants as fault
 use Rattle.record_store.specs.declared.store.Store.{Store}
-use Rattle.record_store.proofs.HoldLemmas.{found_passes}
+use Rattle.record_store.proofs.HoldLemmas.{any-map, found_passes, is_number, same_number}
 use Rattle.record_store.proofs.DueLemmas.{held_if, free_if}
-
-is_number : (m n : ℕ) → (m == n) ≡ true → m ≡ n
-is_number m n h = grind arith
-
-same_number : (m n : ℕ) → int_eq (pos m) (pos n) ≡ (m == n)
-same_number m n = grind (arith, ints)
 
 later_number : (m n : ℕ) → n < m → (m == n) ≡ false
 later_number m n h = grind arith
@@ -45,11 +38,10 @@ and_false : (b : Bool) → (b && false) ≡ false
 and_false true = refl
 and_false false = refl
 
--- ---- lists whose elements are tested in two ways
+never : (l q : Bool) → (l && (q && false)) ≡ false
+never l q = ap (λ b. l && b) (and_false q) ∙ and_false l
 
-any-map : {X Y : Type 0} (p : Y → Bool) (q : X → Bool) (f : X → Y) → ((x : X) → q x ≡ p (f x)) → (xs : List X) → list_any q xs ≡ list_any p (map f xs)
-any-map p q f same [] = refl
-any-map p q f same (x ∷ xs) = λ i. same x i || any-map p q f same xs i
+-- ---- lists whose elements are tested in two ways
 
 tally-map : {X Y : Type 0} (p : Y → Bool) (q : X → Bool) (f : X → Y) → ((x : X) → q x ≡ p (f x)) → (xs : List X) → tally q xs ≡ tally p (map f xs)
 tally-map p q f same [] = refl
@@ -72,125 +64,112 @@ gone n rs = update_where (has_number n) destruction_of rs
 abbrev gone_if : Bool → Record → Record
 gone_if b x = cond b (destruction_of x) x
 
--- a live record of the message that has another number
+-- a live record of the message
+abbrev names : ℕ → Record → Bool
+names m x = is_live x && (x.message == m)
+
+-- and one that has another number
 abbrev is_other : ℕ → ℕ → Record → Bool
 is_other n m x = is_live x && ((x.message == m) && not (x.number == n))
+
+-- each record with the number is this one
+abbrev Only : ℕ → Record → List Record → Type 0
+Only n r rs = AllByRecursion (λ (x : Record). (x.number == n) ≡ true → x ≡ r) rs
+
+abbrev Below : Record → Record → Type 0
+Below x y = x.number < y.number
+
+abbrev one_if : Bool → ℕ
+one_if b = cond b 1 0
 
 same_place : (b : Bool) (x : Record) → (gone_if b x).number ≡ x.number
 same_place true x = refl
 same_place false x = refl
 
 -- each record with the number is the one found by it
-only_one : (n : ℕ) (r : Record) (rs : List Record) → IsAscending (λ (x y : Record). x.number < y.number) rs
-    → find (has_number n) rs ≡ Some r → AllByRecursion (λ (x : Record). (x.number == n) ≡ true → x ≡ r) rs
+only_one : (n : ℕ) (r : Record) (rs : List Record) → IsAscending Below rs → find (has_number n) rs ≡ Some r → Only n r rs
 only_one n r [] up at = tt
 only_one n r (x ∷ rs) up at = go (x.number == n) refl at (only_one n r rs up.1)
   where
     go : (b : Bool) → (x.number == n) ≡ b → cond b (Some x) (find (has_number n) rs) ≡ Some r
-        → (find (has_number n) rs ≡ Some r → AllByRecursion (λ (x : Record). (x.number == n) ≡ true → x ≡ r) rs)
-        → AllByRecursion (λ (x : Record). (x.number == n) ≡ true → x ≡ r) (x ∷ rs)
+        → (find (has_number n) rs ≡ Some r → Only n r rs) → Only n r (x ∷ rs)
     go true is at more =
         let here : x ≡ r = cc in
         let low : x.number ≡ n = is_number x.number n is in (
           λ _. here,
-          all_weaker (λ (y : Record). x.number < y.number) (λ (y : Record). (y.number == n) ≡ true
-              → y ≡ r) (λ y above h. absurd (true≢false (sym h ∙ later_number y.number n (omega (arith, low, above))))) rs
-              up.0,
+          all_weaker (Below x) (λ (y : Record). (y.number == n) ≡ true → y ≡ r)
+              (λ y above h. absurd (true≢false (sym h ∙ later_number y.number n (omega (arith, low, above))))) rs up.0,
         )
     go false is at more = (λ h. absurd (true≢false (sym h ∙ is)), more at)
 
 -- ---- the records of a message
 
-other_is : (n m : ℕ) (x : Record) → is_other n m x ≡ (is_live (gone_if (x.number == n) x) && ((gone_if (x.number == n) x).message == m))
+other_is : (n m : ℕ) (x : Record) → is_other n m x ≡ names m (gone_if (x.number == n) x)
 other_is n m x = go (x.number == n)
   where
-    never : (l q : Bool) → (l && (q && false)) ≡ false
-    never l q = ap (λ b. l && b) (and_false q) ∙ and_false l
-
-    go : (b : Bool) → (is_live x && ((x.message == m) && not b)) ≡ (is_live (gone_if b x) && ((gone_if b x).message == m))
+    go : (b : Bool) → (is_live x && ((x.message == m) && not b)) ≡ names m (gone_if b x)
     go true = never (is_live x) (x.message == m)
     go false = ap (λ c. is_live x && c) (and_true (x.message == m))
 
 -- the messages that live records name after the destruction
 named_after : (n m : ℕ) (rs : List Record) → list_any (is_other n m) rs ≡ is_named (gone n rs) m
-named_after n m rs = any-map (λ (x : Record). is_live x && (x.message == m)) (is_other n m) (λ (x : Record).
-    gone_if (x.number == n) x) (other_is n m) rs
+named_after n m rs = any-map (names m) (is_other n m) (λ (x : Record). gone_if (x.number == n) x) (other_is n m) rs
 
-counted_after : (n m : ℕ) (rs : List Record) → tally (is_other n m) rs ≡ tally (λ (x : Record). is_live x && (x.message == m)) (gone n rs)
-counted_after n m rs = tally-map (λ (x : Record). is_live x && (x.message == m)) (is_other n m) (λ (x : Record).
-    gone_if (x.number == n) x) (other_is n m) rs
+counted_after : (n m : ℕ) (rs : List Record) → tally (is_other n m) rs ≡ tally (names m) (gone n rs)
+counted_after n m rs = tally-map (names m) (is_other n m) (λ (x : Record). gone_if (x.number == n) x) (other_is n m) rs
 
 -- a record of another message does not matter
-other_message : (n m : ℕ) (r : Record) → (r.message == m) ≡ false → (x : Record) → ((x.number == n) ≡ true → x ≡ r)
-    → is_other n m x ≡ (is_live x && (x.message == m))
+other_message : (n m : ℕ) (r : Record) → (r.message == m) ≡ false → (x : Record) → ((x.number == n) ≡ true → x ≡ r) → is_other n m x ≡ names m x
 other_message n m r apart x same = go (x.number == n) refl
   where
-    here : x ≡ r → (is_live x && ((x.message == m) && false)) ≡ (is_live x && (x.message == m))
+    here : x ≡ r → (is_live x && ((x.message == m) && false)) ≡ names m x
     here is = ap (λ b. is_live x && b) (and_false (x.message == m) ∙ sym (ap (λ (y : Record). y.message == m) is ∙ apart))
 
-    go : (b : Bool) → (x.number == n) ≡ b → (is_live x && ((x.message == m) && not b)) ≡ (is_live x && (x.message == m))
+    go : (b : Bool) → (x.number == n) ≡ b → (is_live x && ((x.message == m) && not b)) ≡ names m x
     go true is = here (same is)
     go false is = ap (λ c. is_live x && c) (and_true (x.message == m))
 
-others_same : (n m : ℕ) (r : Record) → (r.message == m) ≡ false → (rs : List Record)
-    → AllByRecursion (λ (x : Record). (x.number == n) ≡ true → x ≡ r) rs
-    → AllByRecursion (λ x. is_other n m x ≡ (is_live x && (x.message == m))) rs
-others_same n m r apart rs only = all_weaker (λ (x : Record). (x.number == n) ≡ true
-    → x ≡ r) (λ x. is_other n m x ≡ (is_live x && (x.message == m))) (other_message n m r apart) rs only
+others_same : (n m : ℕ) (r : Record) → (r.message == m) ≡ false → (rs : List Record) → Only n r rs
+    → AllByRecursion (λ x. is_other n m x ≡ names m x) rs
+others_same n m r apart rs only =
+    all_weaker (λ (x : Record). (x.number == n) ≡ true → x ≡ r) (λ x. is_other n m x ≡ names m x) (other_message n m r apart) rs only
 
 same_message : (m : ℕ) → (m == m) ≡ true
 same_message m = grind arith
 
 -- one of the message's live records is the record itself
-one_more : (n : ℕ) (r : Record) (rs : List Record) → IsAscending (λ (x y : Record). x.number < y.number) rs
-    → find (has_number n) rs ≡ Some r → r.destroyed ≡ false
-    → tally (λ (x : Record). is_live x && (x.message == r.message)) rs ≡ 1 + tally (is_other n r.message) rs
+one_more : (n : ℕ) (r : Record) (rs : List Record) → IsAscending Below rs → find (has_number n) rs ≡ Some r → r.destroyed ≡ false
+    → tally (names r.message) rs ≡ 1 + tally (is_other n r.message) rs
 one_more n r [] up at live = absurd cc
 one_more n r (x ∷ rs) up at live = go (x.number == n) refl at (λ at. one_more n r rs up.1 at live)
   where
-    later : x.number ≡ n → AllByRecursion (λ (y : Record). (is_live y && (y.message == r.message)) ≡ is_other n r.message y) rs
-    later low = all_weaker (λ (y : Record). x.number < y.number) (λ (y : Record). (is_live y && (y.message == r.message)) ≡ is_other n r.message y)
-        (λ y above. sym (ap (λ b.
-        is_live y && ((y.message == r.message) && not b)) (later_number y.number n (omega (arith, low, above)))
+    later : x.number ≡ n → AllByRecursion (λ (y : Record). names r.message y ≡ is_other n r.message y) rs
+    later low = all_weaker (Below x) (λ (y : Record). names r.message y ≡ is_other n r.message y)
+        (λ y above. sym (ap (λ b. is_live y && ((y.message == r.message) && not b)) (later_number y.number n (omega (arith, low, above)))
         ∙ ap (λ c. is_live y && c) (and_true (y.message == r.message)))) rs up.0
 
-    counts : x ≡ r → (is_live x && (x.message == r.message)) ≡ true
-    counts is = ap (λ (y : Record). is_live y && (y.message == r.message)) is
-        ∙ ap (λ b. not b && (r.message == r.message)) live ∙ same_message r.message
-
-    never : (l q : Bool) → (l && (q && false)) ≡ false
-    never l q = ap (λ b. l && b) (and_false q) ∙ and_false l
+    counts : x ≡ r → names r.message x ≡ true
+    counts is = ap (names r.message) is ∙ ap (λ b. not b && (r.message == r.message)) live ∙ same_message r.message
 
     go : (b : Bool) → (x.number == n) ≡ b → cond b (Some x) (find (has_number n) rs) ≡ Some r
-        → (find (has_number n) rs ≡ Some r → tally (λ (x : Record). is_live x && (x.message == r.message)) rs ≡ 1 + tally (is_other n r.message) rs)
-        → cond {A = ℕ} (is_live x && (x.message == r.message)) 1 0 + tally (λ (x : Record).
-        is_live x && (x.message == r.message)) rs
-        ≡ 1 + (cond {A = ℕ} (is_live x && ((x.message == r.message) && not b)) 1 0 + tally (is_other n r.message)
-        rs)
+        → (find (has_number n) rs ≡ Some r → tally (names r.message) rs ≡ 1 + tally (is_other n r.message) rs)
+        → one_if (names r.message x) + tally (names r.message) rs
+        ≡ 1 + (one_if (is_live x && ((x.message == r.message) && not b)) + tally (is_other n r.message) rs)
     go true is at more =
         let here : x ≡ r = cc in
-        let one : cond {A = ℕ} (is_live x && (x.message == r.message)) 1 0 ≡ 1 = ap (λ b. cond {A = ℕ} b 1 0) (counts here) in
-        let none : cond {A = ℕ} (is_live x && ((x.message == r.message) && false)) 1 0 ≡ 0 =
-        ap (λ b. cond {A = ℕ} b 1 0) (never (is_live x) (x.message == r.message)) in
-        let rest : tally (λ (x : Record). is_live x && (x.message == r.message)) rs ≡ tally (is_other n r.message) rs =
-        tally_same_on (λ (x : Record). is_live x && (x.message == r.message)) (is_other n r.message) rs
-        (later (is_number x.number n is)) in
-        let step : cond {A = ℕ} (is_live x && (x.message == r.message)) 1 0 + tally (λ (x : Record).
-        is_live x && (x.message == r.message)) rs
-        ≡ 1 + (cond {A = ℕ} (is_live x && ((x.message == r.message) && false)) 1 0 + tally (is_other n r.message)
-        rs) =
-        omega (arith, one, none, rest) in
+        let one : one_if (names r.message x) ≡ 1 = ap one_if (counts here) in
+        let none : one_if (is_live x && ((x.message == r.message) && false)) ≡ 0 = ap one_if (never (is_live x) (x.message == r.message)) in
+        let rest : tally (names r.message) rs ≡ tally (is_other n r.message) rs =
+        tally_same_on (names r.message) (is_other n r.message) rs (later (is_number x.number n is)) in
+        let step : one_if (names r.message x) + tally (names r.message) rs
+        ≡ 1 + (one_if (is_live x && ((x.message == r.message) && false)) + tally (is_other n r.message) rs) = omega (arith, one, none, rest) in
         step
     go false is at more =
         let it = more at in
-        let same : cond {A = ℕ} (is_live x && ((x.message == r.message) && true)) 1 0
-        ≡ cond {A = ℕ} (is_live x && (x.message == r.message)) 1 0 =
-        ap (λ b. cond {A = ℕ} (is_live x && b) 1 0) (and_true (x.message == r.message)) in
-        let step : cond {A = ℕ} (is_live x && (x.message == r.message)) 1 0 + tally (λ (x : Record).
-        is_live x && (x.message == r.message)) rs
-        ≡ 1 + (cond {A = ℕ} (is_live x && ((x.message == r.message) && true)) 1 0 + tally (is_other n r.message)
-        rs) =
-        omega (arith, it, same) in
+        let same : one_if (is_live x && ((x.message == r.message) && true)) ≡ one_if (names r.message x) =
+        ap (λ b. one_if (is_live x && b)) (and_true (x.message == r.message)) in
+        let step : one_if (names r.message x) + tally (names r.message) rs
+        ≡ 1 + (one_if (is_live x && ((x.message == r.message) && true)) + tally (is_other n r.message) rs) = omega (arith, it, same) in
         step
 
 -- ---- the counts
@@ -213,9 +192,8 @@ count_destroyed a r is free m = go (m == r.message) refl
     other : (m == r.message) ≡ false → live_count (without a r) m ≡ live_count a m
     other apart =
         sym (counted_after r.number m a.records)
-        ∙ tally_same_on (is_other r.number m) (λ (x : Record).
-        is_live x && (x.message == m)) a.records (others_same r.number m r (swap
-        ∙ apart) a.records (only_one r.number r a.records is.in_order free.found))
+        ∙ tally_same_on (is_other r.number m) (names m) a.records
+        (others_same r.number m r (swap ∙ apart) a.records (only_one r.number r a.records is.in_order free.found))
 
     own : live_count a r.message ≡ 1 + live_count (without a r) r.message
     own = one_more r.number r a.records is.in_order free.found free.live ∙ ap (λ k. 1 + k) (counted_after r.number r.message a.records)
@@ -262,9 +240,11 @@ all_passed Q P p (x ∷ xs) h all = go (p x) refl (all_passed Q P p xs h all.1)
     go true e more = (h x all.0 e, more)
     go false e more = more
 
+abbrev less : ℕ → List Message → List Message
+less m ms = delete_where (λ (x : Message). x.number == m) ms
+
 -- a message stays where another one is removed
-still_there : (k m : ℕ) → (k == m) ≡ false → (ms : List Message) → has_message ms k ≡ true
-    → has_message (delete_where (λ (x : Message). x.number == m) ms) k ≡ true
+still_there : (k m : ℕ) → (k == m) ≡ false → (ms : List Message) → has_message ms k ≡ true → has_message (less m ms) k ≡ true
 still_there k m apart [] h = absurd (true≢false (sym h))
 still_there k m apart (x ∷ ms) h = go (x.number == m) (x.number == k) refl refl h (still_there k m apart ms)
   where
@@ -276,16 +256,15 @@ still_there k m apart (x ∷ ms) h = go (x.number == m) (x.number == k) refl ref
         true≢false (sym same ∙ apart)
 
     go : (b c : Bool) → (x.number == m) ≡ b → (x.number == k) ≡ c → (c || has_message ms k) ≡ true
-        → (has_message ms k ≡ true → has_message (delete_where (λ (x : Message). x.number == m) ms) k ≡ true)
-        → has_message (cond (not b) (x ∷ delete_where (λ (x : Message). x.number == m) ms)
-        (delete_where (λ (x : Message). x.number == m) ms)) k ≡ true
+        → (has_message ms k ≡ true → has_message (less m ms) k ≡ true)
+        → has_message (cond (not b) (x ∷ less m ms) (less m ms)) k ≡ true
     go true true one two h more = absurd (clash one two)
     go true false one two h more = more h
-    go false true one two h more = ap (λ c. c || has_message (delete_where (λ (x : Message). x.number == m) ms) k) two
-    go false false one two h more = ap (λ c. c || has_message (delete_where (λ (x : Message). x.number == m) ms) k) two ∙ more h
+    go false true one two h more = ap (λ c. c || has_message (less m ms) k) two
+    go false false one two h more = ap (λ c. c || has_message (less m ms) k) two ∙ more h
 
 module _ (a : Archive) (r : Record) (is : IsArchive a) (free : IsFree a r.number r) where
-  only : AllByRecursion (λ (x : Record). (x.number == r.number) ≡ true → x ≡ r) a.records
+  only : Only r.number r a.records
   only = only_one r.number r a.records is.in_order free.found
 
   -- a message stays named where it is not the record's own, or another record shares it
@@ -301,24 +280,22 @@ module _ (a : Archive) (r : Record) (is : IsArchive a) (free : IsFree a r.number
           subst (λ j. is_named (gone r.number a.records) j ≡ true) (sym same) (sym (named_after r.number r.message a.records) ∙ shared refl)
       go false e shared =
           sym (named_after r.number k a.records)
-          ∙ any_same_on (is_other r.number k) (λ (x : Record).
-          is_live x && (x.message == k)) a.records (others_same r.number k r (swap ∙ e) a.records only) ∙ named
+          ∙ any_same_on (is_other r.number k) (names k) a.records (others_same r.number k r (swap ∙ e) a.records only) ∙ named
 
-  named_messages : (b : Bool) → is_shared a r ≡ b
-      → AllByRecursion (λ (m : Message). is_named (gone r.number a.records) m.number
-      ≡ true) (cond b a.messages (delete_where (λ (m : Message). m.number == r.message) a.messages))
+  abbrev IsNamed : Message → Type 0
+  IsNamed m = is_named (gone r.number a.records) m.number ≡ true
+
+  abbrev WasNamed : Message → Type 0
+  WasNamed m = is_named a.records m.number ≡ true
+
+  named_messages : (b : Bool) → is_shared a r ≡ b → AllByRecursion IsNamed (cond b a.messages (less r.message a.messages))
   named_messages true e =
-      all_weaker (λ (m : Message). is_named a.records m.number ≡ true) (λ (m : Message).
-      is_named (gone r.number a.records) m.number ≡ true) (λ m h.
-      still_named m.number h (λ _. e)) a.messages (recursion_from_All _ a.messages is.named)
+      all_weaker WasNamed IsNamed (λ m h. still_named m.number h (λ _. e)) a.messages (recursion_from_All _ a.messages is.named)
   named_messages false e =
-      all_passed (λ (m : Message). is_named a.records m.number ≡ true) (λ (m : Message).
-      is_named (gone r.number a.records) m.number ≡ true) (λ (m : Message). not (m.number == r.message)) a.messages
+      all_passed WasNamed IsNamed (λ (m : Message). not (m.number == r.message)) a.messages
       (λ m h other. still_named m.number h (λ own. absurd (true≢false (sym other ∙ ap not own)))) (recursion_from_All _ a.messages is.named)
 
-  rising_messages : (b : Bool)
-      → IsAscending (λ (x y : Message).
-      x.number < y.number) (cond b a.messages (delete_where (λ (m : Message). m.number == r.message) a.messages))
+  rising_messages : (b : Bool) → IsAscending (λ (x y : Message). x.number < y.number) (cond b a.messages (less r.message a.messages))
   rising_messages true = is.messages
   rising_messages false = ascending-filter (λ (x y : Message). x.number < y.number) (λ (m : Message).
       not (m.number == r.message)) a.messages is.messages
@@ -333,9 +310,7 @@ module _ (a : Archive) (r : Record) (is : IsArchive a) (free : IsFree a r.number
           sym (and_true (x.message == r.message)) ∙ sym (ap (λ b. (x.message == r.message) && not b) apart)
           ∙ sym (ap (λ d. not d && ((x.message == r.message) && not (x.number == r.number))) live) ∙ none
 
-      go : (b : Bool) → is_shared a r ≡ b
-          → has_message (cond b a.messages (delete_where (λ (m : Message). m.number == r.message) a.messages)) x.message
-          ≡ true
+      go : (b : Bool) → is_shared a r ≡ b → has_message (cond b a.messages (less r.message a.messages)) x.message ≡ true
       go true e = h.stored live
       go false e = still_there x.message r.message (its_own (alone e)) a.messages (h.stored live)
 
@@ -347,22 +322,22 @@ module _ (a : Archive) (r : Record) (is : IsArchive a) (free : IsFree a r.number
       go true e = record { number = h.number; message = h.message; day = h.day; class = h.class; stored = λ live. absurd (true≢false live) }
       go false e = record { number = h.number; message = h.message; day = h.day; class = h.class; stored = λ live. other_stays x h alone e live }
 
-  none_other : is_shared a r ≡ false → AllByRecursion (λ (x : Record). is_other r.number r.message x ≡ false) a.records
-  none_other e = none_from_any (is_other r.number r.message) a.records e
+  abbrev IsAlone : Record → Type 0
+  IsAlone x = is_shared a r ≡ false → is_other r.number r.message x ≡ false
 
-  alone_each : AllByRecursion (λ (x : Record). is_shared a r ≡ false → is_other r.number r.message x ≡ false) a.records
+  alone_each : AllByRecursion IsAlone a.records
   alone_each = go (is_shared a r) refl
     where
-      go : (b : Bool) → is_shared a r ≡ b → AllByRecursion (λ (x : Record). is_shared a r ≡ false → is_other r.number r.message x ≡ false) a.records
-      go true e = all_of (λ (x : Record). is_shared a r ≡ false → is_other r.number r.message x ≡ false) (λ x h.
-          absurd (true≢false (sym e ∙ h))) a.records
-      go false e = all_weaker (λ (x : Record). is_other r.number r.message x ≡ false) (λ (x : Record).
-          is_shared a r ≡ false → is_other r.number r.message x ≡ false) (λ x h _. h) a.records (none_other e)
+      go : (b : Bool) → is_shared a r ≡ b → AllByRecursion IsAlone a.records
+      go true e = all_of IsAlone (λ x h. absurd (true≢false (sym e ∙ h))) a.records
+      go false e = all_weaker (λ (x : Record). is_other r.number r.message x ≡ false) IsAlone (λ x h _. h) a.records
+          (none_from_any (is_other r.number r.message) a.records e)
 
   -- a hold on another record still names a live one
-  held_point : (k : ℕ) → (k == r.number) ≡ false → (x : Record)
-      → (is_live x && has_number k x)
-      ≡ (is_live (gone_if (x.number == r.number) x) && has_number k (gone_if (x.number == r.number) x))
+  abbrev is_on : ℕ → Record → Bool
+  is_on k x = is_live x && has_number k x
+
+  held_point : (k : ℕ) → (k == r.number) ≡ false → (x : Record) → is_on k x ≡ is_on k (gone_if (x.number == r.number) x)
   held_point k apart x = go (x.number == r.number) refl
     where
       other : (x.number == r.number) ≡ true → (x.number == k) ≡ false
@@ -371,70 +346,60 @@ module _ (a : Archive) (r : Record) (is : IsArchive a) (free : IsFree a r.number
           let swap : (r.number == k) ≡ (k == r.number) = grind arith in
           ap (λ j. j == k) same ∙ swap ∙ apart
 
-      go : (b : Bool) → (x.number == r.number) ≡ b → (is_live x && has_number k x) ≡ (is_live (gone_if b x) && has_number k (gone_if b x))
+      go : (b : Bool) → (x.number == r.number) ≡ b → is_on k x ≡ is_on k (gone_if b x)
       go true e = ap (λ b. is_live x && b) (other e) ∙ and_false (is_live x)
       go false e = refl
 
-  still_held : (h : Hold) → (h.number == r.number) ≡ false
-      → list_any (λ (x : Record). is_live x && has_number h.number x) a.records ≡ true
-      → list_any (λ (x : Record). is_live x && has_number h.number x) (gone r.number a.records) ≡ true
-  still_held h apart live =
-      sym (any-map (λ (x : Record). is_live x && has_number h.number x) (λ (x : Record).
-      is_live x && has_number h.number x) (λ (x : Record).
-      gone_if (x.number == r.number) x) (held_point h.number apart) a.records) ∙ live
+  still_held : (h : Hold) → (h.number == r.number) ≡ false → list_any (is_on h.number) a.records ≡ true
+      → list_any (is_on h.number) (gone r.number a.records) ≡ true
+  still_held h apart live = sym (any-map (is_on h.number) (is_on h.number) (λ (x : Record). gone_if (x.number == r.number) x)
+      (held_point h.number apart) a.records) ∙ live
 
   pub destroyed_is_archive : IsArchive (without a r)
   destroyed_is_archive = record {
     plan = is.plan;
     records = All-from_recursion (IsRecord (without a r)) (gone r.number a.records)
         (all_map (IsRecord (without a r)) (λ (x : Record). gone_if (x.number == r.number) x) a.records
-        (all_both (IsRecord a) (λ (x : Record). is_shared a r ≡ false
-        → is_other r.number r.message x ≡ false) (λ (x : Record).
-        IsRecord (without a r) (gone_if (x.number == r.number) x)) record_after a.records
+        (all_both (IsRecord a) IsAlone (λ (x : Record). IsRecord (without a r) (gone_if (x.number == r.number) x)) record_after a.records
         (recursion_from_All (IsRecord a) a.records is.records) alone_each));
-    in_order = ascending-map (λ (x y : Record). x.number < y.number) (λ (x : Record). gone_if (x.number == r.number) x) a.records
-        (ascending_weaker (λ (x y : Record). x.number < y.number) (λ (x y : Record).
-        (gone_if (x.number == r.number) x).number < (gone_if (y.number == r.number) y).number)
+    in_order = ascending-map Below (λ (x : Record). gone_if (x.number == r.number) x) a.records
+        (ascending_weaker Below (λ (x y : Record). Below (gone_if (x.number == r.number) x) (gone_if (y.number == r.number) y))
         (λ x y low. omega (arith, low, same_place (x.number == r.number) x, same_place (y.number == r.number) y)) a.records is.in_order);
     messages = rising_messages (is_shared a r);
     named = All-from_recursion _ (messages_without a r) (named_messages (is_shared a r) refl);
     held = All-from_recursion _ a.holds
-        (all_both (λ (h : Hold). (h.number == r.number) ≡ false) (λ (h : Hold).
-        list_any (λ (x : Record). is_live x && has_number h.number x) a.records ≡ true) (λ (h : Hold).
-        list_any (λ (x : Record). is_live x && has_number h.number x) (gone r.number a.records) ≡ true)
-        still_held a.holds (none_from_any (λ (h : Hold). h.number == r.number) a.holds free.free) (recursion_from_All _ a.holds is.held));
+        (all_both (λ (h : Hold). (h.number == r.number) ≡ false) (λ (h : Hold). list_any (is_on h.number) a.records ≡ true)
+        (λ (h : Hold). list_any (is_on h.number) (gone r.number a.records) ≡ true) still_held a.holds
+        (none_from_any (λ (h : Hold). h.number == r.number) a.holds free.free) (recursion_from_All _ a.holds is.held));
     once = is.once;
   }
 
 -- ---- the tables
 
-dues_without : (a : Archive) (n : ℕ) (rs : List Record)
-    → delete_where (λ (d : Due). int_eq (pos d.number) (pos n)) (map (due_row a) (filter (has_due a) rs))
-    ≡ map (due_row a) (filter (has_due a) (gone n rs))
+abbrev but : ℕ → List Due → List Due
+but n ds = delete_where (λ (d : Due). int_eq (pos d.number) (pos n)) ds
+
+abbrev dues_of : Archive → List Record → List Due
+dues_of a rs = map (due_row a) (filter (has_due a) rs)
+
+dues_without : (a : Archive) (n : ℕ) (rs : List Record) → but n (dues_of a rs) ≡ dues_of a (gone n rs)
 dues_without a n [] = refl
 dues_without a n (x ∷ rs) = go (has_due a x) (x.number == n) refl refl (dues_without a n rs)
   where
-    go : (h b : Bool) → has_due a x ≡ h → (x.number == n) ≡ b
-        → delete_where (λ (d : Due). int_eq (pos d.number) (pos n)) (map (due_row a) (filter (has_due a) rs))
-        ≡ map (due_row a) (filter (has_due a) (gone n rs))
-        → delete_where (λ (d : Due). int_eq (pos d.number) (pos n)) (map (due_row a) (cond h (x ∷ filter (has_due a) rs) (filter (has_due a) rs)))
-        ≡ map (due_row a) (cond (has_due a (gone_if b x)) (gone_if b x ∷ filter (has_due a) (gone n rs)) (filter (has_due a) (gone n rs)))
-    go true true is same more =
-        ap (λ c. cond (not c) (due_row a x ∷ delete_where (λ (d : Due).
-        int_eq (pos d.number) (pos n)) (map (due_row a) (filter (has_due a) rs))) (delete_where (λ (d : Due).
-        int_eq (pos d.number) (pos n)) (map (due_row a) (filter (has_due a) rs)))) (same_number x.number n ∙ same)
-        ∙ more
+    first : (b : Bool) → (x.number == n) ≡ b
+        → but n (due_row a x ∷ dues_of a rs) ≡ cond (not b) (due_row a x ∷ but n (dues_of a rs)) (but n (dues_of a rs))
+    first b same = ap (λ c. cond (not c) (due_row a x ∷ but n (dues_of a rs)) (but n (dues_of a rs))) (same_number x.number n ∙ same)
+
+    kept : (h : Bool) → has_due a x ≡ h → map (due_row a) (cond h (x ∷ filter (has_due a) (gone n rs)) (filter (has_due a) (gone n rs)))
+        ≡ dues_of a (x ∷ gone n rs)
+    kept h is = sym (ap (λ c. map (due_row a) (cond c (x ∷ filter (has_due a) (gone n rs)) (filter (has_due a) (gone n rs)))) is)
+
+    go : (h b : Bool) → has_due a x ≡ h → (x.number == n) ≡ b → but n (dues_of a rs) ≡ dues_of a (gone n rs)
+        → but n (map (due_row a) (cond h (x ∷ filter (has_due a) rs) (filter (has_due a) rs))) ≡ dues_of a (gone_if b x ∷ gone n rs)
+    go true true is same more = first true same ∙ more
     go false true is same more = more
-    go true false is same more =
-        ap (λ c. cond (not c) (due_row a x ∷ delete_where (λ (d : Due).
-        int_eq (pos d.number) (pos n)) (map (due_row a) (filter (has_due a) rs))) (delete_where (λ (d : Due).
-        int_eq (pos d.number) (pos n)) (map (due_row a) (filter (has_due a) rs)))) (same_number x.number n ∙ same)
-        ∙ ap (λ l. due_row a x ∷ l) more
-        ∙ sym (ap (λ c. map (due_row a)
-        (cond c (x ∷ filter (has_due a) (gone n rs)) (filter (has_due a) (gone n rs)))) is)
-    go false false is same more = more
-        ∙ sym (ap (λ c. map (due_row a) (cond c (x ∷ filter (has_due a) (gone n rs)) (filter (has_due a) (gone n rs))))
-        is)
+    go true false is same more = first false same ∙ ap (λ l. due_row a x ∷ l) more ∙ kept true is
+    go false false is same more = more ∙ kept false is
 
 -- the message that is removed, if any, is the record's, and no other live record has it
 abbrev pub Goes : Archive → Record → Option ℕ → Type 0
@@ -445,49 +410,42 @@ records_without : (n : ℕ) (rs : List Record) → update_where (λ (r : Record)
 records_without n [] = refl
 records_without n (x ∷ rs) = λ i. gone_if (same_number x.number n i) x ∷ records_without n rs i
 
-messages_less : (m : ℕ) (ms : List Message) → delete_where (λ (x : Message). int_eq (pos x.number) (pos m)) ms
-    ≡ delete_where (λ (x : Message). x.number == m) ms
+messages_less : (m : ℕ) (ms : List Message) → delete_where (λ (x : Message). int_eq (pos x.number) (pos m)) ms ≡ less m ms
 messages_less m ms = filter_same (λ (x : Message). not (int_eq (pos x.number) (pos m))) (λ (x : Message).
     not (x.number == m)) (λ x. ap not (same_number x.number m)) ms
+
+-- the tables with the record destroyed, and with these messages
+abbrev with_messages : ℕ → List Message → Tables → Tables
+with_messages n ms t = record (with_destruction n None t) { messages = ms }
+
+stores_marked : (a : Archive) (r : Record) (was db : Database) (s : StoresArchive was a) (ms : List Message) → ms ≡ messages_without a r
+    → StoresKeyed db (with_messages r.number ms s.tables) → StoresArchive db (without a r)
+stores_marked a r was db s ms same made = record {
+  tables = with_messages r.number ms s.tables;
+  stored = made.0;
+  keyed = made.1;
+  keeps = record {
+    messages = same;
+    records = ap (update_where (λ (x : Record). int_eq (pos x.number) (pos r.number)) tables.destruction_of) s.keeps.records
+        ∙ records_without r.number a.records;
+    holds = s.keeps.holds;
+    settings = s.keeps.settings;
+    classes = s.keeps.classes;
+    schedules = s.keeps.schedules;
+  };
+  dues = ap (but r.number) s.dues ∙ dues_without a r.number a.records;
+}
 
 pub stores_destroyed : (a : Archive) (r : Record) (last : Option ℕ) → Goes a r last → (was db : Database)
     → StoresArchive was a → IsDestruction r.number last was db → StoresArchive db (without a r)
 stores_destroyed a r None goes was db s turns =
-    let made = turns.stored s.tables s.stored s.keyed tt in
-    record {
-      tables = with_destruction r.number None s.tables;
-      stored = made.0;
-      keyed = made.1;
-      keeps = record {
-        messages = s.keeps.messages ∙ sym (ap (λ b. cond b a.messages (delete_where (λ (m : Message). m.number == r.message) a.messages)) goes);
-        records = ap (update_where (λ (x : Record). int_eq (pos x.number) (pos r.number)) tables.destruction_of)
-            s.keeps.records ∙ records_without r.number a.records;
-        holds = s.keeps.holds;
-        settings = s.keeps.settings;
-        classes = s.keeps.classes;
-        schedules = s.keeps.schedules;
-      };
-      dues = ap (delete_where (λ (d : Due). int_eq (pos d.number) (pos r.number))) s.dues ∙ dues_without a r.number a.records;
-    }
+    stores_marked a r was db s s.tables.messages
+    (s.keeps.messages ∙ sym (ap (λ b. cond b a.messages (less r.message a.messages)) goes)) (turns.stored s.tables s.stored s.keyed tt)
 stores_destroyed a r (Some m) goes was db s turns =
-    let made = turns.stored s.tables s.stored s.keyed tt in
-    record {
-      tables = with_destruction r.number (Some m) s.tables;
-      stored = made.0;
-      keyed = made.1;
-      keeps = record {
-        messages = ap (delete_where (λ (x : Message). int_eq (pos x.number) (pos m))) s.keeps.messages
-            ∙ messages_less m a.messages ∙ ap (λ k. delete_where (λ (x : Message). x.number == k) a.messages) goes.0
-            ∙ sym (ap (λ b. cond b a.messages (delete_where (λ (x : Message). x.number == r.message) a.messages)) goes.1);
-        records = ap (update_where (λ (x : Record). int_eq (pos x.number) (pos r.number)) tables.destruction_of)
-            s.keeps.records ∙ records_without r.number a.records;
-        holds = s.keeps.holds;
-        settings = s.keeps.settings;
-        classes = s.keeps.classes;
-        schedules = s.keeps.schedules;
-      };
-      dues = ap (delete_where (λ (d : Due). int_eq (pos d.number) (pos r.number))) s.dues ∙ dues_without a r.number a.records;
-    }
+    stores_marked a r was db s (delete_where (λ (x : Message). int_eq (pos x.number) (pos m)) s.tables.messages)
+    (ap (delete_where (λ (x : Message). int_eq (pos x.number) (pos m))) s.keeps.messages ∙ messages_less m a.messages
+    ∙ ap (λ k. less k a.messages) goes.0 ∙ sym (ap (λ b. cond b a.messages (less r.message a.messages)) goes.1))
+    (turns.stored s.tables s.stored s.keyed tt)
 
 -- ---- the judge
 

@@ -1,6 +1,6 @@
 -- The due day of a capture day is one of 1970 to 9999.
-use Rattle.std.proofs.Common.{◌≡◌, ℕ, zero, suc, ◌+◌, ◌-◌, ◌*◌, ◌/◌, ◌%◌, ◌<◌, ◌≤◌, inl, inr, min, nat_lt, true, false}
-use Rattle.std.proofs.Common.{refl, arith, ℤ, pos, negsuc, ◌≤ℤ◌, ◌<ℤ◌, unsigned_abs, List, Option, Some, None}
+use Rattle.std.proofs.Common.{◌≡◌, ℕ, zero, suc, ◌+◌, ◌-◌, ◌*◌, ◌/◌, ◌%◌, ◌≤◌, inl, inr, min, nat_lt, true, false}
+use Rattle.std.proofs.Common.{refl, arith, ℤ, pos, negsuc, ◌≤ℤ◌, unsigned_abs, List, Option, Some, None}
 use Rattle.std.proofs.Common.{option_and_then, unwrap_or}
 use Rattle.std.proofs.lemmas.Bool.{cases_Bool}
 use Rattle.std.proofs.lemmas.Bool.Decides.{nat_tests}

@@ -2,17 +2,17 @@
 use Rattle.std.proofs.Common.{◌≡◌, ◌<◌, ◌≤◌, ◌+◌, ◌^◌, ◌==◌, ℕ, zero, suc, pos, Bool, true, false, not, ◌&&◌, ◌||◌}
 use Rattle.std.proofs.Common.{cond, List, [], ◌∷◌, ◌++◌, length, map, filter, flat_map, Option, Some, None, is_some}
 use Rattle.std.proofs.Common.{option_map, unwrap_or, refl, sym, ap, ap₂, subst, append_assoc, ◌∙◌, arith, Ordering}
-use Rattle.std.proofs.Common.{Less, Equal, Greater, is_gt, is_eq, int_cmp, int_eq, int_le, nat_le, nat_cmp, true≢false}
+use Rattle.std.proofs.Common.{is_eq, int_cmp, int_eq, int_le, nat_le, nat_cmp, true≢false}
 use Rattle.std.proofs.lemmas.List.{map-append}
 use Rattle.record_adoption.specs.Counts.{tally}
 use Rattle.std.specs.List.{AllByRecursion, list_any}
 use Rattle.std.specs.Cmp.{IsTotalOrder}
-use Rattle.std.specs.Ordering.{ordering_then, ordering_reverse}
+use Rattle.std.specs.Ordering.{ordering_then}
 use Rattle.std.proofs.lemmas.Cmp.{int_cmp_total, on_total, then_total}
 use Rattle.std.proofs.lemmas.List.Elements.{recursion_from_All}
 use Rattle.std.proofs.lemmas.Int.{ints}
 use Rattle.sqlite_trees.specs.Tree.{IsAscending}
-use Rattle.sqlite_keyed.specs.Lists.{sort_by, insert_sorted}
+use Rattle.sqlite_keyed.specs.Lists.{sort_by}
 use Rattle.sqlite_keyed.proofs.KeyedLemmas.{Less-from_lt}
 use Rattle.sqlite_typed.proofs.AnswerLemmas.{no_tie, no_tie_after}
 use Rattle.sqlite_keyed.proofs.ListLemmas.{all_both, all_weaker, all_map, all-filter, all-map, all-flat_map}
@@ -25,7 +25,7 @@ use Rattle.record_archive.specs.Archive.{is_by, is_live, is_held, line_cmp, due_
 use Rattle.record_tables.specs.Rows.{Due}
 use Rattle.record_tables.specs.Reads as reads
 use Rattle.record_reads.specs.DueRecords.{DueRecord, FitsDueRecord, FitsDueRecordsBy, due_record, is_of, with_records}
-use Rattle.record_adoption.proofs.Sorting.{all-sort, Rises, IsUntied, rises-sort, filter-sort_by}
+use Rattle.record_adoption.proofs.Sorting.{all-sort, IsUntied, filter-sort_by}
 use Rattle.record_store.specs.Dues.{IsDatable, due_line, due_records}
 use Rattle.record_adoption.specs.Keeping.{StoresArchive, has_due, due_row, due_rows, hold_count}
 use Rattle.record_store.proofs.DueDays.{due_small}
@@ -65,7 +65,7 @@ day_is (Some d) = refl
 due_cmp_total : IsTotalOrder reads.due_cmp
 due_cmp_total = then_total (on_total (λ (d : Due). pos d.day) int_cmp_total) (on_total (λ (d : Due). pos d.number) int_cmp_total)
 
-le_is : (m n : ℕ) → int_le (pos m) (pos n) ≡ nat_le m n
+pub le_is : (m n : ℕ) → int_le (pos m) (pos n) ≡ nat_le m n
 le_is m n = grind (arith, ints)
 
 same_key : (n : ℕ) → int_eq (pos n) (pos n) ≡ true

@@ -1,12 +1,13 @@
 -- The entries of a page are those of the archive.
 use Rattle.std.proofs.Common.{◌≡◌, ◌<◌, ◌≤◌, ◌+◌, ◌-◌, ◌^◌, ◌==◌, ℕ, zero, suc, pos, Bool, true, false, not, ◌&&◌, ◌||◌}
-use Rattle.std.proofs.Common.{cond, List, [], ◌∷◌, length, map, filter, take, drop, slice_get, nat_le, nat_lt, Option}
-use Rattle.std.proofs.Common.{Some, None, int_cmp, int_le, nat_cmp, Ordering, Less, Equal, Greater, is_gt, refl, sym}
+use Rattle.std.proofs.Common.{cond, List, [], ◌∷◌, length, map, filter, take, drop, slice_get, nat_le, nat_lt}
+use Rattle.std.proofs.Common.{Some, int_cmp, int_le, nat_cmp, Ordering, Less, Equal, Greater, is_gt, refl, sym}
 use Rattle.std.proofs.Common.{ap, ap₂, subst, ◌∙◌, arith, min, true≢false}
-use Rattle.std.specs.List.{AllByRecursion, All, list_any}
+use Rattle.std.specs.List.{AllByRecursion, list_any}
 use Rattle.std.specs.Cmp.{IsTotalOrder}
 use Rattle.std.specs.Cmp.Lexicographic.{slice_cmp}
 use Rattle.std.specs.Ordering.{ordering_then}
+use Rattle.std.proofs.lemmas.Bool.{and_parts, or_left, or_right}
 use Rattle.std.proofs.lemmas.Bool.Decides.{nat_tests}
 use Rattle.std.proofs.lemmas.Cmp.{nat_list_cmp_total, on_total}
 use Rattle.std.proofs.lemmas.Int.{ints}
@@ -26,9 +27,10 @@ use Rattle.record_adoption.specs.Adoption.{named_hold, sorted_holds}
 use Rattle.record_adoption.specs.Keeping.{hold_count}
 use Rattle.record_adoption.proofs.AdoptHolds.{named_total, cmp_is, holds_apart, holds_rise, holds_permuted}
 use Rattle.record_adoption.proofs.Sorting.{all-sort, filter-sort_by}
-use Rattle.record_store.specs.Entries.{Entry, listed, entry_of, hold_names, records_from, entries_from, names_at_front}
+use Rattle.record_store.specs.Entries.{listed, entry_of, hold_names, records_from, names_at_front}
 use Rattle.record_store.specs.Entries.{listed_beside, is_on_any, AreHoldsOf, IsPage}
 use Rattle.record_store.proofs.DueLemmas.{map_same_on, free_if}
+use Rattle.record_store.proofs.EntryReads.{all_taken}
 
 -- ---- lists
 
@@ -41,29 +43,17 @@ from_any p Q (x ∷ xs) e all = go (p x) refl e (λ h. from_any p Q xs h all.1)
     go true h e more = all.0 h
     go false h e more = more e
 
-or_later : (b : Bool) {c : Bool} → c ≡ true → (b || c) ≡ true
-or_later true h = refl
-or_later false h = h
-
-or_first : {b : Bool} (c : Bool) → b ≡ true → (b || c) ≡ true
-or_first c h = ap (λ b. b || c) h
-
 any_weaker : {X : Type 0} (p q : X → Bool) → ((x : X) → p x ≡ true → q x ≡ true) → (xs : List X) → list_any p xs ≡ true → list_any q xs ≡ true
 any_weaker p q to [] e = e
 any_weaker p q to (x ∷ xs) e = go (p x) refl e (any_weaker p q to xs)
   where
     go : (b : Bool) → p x ≡ b → (b || list_any p xs) ≡ true → (list_any p xs ≡ true → list_any q xs ≡ true) → (q x || list_any q xs) ≡ true
-    go true h e more = or_first (list_any q xs) (to x h)
-    go false h e more = or_later (q x) (more e)
+    go true h e more = or_left _ (list_any q xs) (to x h)
+    go false h e more = or_right (q x) _ (more e)
 
 filter_same_on : {X : Type 0} (p q : X → Bool) (xs : List X) → AllByRecursion (λ x. p x ≡ q x) xs → filter p xs ≡ filter q xs
 filter_same_on p q [] h = refl
 filter_same_on p q (x ∷ xs) h = ap₂ (λ b l. cond b (x ∷ l) l) h.0 (filter_same_on p q xs h.1)
-
-all_taken : {X : Type 0} (P : X → Type 0) (n : ℕ) (xs : List X) → AllByRecursion P xs → AllByRecursion P (take n xs)
-all_taken P zero xs h = tt
-all_taken P (suc n) [] h = tt
-all_taken P (suc n) (x ∷ xs) h = (h.0, all_taken P n xs h.1)
 
 ascending_taken : {X : Type 0} (R : X → X → Type 0) (n : ℕ) (xs : List X) → IsAscending R xs → IsAscending R (take n xs)
 ascending_taken R zero xs h = tt
@@ -233,17 +223,13 @@ names_are a n once =
     ∙ ap (map (λ (h : Hold). h.name)) (sort_same by_both by_name (λ (h : Hold). h.number ≡ n) total (same_record n) zs (all_on n a.holds))
     ∙ sym (sort_by-map (slice_cmp nat_cmp) (λ (h : Hold). h.name) zs)
 
-second_of : (a b : Bool) → (a && b) ≡ true → b ≡ true
-second_of true b h = h
-second_of false b h = absurd (true≢false (sym h))
-
 -- each hold is on a record
 holds_named : (a : Archive) → IsArchive a → AllByRecursion (λ h. is_on_any a.records h ≡ true) (sorted_holds a)
 holds_named a is =
     let P : HoldEntry → Type 0 = λ h. is_on_any a.records h ≡ true in
     let each = all_weaker _ (λ (h : Hold). P (named_hold h))
     (λ h e. any_weaker (λ (r : Record). is_live r && has_number h.number r) (has_number h.number)
-    (λ r both. second_of (is_live r) (has_number h.number r) both) a.records e) a.holds (recursion_from_All _ a.holds is.held) in
+    (λ r both. (and_parts (is_live r) (has_number h.number r) both).1) a.records e) a.holds (recursion_from_All _ a.holds is.held) in
     recursion_from_All P (sorted_holds a)
     (All-permutation P (map named_hold a.holds) (sorted_holds a) (IsPermutation-sym (sorted_holds a) (map named_hold a.holds) (holds_permuted a))
     (All-from_recursion P (map named_hold a.holds) (all_map P named_hold a.holds each)))
@@ -261,11 +247,11 @@ in_from n k (r ∷ rs) low e = go (has_number k r) (nat_le n r.number) refl refl
     go : (b c : Bool) → has_number k r ≡ b → nat_le n r.number ≡ c → (b || list_any (has_number k) rs) ≡ true
         → (list_any (has_number k) rs ≡ true → list_any (has_number k) kept ≡ true)
         → list_any (has_number k) (cond c (r ∷ kept) kept) ≡ true
-    go true true h low_too e more = or_first (list_any (has_number k) kept) h
+    go true true h low_too e more = or_left _ (list_any (has_number k) kept) h
     go true false h low_not e more =
         absurd (let same = eq_yes r.number k h in let high : nat_le n r.number ≡ true = grind (arith, nat_tests, low, same) in
         true≢false (sym high ∙ low_not))
-    go false true h low_too e more = or_later (has_number k r) (more e)
+    go false true h low_too e more = or_right (has_number k r) _ (more e)
     go false false h low_not e more = more e
 
 not_above : (k : ℕ) (r : Record) (rs : List Record) → k ≤ r.number → AllByRecursion (Below r) rs → list_any (has_number k) rs ≡ true → ⊥
@@ -283,9 +269,9 @@ in_taken k last (suc m) (r ∷ rs) up low there e = go (has_number k r) (has_num
         → (c || list_any (has_number last) (take m rs)) ≡ true
         → (list_any (has_number last) (take m rs) ≡ true → list_any (has_number k) rs ≡ true → list_any (has_number k) (take m rs) ≡ true)
         → (has_number k r || list_any (has_number k) (take m rs)) ≡ true
-    go true c h l e there more = or_first (list_any (has_number k) (take m rs)) h
+    go true c h l e there more = or_left _ (list_any (has_number k) (take m rs)) h
     go false true h l e there more = absurd (not_above k r rs (let same = eq_yes r.number last l in omega (arith, same, low)) up.0 e)
-    go false false h l e there more = or_later (has_number k r) (more there e)
+    go false false h l e there more = or_right (has_number k r) _ (more there e)
 
 -- the last of records whose numbers ascend
 up_to_last : (rs : List Record) (last : Record) (i : ℕ) → IsAscending Below rs → i + 1 ≡ length rs → Some last ≡ slice_get rs i
@@ -302,8 +288,8 @@ up_to_last (x ∷ y ∷ rs) last (suc i) up long at =
 last_there : (rs : List Record) (last : Record) (i : ℕ) → Some last ≡ slice_get rs i → list_any (has_number last.number) rs ≡ true
 last_there [] last i at = absurd cc
 last_there (x ∷ rs) last zero at = let same : last ≡ x = cc in
-    or_first (list_any (has_number last.number) rs) (ap (λ (y : Record). has_number last.number y) (sym same) ∙ eq_itself last.number)
-last_there (x ∷ rs) last (suc i) at = or_later (has_number last.number x) (last_there rs last i at)
+    or_left _ (list_any (has_number last.number) rs) (ap (λ (y : Record). has_number last.number y) (sym same) ∙ eq_itself last.number)
+last_there (x ∷ rs) last (suc i) at = or_right (has_number last.number x) _ (last_there rs last i at)
 
 from_low : (n : ℕ) (rs : List Record) → AllByRecursion (λ (r : Record). n ≤ r.number) (filter (λ (r : Record). nat_le n r.number) rs)
 from_low n [] = tt
@@ -418,8 +404,8 @@ none_on f a counts are vs none =
 all_there : (rs : List Record) → AllByRecursion (λ (r : Record). list_any (has_number r.number) rs ≡ true) rs
 all_there [] = tt
 all_there (r ∷ rs) = (
-  or_first (list_any (has_number r.number) rs) (eq_itself r.number),
-  all_weaker _ (λ (q : Record). list_any (has_number q.number) (r ∷ rs) ≡ true) (λ q e. or_later (has_number q.number r) e) rs (all_there rs),
+  or_left _ (list_any (has_number r.number) rs) (eq_itself r.number),
+  all_weaker _ (λ (q : Record). list_any (has_number q.number) (r ∷ rs) ≡ true) (λ q e. or_right (has_number q.number r) _ e) rs (all_there rs),
 )
 
 only_kept : {X : Type 0} (p : X → Bool) (xs : List X) → AllByRecursion (λ x. p x ≡ true) (filter p xs)

@@ -1,8 +1,7 @@
 -- Reads of a page, as looks at the archive's tables.
-use Rattle.std.proofs.Common.{◌≡◌, ℕ, pos, false, List, filter, take, length, map, nat_le, int_le, Some, None}
+use Rattle.std.proofs.Common.{◌≡◌, ℕ, false, List, filter, take, length, map, nat_le, Some, None}
 use Rattle.std.proofs.Common.{slice_get, [], ◌∷◌, zero, suc, ◌-◌, ◌<◌, refl, ap, ◌∙◌, arith, IsTrue}
 use Rattle.std.specs.List.{AllByRecursion}
-use Rattle.std.proofs.lemmas.Int.{ints}
 use Rattle.std.proofs.lemmas.List.Elements.{recursion_from_All}
 use Rattle.sqlite.specs.Store.{Ghosts}
 use Rattle.sqlite.specs.State.{HasCleanDisk, Survives}
@@ -15,6 +14,7 @@ use Rattle.record_tables.specs.Rows.{Tables}
 use Rattle.record_reads.specs.Lookups.{Looks}
 use Rattle.record_reads.specs.Pages as pages
 use Rattle.record_store.specs.Entries.{records_from, IsListable}
+use Rattle.record_store.proofs.DueLemmas.{le_is}
 
 -- a read of the archive's tables is a look at them
 pub looks_at : {S : Type 0} (g : Ghosts S) (old new : Held S) → (old.in_transaction ≡ false → new.in_transaction ≡ false)
@@ -25,9 +25,6 @@ pub looks_at : {S : Type 0} (g : Ghosts S) (old new : Held S) → (old.in_transa
     → Survives (state g old) (state g new) (λ _. IsArchiveSchema (state g old).now.schema → ⊥) → Looks g old new
 looks_at g old new idle falls still survives = record { idle = idle; falls = falls; still = still; survives = survives }
 
-le_is : (m n : ℕ) → int_le (pos m) (pos n) ≡ nat_le m n
-le_is m n = grind (arith, ints)
-
 -- the records that are read are the archive's
 pub from_told : (a : Archive) (t : Tables) (from most : ℕ) → t.records ≡ a.records
     → take most (pages.records_from from t) ≡ take most (records_from a from)
@@ -36,7 +33,7 @@ from_told a t from most same =
     (filter_same (pages.is_from from) (λ (r : Record). nat_le from r.number) (λ r. le_is from r.number) t.records
     ∙ ap (filter (λ (r : Record). nat_le from r.number)) same)
 
-all_taken : {X : Type 0} (P : X → Type 0) (n : ℕ) (xs : List X) → AllByRecursion P xs → AllByRecursion P (take n xs)
+pub all_taken : {X : Type 0} (P : X → Type 0) (n : ℕ) (xs : List X) → AllByRecursion P xs → AllByRecursion P (take n xs)
 all_taken P zero xs all = tt
 all_taken P (suc n) [] all = tt
 all_taken P (suc n) (x ∷ xs) all = (all.0, all_taken P n xs all.1)

@@ -4,6 +4,7 @@ use Rattle.std.proofs.Common.{filter, find, Option, Some, None, Ok, Err, refl, s
 use Rattle.std.proofs.Common.{int_eq, pos, rules}
 use Rattle.std.specs.List.{AllByRecursion, list_any}
 use Rattle.std.specs.Str.{bytes_eq}
+use Rattle.std.proofs.lemmas.Bool.{and_parts, or_right}
 use Rattle.std.proofs.lemmas.Map.Text.{is_eq-slice_cmp}
 use Rattle.std.proofs.lemmas.Int.{ints}
 use Rattle.record_reads.specs.Lookups.{has_hold_of}
@@ -11,7 +12,7 @@ use Rattle.std.proofs.lemmas.List.{map-append}
 use Rattle.std.proofs.lemmas.List.Elements.{All-push, All-filter}
 use Rattle.sqlite_trees.specs.Tree.{IsAscending}
 use Rattle.sqlite_keyed.specs.Lists.{delete_where}
-use Rattle.sqlite_keyed.proofs.ListLemmas.{filter-map, filter_same, ascending-filter, none_from_any}
+use Rattle.sqlite_keyed.proofs.ListLemmas.{all_weaker, ascending-append, filter-map, filter_same, ascending-filter, none_from_any}
 use Rattle.sqlite.specs.Effect.{Database}
 use Rattle.record_archive.specs.Archive.{Record, Archive, Hold, IsArchive, record_at, has_number, is_live, is_hold}
 use Rattle.record_archive.specs.Archive.{is_held_by, hold, hold_one, release, release_one, with_hold, without_hold}
@@ -37,15 +38,11 @@ pub any_found : {X : Type 0} (p q : X → Bool) (xs : List X) (x : X) → find p
 any_found p q [] x e h = absurd cc
 any_found p q (y ∷ xs) x e h = go (p y) refl e (λ e. any_found p q xs x e h)
   where
-    or_true : (a b : Bool) → b ≡ true → (a || b) ≡ true
-    or_true true b e = refl
-    or_true false b e = e
-
     go : (b : Bool) → p y ≡ b → cond b (Some y) (find p xs) ≡ Some x
         → (find p xs ≡ Some x → list_any (λ y. q y && p y) xs ≡ true)
         → ((q y && p y) || list_any (λ y. q y && p y) xs) ≡ true
     go true is e more = let same : y ≡ x = cc in let live : q y ≡ true = subst (λ z. q z ≡ true) (sym same) h in rw (live, is) refl
-    go false is e more = or_true (q y && p y) _ (more e)
+    go false is e more = or_right (q y && p y) _ (more e)
 
 -- ---- a hold is placed
 
@@ -72,16 +69,8 @@ may_hold a name n e = go (record_at a n) refl e
 
 ascending-push : {X : Type 0} (R : X → X → Type 0) (xs : List X) (x : X) → IsAscending R xs
     → AllByRecursion (λ y. R y x) xs → IsAscending R (xs ++ x ∷ [])
-ascending-push R [] x up all = (tt, tt)
-ascending-push R (y ∷ xs) x up all = (both y xs up.0 all.0, ascending-push R xs x up.1 all.1)
-  where
-    both : (y : _) (xs : List _) → AllByRecursion (R y) xs → R y x → AllByRecursion (R y) (xs ++ x ∷ [])
-    both y [] h last = (last, tt)
-    both y (z ∷ xs) h last = (h.0, both y xs h.1 last)
-
-all_weaker : {X : Type 0} (P Q : X → Type 0) → ((x : X) → P x → Q x) → (xs : List X) → AllByRecursion P xs → AllByRecursion Q xs
-all_weaker P Q f [] h = tt
-all_weaker P Q f (x ∷ xs) h = (f x h.0, all_weaker P Q f xs h.1)
+ascending-push R xs x up all =
+    ascending-append R xs (x ∷ []) up (tt, tt) (all_weaker (λ y. R y x) (λ y. AllByRecursion (R y) (x ∷ [])) (λ y h. (h, tt)) xs all)
 
 number_eq-sym : (m n : ℕ) → (m == n) ≡ (n == m)
 number_eq-sym m n = grind arith
@@ -153,13 +142,13 @@ count_held a name n m =
 
 -- ---- a hold is ended
 
-same_number : (m n : ℕ) → int_eq (pos m) (pos n) ≡ (m == n)
+pub same_number : (m n : ℕ) → int_eq (pos m) (pos n) ≡ (m == n)
 same_number m n = grind (arith, ints)
 
 same_hold : (name : List ℕ) (n : ℕ) (h : HoldRow) → tables.is_hold name n h ≡ is_hold name n (hold_of h)
 same_hold name n h = λ i. is_eq-slice_cmp h.name name i && same_number h.number n i
 
-any-map : {X Y : Type 0} (p : Y → Bool) (q : X → Bool) (f : X → Y) → ((x : X) → q x ≡ p (f x)) → (xs : List X) → list_any q xs ≡ list_any p (map f xs)
+pub any-map : {X Y : Type 0} (p : Y → Bool) (q : X → Bool) (f : X → Y) → ((x : X) → q x ≡ p (f x)) → (xs : List X) → list_any q xs ≡ list_any p (map f xs)
 any-map p q f same [] = refl
 any-map p q f same (x ∷ xs) = λ i. same x i || any-map p q f same xs i
 
@@ -220,15 +209,11 @@ stores_released name n a was db s turns =
       dues = s.dues;
     }
 
-same_name : (s t : List ℕ) → bytes_eq s t ≡ true → s ≡ t
+pub same_name : (s t : List ℕ) → bytes_eq s t ≡ true → s ≡ t
 same_name s t h = search rules
 
-is_number : (m n : ℕ) → (m == n) ≡ true → m ≡ n
+pub is_number : (m n : ℕ) → (m == n) ≡ true → m ≡ n
 is_number m n h = grind arith
-
-both_true : (a b : Bool) → (a && b) ≡ true → (a ≡ true) × (b ≡ true)
-both_true true b h = (refl, h)
-both_true false b h = absurd (true≢false (sym h))
 
 none_gone : {X : Type 0} (q : X → Bool) (xs : List X) → AllByRecursion (λ x. q x ≡ false) xs → delete_where q xs ≡ xs
 none_gone q [] h = refl
@@ -251,7 +236,7 @@ count_released name n m (x ∷ hs) up there = go (is_hold name n x) refl there (
         h.number == m) (cond (not b) (x ∷ delete_where (is_hold name n) hs) (delete_where (is_hold name n) hs)) +
         only_at n 1 m ≡ cond {A = ℕ} (x.number == m) 1 0 + tally (λ (h : Hold). h.number == m) hs
     go true is there more =
-        let parts = both_true (bytes_eq x.name name) (x.number == n) is in
+        let parts = and_parts (bytes_eq x.name name) (x.number == n) is in
         let named : x.name ≡ name = same_name x.name name parts.0 in
         let numbered : x.number ≡ n = is_number x.number n parts.1 in
         let apart = subst (λ k. AllByRecursion (λ y. is_hold k n y ≡ false) hs) named (subst (λ k.

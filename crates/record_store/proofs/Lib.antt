@@ -12,7 +12,6 @@ pub mod AllowedLemmas
 pub mod DestroyLemmas
 pub mod ReviseLemmas
 pub mod ClassLemmas
-pub mod AdoptSettled
 pub mod AdoptLayouts
 pub mod ChangeRows
 pub mod RecordsLemmas

@@ -1,10 +1,9 @@
 -- The message of a record.
-use Rattle.std.proofs.Common.{◌≡◌, ◌==◌, ℕ, Bool, true, false, cond, List, [], ◌∷◌, find, Some, option_map, Ok, Err, refl, sym, ap, ◌∙◌}
+use Rattle.std.proofs.Common.{◌≡◌, ◌==◌, ℕ, Bool, true, false, cond, List, [], ◌∷◌, find, Some, option_map, refl, ap, ◌∙◌}
 use Rattle.sqlite.specs.Effect.{Database}
-use Rattle.record_archive.specs.Archive.{Message, Record, Archive, body_of, record_at, message, message_one}
+use Rattle.record_archive.specs.Archive.{Message, Archive, body_of}
 use Rattle.record_reads.specs.Lookups.{body_with}
 use Rattle.record_adoption.specs.Keeping.{StoresArchive}
-use Rattle.record_archive.specs.declared.fault.ArchiveRefusal.TheVariants as fault
 
 found_body : (ms : List Message) (n : ℕ) → option_map (λ (m : Message). m.body) (find (λ (m : Message). m.number == n) ms) ≡ body_of ms n
 found_body [] n = refl
@@ -18,8 +17,3 @@ found_body (m ∷ ms) n = go (m.number == n) (found_body ms n)
 -- the message in the tables is the archive's
 pub body_told : (n : ℕ) (a : Archive) (db : Database) (s : StoresArchive db a) → body_with n s.tables ≡ body_of a.messages n
 body_told n a db s = found_body s.tables.messages n ∙ ap (λ ms. body_of ms n) s.keeps.messages
-
-pub message_is : (a : Archive) (n : ℕ) (r : Record) (b : List ℕ) → record_at a n ≡ Some r → r.destroyed ≡ false
-    → Some b ≡ body_of a.messages r.message → message a n ≡ Ok (Some b)
-message_is a n r b at live body = ap (message_one a) at
-    ∙ ap (λ d. cond d (Err fault.Destroyed) (Ok (body_of a.messages r.message))) live ∙ ap (λ o. Ok o) (sym body)

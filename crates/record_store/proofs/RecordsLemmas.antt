@@ -1,6 +1,5 @@
 -- The calls of a store, as calls on an archive that is kept.
-use Rattle.std.proofs.Common.{◌≡◌, ◌⊎◌, ◌≤◌, ◌<◌, ℕ, arith, inl, inr, true, false, refl, sym, ap, ◌∙◌, subst, IsTrue, Result, Ok, Err, true≢false}
-use Rattle.std.specs.Prelude.{OnOk}
+use Rattle.std.proofs.Common.{◌≡◌, ◌⊎◌, ◌≤◌, ℕ, arith, inl, inr, true, false, refl, sym, ap, ◌∙◌, subst, IsTrue, Result, Ok, Err, true≢false}
 use Rattle.std.specs.Result.{IsErr, IsErrAnd}
 use Rattle.std.proofs.lemmas.Bool.{cases_Bool, false≢true}
 use Rattle.sqlite.specs.Store.{Ghosts}
@@ -13,7 +12,7 @@ use Rattle.record_archive.specs.Calls.{CarriesOut, Does, KeepsMade, Makes, uncha
 use Rattle.record_archive.specs.Faults.{is_trouble}
 use Rattle.record_archive.specs.declared.fault.ArchiveRefusal.{ArchiveRefusal}
 use Rattle.record_store.specs.Faults.{StoreFault}
-use Rattle.record_store.specs.Stores.{Becomes, Falls, IsOpenOnOk, Leaves, LeavesNow, Obeys, ObeysRows, StandsFor, StaysOpenOnOk, Tells}
+use Rattle.record_store.specs.Stores.{Becomes, Falls, Leaves, LeavesNow, Obeys, ObeysRows, StandsFor, StaysOpenOnOk, Tells}
 use Rattle.record_store.specs.Stores.{Fate, Left, ShutAfter, FateKeeps, MayMeet}
 use Rattle.record_store.specs.declared.store.Store.{Store}
 

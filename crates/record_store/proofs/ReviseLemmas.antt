@@ -1,53 +1,44 @@
 -- Another plan: its rows, and the due days by it.
-use Rattle.std.proofs.Common.{◌≡◌, ◌<◌, ◌+◌, ◌-◌, ℕ, zero, suc, pos, slice_get, Bool, true, false, not, cond, ◌&&◌}
-use Rattle.std.proofs.Common.{is_some, unwrap_or, List, [], ◌∷◌, ◌++◌, map, filter, take, length, get_or, Option, Some}
-use Rattle.std.proofs.Common.{None, Ok, refl, sym, ap, subst, ◌∙◌, arith, rules, IsTrue}
+use Rattle.std.proofs.Common.{◌≡◌, ℕ, pos, Bool, true, false, cond}
+use Rattle.std.proofs.Common.{is_some, List, [], ◌∷◌, Some}
+use Rattle.std.proofs.Common.{Ok, refl, sym, ap, subst, ◌∙◌, rules}
 use Rattle.std.specs.Str.{bytes_eq}
-use Rattle.std.specs.List.{AllByRecursion, list_all}
-use Rattle.std.proofs.lemmas.List.{take_more, map-append}
-use Rattle.sqlite_keyed.proofs.ListLemmas.{all_weaker, ascending-append}
+use Rattle.std.proofs.lemmas.Bool.{and_parts}
+use Rattle.std.specs.List.{list_all}
 use Rattle.sqlite.specs.Store.{Ghosts}
 use Rattle.sqlite.specs.Effect.{Database}
 use Rattle.sqlite.specs.State.{HasCleanDisk, Survives}
 use Rattle.sqlite.specs.Held.{Held, state}
 use Rattle.sqlite.proofs.StateLemmas.{survives_weaker}
-use Rattle.class_plan.specs.Calendar.{due_on}
 use Rattle.class_plan.specs.Plans as plans
 use Rattle.class_plan.specs.Plans.{Listing, IsPlan, keeps, has}
 use Rattle.record_reads.specs.Lookups.{Looks}
 use Rattle.record_reads.specs.Quiet.{IsQuiet}
-use Rattle.record_tables.specs.Tables.{HasCommonTables, IsArchiveSchema}
+use Rattle.record_tables.specs.Tables.{HasCommonTables}
 use Rattle.record_archive.specs.Archive.{Record, Archive, IsArchive, revise}
 use Rattle.record_tables.specs.Rows.{Tables, Due, Stores, StoresCommon}
-use Rattle.record_tables.specs.Changes.{ClassEntry, Rule, IsRevised, AreAscending}
+use Rattle.record_tables.specs.Changes.{ClassEntry, Rule, IsRevised}
 use Rattle.record_tables.specs.Changes as tables
 use Rattle.record_rows.specs.Rules.{rules_of, classes_of}
-use Rattle.record_adoption.specs.Keeping.{StoresArchive, has_due, due_row}
+use Rattle.record_adoption.specs.Keeping.{StoresArchive}
 use Rattle.record_store.specs.Stores.{StandsFor}
 use Rattle.record_adoption.specs.Keeping.{dues_in}
 use Rattle.record_store.specs.Revisions.{IsRevision, with_plan}
 use Rattle.record_store.specs.declared.store.Store.{Store}
 use Rattle.record_adoption.proofs.LaidLemmas.{listed-numbered, rules-numbered, same_list}
+use Rattle.record_store.proofs.HoldLemmas.{same_name}
 
 -- ---- the archive
-
-same_path : (q r : List ℕ) → bytes_eq q r ≡ true → q ≡ r
-same_path q r h = search rules
 
 has_kept : (K : List ℕ → Bool) (rows : List plans.Row) (q : List ℕ) → has rows q ≡ true
     → list_all (λ (r : plans.Row). K r.path) rows ≡ true → K q ≡ true
 has_kept K [] q h all = absurd cc
 has_kept K (x ∷ rows) q h all = go (bytes_eq q x.path) refl h (has_kept K rows q)
   where
-    both : (a b : Bool) → (a && b) ≡ true → (a ≡ true) × (b ≡ true)
-    both true true e = (refl, refl)
-    both true false e = absurd cc
-    both false b e = absurd cc
-
     go : (b : Bool) → bytes_eq q x.path ≡ b → is_some (cond b (Some x) (plans.row_at q rows)) ≡ true
         → (has rows q ≡ true → list_all (λ (r : plans.Row). K r.path) rows ≡ true → K q ≡ true) → K q ≡ true
-    go true e found more = subst (λ z. K z ≡ true) (sym (same_path q x.path e)) (both (K x.path) _ all).0
-    go false e found more = more found (both (K x.path) _ all).1
+    go true e found more = subst (λ z. K z ≡ true) (sym (same_name q x.path e)) (and_parts (K x.path) _ all).0
+    go false e found more = more found (and_parts (K x.path) _ all).1
 
 pub revised_is_archive : (a : Archive) (p : Listing) → IsArchive a → IsPlan p → keeps a.plan p ≡ true → IsArchive (with_plan a p)
 revised_is_archive a p is plan kept = record {

@@ -1,4 +1,5 @@
 pub mod Stores
+pub mod Layouts
 pub mod Faults
 pub mod Captures
 pub mod Dues

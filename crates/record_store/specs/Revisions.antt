@@ -1,5 +1,5 @@
 -- Another plan for an archive, the due days by it, and a class that is added.
-use Rattle.std.specs.Prelude.{◌≡◌, ℕ, [], List, true, false, None}
+use Rattle.std.specs.Prelude.{◌≡◌, ℕ, List, true, false, None}
 use Rattle.sqlite.specs.Effect.{Database}
 use Rattle.class_plan.specs.Calendar.{due_on}
 use Rattle.class_plan.specs.Plans.{Listing, keeps}

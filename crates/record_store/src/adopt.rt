@@ -1,6 +1,6 @@
 //! A store over a database that may have an archive's tables.
 
-ghost use Rattle.std.specs.Prelude.{◌≡◌, false, IfOk, IfErr};
+ghost use Rattle.std.specs.Prelude.{◌≡◌, false, IfOk, IfErr, OnOk};
 ghost use Rattle.sqlite.specs.State.{HasCleanDisk};
 ghost use Rattle.sqlite.specs.Held.{state};
 ghost use Rattle.record_tables.specs.Tables.{IsFree, HasCommonTables, IsArchiveSchema};
@@ -11,6 +11,7 @@ ghost use Rattle.record_archive.specs.Archive.{Archive, IsArchive, empty_archive
 ghost use Rattle.record_archive.specs.Faults.{is_trouble};
 ghost use Rattle.record_adoption.specs.Keeping.{StoresArchive};
 ghost use Rattle.record_store.specs.Faults.{is_own};
+ghost use Rattle.record_store.specs.Layouts.{HasArchiveTablesOrNone};
 ghost use Rattle.record_store.specs.Stores.{StandsFor, TakesOver};
 ghost use Rattle.record_adoption.specs.Adoption.{Finds, FindsRows, FindsSecond, FindsFirst, HasNoArchive, HasArchive, HasRows, IsKeyed, LeavesArchive, IsSoundSecond, IsSoundFirst, FindsNone, LeavesFound, AreTypedSecond, AreTypedFirst, HasTypedRows};
 
@@ -128,6 +129,7 @@ impl<S: Alter> Store<S> {
             → HasRows (state S.Store conn).now → HasArchive (state S.Store conn).now) }
         ensures typed { IfOk result (λ s. HasCleanDisk (state S.Store s.conn)
             → HasTypedRows (state S.Store conn).now) }
+        ensures layout { OnOk result (HasArchiveTablesOrNone (state S.Store conn).now.schema) }
         ensures no_archive { IfErr result (λ e. e.0 ≡ Refused NoArchive
             → HasCleanDisk (state S.Store e.1) → HasNoArchive (state S.Store conn).now) }
         ensures trouble { IfErr result (λ e. is_trouble e.0 ≡ false → e.0 ≡ Refused NoArchive) }

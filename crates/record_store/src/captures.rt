@@ -11,7 +11,7 @@ ghost use Rattle.record_archive.specs.Archive.{Archive, path_list, AreClasses};
 ghost use Rattle.record_store.specs.Captures.{HasDueDay, lines_of, dues_of_lines, due_before, ObeysCapture};
 ghost use Rattle.record_archive.specs.Lines.{line_view};
 ghost use Rattle.record_archive.specs.Faults.{is_trouble};
-ghost use Rattle.record_store.specs.Stores.{StandsFor, Leaves, Falls, ChangesBy, LeavesChange, IsOpenOnOk, StaysOpenOnOk, IsNeverOwn};
+ghost use Rattle.record_store.specs.Stores.{StandsFor, Leaves, Falls, ChangesBy, LeavesChange, IsOpenOnOk, IsNeverOwn};
 
 use crate::changes::Capture;
 use crate::fault::{BUSY, StoreFault, fault_of};
@@ -144,7 +144,8 @@ impl<S: Alter> Store<S> {
     }
 
     /// Stores a message, and a record of it for each path, numbered upwards in their order. Answers a line for each
-    /// record, with the due date by the plan. Nothing is stored where there is no path.
+    /// record, with the due date by the plan. Where there is no path nothing is stored, and the connection is only found
+    /// open (`ensure_open`).
     ///
     /// Refused with 87 where a number would pass 4,294,967,295, with 89 (`sqlite`) or with 99 (no memory). A refusal
     /// changes nothing.
@@ -162,11 +163,12 @@ impl<S: Alter> Store<S> {
             body.now (number_of_day day) (path_list paths.now) }
         ensures falls { Falls S.Store self.old self.new }
         ensures cause { IsNeverOwn S.Store self.old self.new result }
-        ensures open { StaysOpenOnOk S.Store self.old self.new result }
+        ensures open { IsOpenOnOk S.Store self.new result }
         ensures crash { Leaves S.Store self.old self.new
             (λ a. archive.capture a body.now (number_of_day day) (path_list paths.now)) }
     {
         if paths.is_empty() {
+            self.ensure_open()?;
             return Ok(Vec::new(self.alloc));
         }
         if self.next > NUMBERS || paths.len() as u64 > NUMBERS - self.next {

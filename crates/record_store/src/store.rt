@@ -88,6 +88,7 @@ impl<S: Alter> Store<S> {
         ensures falls { Falls S.Store self.old self.new }
         ensures open { IsOpenOnOk S.Store self.new result }
         ensures trouble { IfErr result (λ f. is_trouble f ≡ true) }
+        ensures cause { IfErr result (λ f. is_own f ≡ false) }
         ensures crash { CommitsNothing S.Store self.old.conn self.new.conn }
     {
         let _settled = self.conn.is_autocommit();

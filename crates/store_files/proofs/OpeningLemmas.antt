@@ -14,16 +14,16 @@ use Rattle.sqlite_trees.specs.Props.{Trees-set}
 use Rattle.sqlite.specs.Recovery.{Image}
 use Rattle.sqlite.specs.Schema.{Schema}
 use Rattle.sqlite.specs.Tree.{Trees}
-use Rattle.sqlite.specs.Effect.{Database}
+use Rattle.sqlite.specs.Effect.{Database, IsDatabase}
 use Rattle.sqlite.specs.Held.{Held}
-use Rattle.sqlite.specs.Files.{file_state, IsOpened, IsNothing}
+use Rattle.sqlite.specs.Files.{file_state, HoldsDatabase, IsOpened, IsNothing}
 use Rattle.sqlite.specs.Start.{FindsIn}
 use Rattle.sqlite.proofs.ListingLemmas.{empty_is_sound}
 use Rattle.record_archive.specs.Archive.{Archive}
 use Rattle.record_tables.specs.Tables.{IsFree}
 use Rattle.record_tables.proofs.Standing.{nothing_is_free}
 use Rattle.record_adoption.specs.Adoption.{Finds}
-use Rattle.store_files.specs.Files.{FindsAt, KeepsAt}
+use Rattle.store_files.specs.Files.{FindsAt, HoldsTables, KeepsAt}
 use Rattle.store_files.proofs.BlankLemmas.{not_blank}
 
 -- trees are those of one schema
@@ -54,14 +54,23 @@ free_opened conn image opened found none =
           subst IsFree (sym (ap (λ (db : Database). db.schema) opened.0.clean ∙ plain)) nothing_is_free
     ]
 
+-- the connection has the database that the files held
+opened_database : {D : Type 0} {g : Ghosts D} (conn : Held (FileStore D g)) (image : Image) (db : Database) → IsOpened conn
+    → FindsIn image (file_state conn) → IsDatabase db → ∥ HoldsDatabase image db.trees ∥₁ → (file_state conn).now ≡ db
+opened_database conn image db opened found sound held =
+    let trees = ∥∥₁_elim held (Trees-set _ _) (found.holds db.trees) in
+    opened.0.clean ∙ same_database (file_state conn).committed db (opened.1 opened.0.is_open).1 sound trees
+
+pub holds_tables : {D : Type 0} {g : Ghosts D} (Are : Schema → Type 0) (conn : Held (FileStore D g)) (image : Image) → IsOpened conn
+    → FindsIn image (file_state conn) → Are (file_state conn).now.schema → HoldsTables Are image
+holds_tables Are conn image opened found are db sound held =
+    subst (λ (d : Database). Are d.schema) (opened_database conn image db opened found sound held) are
+
 pub finds_opened : {D : Type 0} {g : Ghosts D} (conn : Held (FileStore D g)) (image : Image) (a : Archive) → IsOpened conn
     → FindsIn image (file_state conn) → FindsAt image a → Finds (file_state conn).now a
 finds_opened conn image a opened found (inl held) =
-    let live = opened.1 opened.0.is_open in
-    let trees = ∥∥₁_elim held.held (Trees-set _ _) (found.holds held.db.trees) in
-    let same = same_database (file_state conn).committed held.db live.1 held.sound trees in
     let Has : Database → Type 0 = λ db. Finds db a in
-    subst Has (sym (opened.0.clean ∙ same)) held.has
+    subst Has (sym (opened_database conn image held.db opened found held.sound held.held)) held.has
 finds_opened conn image a opened found (inr none) = inr (free_opened conn image opened found none.0, none.1)
 
 pub finds_kept : (image : Image) (a : Archive) → KeepsAt a image → FindsAt image a

@@ -9,6 +9,7 @@ use Rattle.sqlite_disk.specs.Modelled.{start_of}
 use Rattle.sqlite_disk.specs.Events.{replay}
 use Rattle.sqlite_disk.specs.History.{MayLeave}
 use Rattle.sqlite.specs.Recovery.{Image}
+use Rattle.sqlite.specs.Schema.{Schema}
 use Rattle.sqlite.specs.WalFiles.{outcomes}
 use Rattle.sqlite.specs.WalReads.{AreClean}
 use Rattle.class_plan.specs.Plans.{Listing}
@@ -31,6 +32,10 @@ pub record Holds (Has : Database → Archive → Type 0) (image : Image) (a : Ar
 -- no table, or where there is none yet, as before the first opening and after a crash in it.
 abbrev pub FindsAt : Image → Archive → Type 0
 FindsAt image a = Holds Finds image a ⊎ (IsNothing image × (a ≡ empty_archive))
+
+-- the tables of each sound database that the files recover to are of this kind
+abbrev pub HoldsTables : (Schema → Type 0) → Image → Type 0
+HoldsTables Are image = (db : Database) → IsDatabase db → ∥ HoldsDatabase image db.trees ∥₁ → Are db.schema
 
 abbrev pub Keeps : Database → Archive → Type 0
 Keeps db a = StoresArchive db a × IsArchive a

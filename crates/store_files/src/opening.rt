@@ -1,6 +1,6 @@
 //! A store over files.
 
-ghost use Rattle.std.specs.Prelude.{◌≡◌, false, IfOk, IfErr, IsTrue};
+ghost use Rattle.std.specs.Prelude.{◌≡◌, false, IfOk, IfErr, IsTrue, OnOk};
 ghost use Rattle.sqlite.specs.State.{HasCleanDisk};
 ghost use Rattle.sqlite.specs.Held.{state};
 ghost use Rattle.sqlite.specs.WalReads.{AreClean};
@@ -10,9 +10,10 @@ ghost use Rattle.sqlite.specs.Files.{file_state, over_files};
 ghost use Rattle.record_tables.specs.Tables.{IsFree};
 ghost use Rattle.record_archive.specs.Archive.{Archive, empty_archive};
 ghost use Rattle.record_adoption.specs.Adoption.{Finds};
+ghost use Rattle.record_store.specs.Layouts.{HasArchiveTables};
 ghost use Rattle.record_store.specs.Stores.{StandsFor};
 ghost use Rattle.store_files.specs.Closing.{HasCause, HoldsLeft, LeavesBy};
-ghost use Rattle.store_files.specs.Files.{FindsAt, KeepsFiles};
+ghost use Rattle.store_files.specs.Files.{FindsAt, HoldsTables, KeepsFiles};
 
 use crate::closing::{Closing, close, leave};
 use crate::fault::NoStore;
@@ -35,6 +36,7 @@ pub fn adopt_found<S: Alter>(
     requires { conn.in_transaction ≡ false }
     ensures stands { IfOk result (λ s. HasCleanDisk (state S.Store s.conn) → (a : Archive)
         → Finds (state S.Store conn).now a → StandsFor S.Store s a) }
+    ensures layout { OnOk result (HasArchiveTables (state S.Store conn).now.schema) }
     ensures clean { IfOk result (λ s. HasCleanDisk (state S.Store s.conn)
         → HasCleanDisk (state S.Store conn)) }
 {
@@ -50,14 +52,17 @@ pub fn adopt_found<S: Alter>(
 }
 
 /// The store in the file at a path. While the disk returns what was written to it, the store represents the archive that
-/// the files held. What they held is what `S` says; no code knows it, so this holds whatever it is.
+/// the files held, and what they held are an archive's tables. What they held is what `S` says; no code knows it, so
+/// this holds whatever it is.
 pub fn open_store<S: Start>(
     rt: &HostRuntime,
     path: &str,
     start: S,
 ) -> Result<Store<FileStore<FileFrom<S>>>, NoStore>
-    ensures { IfOk result (λ s. HasCleanDisk (file_state s.conn) → (a : Archive)
+    ensures stands { IfOk result (λ s. HasCleanDisk (file_state s.conn) → (a : Archive)
         → FindsAt (image_at S.Start) a → StandsFor over_files s a) }
+    ensures layout { IfOk result (λ s. HasCleanDisk (file_state s.conn)
+        → HoldsTables HasArchiveTables (image_at S.Start)) }
 {
     let conn = match Connection::open_from(rt, path, true, start) {
         Ok(conn) => conn,

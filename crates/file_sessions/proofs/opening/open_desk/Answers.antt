@@ -73,3 +73,11 @@ returns-in-Err-ensure_open-clause-left g c =
     let Left : Held g.row.S.Denot → Type 0 = λ h. LeavesArchive g.S.Store c.args.conn h (Finds (state g.S.Store c.args.conn).now) in
     subst Left (sym c.into_connection.ensures) (leaves_then g.S.Store c.args.conn c.in-Ok.store.conn c.ensure_open.new.self.conn
     (Finds (state g.S.Store c.args.conn).now) c.in-Ok.ensures.crash c.ensure_open.ensures.crash)
+
+pub returns-in-Err-new-clause-left : goal.returns-in-Err-new-clause-left
+returns-in-Err-new-clause-left g c =
+    let Left : Held g.row.S.Denot → Type 0 = λ h. LeavesArchive g.S.Store c.args.conn h (Finds (state g.S.Store c.args.conn).now) in
+    let LeftStore : Store g.row.S.Denot → Type 0 = λ s. Left s.conn in
+    subst Left (sym c.into_connection-in-Err-new.ensures) (subst LeftStore (sym c.in-Err-new.ensures.handed_back)
+    (leaves_then g.S.Store c.args.conn c.in-Ok.store.conn c.ensure_open.new.self.conn (Finds (state g.S.Store c.args.conn).now)
+    c.in-Ok.ensures.crash c.ensure_open.ensures.crash))

@@ -1,6 +1,7 @@
 use Rattle.std.proofs.Common.{refl, inl}
 use Rattle.sqlite.specs.WalFiles.{image_at}
-use Rattle.store_files.proofs.OpeningLemmas.{finds_opened}
+use Rattle.record_store.specs.Layouts.{HasArchiveTablesOrNone}
+use Rattle.store_files.proofs.OpeningLemmas.{finds_opened, holds_tables}
 use Rattle.file_sessions.proofs.RefusalLemmas.{has_cause}
 use Rattle.file_sessions.proofs.UnservedLemmas.{finds_still, keeps_left}
 use Rattle.file_sessions.proofs.session.serve_file.Goals as goal
@@ -28,6 +29,12 @@ pub returns-in-Ok-serve_connection-clause-shut : goal.returns-in-Ok-serve_connec
 returns-in-Ok-serve_connection-clause-shut g c honest a held =
     let it = c.in-Ok-serve_connection.ensures.shut honest in
     it.1 a (finds_opened c.in-Ok.conn (image_at g.S.Start) a (c.in-Ok.ensures.opened it.0) (c.in-Ok.ensures.found it.0) held)
+
+pub returns-in-Ok-serve_connection-clause-layout : goal.returns-in-Ok-serve_connection-clause-layout
+returns-in-Ok-serve_connection-clause-layout g c honest =
+    let early = (c.in-Ok-serve_connection.ensures.done honest).0 in
+    holds_tables HasArchiveTablesOrNone c.in-Ok.conn (image_at g.S.Start) (c.in-Ok.ensures.opened early) (c.in-Ok.ensures.found early)
+    c.in-Ok-serve_connection.ensures.layout
 
 pub returns-in-Err-serve_connection-clause-refused : goal.returns-in-Err-serve_connection-clause-refused
 returns-in-Err-serve_connection-clause-refused g c a held is honest =

@@ -1,7 +1,7 @@
-use Rattle.std.proofs.Common.{◌≡◌, ◌∙◌, pos, None, true, false, option_map, unsigned_abs, arith, sym, ap, ap₂}
+use Rattle.std.proofs.Common.{◌≡◌, ◌∙◌, pos, option_map, unsigned_abs, arith, ap, ap₂}
 use Rattle.std.proofs.lemmas.Int.{ints}
 use Rattle.jiff.specs.Words.{epoch_day}
-use Rattle.class_plan.specs.Calendar.{number_of_day, due_on}
+use Rattle.class_plan.specs.Calendar.{due_on}
 use Rattle.record_archive.specs.Archive.{path_list}
 use Rattle.record_tables.specs.CodeRows.{record_of}
 use Rattle.record_store.specs.Entries.{due_if_live}

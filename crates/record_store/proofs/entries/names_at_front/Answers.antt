@@ -1,6 +1,6 @@
-use Rattle.std.proofs.Common.{◌≡◌, ◌==◌, ◌∙◌, true, false, refl, sym, ap, arith}
+use Rattle.std.proofs.Common.{◌≡◌, ◌==◌, ◌∙◌, true, arith}
 use Rattle.record_tables.specs.CodeRows.{hold_entry_of}
-use Rattle.record_store.proofs.EntryLoops.{NamesSoFar, name_next, name_stop, name_end}
+use Rattle.record_store.proofs.EntryLoops.{name_next}
 use Rattle.record_store.proofs.entries.names_at_front.Goals as goal
 
 pub loop-hold-preserved : goal.loop-hold-preserved

@@ -1,11 +1,6 @@
-use Rattle.std.proofs.Common.{arith, ◌∙◌, map}
-use Rattle.sqlite.specs.State.{State, HasCleanDisk}
+use Rattle.std.proofs.Common.{arith, ◌∙◌}
 use Rattle.sqlite.specs.Held.{state}
-use Rattle.record_tables.specs.Changes.{Puts}
-use Rattle.record_tables.specs.CodeRows.{due_of}
 use Rattle.record_tables.proofs.Loops.{turned}
-use Rattle.record_archive.specs.Archive.{path_list}
-use Rattle.record_store.specs.Captures.{ArePast, with_capture}
 use Rattle.record_store.proofs.CaptureLemmas.{puts_capture}
 use Rattle.record_store.proofs.changes.CaptureChange.make.Goals as goal
 

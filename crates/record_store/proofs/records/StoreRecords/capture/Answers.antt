@@ -13,4 +13,4 @@ returns g c =
     carried_out g.S.Store c.args.self.now c.ensure_open.new.self c.capture-lines.new.self _ _ opened.stands opened.falls
     c.in_ok-ensure_open.ensures.open opened.crash c.capture-lines.ensures.falls c.capture-lines.ensures.crash c.is_idle-idle.ensures.left _
     (done_so g.S.Store c.ensure_open.new.self c.capture-lines.new.self _ _ c.capture-lines.result c.capture-lines.ensures.obeys)
-    c.capture-lines.ensures.open
+    (λ a s clean on. c.capture-lines.ensures.open clean)

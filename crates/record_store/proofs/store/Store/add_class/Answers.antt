@@ -1,18 +1,19 @@
-use Rattle.std.proofs.Common.{◌≡◌, arith, refl, true, None, subst, sym, ap, ◌∙◌, true≢false, Result, Ok}
-use Rattle.sqlite.specs.State.{HasCleanDisk}
-use Rattle.sqlite.specs.Held.{state}
+use Rattle.std.proofs.Common.{◌≡◌, refl, true, None, subst, sym, ap, ◌∙◌, true≢false, Result, Ok}
 use Rattle.class_plan.specs.Plans.{IsPlan}
 use Rattle.class_plan.proofs.Removed.{without-added}
 use Rattle.record_tables.specs.Changes.{Always, with_class}
 use Rattle.class_plan.specs.Changes.{addition}
+use Rattle.record_archive.specs.Archive as archive
 use Rattle.record_archive.specs.Archive.{Archive, plan_answer}
 use Rattle.record_store.specs.Revisions.{with_plan}
 use Rattle.record_archive.specs.Faults.{is_trouble}
-use Rattle.record_store.specs.Stores.{Becomes}
+use Rattle.record_store.specs.Stores.{Becomes, Leaves}
 use Rattle.record_archive.specs.declared.fault.ArchiveRefusal.{ArchiveRefusal}
-use Rattle.record_store.proofs.CommandLemmas.{is_trouble-fault_of, obeys_refused, stands_planned, stands_turned, stands_refused, leaves_turned}
+use Rattle.record_store.proofs.CommandLemmas.{fell, is_trouble-fault_of, obeys_refused, stands_planned, stands_turned, stands_refused, leaves_turned}
 use Rattle.record_store.proofs.ClassLemmas.{is_added, added_archive, keeps_added, same_dues, leaves_added}
 use Rattle.record_store.proofs.Causes.{never_busy}
+use Rattle.record_store.proofs.store.Store.add_class.Given.{Over}
+use Rattle.record_store.proofs.store.Store.add_class.Goals.{After-transact}
 use Rattle.record_store.proofs.store.Store.add_class.Goals as goal
 
 pub remove-requires : goal.remove-requires
@@ -25,14 +26,12 @@ returns-in-Ok-clause-obeys g c = λ (a : Archive) s.
     let p = c.args.self.now.plan in
     let q = c.plan_class.new.plan in
     let path = c.args.path.now in
-    let made = c.in_ok-plan_class.ensures.ok in
-    let falls : HasCleanDisk (state g.S.Store c.transact.new.conn)
-    → HasCleanDisk (state g.S.Store c.args.self.now.conn) = λ clean.
-    omega (arith, c.transact.ensures.crash.clean, clean) in (
+    let made = c.in_ok-plan_class.ensures.ok in (
       subst (Becomes g.S.Store _) (sym (is_added a p q path s.plan made))
           (stands_turned g.S.Store c.args.self.now _ a (with_plan a q) Always (with_class path true None) s
           (added_archive a p q path s.plan made s.archive c.in_ok-plan_class.ensures.plans.1)
-          c.transact.ensures.idle refl s.next s.held s.others falls c.transact.ensures.was_open c.in-Ok.ensures.ok
+          c.transact.ensures.idle refl s.next s.held s.others (fell g.S.Store c.args.self.now.conn c.transact.new.conn _ c.transact.ensures.crash)
+          c.transact.ensures.was_open c.in-Ok.ensures.ok
           (keeps_added a p q path s.plan made s.archive)),
       tt,
     )
@@ -42,8 +41,9 @@ returns-in-Ok-clause-dues g c = λ (a : Archive) s.
     same_dues a c.args.self.now.plan c.plan_class.new.plan c.args.path.now s.plan c.in_ok-plan_class.ensures.ok
     s.archive
 
-pub returns-in-Ok-clause-crash : goal.returns-in-Ok-clause-crash
-returns-in-Ok-clause-crash g c =
+left : (g : Over) (c : After-transact g) → Leaves g.S.Store c.args.self.now (record c.args.self.now { conn = c.transact.new.conn })
+    (λ a. archive.add_class a c.args.path.now)
+left g c =
     let p = c.args.self.now.plan in
     let q = c.plan_class.new.plan in
     let path = c.args.path.now in
@@ -55,27 +55,18 @@ returns-in-Ok-clause-crash g c =
     (λ legal. added_archive a p q path s.plan made s.archive c.in_ok-plan_class.ensures.plans.1) (λ was kept legal. tt)
     (λ was db kept legal turns. keeps_added a p q path s.plan made s.archive was db kept turns) c.transact.ensures.live c.transact.ensures.crash)
 
+pub returns-in-Ok-clause-crash : goal.returns-in-Ok-clause-crash
+returns-in-Ok-clause-crash g c = left g (goal.at.returns-in-Ok-clause-crash g c).After-transact
+
 pub returns-in-Err-clause-crash : goal.returns-in-Err-clause-crash
-returns-in-Err-clause-crash g c =
-    let p = c.args.self.now.plan in
-    let q = c.plan_class.new.plan in
-    let path = c.args.path.now in
-    let made = c.in_ok-plan_class.ensures.ok in
-    leaves_added g.S.Store c.args.self.now (record c.args.self.now { conn = c.transact.new.conn }) path q made
-    (λ (a : Archive) s.
-    leaves_turned g.S.Store c.args.self.now c.transact.new.conn a (with_plan a q) (◌≡◌ {A =
-    Result Archive ArchiveRefusal} (Ok (with_plan a q)) (Ok (with_plan a q))) Always (with_class path true None) s
-    (λ legal. added_archive a p q path s.plan made s.archive c.in_ok-plan_class.ensures.plans.1) (λ was kept legal. tt)
-    (λ was db kept legal turns. keeps_added a p q path s.plan made s.archive was db kept turns) c.transact.ensures.live c.transact.ensures.crash)
+returns-in-Err-clause-crash g c = left g (goal.at.returns-in-Err-clause-crash g c).After-transact
 
 pub returns-in-Err-clause-obeys : goal.returns-in-Err-clause-obeys
 returns-in-Err-clause-obeys g c = λ (a : Archive) s.
-    let same = without-added c.args.self.now.plan c.plan_class.new.plan c.args.path.now c.in_ok-plan_class.ensures.ok in
-    let falls : HasCleanDisk (state g.S.Store c.transact.new.conn)
-    → HasCleanDisk (state g.S.Store c.args.self.now.conn) = λ clean.
-    omega (arith, c.transact.ensures.crash.clean, clean) in (
+    let same = without-added c.args.self.now.plan c.plan_class.new.plan c.args.path.now c.in_ok-plan_class.ensures.ok in (
       stands_refused g.S.Store c.args.self.now _ a s c.transact.ensures.idle (c.remove.ensures
-          ∙ same) refl (λ n. refl) (λ m. refl) falls c.transact.ensures.was_open
+          ∙ same) refl (λ n. refl) (λ m. refl) (fell g.S.Store c.args.self.now.conn c.transact.new.conn _ c.transact.ensures.crash)
+          c.transact.ensures.was_open
           (λ clean is_open. (c.in-Err.ensures.err clean is_open).0),
       λ r is. absurd (true≢false (sym (is_trouble-fault_of c.in-Err.error) ∙ ap is_trouble (sym c.fault_of.ensures ∙ is))),
     )

@@ -1,7 +1,5 @@
-use Rattle.std.proofs.Common.{◌≡◌, false, refl, ap, sym, subst, ◌∙◌, Err}
-use Rattle.record_tables.specs.declared.fault.Fault.TheVariants.{NoArchive}
+use Rattle.std.proofs.Common.{refl, ap, ◌∙◌, Err}
 use Rattle.record_archive.specs.Archive.{Archive}
-use Rattle.record_store.specs.Faults.{is_own}
 use Rattle.record_store.proofs.Causes.{not_own-lost_or}
 use Rattle.record_store.proofs.CommandLemmas.{stands_looked}
 use Rattle.record_store.proofs.MessageLemmas.{body_told}
@@ -17,7 +15,6 @@ returns-in-Ok-clause-tells g c = λ (a : Archive) s. (
 
 pub returns-in-Err-clause-cause : goal.returns-in-Err-clause-cause
 returns-in-Err-clause-cause g c = λ (a : Archive) s clean.
-    let none : c.in-Err.fault ≡ NoArchive → ⊥ = λ e.
+    not_own-lost_or _ c.in-Err.fault c.lost_or.ensures (λ e.
     let kept = s.rows (c.message_body.ensures.looks.falls clean) (c.in-Err.ensures.seen clean (ap Err e)) in
-    c.in-Err.ensures.none clean (ap Err e) kept.tables kept.stored kept.keyed in
-    subst (λ f. is_own f ≡ false) (sym c.lost_or.ensures) (not_own-lost_or c.in-Err.fault none)
+    c.in-Err.ensures.none clean (ap Err e) kept.tables kept.stored kept.keyed)

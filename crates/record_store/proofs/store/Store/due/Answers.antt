@@ -1,4 +1,4 @@
-use Rattle.std.proofs.Common.{◌≡◌, ◌==◌, ◌∙◌, ℕ, ℤ, pos, negsuc, List, [], Some, None, map, filter, refl, sym, ap, subst, arith}
+use Rattle.std.proofs.Common.{◌≡◌, ◌==◌, ◌∙◌, ℕ, ℤ, pos, negsuc, [], Some, None, map, filter, refl, sym, ap, subst, arith}
 use Rattle.std.specs.List.{AllByRecursion}
 use Rattle.record_archive.specs.Archive.{Archive, due_list, due_list_on, from_1970}
 use Rattle.record_archive.specs.Lines.{line_view}

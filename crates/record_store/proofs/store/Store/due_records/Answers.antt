@@ -1,14 +1,11 @@
-use Rattle.std.proofs.Common.{◌≡◌, false, ap, sym, subst, Err}
-use Rattle.record_tables.specs.declared.fault.Fault.TheVariants.{NoArchive}
+use Rattle.std.proofs.Common.{ap, Err}
 use Rattle.record_archive.specs.Archive.{Archive}
-use Rattle.record_store.specs.Faults.{is_own}
 use Rattle.record_store.proofs.Causes.{not_own-lost_or}
 use Rattle.record_store.proofs.DueLemmas.{due_records_fit}
 use Rattle.record_store.proofs.store.Store.due_records.Goals as goal
 
 pub returns-in-Err-clause-cause : goal.returns-in-Err-clause-cause
 returns-in-Err-clause-cause g c = λ (a : Archive) s clean.
-    let none : c.in-Err.fault ≡ NoArchive → ⊥ = λ e.
+    not_own-lost_or _ c.in-Err.fault c.lost_or.ensures (λ e.
     let kept = s.rows (c.due_records_by.ensures.falls clean) (c.in-Err.ensures.seen clean (ap Err e)) in
-    c.in-Err.ensures.none clean (ap Err e) kept.tables kept.stored kept.keyed (due_records_fit a _ kept c.args.day s.archive) in
-    subst (λ f. is_own f ≡ false) (sym c.lost_or.ensures) (not_own-lost_or c.in-Err.fault none)
+    c.in-Err.ensures.none clean (ap Err e) kept.tables kept.stored kept.keyed (due_records_fit a _ kept c.args.day s.archive))

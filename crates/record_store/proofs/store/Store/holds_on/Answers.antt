@@ -1,11 +1,11 @@
-use Rattle.std.proofs.Common.{◌≡◌, ◌-◌, ◌∙◌, false, [], Some, None, arith, length, map, slice_get, nat_lt, refl, sym, ap, subst}
+use Rattle.std.proofs.Common.{◌≡◌, ◌-◌, ◌∙◌, false, Some, None, arith, length, map, slice_get, sym, ap}
 use Rattle.std.specs.List.{list_any}
 use Rattle.std.proofs.lemmas.List.{length-map}
 use Rattle.std.proofs.lemmas.Grind.{common_steps}
 use Rattle.record_archive.specs.Archive.{Archive}
 use Rattle.record_tables.specs.CodeRows.{record_of, hold_entry_of}
 use Rattle.record_adoption.specs.Counts.{count_at}
-use Rattle.record_store.specs.Entries.{AreHoldsOf, is_counted}
+use Rattle.record_store.specs.Entries.{is_counted}
 use Rattle.record_store.proofs.EntryLemmas.{between_are, none_on}
 use Rattle.record_store.proofs.EntryReads.{no_last, last_map}
 use Rattle.record_store.proofs.store.Store.holds_on.Goals as goal

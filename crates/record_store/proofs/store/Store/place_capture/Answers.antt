@@ -1,74 +1,51 @@
 use Rattle.record_adoption.specs.Counts.{count_at, only_at}
 use Rattle.std.proofs.Common.{◌+◌, ◌-◌, length, arith, refl, sym, ap, ◌∙◌, map}
-use Rattle.sqlite.specs.State.{HasCleanDisk}
-use Rattle.sqlite.specs.Held.{state}
 use Rattle.std.proofs.lemmas.List.{length-map}
 use Rattle.record_tables.specs.CodeRows.{due_of}
-use Rattle.record_archive.specs.Archive.{Archive}
+use Rattle.record_archive.specs.Archive.{Archive, after_capture, path_list}
+use Rattle.record_store.specs.Stores.{LeavesChange}
 use Rattle.record_store.proofs.CaptureStands.{Given, stands_captured, leaves_captured}
 use Rattle.record_store.proofs.Causes.{never_busy}
+use Rattle.record_store.proofs.CommandLemmas.{fell}
+use Rattle.record_store.proofs.store.Store.place_capture.Given.{Over}
+use Rattle.record_store.proofs.store.Store.place_capture.Goals.{After-transact}
 use Rattle.record_store.proofs.store.Store.place_capture.Goals as goal
+
+given : (g : Over) (c : After-transact g) → Given c.args.self.now c.args.day c.args.first (path_list c.args.paths.now) (map due_of c.args.dues.now)
+given g c =
+    let long = length-map c.args.paths.now (λ p. p.items) in
+    record {
+      some = omega (arith, c.requires.some, long);
+      room = omega (arith, c.requires.room, long);
+      first = c.requires.first;
+      classes = c.requires.classes;
+      day = c.requires.day;
+      dues = c.requires.dues;
+    }
+
+left : (g : Over) (c : After-transact g) → LeavesChange g.S.Store c.args.self.now (record c.args.self.now { conn = c.transact.new.conn })
+    (λ a. after_capture a c.args.body.now c.args.day (path_list c.args.paths.now))
+left g c = λ (a : Archive) s.
+    leaves_captured g.S.Store c.args.self.now c.transact.new.conn a s c.args.body.now c.args.day c.args.first
+    (path_list c.args.paths.now) (map due_of c.args.dues.now) (given g c) c.transact.ensures.live c.transact.ensures.crash
 
 pub returns-in-Ok-transact-clause-ok : goal.returns-in-Ok-transact-clause-ok
 returns-in-Ok-transact-clause-ok g c = λ (a : Archive) s.
-    let ps = map (λ p. p.items) c.args.paths.now in
-    let ds = map due_of c.args.dues.now in
     let long = length-map c.args.paths.now (λ p. p.items) in
-    let given : Given c.args.self.now c.args.day c.args.first ps ds =
-    record {
-      some = omega (arith, c.requires.some, long);
-      room = omega (arith, c.requires.room, long);
-      first =
-          c.requires.first;
-      classes = c.requires.classes;
-      day = c.requires.day;
-      dues = c.requires.dues;
-    } in
-    let falls : HasCleanDisk (state g.S.Store c.transact.new.conn)
-    → HasCleanDisk (state g.S.Store c.args.self.now.conn) = λ clean.
-    omega (arith, c.transact.ensures.crash.clean, clean) in
-    stands_captured g.S.Store c.args.self.now _ a s c.args.body.now c.args.day c.args.first ps ds given
+    stands_captured g.S.Store c.args.self.now _ a s c.args.body.now c.args.day c.args.first (path_list c.args.paths.now)
+    (map due_of c.args.dues.now) (given g (goal.at.returns-in-Ok-transact-clause-ok g c).After-transact)
     c.transact.ensures.idle refl (ap (λ k. k + length c.args.paths.now) (sym c.requires.first)
     ∙ ap (λ k. c.args.first + k) (sym long)) (λ m. refl)
     (λ m. c.in-Ok.ensures.ok m
-    ∙ ap (λ k. count_at c.args.self.now.others m + only_at c.args.first (k - 1) m) (sym long)) falls
+    ∙ ap (λ k. count_at c.args.self.now.others m + only_at c.args.first (k - 1) m) (sym long))
+    (fell g.S.Store c.args.self.now.conn c.transact.new.conn _ c.transact.ensures.crash)
     c.transact.ensures.was_open c.in-Ok-transact.ensures.ok
 
 pub returns-in-Ok-transact-clause-crash : goal.returns-in-Ok-transact-clause-crash
-returns-in-Ok-transact-clause-crash g c = λ (a : Archive) s.
-    let ps = map (λ p. p.items) c.args.paths.now in
-    let ds = map due_of c.args.dues.now in
-    let long = length-map c.args.paths.now (λ p. p.items) in
-    let given : Given c.args.self.now c.args.day c.args.first ps ds =
-    record {
-      some = omega (arith, c.requires.some, long);
-      room = omega (arith, c.requires.room, long);
-      first =
-          c.requires.first;
-      classes = c.requires.classes;
-      day = c.requires.day;
-      dues = c.requires.dues;
-    } in
-    leaves_captured g.S.Store c.args.self.now c.transact.new.conn a s c.args.body.now c.args.day c.args.first ps ds given
-    c.transact.ensures.live c.transact.ensures.crash
+returns-in-Ok-transact-clause-crash g c = left g (goal.at.returns-in-Ok-transact-clause-crash g c).After-transact
 
 pub returns-in-Err-clause-crash : goal.returns-in-Err-clause-crash
-returns-in-Err-clause-crash g c = λ (a : Archive) s.
-    let ps = map (λ p. p.items) c.args.paths.now in
-    let ds = map due_of c.args.dues.now in
-    let long = length-map c.args.paths.now (λ p. p.items) in
-    let given : Given c.args.self.now c.args.day c.args.first ps ds =
-    record {
-      some = omega (arith, c.requires.some, long);
-      room = omega (arith, c.requires.room, long);
-      first =
-          c.requires.first;
-      classes = c.requires.classes;
-      day = c.requires.day;
-      dues = c.requires.dues;
-    } in
-    leaves_captured g.S.Store c.args.self.now c.transact.new.conn a s c.args.body.now c.args.day c.args.first ps ds given
-    c.transact.ensures.live c.transact.ensures.crash
+returns-in-Err-clause-crash g c = left g (goal.at.returns-in-Err-clause-crash g c).After-transact
 
 pub returns-then-not-is_autocommit-clause-cause : goal.returns-then-not-is_autocommit-clause-cause
 returns-then-not-is_autocommit-clause-cause g c = λ (a : Archive) s clean.

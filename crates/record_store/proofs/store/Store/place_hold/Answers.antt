@@ -1,12 +1,10 @@
-use Rattle.std.proofs.Common.{arith, sym, ap, ◌∙◌, ◌≡◌, ◌+◌, Ok}
-use Rattle.sqlite.specs.State.{HasCleanDisk}
-use Rattle.sqlite.specs.Held.{state}
+use Rattle.std.proofs.Common.{sym, ap, ◌∙◌, ◌≡◌, ◌+◌, Ok}
 use Rattle.record_tables.specs.Changes as tables
 use Rattle.record_tables.specs.Changes.{Always}
 use Rattle.record_archive.specs.Archive as archive
 use Rattle.record_archive.specs.Archive.{Archive}
 use Rattle.record_adoption.specs.Counts.{only_at}
-use Rattle.record_store.proofs.CommandLemmas.{stands_turned, leaves_turned}
+use Rattle.record_store.proofs.CommandLemmas.{fell, stands_turned, leaves_turned}
 use Rattle.record_store.proofs.HoldLemmas.{held_is_archive, stores_held, count_held}
 use Rattle.record_store.proofs.Causes.{never_busy}
 use Rattle.record_store.proofs.store.Store.place_hold.Goals as goal
@@ -15,14 +13,11 @@ pub returns-in-Ok-transact-clause-ok : goal.returns-in-Ok-transact-clause-ok
 returns-in-Ok-transact-clause-ok g c = λ (a : Archive) s e.
     let name = c.args.name.now in
     let n = c.args.number in
-    let falls : HasCleanDisk (state g.S.Store c.transact.new.conn)
-    → HasCleanDisk (state g.S.Store c.args.self.now.conn) = λ clean.
-    omega (arith, c.transact.ensures.crash.clean, clean) in
     stands_turned g.S.Store c.args.self.now _ a (archive.with_hold a name n) Always (tables.with_hold name n) s
     (held_is_archive a name n s.archive e) c.transact.ensures.idle s.plan s.next
     (λ m. c.in-Ok.ensures.ok m ∙ ap (λ k. k + only_at n 1 m) (s.held m)
-    ∙ sym (count_held a name n m)) s.others falls c.transact.ensures.was_open c.in-Ok-transact.ensures.ok
-    (stores_held name n a)
+    ∙ sym (count_held a name n m)) s.others (fell g.S.Store c.args.self.now.conn c.transact.new.conn _ c.transact.ensures.crash)
+    c.transact.ensures.was_open c.in-Ok-transact.ensures.ok (stores_held name n a)
 
 pub returns-in-Ok-transact-clause-crash : goal.returns-in-Ok-transact-clause-crash
 returns-in-Ok-transact-clause-crash g c = λ (a : Archive) s.

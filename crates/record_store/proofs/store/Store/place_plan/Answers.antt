@@ -1,6 +1,4 @@
-use Rattle.std.proofs.Common.{◌≡◌, ◌∙◌, arith, refl, ap, map, rules}
-use Rattle.sqlite.specs.State.{HasCleanDisk}
-use Rattle.sqlite.specs.Held.{state}
+use Rattle.std.proofs.Common.{◌≡◌, ◌∙◌, refl, ap, map, rules}
 use Rattle.class_plan.specs.Plans.{IsPlan}
 use Rattle.record_tables.specs.Changes.{Always}
 use Rattle.record_tables.specs.Changes as tables
@@ -8,10 +6,31 @@ use Rattle.record_tables.specs.CodeRows.{due_of, class_entry_of, rule_of}
 use Rattle.record_rows.specs.Rules as rows
 use Rattle.record_archive.specs.Archive.{Archive}
 use Rattle.record_store.specs.Revisions.{IsRevision, with_plan}
-use Rattle.record_store.proofs.CommandLemmas.{stands_turned, leaves_turned}
+use Rattle.record_store.specs.Stores.{LeavesAllowed}
+use Rattle.record_store.proofs.CommandLemmas.{fell, stands_turned, leaves_turned}
 use Rattle.record_store.proofs.ReviseLemmas.{revised_is_archive, stores_revised}
 use Rattle.record_store.proofs.Causes.{never_busy}
+use Rattle.record_store.proofs.store.Store.place_plan.Given.{Over}
+use Rattle.record_store.proofs.store.Store.place_plan.Goals.{After-replace_plan}
 use Rattle.record_store.proofs.store.Store.place_plan.Goals as goal
+
+rules_are : (g : Over) (c : After-replace_plan g) → map rule_of c.as_slice.result.now ≡ rows.rules_of c.args.plan
+rules_are g c = ap (map rule_of) c.as_slice.ensures.value ∙ c.in_ok-rules.ensures
+
+classes_are : (g : Over) (c : After-replace_plan g) → map class_entry_of c.as_slice-2.result.now ≡ rows.classes_of c.args.plan
+classes_are g c = ap (map class_entry_of) c.as_slice-2.ensures.value ∙ c.in_ok-classes.ensures
+
+left : (g : Over) (c : After-replace_plan g) → LeavesAllowed g.S.Store c.args.self.now (record c.args.self.now { conn = c.replace_plan.new.conn })
+    (λ a. IsRevision a c.args.plan (map due_of c.args.dues.now)) (λ a. with_plan a c.args.plan)
+left g c = λ (a : Archive) s.
+    let p = c.args.plan in
+    let ds = map due_of c.args.dues.now in
+    let rs = map rule_of c.as_slice.result.now in
+    let cs = map class_entry_of c.as_slice-2.result.now in
+    leaves_turned g.S.Store c.args.self.now c.replace_plan.new.conn a (with_plan a p) (IsRevision a p ds) Always (tables.with_plan rs cs ds) s
+    (λ is. let plan : IsPlan p = search rules in revised_is_archive a p s.archive plan is.kept) (λ was kept is. tt)
+    (λ was db kept is turns. stores_revised a p rs cs ds (rules_are g c) (classes_are g c) is.dues was db kept turns)
+    c.replace_plan.ensures.live c.replace_plan.ensures.crash
 
 pub returns-in-Ok-clause-ok : goal.returns-in-Ok-clause-ok
 returns-in-Ok-clause-ok g c = λ (a : Archive) s is.
@@ -19,42 +38,19 @@ returns-in-Ok-clause-ok g c = λ (a : Archive) s is.
     let ds = map due_of c.args.dues.now in
     let rs = map rule_of c.as_slice.result.now in
     let cs = map class_entry_of c.as_slice-2.result.now in
-    let same_rules : rs ≡ rows.rules_of p = ap (map rule_of) c.as_slice.ensures.value ∙ c.in_ok-rules.ensures in
-    let same_classes : cs ≡ rows.classes_of p = ap (map class_entry_of) c.as_slice-2.ensures.value ∙ c.in_ok-classes.ensures in
+    let after = (goal.at.returns-in-Ok-clause-ok g c).After-replace_plan in
     let plan : IsPlan p = search rules in
-    let falls : HasCleanDisk (state g.S.Store c.replace_plan.new.conn)
-    → HasCleanDisk (state g.S.Store c.args.self.now.conn) = λ clean.
-    omega (arith, c.replace_plan.ensures.crash.clean, clean) in
     stands_turned g.S.Store c.args.self.now _ a (with_plan a p) Always (tables.with_plan rs cs ds) s
-    (revised_is_archive a p s.archive plan is.kept) c.replace_plan.ensures.idle refl s.next s.held s.others falls
+    (revised_is_archive a p s.archive plan is.kept) c.replace_plan.ensures.idle refl s.next s.held s.others
+    (fell g.S.Store c.args.self.now.conn c.replace_plan.new.conn _ c.replace_plan.ensures.crash)
     c.replace_plan.ensures.was_open c.in-Ok.ensures.ok
-    (stores_revised a p rs cs ds same_rules same_classes is.dues)
+    (stores_revised a p rs cs ds (rules_are g after) (classes_are g after) is.dues)
 
 pub returns-in-Ok-clause-crash : goal.returns-in-Ok-clause-crash
-returns-in-Ok-clause-crash g c = λ (a : Archive) s.
-    let p = c.args.plan in
-    let ds = map due_of c.args.dues.now in
-    let rs = map rule_of c.as_slice.result.now in
-    let cs = map class_entry_of c.as_slice-2.result.now in
-    let same_rules : rs ≡ rows.rules_of p = ap (map rule_of) c.as_slice.ensures.value ∙ c.in_ok-rules.ensures in
-    let same_classes : cs ≡ rows.classes_of p = ap (map class_entry_of) c.as_slice-2.ensures.value ∙ c.in_ok-classes.ensures in
-    leaves_turned g.S.Store c.args.self.now c.replace_plan.new.conn a (with_plan a p) (IsRevision a p ds) Always (tables.with_plan rs cs ds) s
-    (λ is. let plan : IsPlan p = search rules in revised_is_archive a p s.archive plan is.kept) (λ was kept is. tt)
-    (λ was db kept is turns. stores_revised a p rs cs ds same_rules same_classes is.dues was db kept turns)
-    c.replace_plan.ensures.live c.replace_plan.ensures.crash
+returns-in-Ok-clause-crash g c = left g (goal.at.returns-in-Ok-clause-crash g c).After-replace_plan
 
 pub returns-in-Err-clause-crash : goal.returns-in-Err-clause-crash
-returns-in-Err-clause-crash g c = λ (a : Archive) s.
-    let p = c.args.plan in
-    let ds = map due_of c.args.dues.now in
-    let rs = map rule_of c.as_slice.result.now in
-    let cs = map class_entry_of c.as_slice-2.result.now in
-    let same_rules : rs ≡ rows.rules_of p = ap (map rule_of) c.as_slice.ensures.value ∙ c.in_ok-rules.ensures in
-    let same_classes : cs ≡ rows.classes_of p = ap (map class_entry_of) c.as_slice-2.ensures.value ∙ c.in_ok-classes.ensures in
-    leaves_turned g.S.Store c.args.self.now c.replace_plan.new.conn a (with_plan a p) (IsRevision a p ds) Always (tables.with_plan rs cs ds) s
-    (λ is. let plan : IsPlan p = search rules in revised_is_archive a p s.archive plan is.kept) (λ was kept is. tt)
-    (λ was db kept is turns. stores_revised a p rs cs ds same_rules same_classes is.dues was db kept turns)
-    c.replace_plan.ensures.live c.replace_plan.ensures.crash
+returns-in-Err-clause-crash g c = left g (goal.at.returns-in-Err-clause-crash g c).After-replace_plan
 
 pub returns-then-not-is_autocommit-clause-cause : goal.returns-then-not-is_autocommit-clause-cause
 returns-then-not-is_autocommit-clause-cause g c = λ (a : Archive) s clean.

@@ -1,12 +1,10 @@
 use Rattle.std.proofs.Common.{◌∙◌, arith, sym}
-use Rattle.sqlite.specs.State.{HasCleanDisk}
-use Rattle.sqlite.specs.Held.{state}
 use Rattle.record_tables.specs.Changes.{Always}
 use Rattle.record_tables.specs.CodeRows.{record_of}
 use Rattle.record_archive.specs.Archive as archive
 use Rattle.record_archive.specs.Archive.{Archive}
 use Rattle.record_store.specs.Destruction.{IsFree, with_destruction}
-use Rattle.record_store.proofs.CommandLemmas.{stands_turned, leaves_turned}
+use Rattle.record_store.proofs.CommandLemmas.{fell, stands_turned, leaves_turned}
 use Rattle.record_store.proofs.DestroyLemmas.{keeps_destroyed, destroyed_archive, count_destroyed, next_destroyed, free_itself}
 use Rattle.record_store.proofs.Causes.{never_busy}
 use Rattle.record_store.proofs.store.Store.remove_record.Goals as goal
@@ -16,13 +14,11 @@ returns-in-Ok-clause-ok g c = λ (a : Archive) s free.
     let n = c.args.number in
     let r = record_of c.args.row.now in
     let last = c.last_body-last.result in
-    let falls : HasCleanDisk (state g.S.Store c.transact.new.conn)
-    → HasCleanDisk (state g.S.Store c.args.self.now.conn) = λ clean.
-    omega (arith, c.transact.ensures.crash.clean, clean) in
     stands_turned g.S.Store c.args.self.now _ a (archive.without a r) Always (with_destruction n last) s
     (destroyed_archive a n r s.archive free) c.transact.ensures.idle s.plan (s.next ∙ sym (next_destroyed a r))
     s.held (λ m. let sum = count_destroyed a r s.archive (free_itself a n r free) m in
-    omega (arith, c.take.ensures m, s.others m, sum)) falls c.transact.ensures.was_open c.in-Ok.ensures.ok
+    omega (arith, c.take.ensures m, s.others m, sum)) (fell g.S.Store c.args.self.now.conn c.transact.new.conn _ c.transact.ensures.crash)
+    c.transact.ensures.was_open c.in-Ok.ensures.ok
     (keeps_destroyed g.S.Store c.args.self.now a s n r last free c.last_body-last.ensures)
 
 pub returns-in-Ok-clause-crash : goal.returns-in-Ok-clause-crash

@@ -1,4 +1,6 @@
-use Rattle.std.proofs.Common.{◌∙◌, ap, map, sym, subst}
+use Rattle.std.proofs.Common.{◌≡◌, ◌∙◌, ap, map, sym, subst, Ok}
+use Rattle.sqlite.specs.State.{HasCleanDisk}
+use Rattle.sqlite.specs.Held.{state}
 use Rattle.record_tables.specs.CodeRows.{due_of, record_of}
 use Rattle.record_archive.specs.Archive as archive
 use Rattle.record_archive.specs.Archive.{Archive}
@@ -6,52 +8,40 @@ use Rattle.record_adoption.specs.Faults.{AreInOrder}
 use Rattle.record_adoption.specs.Keeping.{dues_in}
 use Rattle.record_adoption.proofs.PlanDays.{archive_in_order}
 use Rattle.record_store.specs.Revisions.{IsRevision, with_plan}
+use Rattle.record_store.specs.Stores.{StandsFor, Leaves}
 use Rattle.record_store.proofs.AllowedLemmas.{obeys_allowed, leaves_allowed}
 use Rattle.record_store.proofs.Causes.{passed_cause}
 use Rattle.record_store.proofs.ReviseLemmas.{judged_revision}
+use Rattle.record_store.proofs.store.Store.revise.Given.{Over}
+use Rattle.record_store.proofs.store.Store.revise.Goals.{After-place_plan}
 use Rattle.record_store.proofs.store.Store.revise.Goals as goal
+
+judged : (g : Over) (c : After-place_plan g) → (a : Archive) → StandsFor g.S.Store c.args.self.now a
+    → StandsFor g.S.Store c.all_records.new.self a × (HasCleanDisk (state g.S.Store c.all_records.new.self.conn)
+    → IsRevision a c.in_ok-kept.kept (map due_of c.as_slice-2.result.now) × (archive.revise a c.args.plan ≡ Ok (with_plan a c.in_ok-kept.kept)))
+judged g c =
+    judged_revision g.S.Store c.args.self.now c.all_records.new.self c.args.plan c.in_ok-kept.kept (map record_of c.in_ok-rows.rows.items)
+    (map due_of c.as_slice-2.result.now) c.in_ok-kept.ensures.judged.0 c.in_ok-kept.ensures.judged.1
+    (ap (map due_of) c.as_slice-2.ensures.value ∙ c.in_ok-dues.ensures.rows
+    ∙ ap (λ l. dues_in c.in_ok-kept.kept (map record_of l)) c.as_slice.ensures.value) c.in_ok-rows.ensures.tells
+
+left : (g : Over) (c : After-place_plan g) → Leaves g.S.Store c.args.self.now c.place_plan.new.self (λ a. archive.revise a c.args.plan)
+left g c = λ (a : Archive) s.
+    leaves_allowed g.S.Store c.args.self.now c.all_records.new.self c.place_plan.new.self (λ (b : Archive). archive.revise b c.args.plan)
+    (λ (b : Archive). IsRevision b c.in_ok-kept.kept (map due_of c.as_slice-2.result.now)) (λ (b : Archive). with_plan b c.in_ok-kept.kept)
+    (judged g c) c.all_records.ensures.crash (c.in_ok-rows.ensures.open a s) c.place_plan.ensures.crash a s
 
 pub returns-clause-obeys : goal.returns-clause-obeys
 returns-clause-obeys g c =
-    let old = c.args.self.now in
-    let mid = c.all_records.new.self in
-    let q = c.in_ok-kept.kept in
-    let ds = map due_of c.as_slice-2.result.now in
-    obeys_allowed g.S.Store old mid c.place_plan.new.self (λ (a : Archive).
-    archive.revise a c.args.plan) (λ (a : Archive). IsRevision a q ds) (λ (a : Archive). with_plan a q)
-    (judged_revision g.S.Store old mid c.args.plan q (map record_of c.in_ok-rows.rows.items) ds
-    c.in_ok-kept.ensures.judged.0 c.in_ok-kept.ensures.judged.1
-    (ap (map due_of) c.as_slice-2.ensures.value ∙ c.in_ok-dues.ensures.rows
-    ∙ ap (λ l. dues_in q (map record_of l)) c.as_slice.ensures.value) c.in_ok-rows.ensures.tells)
-    c.in_ok-place_plan.ensures.ok c.place_plan.ensures.falls
+    obeys_allowed g.S.Store c.args.self.now c.all_records.new.self c.place_plan.new.self (λ (a : Archive). archive.revise a c.args.plan)
+    (λ (a : Archive). IsRevision a c.in_ok-kept.kept (map due_of c.as_slice-2.result.now)) (λ (a : Archive). with_plan a c.in_ok-kept.kept)
+    (judged g (goal.at.returns-clause-obeys g c).After-place_plan) c.in_ok-place_plan.ensures.ok c.place_plan.ensures.falls
 
 pub returns-clause-crash : goal.returns-clause-crash
-returns-clause-crash g c = λ (a : Archive) s.
-    let old = c.args.self.now in
-    let mid = c.all_records.new.self in
-    let q = c.in_ok-kept.kept in
-    let ds = map due_of c.as_slice-2.result.now in
-    leaves_allowed g.S.Store old mid c.place_plan.new.self (λ (b : Archive).
-    archive.revise b c.args.plan) (λ (b : Archive). IsRevision b q ds) (λ (b : Archive). with_plan b q)
-    (judged_revision g.S.Store old mid c.args.plan q (map record_of c.in_ok-rows.rows.items) ds
-    c.in_ok-kept.ensures.judged.0 c.in_ok-kept.ensures.judged.1
-    (ap (map due_of) c.as_slice-2.ensures.value ∙ c.in_ok-dues.ensures.rows
-    ∙ ap (λ l. dues_in q (map record_of l)) c.as_slice.ensures.value) c.in_ok-rows.ensures.tells)
-    c.all_records.ensures.crash (c.in_ok-rows.ensures.open a s) c.place_plan.ensures.crash a s
+returns-clause-crash g c = left g (goal.at.returns-clause-crash g c).After-place_plan
 
 pub returns-in_err-place_plan-clause-crash : goal.returns-in_err-place_plan-clause-crash
-returns-in_err-place_plan-clause-crash g c = λ (a : Archive) s.
-    let old = c.args.self.now in
-    let mid = c.all_records.new.self in
-    let q = c.in_ok-kept.kept in
-    let ds = map due_of c.as_slice-2.result.now in
-    leaves_allowed g.S.Store old mid c.place_plan.new.self (λ (b : Archive).
-    archive.revise b c.args.plan) (λ (b : Archive). IsRevision b q ds) (λ (b : Archive). with_plan b q)
-    (judged_revision g.S.Store old mid c.args.plan q (map record_of c.in_ok-rows.rows.items) ds
-    c.in_ok-kept.ensures.judged.0 c.in_ok-kept.ensures.judged.1
-    (ap (map due_of) c.as_slice-2.ensures.value ∙ c.in_ok-dues.ensures.rows
-    ∙ ap (λ l. dues_in q (map record_of l)) c.as_slice.ensures.value) c.in_ok-rows.ensures.tells)
-    c.all_records.ensures.crash (c.in_ok-rows.ensures.open a s) c.place_plan.ensures.crash a s
+returns-in_err-place_plan-clause-crash g c = left g (goal.at.returns-in_err-place_plan-clause-crash g c).After-place_plan
 
 pub returns-in_err-dues-clause-cause : goal.returns-in_err-dues-clause-cause
 returns-in_err-dues-clause-cause g c =
