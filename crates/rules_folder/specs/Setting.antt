@@ -7,7 +7,6 @@ use Rattle.filing_commands.specs.Office.{set_global, set_script, activate}
 use Rattle.filing_commands.specs.Payloads.{IsOf}
 use Rattle.filing_commands.specs.Standing.{Command, plain}
 use Rattle.filing_commands.specs.declared.fault.DeskFault.{DeskFault}
-use Rattle.filing_commands.specs.declared.payload.Payload.{Payload}
 use Rattle.rules_folder.specs.Faults.{IsFaultOf}
 use Rattle.rules_folder.specs.declared.fault.RulesFault.{RulesFault}
 use Rattle.rules_folder.specs.declared.reading.Rules.{Rules}

@@ -1,6 +1,6 @@
 -- Octets as they are shown, chunk by chunk, and bare names.
 use Rattle.std.proofs.Common.{◌≡◌, ◌∙◌, ℕ, zero, suc, ◌+◌, ◌<◌, ◌≤◌, Bool, true, false, not, List, [], ◌∷◌, ◌++◌, length, take, drop, refl, sym, ap, append_assoc, append-nil, length-append, arith, inl, inr, true≢false}
-use Rattle.std.specs.Prelude.{nat_lt, nat_le, ◌&&◌, ◌||◌, ◌==◌, flat_map, Some}
+use Rattle.std.specs.Prelude.{nat_lt, nat_le, ◌&&◌, ◌||◌, ◌==◌, flat_map}
 use Rattle.std.specs.Char.Escape.{backslash}
 use Rattle.std.specs.List.{list_all}
 use Rattle.std.specs.Str.{chars, IsAscii}
@@ -10,7 +10,7 @@ use Rattle.std.proofs.lemmas.Bool.{and_parts, cases_lt, eq-eqb, ne_eqb, lt-ltb, 
 use Rattle.std.proofs.lemmas.List.{take_at, drop_at}
 use Rattle.std.proofs.lemmas.Str.{utf8_valid_len_le, utf8_valid_len-IsUtf8, IsUtf8-from_ascii, chars-IsAscii, chars-nil}
 use Rattle.unicode_width.specs.Width.{char_width}
-use Rattle.tool_texts.specs.Quoting.{is_hidden, is_attached, needs_number, is_plain, is_quoting, octet_text, shown_of, shown_after, front_text, stray_octets, escaped_within, escaped_text, is_bare_octet, is_bare, quoted_text, named_text}
+use Rattle.tool_texts.specs.Quoting.{is_hidden, is_attached, is_plain, octet_text, shown_of, shown_after, front_text, stray_octets, escaped_within, escaped_text, is_bare_octet, is_bare, quoted_text, named_text}
 use Rattle.tool_texts.proofs.Shown.{printable}
 
 nil_from_length : (xs : List ℕ) → length xs ≡ 0 → xs ≡ []

@@ -1,8 +1,8 @@
 -- No character of a text is hidden.
 use Rattle.std.proofs.Common.{◌≡◌, ◌∙◌, ℕ, zero, suc, Bool, true, false, cond, not, List, [], ◌∷◌, ◌++◌, ◌<◌, ◌/◌, ◌%◌, refl, sym, arith}
-use Rattle.std.specs.Prelude.{nat_lt, nat_le, ◌&&◌, ◌||◌, ◌==◌, flat_map, length}
+use Rattle.std.specs.Prelude.{nat_lt, ◌&&◌, ◌||◌, ◌==◌, flat_map, length}
 use Rattle.std.specs.Char.{digit_char}
-use Rattle.std.specs.Char.Escape.{backslash, hex_digit_at, short_escape}
+use Rattle.std.specs.Char.Escape.{backslash, hex_digit_at}
 use Rattle.std.specs.List.{list_all}
 use Rattle.std.specs.Str.{chars, encode_utf8_all}
 use Rattle.std.specs.Str.Lossy.{utf8_valid_len, after_first_chunk}

@@ -1,4 +1,4 @@
-use Rattle.std.proofs.Common.{drop, string_bytes}
+use Rattle.std.proofs.Common.{drop}
 use Rattle.filing_commands.specs.Calls.{Calls}
 use Rattle.rules_folder.specs.Setting.{globally}
 use Rattle.rules_folder.proofs.Calling.{Goes}
