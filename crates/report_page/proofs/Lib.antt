@@ -2,3 +2,5 @@ pub mod CountLemmas
 pub mod InertLemmas
 pub mod ShownLemmas
 pub mod TallyLemmas
+pub mod DayLemmas
+mod Rows

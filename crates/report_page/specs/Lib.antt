@@ -2,3 +2,4 @@ pub mod Escaping
 pub mod Counting
 pub mod Columns
 pub mod Tallies
+pub mod Days

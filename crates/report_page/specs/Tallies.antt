@@ -1,7 +1,8 @@
 -- The counts of all classes.
 use Rattle.std.specs.Prelude.{◌≡◌, ℕ, List, ◌<◌, if◌then◌else◌, slice_get, slice_set, Some, length, map}
 use Rattle.std.specs.List.{HoldsAt}
-use Rattle.report_page.specs.Counting.{counted, is_dated, one_if}
+use Rattle.class_plan.specs.Plans.{Row}
+use Rattle.report_page.specs.Counting.{counted, is_dated, no_records, one_if}
 use Rattle.report_page.specs.declared.counts.Seen.{Seen}
 use Rattle.report_page.specs.declared.counts.Counts.{Counts}
 use Rattle.report_page.specs.declared.tally.ClassCounts.{ClassCounts}
@@ -13,6 +14,17 @@ HasPathAt path classes i = (i < length classes) × HoldsAt (λ c. c.path.items �
 
 abbrev pub are_dated : Seen → ℕ
 are_dated s = one_if (is_dated s)
+
+-- a class with its counts
+abbrev pub ClassSeen : Type 0
+ClassSeen = List ℕ × Counts
+
+abbrev pub class_seen : ClassCounts → ClassSeen
+class_seen c = (c.path.items, c.counts)
+
+-- a class of a plan, without records
+abbrev pub class_of_none : Row → ClassSeen
+class_of_none row = (row.path, no_records)
 
 abbrev pub counts_of : List ClassCounts → List Counts
 counts_of classes = map (λ c. c.counts) classes

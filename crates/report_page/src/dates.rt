@@ -1,5 +1,7 @@
 //! Due dates, as a report counts them.
 
+ghost use Rattle.report_page.specs.Days.{IsDueDay};
+
 use class_plan::{Date, day_number};
 
 /// A due date, as a report counts it.
@@ -12,8 +14,14 @@ pub struct DueDay {
 }
 
 /// A date as a report counts it. None for one before 1970.
-pub fn due_day(date: Date) -> Option<DueDay> {
-    let day = u32::try_from(day_number(date)).ok()?;
-    let year = u16::try_from(date.year()).ok()?;
+pub fn due_day(date: Date) -> Option<DueDay>
+    ensures { IsDueDay date result }
+{
+    let Ok(day) = u32::try_from(day_number(date)) else {
+        return None;
+    };
+    let Ok(year) = u16::try_from(date.year()) else {
+        return None;
+    };
     Some(DueDay { day, year })
 }

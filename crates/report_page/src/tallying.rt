@@ -1,9 +1,9 @@
 //! How records are counted.
 
-ghost use Rattle.std.specs.Prelude.{◌≡◌, ◌+◌, OnOk, OnErr, IfOk, IfSome};
+ghost use Rattle.std.specs.Prelude.{◌≡◌, ◌+◌, map, OnOk, OnErr, IfOk, IfSome};
 ghost use Rattle.report_page.specs.Counting.{no_records};
-ghost use Rattle.report_page.specs.Columns.{in_years};
-ghost use Rattle.report_page.specs.Tallies.{HasPathAt, CountsOne, are_dated};
+ghost use Rattle.report_page.specs.Columns.{in_years, no_years};
+ghost use Rattle.report_page.specs.Tallies.{HasPathAt, CountsOne, are_dated, class_seen, class_of_none};
 
 use crate::counts::{Counts, Seen};
 use crate::fault::ReportFault;
@@ -26,17 +26,34 @@ fn place_of(classes: &[ClassCounts], path: &[u8]) -> Option<usize>
     }
 }
 
+/// The classes of a plan, in byte order of their paths, without records.
+fn classes_of(alloc: Global, plan: &Plan) -> Result<Vec<ClassCounts>, ReportFault>
+    ensures { IfOk result
+        (λ classes. map class_seen classes.items ≡ map class_of_none plan.now.rows) }
+{
+    let mut classes = Vec::new(alloc);
+    let rows = plan.classes(alloc)?;
+    for row in rows.as_slice() {
+        let path = Vec::from_slice(alloc, row.0)?;
+        let counts = Counts::new();
+        classes.push(ClassCounts { path, counts })?;
+    }
+    Ok(classes)
+}
+
 impl Tally {
-    /// No records in any class of a plan, for a report by a day that is counted from 1970-01-01.
+    /// No records in any class of a plan, for a report by a day that is counted from 1970-01-01. The classes are in byte
+    /// order of their paths.
+    ///
+    /// The only refusal is no memory (99).
     pub fn new(alloc: Global, plan: &Plan, day: u32) -> Result<Tally, ReportFault>
-        ensures { IfOk result (λ t. t.all ≡ no_records) }
+        ensures all { IfOk result (λ t. t.all ≡ no_records) }
+        ensures classes { IfOk result
+            (λ t. map class_seen t.classes.items ≡ map class_of_none plan.now.rows) }
+        ensures years { IfOk result (λ t. t.years.years.items ≡ no_years) }
+        ensures day { IfOk result (λ t. t.day ≡ day) }
     {
-        let mut classes = Vec::new(alloc);
-        for (path, _, _) in plan.classes(alloc)? {
-            let path = Vec::from_slice(alloc, path)?;
-            let counts = Counts::new();
-            classes.push(ClassCounts { path, counts })?;
-        }
+        let classes = classes_of(alloc, plan)?;
         let years = Years::new(alloc)?;
         Ok(Tally {
             day,

@@ -1,7 +1,8 @@
 //! The live records that have a due date, by the years in which they fall due, and the columns of a timeline.
 
-ghost use Rattle.std.specs.Prelude.{◌≡◌, ◌+◌, ◌-◌, ◌^◌, ◌↔◌, OnOk, OnErr, IfOk, IsTrue, min};
-ghost use Rattle.report_page.specs.Columns.{in_year, in_years, in_column, in_columns, with_one, AddsOne};
+ghost use Rattle.std.specs.Prelude.{◌≡◌, ◌+◌, ◌-◌, ◌^◌, ◌≤◌, ◌++◌, OnOk, OnErr, IfOk, length, min};
+ghost use Rattle.std.specs.List.{prefix_len, suffix_len};
+ghost use Rattle.report_page.specs.Columns.{in_years, in_column, in_columns, with_one, AddsOne, first_year, no_years, is_empty_year, breadth_of, span_of, no_column, with_year as column_with_year, if_any, columns_from, columns_of as columns_of_years};
 
 use crate::dates::DueDay;
 use crate::fault::ReportFault;
@@ -12,9 +13,6 @@ const FIRST: u16 = 1970;
 
 /// The years of due dates: 1970 to 9999.
 const YEARS: usize = 8030;
-
-/// The most columns of a timeline.
-const COLUMNS: usize = 40;
 
 /// How many records fall due in a year.
 #[derive(Clone, Copy, Debug)]
@@ -41,7 +39,7 @@ impl Year {
     }
 
     fn is_empty(&self) -> bool
-        ensures { IsTrue result ↔ (in_year self.now ≡ 0) }
+        ensures { result ≡ is_empty_year self.now }
     {
         self.due == 0 && self.later == 0
     }
@@ -63,7 +61,7 @@ pub struct Column {
 impl Column {
     /// No records, and none of the years yet.
     fn new(from: u16) -> Column
-        ensures { in_column result ≡ 0 }
+        ensures { result ≡ no_column from }
     {
         Column {
             from,
@@ -75,7 +73,7 @@ impl Column {
 
     /// A column with one year more.
     fn with_year(self, year: Year) -> Result<Column, ReportFault>
-        ensures { IfOk result (λ c. in_column c ≡ in_column self + in_year year) }
+        ensures { IfOk result (λ c. c ≡ column_with_year self year) }
     {
         Ok(Column {
             from: self.from,
@@ -105,7 +103,8 @@ pub struct Years {
 impl Years {
     /// No records in any year.
     pub fn new(alloc: Global) -> Result<Years, ReportFault>
-        ensures { IfOk result (λ y. in_years y.years.items ≡ 0) }
+        ensures sum { IfOk result (λ y. in_years y.years.items ≡ 0) }
+        ensures none { IfOk result (λ y. y.years.items ≡ no_years) }
     {
         let years = Vec::from_elem(alloc, Year { due: 0, later: 0 }, YEARS)?;
         Ok(Years { years })
@@ -132,7 +131,9 @@ impl Years {
 
     /// The columns of a timeline, each with so many years, without those that have no record.
     fn columns_of(&self, alloc: Global, span: u16) -> Result<Vec<Column>, ReportFault>
-        ensures { IfOk result
+        ensures columns { IfOk result (λ columns. columns.items
+            ≡ columns_from span (no_column first_year) self.now.years.items) }
+        ensures sum { IfOk result
             (λ columns. in_columns columns.items ≡ in_years self.now.years.items) }
     {
         let mut columns = Vec::new(alloc);
@@ -140,8 +141,9 @@ impl Years {
         for year in self.years.as_slice() {
             column = column.with_year(*year)?;
             if column.years >= span {
+                let next = column.from.checked_add(span).ok_or(ReportFault::TooMany)?;
                 push_column(&mut columns, column)?;
-                column = Column::new(column.from.saturating_add(span));
+                column = Column::new(next);
             }
         }
         push_column(&mut columns, column)?;
@@ -149,40 +151,75 @@ impl Years {
     }
 
     /// How many years lie from the first to the last that have a record, these among them.
-    fn breadth(&self) -> usize {
-        let first = self.years.iter().position(|year| !year.is_empty());
-        let last = self.years.iter().rposition(|year| !year.is_empty());
-        match (first, last) {
-            (Some(first), Some(last)) => last.saturating_sub(first).saturating_add(1),
-            _ => 0,
+    fn breadth(&self) -> usize
+        ensures { result ≡ breadth_of self.now.years.items }
+    {
+        let years = self.years.as_slice();
+        let before = empty_before(years);
+        let after = empty_after(years);
+        years.len().saturating_sub(before).saturating_sub(after)
+    }
+
+    /// How many years a column of the timeline has: one, or the least of 2, 5, 10, 20, 50 and 100 that makes the breadth
+    /// less than forty columns, or 250.
+    fn span(&self) -> u16
+        ensures { result ≡ span_of (breadth_of self.now.years.items) }
+    {
+        match self.breadth() {
+            0..=39 => 1,
+            40..=79 => 2,
+            80..=199 => 5,
+            200..=399 => 10,
+            400..=799 => 20,
+            800..=1999 => 50,
+            2000..=3999 => 100,
+            _ => 250,
         }
     }
 
-    /// How many years a column of the timeline has: one, or as many as leave forty columns at the most.
-    fn span(&self) -> u16 {
-        let breadth = self.breadth();
-        for span in [1u16, 2, 5, 10, 20, 50, 100] {
-            if breadth / usize::from(span) < COLUMNS {
-                return span;
-            }
-        }
-        250
-    }
-
-    /// The columns of a timeline, in their order, without those that have no record. They have all records.
+    /// The columns of a timeline, in their order, without those that have no record. They have all records. Each has 1,
+    /// 2, 5, 10, 20, 50, 100 or 250 years, counted from 1970 on; that of 9999 may have fewer.
     ///
     /// A column with more than 2^64 - 1 records is refused. The only other refusal is no memory (99).
     pub fn columns(&self, alloc: Global) -> Result<Vec<Column>, ReportFault>
-        ensures { IfOk result
+        ensures columns { IfOk result
+            (λ columns. columns.items ≡ columns_of_years self.now.years.items) }
+        ensures sum { IfOk result
             (λ columns. in_columns columns.items ≡ in_years self.now.years.items) }
     {
         self.columns_of(alloc, self.span())
     }
 }
 
+/// How many years have no record before the first one that has any; all of them if there is none.
+fn empty_before(years: &[Year]) -> usize
+    ensures value { result ≡ prefix_len is_empty_year years.now }
+    ensures within { result ≤ length years.now }
+{
+    let mut end = 0;
+    while end < years.len() && years[end].is_empty() {
+        end += 1;
+    }
+    end
+}
+
+/// How many years have no record after the last one that has any; all of them if there is none.
+fn empty_after(years: &[Year]) -> usize
+    ensures value { result ≡ suffix_len is_empty_year years.now }
+    ensures within { result ≤ length years.now }
+{
+    let mut start = years.len();
+    while start > 0 && years[start - 1].is_empty() {
+        start -= 1;
+    }
+    years.len() - start
+}
+
 /// Adds a column, unless it has no record.
 fn push_column(columns: &mut Vec<Column>, column: Column) -> Result<(), ReportFault>
-    ensures { OnOk result
+    ensures column { OnOk result
+        (columns.new.items ≡ columns.old.items ++ if_any column) }
+    ensures sum { OnOk result
         (in_columns columns.new.items ≡ in_columns columns.old.items + in_column column) }
 {
     if column.due > 0 || column.later > 0 {

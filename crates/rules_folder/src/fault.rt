@@ -1,5 +1,7 @@
 //! Why an officer has no rules.
 
+ghost use Rattle.rules_folder.specs.Faults.{IsRefusedBy};
+
 use std::alloc::{AllocError, AllocFailed, Global};
 use std::{fmt, io};
 use tool_texts::{Place, refusal_text};
@@ -44,12 +46,9 @@ impl RulesFault {
     }
 
     /// The fault of a script that is refused.
-    pub(crate) fn refused(
-        alloc: Global,
-        path: &str,
-        place: Option<Place>,
-        number: u8,
-    ) -> RulesFault {
+    pub(crate) fn refused(alloc: Global, path: &str, place: Option<Place>, number: u8) -> RulesFault
+        ensures { IsRefusedBy path.now number result }
+    {
         match String::from_str(alloc, path) {
             Ok(path) => RulesFault::Refused {
                 path,

@@ -1,5 +1,10 @@
 //! Scripts of a folder as the rules of a registry.
 
+ghost use Rattle.std.specs.Prelude.{OnOk, IfErr, string_bytes};
+ghost use Rattle.filing_commands.specs.Calls.{Calls};
+ghost use Rattle.rules_folder.specs.Faults.{IsFaultOf};
+ghost use Rattle.rules_folder.specs.Setting.{globally, by_officer, SetsAll, StopsAmong, SetsRules, StopsSetting};
+
 use crate::fault::RulesFault;
 use crate::reading::{Rules, Script};
 use filing_commands::{DeskFault, Payload, Registry};
@@ -19,7 +24,9 @@ fn place_in(alloc: Global, script: &Script) -> Result<Option<Place>, AllocError>
 }
 
 /// The fault of a script that a registry refuses.
-fn refused(alloc: Global, script: &Script, fault: DeskFault) -> RulesFault {
+fn refused(alloc: Global, script: &Script, fault: DeskFault) -> RulesFault
+    ensures { IsFaultOf (string_bytes script.now.path) fault result }
+{
     if let DeskFault::NoMemory = fault {
         return RulesFault::NoMemory;
     }
@@ -32,7 +39,13 @@ fn refused(alloc: Global, script: &Script, fault: DeskFault) -> RulesFault {
 }
 
 /// Sets the global scripts.
-fn set_globals<D: Registry>(alloc: Global, desk: &mut D, rules: &Rules) -> Result<(), RulesFault> {
+fn set_globals<D: Registry>(alloc: Global, desk: &mut D, rules: &Rules) -> Result<(), RulesFault>
+    ensures set { OnOk result (SetsAll (Calls D.clean D.stands D.may_leave D.keeps) globally
+        rules.now.globals.items desk.old desk.new) }
+    ensures stopped { IfErr result
+        (λ fault. StopsAmong (Calls D.clean D.stands D.may_leave D.keeps) globally
+        rules.now.globals.items fault desk.old desk.new) }
+{
     for script in &rules.globals {
         if let Err(fault) = desk.set_global(script.name.as_bytes(), &script.text) {
             return Err(refused(alloc, script, fault));
@@ -42,7 +55,14 @@ fn set_globals<D: Registry>(alloc: Global, desk: &mut D, rules: &Rules) -> Resul
 }
 
 /// Sets the officer's own scripts.
-fn set_scripts<D: Registry>(alloc: Global, desk: &mut D, rules: &Rules) -> Result<(), RulesFault> {
+fn set_scripts<D: Registry>(alloc: Global, desk: &mut D, rules: &Rules) -> Result<(), RulesFault>
+    ensures set { OnOk result (SetsAll (Calls D.clean D.stands D.may_leave D.keeps)
+        (by_officer (string_bytes rules.now.officer)) rules.now.scripts.items desk.old desk.new) }
+    ensures stopped { IfErr result
+        (λ fault. StopsAmong (Calls D.clean D.stands D.may_leave D.keeps)
+        (by_officer (string_bytes rules.now.officer)) rules.now.scripts.items fault
+        desk.old desk.new) }
+{
     for script in &rules.scripts {
         let name = script.name.as_bytes();
         if let Err(fault) = desk.set_script(rules.officer.as_bytes(), name, &script.text) {
@@ -52,13 +72,16 @@ fn set_scripts<D: Registry>(alloc: Global, desk: &mut D, rules: &Rules) -> Resul
     Ok(())
 }
 
-/// Sets the scripts of rules in a registry, and `main` as the officer's program. At the first script that is refused it
-/// stops, and the officer has no program of these.
-pub fn set_rules<D: Registry>(
-    alloc: Global,
-    desk: &mut D,
-    rules: &Rules,
-) -> Result<(), RulesFault> {
+/// Sets the scripts of rules in a registry: the global ones, then the officer's own, each under its name and in their
+/// order, and then `main` as the officer's program. At the first of these calls that is refused it stops, with the path of
+/// the script, or with the officer's name for `main`, and the number of the refusal.
+pub fn set_rules<D: Registry>(alloc: Global, desk: &mut D, rules: &Rules) -> Result<(), RulesFault>
+    ensures set { OnOk result (SetsRules (Calls D.clean D.stands D.may_leave D.keeps) rules.now
+        desk.old desk.new) }
+    ensures stopped { IfErr result
+        (λ fault. StopsSetting (Calls D.clean D.stands D.may_leave D.keeps) rules.now fault
+        desk.old desk.new) }
+{
     set_globals(alloc, desk, rules)?;
     set_scripts(alloc, desk, rules)?;
     match desk.activate(rules.officer.as_bytes(), b"main") {

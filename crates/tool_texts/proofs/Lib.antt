@@ -3,4 +3,7 @@ pub mod Joins
 pub mod Lengths
 pub mod Zips
 pub mod Typed
+pub mod Pushes
 pub mod Shown
+pub mod Escapes
+mod Rows

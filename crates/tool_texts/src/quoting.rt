@@ -4,8 +4,10 @@
 //! is a control character or no UTF-8 is `\x` and two digits, and a character that shows nothing or turns the direction
 //! of a text is `\u{..}` with its number. All else is shown as it is.
 
-ghost use Rattle.std.specs.Prelude.{◌≡◌, false, string_bytes, IfOk, OnOk};
-ghost use Rattle.tool_texts.specs.Quoting.{is_from as is_from_code, is_control as is_control_code, is_mark as is_mark_code, is_formless as is_formless_code, is_tag as is_tag_code, is_hidden as is_hidden_code, IsShown};
+ghost use Rattle.std.specs.Prelude.{◌≡◌, ◌++◌, false, flat_map, string_bytes, IfOk, OnOk};
+ghost use Rattle.std.specs.List.{list_all};
+ghost use Rattle.std.specs.Str.{chars, encode_utf8_all};
+ghost use Rattle.tool_texts.specs.Quoting.{is_from as is_from_code, is_control as is_control_code, is_mark as is_mark_code, is_formless as is_formless_code, is_tag as is_tag_code, is_hidden as is_hidden_code, is_attached as is_attached_code, needs_number as needs_number_code, is_quoting as is_quoting_code, is_plain as is_plain_code, is_bare_octet, is_bare as is_bare_octets, octet_text, scalar_text, number_text, shown_of, shown_after, escaped_text, quoted_text, named_text, IsShown};
 
 use std::alloc::{AllocError, Global};
 use unicode_width::UnicodeWidthChar;
@@ -52,148 +54,117 @@ fn is_hidden(code: u32) -> bool
 }
 
 /// Whether a character takes no column, so that it changes the look of the one before it.
-fn is_attached(c: char) -> bool {
-    c.width() == Some(0)
+#[tactic(auto, unfolding(crate::specs::Quoting::is_attached))]
+fn is_attached(c: char) -> bool
+    ensures { result ≡ is_attached_code c }
+{
+    match c.width() {
+        Some(width) => width == 0,
+        None => false,
+    }
 }
 
-/// Adds a character that is shown as it is.
-fn push_shown(text: &mut String, c: char) -> Result<(), AllocError>
-    requires visible { is_hidden_code c ≡ false }
-    requires shown { IsShown (string_bytes text.old) }
-    ensures { OnOk result (IsShown (string_bytes text.new)) }
+/// Whether a character is shown by its number: a hidden one, and one without a column after none that is plain.
+fn needs_number(c: char, after_plain: bool) -> bool
+    ensures { result ≡ needs_number_code after_plain c }
 {
-    text.push(c)?;
+    is_hidden(u32::from(c)) || (is_attached(c) && !after_plain)
+}
+
+/// Whether a character comes after a backslash: a quotation mark, or a backslash.
+fn is_quoting(c: char) -> bool
+    ensures { result ≡ is_quoting_code c }
+{
+    c == '"' || c == '\\'
+}
+
+/// Whether a character is shown as it is.
+fn is_plain(c: char, after_plain: bool) -> bool
+    ensures { result ≡ is_plain_code after_plain c }
+{
+    !needs_number(c, after_plain) && !is_quoting(c)
+}
+
+/// Adds an octet as `\t`, `\r`, `\n`, or the two digits after `\x`.
+fn push_octet(text: &mut String, octet: u8) -> Result<(), AllocError>
+    ensures { OnOk result
+        (string_bytes text.new ≡ string_bytes text.old ++ encode_utf8_all (octet_text octet)) }
+{
+    for shown in octet.escape_ascii() {
+        text.push(char::from(shown))?;
+    }
     Ok(())
 }
 
-/// The hexadecimal digit of the lowest four bits of a number.
-fn digit(number: u32) -> char
-    ensures { is_hidden_code result ≡ false }
+/// Adds the number of a character, as `\u{202e}`.
+fn push_scalar(text: &mut String, c: char) -> Result<(), AllocError>
+    ensures { OnOk result
+        (string_bytes text.new ≡ string_bytes text.old ++ encode_utf8_all (scalar_text c)) }
 {
-    match number & 0xf {
-        0 => '0',
-        1 => '1',
-        2 => '2',
-        3 => '3',
-        4 => '4',
-        5 => '5',
-        6 => '6',
-        7 => '7',
-        8 => '8',
-        9 => '9',
-        10 => 'a',
-        11 => 'b',
-        12 => 'c',
-        13 => 'd',
-        14 => 'e',
-        _ => 'f',
+    for shown in c.escape_unicode() {
+        text.push(shown)?;
     }
-}
-
-/// Adds the two hexadecimal digits of an octet, after `\x`.
-fn push_octet(text: &mut String, octet: u32) -> Result<(), AllocError>
-    requires { IsShown (string_bytes text.old) }
-    ensures { OnOk result (IsShown (string_bytes text.new)) }
-{
-    push_shown(text, '\\')?;
-    push_shown(text, 'x')?;
-    push_shown(text, digit(octet >> 4))?;
-    push_shown(text, digit(octet))
-}
-
-/// Adds the hexadecimal digit at a place of a number, unless it is a zero with none but zeros before it.
-fn push_leading(text: &mut String, number: u32) -> Result<(), AllocError>
-    requires { IsShown (string_bytes text.old) }
-    ensures { OnOk result (IsShown (string_bytes text.new)) }
-{
-    if number == 0 {
-        return Ok(());
-    }
-    push_shown(text, digit(number))
-}
-
-/// Adds the hexadecimal digits of the number of a character, from the first one that is no zero.
-fn push_digits(text: &mut String, number: u32) -> Result<(), AllocError>
-    requires { IsShown (string_bytes text.old) }
-    ensures { OnOk result (IsShown (string_bytes text.new)) }
-{
-    push_leading(text, number >> 20)?;
-    push_leading(text, number >> 16)?;
-    push_leading(text, number >> 12)?;
-    push_leading(text, number >> 8)?;
-    push_leading(text, number >> 4)?;
-    push_shown(text, digit(number))
+    Ok(())
 }
 
 /// Adds the number of a character that is not shown.
 fn push_number(text: &mut String, c: char) -> Result<(), AllocError>
-    requires { IsShown (string_bytes text.old) }
-    ensures { OnOk result (IsShown (string_bytes text.new)) }
+    ensures { OnOk result
+        (string_bytes text.new ≡ string_bytes text.old ++ encode_utf8_all (number_text c)) }
 {
     let number = u32::from(c);
-    if number < 0x80 && c != '\t' && c != '\r' && c != '\n' {
-        return push_octet(text, number);
-    }
-    push_shown(text, '\\')?;
-    match c {
-        '\t' => push_shown(text, 't'),
-        '\r' => push_shown(text, 'r'),
-        '\n' => push_shown(text, 'n'),
-        _ => {
-            push_shown(text, 'u')?;
-            push_shown(text, '{')?;
-            push_digits(text, number)?;
-            push_shown(text, '}')
-        }
+    if number < 0x80 {
+        push_octet(text, number as u8)
+    } else {
+        push_scalar(text, c)
     }
 }
 
-/// Adds a character, which is not shown as it is where it is hidden, or takes no column and comes after none that is
-/// plain. Answers whether it is plain: shown without a backslash.
-fn push_character(text: &mut String, c: char, is_plain: bool) -> Result<bool, AllocError>
-    requires { IsShown (string_bytes text.old) }
-    ensures { OnOk result (IsShown (string_bytes text.new)) }
+/// Adds a character after one that is plain, or after none: by its number, after a backslash, or plain, which is as it
+/// is.
+#[tactic(auto, unfolding(crate::specs::Quoting::shown_of), using(crate::proofs::Pushes::pushed_two))]
+fn push_shown(text: &mut String, c: char, after_plain: bool) -> Result<(), AllocError>
+    ensures { OnOk result (string_bytes text.new
+        ≡ string_bytes text.old ++ encode_utf8_all (shown_of after_plain c)) }
 {
-    if is_hidden(u32::from(c)) || (is_attached(c) && !is_plain) {
-        push_number(text, c)?;
-        return Ok(false);
+    if needs_number(c, after_plain) {
+        return push_number(text, c);
     }
-    if c == '"' || c == '\\' {
-        push_shown(text, '\\')?;
-        push_shown(text, c)?;
-        return Ok(false);
+    if is_quoting(c) {
+        text.push('\\')?;
+        return text.push(c);
     }
-    push_shown(text, c)?;
-    Ok(true)
+    text.push(c)
 }
 
-/// Adds characters. A character without a column is shown only after one that is shown as it is.
+/// Adds characters. A character without a column is shown only after one that is plain.
 fn push_characters(text: &mut String, shown: &str) -> Result<(), AllocError>
-    requires { IsShown (string_bytes text.old) }
-    ensures { OnOk result (IsShown (string_bytes text.new)) }
+    ensures { OnOk result (string_bytes text.new
+        ≡ string_bytes text.old ++ encode_utf8_all (shown_after false (chars shown.now))) }
 {
-    let mut is_plain = false;
+    let mut after_plain = false;
     for c in shown.chars() {
-        is_plain = push_character(text, c, is_plain)?;
+        push_shown(text, c, after_plain)?;
+        after_plain = is_plain(c, after_plain);
     }
     Ok(())
 }
 
 /// Adds octets that are no UTF-8.
 fn push_octets(text: &mut String, octets: &[u8]) -> Result<(), AllocError>
-    requires { IsShown (string_bytes text.old) }
-    ensures { OnOk result (IsShown (string_bytes text.new)) }
+    ensures { OnOk result (string_bytes text.new
+        ≡ string_bytes text.old ++ encode_utf8_all (flat_map octet_text octets.now)) }
 {
     for octet in octets {
-        push_octet(text, u32::from(*octet))?;
+        push_octet(text, *octet)?;
     }
     Ok(())
 }
 
 /// Adds octets as they are shown between quotation marks.
 fn push_escaped(text: &mut String, octets: &[u8]) -> Result<(), AllocError>
-    requires { IsShown (string_bytes text.old) }
-    ensures { OnOk result (IsShown (string_bytes text.new)) }
+    ensures { OnOk result (string_bytes text.new
+        ≡ string_bytes text.old ++ encode_utf8_all (escaped_text octets.now)) }
 {
     for chunk in octets.utf8_chunks() {
         push_characters(text, chunk.valid())?;
@@ -202,35 +173,57 @@ fn push_escaped(text: &mut String, octets: &[u8]) -> Result<(), AllocError>
     Ok(())
 }
 
-/// Octets as they are shown between quotation marks, without these. No character of the text is hidden.
+/// Octets as they are shown between quotation marks, without these. No character of the text is hidden. The only error is
+/// out of memory.
 pub fn escaped(alloc: Global, octets: &[u8]) -> Result<String, AllocError>
-    ensures { IfOk result (λ t. IsShown (string_bytes t)) }
+    ensures exact { IfOk result
+        (λ t. string_bytes t ≡ encode_utf8_all (escaped_text octets.now)) }
+    ensures shown { IfOk result (λ t. IsShown (string_bytes t)) }
 {
     let mut text = String::new(alloc);
     push_escaped(&mut text, octets)?;
     Ok(text)
 }
 
-/// Octets in quotation marks. No character of the text is hidden.
+/// Octets in quotation marks. No character of the text is hidden. The only error is out of memory.
 pub fn quoted(alloc: Global, octets: &[u8]) -> Result<String, AllocError>
-    ensures { IfOk result (λ t. IsShown (string_bytes t)) }
+    ensures exact { IfOk result
+        (λ t. string_bytes t ≡ encode_utf8_all (quoted_text octets.now)) }
+    ensures shown { IfOk result (λ t. IsShown (string_bytes t)) }
 {
     let mut text = String::new(alloc);
-    push_shown(&mut text, '"')?;
+    text.push('"')?;
     push_escaped(&mut text, octets)?;
-    push_shown(&mut text, '"')?;
+    text.push('"')?;
     Ok(text)
+}
+
+/// Whether all octets are visible ASCII, and no quotation marks or backslashes.
+fn are_bare(octets: &[u8]) -> bool
+    ensures { result ≡ list_all is_bare_octet octets.now }
+{
+    octets.iter().all(|octet| octet.is_ascii_graphic() && *octet != b'"' && *octet != b'\\')
+}
+
+/// Whether a name is shown without quotation marks.
+fn is_bare(name: &[u8]) -> bool
+    ensures { result ≡ is_bare_octets name.now }
+{
+    match name {
+        [] => false,
+        _ => are_bare(name),
+    }
 }
 
 /// A name as it is, where it consists of visible ASCII without quotation marks and backslashes; otherwise in quotation
-/// marks. No character of the text is hidden.
+/// marks. No character of the text is hidden. The only error is out of memory.
 pub fn named(alloc: Global, name: &[u8]) -> Result<String, AllocError>
-    ensures { IfOk result (λ t. IsShown (string_bytes t)) }
+    ensures exact { IfOk result (λ t. string_bytes t ≡ encode_utf8_all (named_text name.now)) }
+    ensures shown { IfOk result (λ t. IsShown (string_bytes t)) }
 {
-    let is_plain = !name.is_empty()
-        && name.iter().all(|octet| octet.is_ascii_graphic() && *octet != b'"' && *octet != b'\\');
-    if is_plain {
-        return escaped(alloc, name);
+    if is_bare(name) {
+        escaped(alloc, name)
+    } else {
+        quoted(alloc, name)
     }
-    quoted(alloc, name)
 }

@@ -1,6 +1,11 @@
-use Rattle.std.proofs.Common.{string_bytes}
-use Rattle.tool_texts.specs.Quoting.{IsShown}
+use Rattle.std.proofs.Common.{◌≡◌, ◌++◌, false, string_bytes}
+use Rattle.std.specs.Str.{encode_utf8_all}
+use Rattle.tool_texts.specs.Quoting.{shown_after}
+use Rattle.tool_texts.proofs.Pushes.{plain_after}
 use Rattle.tool_texts.proofs.quoting.push_characters.Given as goal
 
 abbrev pub invariant-loop-c : goal.invariant-loop-c
-invariant-loop-c l = IsShown (string_bytes l.text)
+invariant-loop-c l = record {
+  same : string_bytes l.text ≡ string_bytes l.initial.text ++ encode_utf8_all (shown_after false l.yielded);
+  plain : l.after_plain ≡ plain_after false l.yielded;
+}

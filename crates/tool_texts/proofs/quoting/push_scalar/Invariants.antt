@@ -1,0 +1,12 @@
+use Rattle.std.proofs.Common.{◌≡◌, ◌≤◌, ◌++◌, string_bytes}
+use Rattle.std.specs.Char.Escape.{escape_unicode}
+use Rattle.std.specs.Char.Iter.{escape_rest, escape_end}
+use Rattle.std.specs.Str.{encode_utf8_all}
+use Rattle.tool_texts.proofs.quoting.push_scalar.Given as goal
+
+abbrev pub invariant-loop-shown : goal.invariant-loop-shown
+invariant-loop-shown l = record {
+  same : string_bytes l.text ++ encode_utf8_all (escape_rest l.shown-iterator)
+      ≡ string_bytes l.initial.text ++ encode_utf8_all (escape_unicode l.fn.c);
+  fits : escape_end l.shown-iterator ≤ 10;
+}
