@@ -84,12 +84,7 @@ fn maildir_failure(rt: &HostRuntime, maildir: &str, error: io::Error) -> Failure
 }
 
 /// Whether a message can be taken over; where it cannot, that is reported.
-fn is_for_us(
-    rt: &HostRuntime,
-    maildir: &str,
-    name: &str,
-    path: &str,
-) -> Result<bool, Failure> {
+fn is_for_us(rt: &HostRuntime, maildir: &str, name: &str, path: &str) -> Result<bool, Failure> {
     match (is_message(rt, path), is_in_cur(rt, maildir, name)) {
         (Ok(true), Ok(false)) => return Ok(true),
         (Ok(false), _) => name_one(rt, name, &"not a regular file"),
