@@ -22,8 +22,8 @@ IsTold (Ok u) session old written s new = IsServed Step session s old written ne
 IsTold (Err Read) session old written s new = IsAnswered Step session s old written new
 IsTold (Err Write) session old written s new = IsCut Step session s old written new
 
--- Commands were done, one after the other, and this is the state after them. Where the source tells its octets, they
--- are those of the session, or after a fault the first of them; where the sink tells its octets, their answers were
+-- Commands were done, one after the other, and this is the state after them. Where the source knows its octets, they
+-- are those of the session, or after a fault the first of them; where the sink knows its octets, their answers were
 -- written.
 abbrev pub IsDone : (hears says : Type 0) → Result (Unit {0}) ServeFault → (left old written : List ℕ) → Standing →
     Standing → Type 0

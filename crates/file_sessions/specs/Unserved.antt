@@ -37,7 +37,7 @@ StoresAt image a = (trees : Trees) × TreesStore trees a × HoldsDatabase image 
 abbrev pub FindsStill : Archive → Image → Type 0
 FindsStill a image = ∥ (FindsAt image a ⊎ StoresAt image a) ∥₁
 
--- What an open that failed does not tell of the files that it leaves: that it took their pages to end in sums where they
+-- What an open that failed does not say of the files that it leaves: that it took their pages to end in sums where they
 -- do, and that the trees of a store that it had made are numbered.
 abbrev pub IsWellOpened : {D : Type 0} {g : Ghosts D} → Image → Leftover D g → Type 0
 IsWellOpened image (left.Files now) = Unit {0}

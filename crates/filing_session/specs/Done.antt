@@ -1,4 +1,4 @@
--- What a session has done, whatever its streams tell of their octets.
+-- What a session has done, whatever its streams know of their octets.
 use Rattle.std.specs.Prelude.{◌≡◌, ◌≤◌, ◌⊎◌, ℕ, List, [], ◌∷◌, ◌++◌, length, take, Result, Ok, Err}
 use Rattle.filing_commands.specs.Answers.{Answer}
 use Rattle.filing_commands.specs.Standing.{Command}

@@ -8,7 +8,7 @@ use Rattle.filing_session.specs.declared.items.Reaction.{Reaction}
 use Rattle.filing_session.specs.declared.stream.ReadFault.{ReadFault}
 use Rattle.filing_session.specs.declared.items.Reaction.TheVariants as reaction
 
--- An item is executed with this answer, and an ending changes nothing. Where the source tells its octets, they begin
+-- An item is executed with this answer, and an ending changes nothing. Where the source knows its octets, they begin
 -- with this item or ending, and it leaves the rest of them.
 abbrev pub Answers : {D : Type 0} (tells : Type 0) → (D → Command → Answer → D → Type 0) → D → InputStart → Reaction → D →
     (left : List ℕ) → Type 0

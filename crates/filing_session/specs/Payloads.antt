@@ -18,7 +18,7 @@ IsSized size limit p octets = (length octets ≡ size) × IsOf limit p octets ×
 abbrev pub Takes : (size : ℕ) → (octets old new : List ℕ) → Type 0
 Takes size octets old new = (size ≤ length old) × (octets ≡ take size old) × (new ≡ drop size old)
 
--- A payload is of octets, or the input ends before. Where the source tells its octets, they are the first of its input.
+-- A payload is of octets, or the input ends before. Where the source knows its octets, they are the first of its input.
 abbrev pub IsRead : (tells : Type 0) → (size limit : ℕ) → Option Payload → (old new : List ℕ) → Type 0
 IsRead tells size limit (Some p) old new =
     (octets : List ℕ) × IsSized size limit p octets × (tells → Takes size octets old new)

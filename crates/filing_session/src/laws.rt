@@ -41,8 +41,8 @@ pub fn sessions_refine_states<R: Registry>()
     ensures crash { RunsLeave R.clean R.stands R.may_leave R.keeps }
 {}
 
-/// The program's streams tell their octets over memory: the source over a slice, and the sink over a vector. So what
-/// `serve` says where its streams tell, it says of the program's own buffers.
+/// The program's streams know their octets over memory: the source over a slice, and the sink over a vector. So what
+/// `serve` says where its streams know theirs, it says of the program's own buffers.
 pub fn streams_over_memory_tell()
     ensures source { ⟦<Input<&'static [u8]> as Source>⟧.tells }
     ensures sink { ⟦<Output<Vec<u8>> as Sink>⟧.tells }

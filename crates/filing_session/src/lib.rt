@@ -11,7 +11,7 @@
 //! - `memory`: a source and a sink for tests;
 //! - `session`: `serve`, whose contract relates the octets written to the octets read and to what the registry has
 //!   done;
-//! - `laws`: the same in terms of the states that the registry represents, and that the program's streams tell their
+//! - `laws`: the same in terms of the states that the registry represents, and that the program's streams know their
 //!   octets over memory.
 //!
 //! The module `Session` of `specs/` defines the commands of an input, the runs of a registry or of the states that it

@@ -195,7 +195,7 @@ impl Reached {
 }
 
 /// Writes a warning for each include that comes back to a script that is still running, among the scripts that a good
-/// script can reach. A circle that was told already, from any of its scripts, is not told again.
+/// script can reach. A circle that was reported already, from any of its scripts, is not reported again.
 pub fn warn_of_circles(
     rt: &HostRuntime,
     path: &str,

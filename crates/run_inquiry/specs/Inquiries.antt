@@ -70,7 +70,7 @@ sums_asked q = script_sum q.scripts.now.main ∷ (map script_sum q.scripts.now.o
 abbrev pub sum_in : Digest → Sum
 sum_in d = (string_bytes d.path, string_bytes d.sha256)
 
--- a report tells the outcome of an inquiry, and shows what it is about
+-- a report has the outcome of an inquiry, and shows what it is about
 pub record IsReportOn (q : Inquiry) (r : Report) : Type 0 where
   pub outcome : r.outcome.now ≡ outcome_asked q
   pub case : facts_of r.case.now ≡ facts_asked q

@@ -192,7 +192,7 @@ fn destroy<S: Alter>(
     }
 }
 
-/// Writes a certificate. Where that fails no more is destroyed, and it is told to a person instead.
+/// Writes a certificate. Where that fails, it goes to standard error instead, and no more is destroyed.
 fn write_certificate(rt: &HostRuntime, text: &str) -> Result<(), Failure> {
     match write_text(rt, text) {
         Ok(()) => Ok(()),

@@ -99,7 +99,7 @@ fn write_changes(rt: &HostRuntime, changes: &Changes) -> Result<(), Failure> {
     write_text(rt, text.as_str())
 }
 
-/// Replaces the plan of an archive, once it was told what that changes and someone agrees.
+/// Replaces the plan of an archive, once it was printed what that changes, and someone agrees.
 fn replace<S: Alter>(
     rt: &HostRuntime,
     archive: &mut Store<S>,

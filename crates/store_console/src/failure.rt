@@ -1,4 +1,4 @@
-//! Why something is not done, and the status by which that is told.
+//! Why something is not done, and the status that says so.
 
 use record_store::{Cause, StoreFault};
 use std::alloc::{AllocError, AllocFailed, Global};

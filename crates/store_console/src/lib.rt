@@ -1,6 +1,6 @@
 //! What the subcommands of `mailfile-store` share: how they report, and how they work on an archive.
 //!
-//! - `failure`: why something is not done, and the status by which that is told;
+//! - `failure`: why something is not done, and the status that says so;
 //! - `output`: what is written for people and programs;
 //! - `clock`: the time, and days as they are typed;
 //! - `tasks`: what is done with an archive, wherever that is kept, and a walk over its records.

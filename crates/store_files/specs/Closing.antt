@@ -44,7 +44,7 @@ IsLeftOpen (Logged why) = Unit {0}
 IsLeftOpen Shut = ⊥
 IsLeftOpen Cut = ⊥
 
--- A fault of the disk is told of an open connection only where the disk has failed once more. For lack of memory no cause
+-- A fault of the disk is reported of an open connection only where the disk has failed once more. For lack of memory no cause
 -- is known.
 abbrev pub HasCause : {D : Type 0} (g : Ghosts D) → (before : ℕ) → Files D → Closing → Type 0
 HasCause g before files Copied = Unit {0}

@@ -102,8 +102,8 @@ pub fn lay_archive<S: Alter>(
 }
 
 /// Ends a store, and gives its files back. They keep the archive that the store represents: the database file alone where
-/// its log could be copied, and otherwise the two files together. A fault that shut the store before is told (`Shut`);
-/// the files then hold one of the databases that a crash at that moment may leave. `Shut` and `Cut` are told of an open
+/// its log could be copied, and otherwise the two files together. A fault that shut the store before is reported (`Shut`);
+/// the files then hold one of the databases that a crash at that moment may leave. `Shut` and `Cut` are reported of an open
 /// store only where the disk fails.
 pub fn close_store<D: Disk + Drop>(store: Store<FileStore<D>>) -> (Files<D>, Closing)
     ensures clean { AreClean D.Disk result.0.log result.0.db
