@@ -44,7 +44,8 @@ one_less i h = omega arith
 pub none_left : (i : ℕ) → 1000000 ≤ i → 1000000 - i ≡ 0
 none_left i h = omega arith
 
-session_next : (i : ℕ) (left : List ℕ) → i < 1000000 → session_of (1000000 - i) left ≡ go_on (start_of left) (λ rest. session_of (1000000 - (i + 1)) rest)
+session_next : (i : ℕ) (left : List ℕ) → i < 1000000
+    → session_of (1000000 - i) left ≡ go_on (start_of left) (λ rest. session_of (1000000 - (i + 1)) rest)
 session_next i left h = ap (λ n. session_of n left) (one_less i h) ∙ session_more (1000000 - (i + 1)) left
 
 pub limit_ends : (i : ℕ) (left : List ℕ) → 1000000 ≤ i → IsOver i left Limit
@@ -159,7 +160,8 @@ module _ {D : Type 0} {Does : D → Command → Answer → D → Type 0} {S K : 
     answers = h.answers ++ r ∷ [];
     run = run_more Does s₀ s s' h.items h.answers item r h.run step;
     few = omega (arith, length-append h.items (item ∷ []), h.few, few);
-    heard = hears_first Write (1000000 - (count + 1)) all (h.items ++ item ∷ []) rest (λ t. rest_more count all h.items left item rest few (h.heard t) (hears t));
+    heard = hears_first Write (1000000 - (count + 1)) all (h.items ++ item ∷ []) rest
+        (λ t. rest_more count all h.items left item rest few (h.heard t) (hears t));
     said = λ k. inl (h.answers, r, refl, part_said _ w (reply_octets r) w' (h.said k) (written_fault wrote w (reply_octets r) w' (says k) failed));
   }
 

@@ -148,7 +148,8 @@ same_number m n = grind (arith, ints)
 same_hold : (name : List ℕ) (n : ℕ) (h : HoldRow) → tables.is_hold name n h ≡ is_hold name n (hold_of h)
 same_hold name n h = λ i. is_eq-slice_cmp h.name name i && same_number h.number n i
 
-pub any-map : {X Y : Type 0} (p : Y → Bool) (q : X → Bool) (f : X → Y) → ((x : X) → q x ≡ p (f x)) → (xs : List X) → list_any q xs ≡ list_any p (map f xs)
+pub any-map : {X Y : Type 0} (p : Y → Bool) (q : X → Bool) (f : X → Y) → ((x : X) → q x ≡ p (f x))
+    → (xs : List X) → list_any q xs ≡ list_any p (map f xs)
 any-map p q f same [] = refl
 any-map p q f same (x ∷ xs) = λ i. same x i || any-map p q f same xs i
 

@@ -1,5 +1,6 @@
 -- Octets as they are shown, chunk by chunk, and bare names.
-use Rattle.std.proofs.Common.{◌≡◌, ◌∙◌, ℕ, zero, suc, ◌+◌, ◌<◌, ◌≤◌, Bool, true, false, not, List, [], ◌∷◌, ◌++◌, length, take, drop, refl, sym, ap, append_assoc, append-nil, length-append, arith, inl, inr, true≢false}
+use Rattle.std.proofs.Common.{◌≡◌, ◌∙◌, ℕ, zero, suc, ◌+◌, ◌<◌, ◌≤◌, Bool, true, false, not, List, [], ◌∷◌}
+use Rattle.std.proofs.Common.{◌++◌, length, take, drop, refl, sym, ap, append_assoc, append-nil, length-append, arith, inl, inr, true≢false}
 use Rattle.std.specs.Prelude.{nat_lt, nat_le, ◌&&◌, ◌||◌, ◌==◌, flat_map}
 use Rattle.std.specs.Char.Escape.{backslash}
 use Rattle.std.specs.List.{list_all}
@@ -10,7 +11,8 @@ use Rattle.std.proofs.lemmas.Bool.{and_parts, cases_lt, eq-eqb, ne_eqb, lt-ltb, 
 use Rattle.std.proofs.lemmas.List.{take_at, drop_at}
 use Rattle.std.proofs.lemmas.Str.{utf8_valid_len_le, utf8_valid_len-IsUtf8, IsUtf8-from_ascii, chars-IsAscii, chars-nil}
 use Rattle.unicode_width.specs.Width.{char_width}
-use Rattle.tool_texts.specs.Quoting.{is_hidden, is_attached, is_plain, octet_text, shown_of, shown_after, front_text, stray_octets, escaped_within, escaped_text, is_bare_octet, is_bare, quoted_text, named_text}
+use Rattle.tool_texts.specs.Quoting.{is_hidden, is_attached, is_plain, octet_text, shown_of, shown_after, front_text, stray_octets}
+use Rattle.tool_texts.specs.Quoting.{escaped_within, escaped_text, is_bare_octet, is_bare, quoted_text, named_text}
 use Rattle.tool_texts.proofs.Shown.{printable}
 
 nil_from_length : (xs : List ℕ) → length xs ≡ 0 → xs ≡ []
@@ -37,7 +39,8 @@ within_any (suc k) (suc j) bs p q =
           let faulty : ¬ (utf8_valid_len bs ≡ length bs) = omega arith in
           let less = length-after_first_chunk bs faulty in
           within_faulty k bs faulty
-          ∙ ap (λ (t : List ℕ). front_text bs ++ (flat_map octet_text (stray_octets bs) ++ t)) (within_any k j (after_first_chunk bs) (omega arith) (omega arith))
+          ∙ ap (λ (t : List ℕ). front_text bs ++ (flat_map octet_text (stray_octets bs) ++ t))
+          (within_any k j (after_first_chunk bs) (omega arith) (omega arith))
           ∙ sym (within_faulty j bs faulty)
       | inr whole ↦ within_whole (suc k) bs (omega arith) ∙ sym (within_whole (suc j) bs (omega arith))
     ]

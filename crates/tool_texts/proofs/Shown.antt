@@ -8,7 +8,8 @@ use Rattle.std.specs.Str.{chars, encode_utf8_all}
 use Rattle.std.specs.Str.Lossy.{utf8_valid_len, after_first_chunk}
 use Rattle.std.proofs.lemmas.Bool.{agree_below_at, or_parts, ltb-true}
 use Rattle.std.proofs.lemmas.List.Folds.{list_all-append}
-use Rattle.tool_texts.specs.Quoting.{is_hidden, is_attached, is_plain, IsShown, needs_number, is_quoting, octet_text, scalar_text, number_text, shown_of, shown_after, front_text, stray_octets, escaped_within, escaped_text, quoted_text}
+use Rattle.tool_texts.specs.Quoting.{is_hidden, is_attached, is_plain, IsShown, needs_number, is_quoting, octet_text, scalar_text, number_text}
+use Rattle.tool_texts.specs.Quoting.{shown_of, shown_after, front_text, stray_octets, escaped_within, escaped_text, quoted_text}
 
 abbrev pub AreShown : List ℕ → Type 0
 AreShown cs = list_all (λ c. not (is_hidden c)) cs ≡ true
@@ -71,7 +72,8 @@ octet_shown octet =
     let one : List ℕ = hex_digit_at 1 octet ∷ [] in
     let two : List ℕ = hex_digit_at 0x10 octet ∷ one in
     let digits : List ℕ = backslash ∷ 120 ∷ two in
-    let are : AreShown digits = shown_cons (hex_digit_at 0x10 octet) one (digit_shown 0x10 octet) (shown_cons (hex_digit_at 1 octet) [] (digit_shown 1 octet) refl) in
+    let are : AreShown digits = shown_cons (hex_digit_at 0x10 octet) one (digit_shown 0x10 octet)
+    (shown_cons (hex_digit_at 1 octet) [] (digit_shown 1 octet) refl) in
     letter_shown (octet == 9) (octet == 13) (octet == 10) (octet == 39) (octet == 34) (octet == backslash)
     (cond (nat_lt octet 32) digits (cond (nat_lt octet 127) (octet ∷ []) digits))
     (printed (nat_lt octet 32) (nat_lt octet 127) octet digits (λ e. printable octet (ltb-true octet 127 e)) are)

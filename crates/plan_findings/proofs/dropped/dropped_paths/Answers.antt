@@ -12,5 +12,6 @@ returns c =
     ∙ paths_answered c.in_ok-classes.field-0.items
     ∙ ap paths_of c.in_ok-classes.ensures in
     c.loop-path.invariant
-    ∙ ap (λ xs. filter (λ p. not (has c.args.new.now.rows p)) (map (λ r. r.0.now) xs)) (take_all c.loop-path.path-index items (omega (arith, c.loop-path-test.false)))
+    ∙ ap (λ xs. filter (λ p. not (has c.args.new.now.rows p)) (map (λ r. r.0.now) xs))
+    (take_all c.loop-path.path-index items (omega (arith, c.loop-path-test.false)))
     ∙ ap (filter (λ p. not (has c.args.new.now.rows p))) paths
