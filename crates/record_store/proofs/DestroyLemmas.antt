@@ -240,11 +240,12 @@ all_passed Q P p (x ∷ xs) h all = go (p x) refl (all_passed Q P p xs h all.1)
     go true e more = (h x all.0 e, more)
     go false e more = more
 
-abbrev less : ℕ → List Message → List Message
-less m ms = delete_where (λ (x : Message). x.number == m) ms
+-- the messages but the one of this number
+abbrev messages_but : ℕ → List Message → List Message
+messages_but m ms = delete_where (λ (x : Message). x.number == m) ms
 
 -- a message stays where another one is removed
-still_there : (k m : ℕ) → (k == m) ≡ false → (ms : List Message) → has_message ms k ≡ true → has_message (less m ms) k ≡ true
+still_there : (k m : ℕ) → (k == m) ≡ false → (ms : List Message) → has_message ms k ≡ true → has_message (messages_but m ms) k ≡ true
 still_there k m apart [] h = absurd (true≢false (sym h))
 still_there k m apart (x ∷ ms) h = go (x.number == m) (x.number == k) refl refl h (still_there k m apart ms)
   where
@@ -256,12 +257,12 @@ still_there k m apart (x ∷ ms) h = go (x.number == m) (x.number == k) refl ref
         true≢false (sym same ∙ apart)
 
     go : (b c : Bool) → (x.number == m) ≡ b → (x.number == k) ≡ c → (c || has_message ms k) ≡ true
-        → (has_message ms k ≡ true → has_message (less m ms) k ≡ true)
-        → has_message (cond (not b) (x ∷ less m ms) (less m ms)) k ≡ true
+        → (has_message ms k ≡ true → has_message (messages_but m ms) k ≡ true)
+        → has_message (cond (not b) (x ∷ messages_but m ms) (messages_but m ms)) k ≡ true
     go true true one two h more = absurd (clash one two)
     go true false one two h more = more h
-    go false true one two h more = ap (λ c. c || has_message (less m ms) k) two
-    go false false one two h more = ap (λ c. c || has_message (less m ms) k) two ∙ more h
+    go false true one two h more = ap (λ c. c || has_message (messages_but m ms) k) two
+    go false false one two h more = ap (λ c. c || has_message (messages_but m ms) k) two ∙ more h
 
 module _ (a : Archive) (r : Record) (is : IsArchive a) (free : IsFree a r.number r) where
   only : Only r.number r a.records
@@ -288,14 +289,14 @@ module _ (a : Archive) (r : Record) (is : IsArchive a) (free : IsFree a r.number
   abbrev WasNamed : Message → Type 0
   WasNamed m = is_named a.records m.number ≡ true
 
-  named_messages : (b : Bool) → is_shared a r ≡ b → AllByRecursion IsNamed (cond b a.messages (less r.message a.messages))
+  named_messages : (b : Bool) → is_shared a r ≡ b → AllByRecursion IsNamed (cond b a.messages (messages_but r.message a.messages))
   named_messages true e =
       all_weaker WasNamed IsNamed (λ m h. still_named m.number h (λ _. e)) a.messages (recursion_from_All _ a.messages is.named)
   named_messages false e =
       all_passed WasNamed IsNamed (λ (m : Message). not (m.number == r.message)) a.messages
       (λ m h other. still_named m.number h (λ own. absurd (true≢false (sym other ∙ ap not own)))) (recursion_from_All _ a.messages is.named)
 
-  rising_messages : (b : Bool) → IsAscending (λ (x y : Message). x.number < y.number) (cond b a.messages (less r.message a.messages))
+  rising_messages : (b : Bool) → IsAscending (λ (x y : Message). x.number < y.number) (cond b a.messages (messages_but r.message a.messages))
   rising_messages true = is.messages
   rising_messages false = ascending-filter (λ (x y : Message). x.number < y.number) (λ (m : Message).
       not (m.number == r.message)) a.messages is.messages
@@ -310,7 +311,7 @@ module _ (a : Archive) (r : Record) (is : IsArchive a) (free : IsFree a r.number
           sym (and_true (x.message == r.message)) ∙ sym (ap (λ b. (x.message == r.message) && not b) apart)
           ∙ sym (ap (λ d. not d && ((x.message == r.message) && not (x.number == r.number))) live) ∙ none
 
-      go : (b : Bool) → is_shared a r ≡ b → has_message (cond b a.messages (less r.message a.messages)) x.message ≡ true
+      go : (b : Bool) → is_shared a r ≡ b → has_message (cond b a.messages (messages_but r.message a.messages)) x.message ≡ true
       go true e = h.stored live
       go false e = still_there x.message r.message (its_own (alone e)) a.messages (h.stored live)
 
@@ -376,26 +377,28 @@ module _ (a : Archive) (r : Record) (is : IsArchive a) (free : IsFree a r.number
 
 -- ---- the tables
 
-abbrev but : ℕ → List Due → List Due
-but n ds = delete_where (λ (d : Due). int_eq (pos d.number) (pos n)) ds
+-- the due days but those of the record of this number
+abbrev dues_but : ℕ → List Due → List Due
+dues_but n ds = delete_where (λ (d : Due). int_eq (pos d.number) (pos n)) ds
 
+-- the due days of records, by the archive's plan
 abbrev dues_of : Archive → List Record → List Due
 dues_of a rs = map (due_row a) (filter (has_due a) rs)
 
-dues_without : (a : Archive) (n : ℕ) (rs : List Record) → but n (dues_of a rs) ≡ dues_of a (gone n rs)
+dues_without : (a : Archive) (n : ℕ) (rs : List Record) → dues_but n (dues_of a rs) ≡ dues_of a (gone n rs)
 dues_without a n [] = refl
 dues_without a n (x ∷ rs) = go (has_due a x) (x.number == n) refl refl (dues_without a n rs)
   where
     first : (b : Bool) → (x.number == n) ≡ b
-        → but n (due_row a x ∷ dues_of a rs) ≡ cond (not b) (due_row a x ∷ but n (dues_of a rs)) (but n (dues_of a rs))
-    first b same = ap (λ c. cond (not c) (due_row a x ∷ but n (dues_of a rs)) (but n (dues_of a rs))) (same_number x.number n ∙ same)
+        → dues_but n (due_row a x ∷ dues_of a rs) ≡ cond (not b) (due_row a x ∷ dues_but n (dues_of a rs)) (dues_but n (dues_of a rs))
+    first b same = ap (λ c. cond (not c) (due_row a x ∷ dues_but n (dues_of a rs)) (dues_but n (dues_of a rs))) (same_number x.number n ∙ same)
 
     kept : (h : Bool) → has_due a x ≡ h → map (due_row a) (cond h (x ∷ filter (has_due a) (gone n rs)) (filter (has_due a) (gone n rs)))
         ≡ dues_of a (x ∷ gone n rs)
     kept h is = sym (ap (λ c. map (due_row a) (cond c (x ∷ filter (has_due a) (gone n rs)) (filter (has_due a) (gone n rs)))) is)
 
-    go : (h b : Bool) → has_due a x ≡ h → (x.number == n) ≡ b → but n (dues_of a rs) ≡ dues_of a (gone n rs)
-        → but n (map (due_row a) (cond h (x ∷ filter (has_due a) rs) (filter (has_due a) rs))) ≡ dues_of a (gone_if b x ∷ gone n rs)
+    go : (h b : Bool) → has_due a x ≡ h → (x.number == n) ≡ b → dues_but n (dues_of a rs) ≡ dues_of a (gone n rs)
+        → dues_but n (map (due_row a) (cond h (x ∷ filter (has_due a) rs) (filter (has_due a) rs))) ≡ dues_of a (gone_if b x ∷ gone n rs)
     go true true is same more = first true same ∙ more
     go false true is same more = more
     go true false is same more = first false same ∙ ap (λ l. due_row a x ∷ l) more ∙ kept true is
@@ -410,7 +413,7 @@ records_without : (n : ℕ) (rs : List Record) → update_where (λ (r : Record)
 records_without n [] = refl
 records_without n (x ∷ rs) = λ i. gone_if (same_number x.number n i) x ∷ records_without n rs i
 
-messages_less : (m : ℕ) (ms : List Message) → delete_where (λ (x : Message). int_eq (pos x.number) (pos m)) ms ≡ less m ms
+messages_less : (m : ℕ) (ms : List Message) → delete_where (λ (x : Message). int_eq (pos x.number) (pos m)) ms ≡ messages_but m ms
 messages_less m ms = filter_same (λ (x : Message). not (int_eq (pos x.number) (pos m))) (λ (x : Message).
     not (x.number == m)) (λ x. ap not (same_number x.number m)) ms
 
@@ -433,18 +436,18 @@ stores_marked a r was db s ms same made = record {
     classes = s.keeps.classes;
     schedules = s.keeps.schedules;
   };
-  dues = ap (but r.number) s.dues ∙ dues_without a r.number a.records;
+  dues = ap (dues_but r.number) s.dues ∙ dues_without a r.number a.records;
 }
 
 pub stores_destroyed : (a : Archive) (r : Record) (last : Option ℕ) → Goes a r last → (was db : Database)
     → StoresArchive was a → IsDestruction r.number last was db → StoresArchive db (without a r)
 stores_destroyed a r None goes was db s turns =
     stores_marked a r was db s s.tables.messages
-    (s.keeps.messages ∙ sym (ap (λ b. cond b a.messages (less r.message a.messages)) goes)) (turns.stored s.tables s.stored s.keyed tt)
+    (s.keeps.messages ∙ sym (ap (λ b. cond b a.messages (messages_but r.message a.messages)) goes)) (turns.stored s.tables s.stored s.keyed tt)
 stores_destroyed a r (Some m) goes was db s turns =
     stores_marked a r was db s (delete_where (λ (x : Message). int_eq (pos x.number) (pos m)) s.tables.messages)
     (ap (delete_where (λ (x : Message). int_eq (pos x.number) (pos m))) s.keeps.messages ∙ messages_less m a.messages
-    ∙ ap (λ k. less k a.messages) goes.0 ∙ sym (ap (λ b. cond b a.messages (less r.message a.messages)) goes.1))
+    ∙ ap (λ k. messages_but k a.messages) goes.0 ∙ sym (ap (λ b. cond b a.messages (messages_but r.message a.messages)) goes.1))
     (turns.stored s.tables s.stored s.keyed tt)
 
 -- ---- the judge
