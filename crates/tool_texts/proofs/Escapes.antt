@@ -37,7 +37,8 @@ within_any (suc k) (suc j) bs p q =
           let faulty : ¬ (utf8_valid_len bs ≡ length bs) = omega arith in
           let less = length-after_first_chunk bs faulty in
           within_faulty k bs faulty
-          ∙ ap (λ (t : List ℕ). front_text bs ++ (flat_map octet_text (stray_octets bs) ++ t)) (within_any k j (after_first_chunk bs) (omega arith) (omega arith))
+          ∙ ap (λ (t : List ℕ). front_text bs ++ (flat_map octet_text (stray_octets bs) ++ t))
+          (within_any k j (after_first_chunk bs) (omega arith) (omega arith))
           ∙ sym (within_faulty j bs faulty)
       | inr whole ↦ within_whole (suc k) bs (omega arith) ∙ sym (within_whole (suc j) bs (omega arith))
     ]
