@@ -1,6 +1,6 @@
--- The names of the commands and tests in a list.
-use Rattle.std.specs.Prelude.{ℕ, List, map}
-use Rattle.sieve_syntax.specs.Tree.{TestTree, test, CommandTree, command}
+-- The commands and tests in a list.
+use Rattle.std.specs.Prelude.{ℕ, ◌+◌, List, [], ◌∷◌, ◌++◌, length, map}
+use Rattle.sieve_syntax.specs.Tree.{TestTree, test, InnerTests, no_tests, one_test, listed_tests, TestRow, last_test, next_test, CommandTree, command, EndingTree, semicolon, block, CommandTrees, no_commands, command_then}
 use Rattle.sieve_syntax.specs.View.{test_of, command_of}
 use Rattle.run_report.specs.declared.nodes.Thing.{Thing}
 use Rattle.run_report.specs.declared.nodes.Thing.TheVariants as things
@@ -18,3 +18,57 @@ thing_name (things.Test t) = test_name (test_of t.now)
 
 abbrev pub node_names : List Node → List (List ℕ)
 node_names ns = map (λ (n : Node). thing_name n.thing) ns
+
+-- a command or a test of a tree
+pub data Part : Type 0 where
+  command_part : CommandTree → Part
+  test_part : TestTree → Part
+
+abbrev pub part_of : Thing → Part
+part_of (things.Command c) = command_part (command_of c.now)
+part_of (things.Test t) = test_part (test_of t.now)
+
+-- a part, and the number of the first one after those that are inside it
+abbrev pub Entry : Type 0
+Entry = Part × ℕ
+
+abbrev pub node_entry : Node → Entry
+node_entry n = (part_of n.thing, n.end)
+
+abbrev pub node_entries : List Node → List Entry
+node_entries ns = map node_entry ns
+
+-- a part that has this number, and those that are inside it
+abbrev pub with_inside : Part → (number : ℕ) → (inside : List Entry) → List Entry
+with_inside part number inside = (part, number + 1 + length inside) ∷ inside
+
+-- the first entries, from this number on, and those that follow them
+abbrev pub followed_by : (number : ℕ) → (first : List Entry) → (ℕ → List Entry) → List Entry
+followed_by number first next = first ++ next (number + length first)
+
+-- the entries of a tree of which the first one has this number: a command, then its tests, then its block
+abbrev mutual
+  pub test_entries : TestTree → ℕ → List Entry
+  test_entries (test name args inner) n = with_inside (test_part (test name args inner)) n (inner_entries inner (n + 1))
+
+  pub inner_entries : InnerTests → ℕ → List Entry
+  inner_entries no_tests n = []
+  inner_entries (one_test t) n = test_entries t n
+  inner_entries (listed_tests t row) n = followed_by n (test_entries t n) (row_entries row)
+
+  pub row_entries : TestRow → ℕ → List Entry
+  row_entries last_test n = []
+  row_entries (next_test t row) n = followed_by n (test_entries t n) (row_entries row)
+
+abbrev mutual
+  pub command_entries : CommandTree → ℕ → List Entry
+  command_entries (command name args inner finish) n = with_inside (command_part (command name args inner finish)) n
+      (followed_by (n + 1) (inner_entries inner (n + 1)) (ending_entries finish))
+
+  pub ending_entries : EndingTree → ℕ → List Entry
+  ending_entries semicolon n = []
+  ending_entries (block cs) n = commands_entries cs n
+
+  pub commands_entries : CommandTrees → ℕ → List Entry
+  commands_entries no_commands n = []
+  commands_entries (command_then c cs) n = followed_by n (command_entries c n) (commands_entries cs)

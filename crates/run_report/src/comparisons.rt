@@ -1,6 +1,7 @@
 //! What a test looked at.
 
-ghost use Rattle.std.specs.Prelude.{◌≡◌, ◌&&◌, true, IfOk, IfSome, position};
+ghost use Rattle.std.specs.Prelude.{◌≡◌, ◌&&◌, true, option_map, IfOk, IfSome, position};
+ghost use Rattle.std.specs.List.{find};
 ghost use Rattle.sieve_syntax.specs.Arguments.{strings_of};
 ghost use Rattle.sieve_meaning.specs.Matching.{key_matches as matches};
 ghost use Rattle.plain_evaluator.specs.Case.{has_some_name, has_some_match};
@@ -45,14 +46,16 @@ pub fn deciding_field(
         && has_listed_key(field, keys, how, comparator))
 }
 
-/// A key that a value matches, the first one; none where it matches no key.
+/// The first key that a value matches; none where it matches no key.
 pub fn deciding_key<'k>(
     value: &[u8],
     keys: &'k StringList,
     how: MatchType,
     comparator: Comparator,
 ) -> Option<&'k [u8]>
-    ensures { IfSome result (λ k. matches how comparator k.now value.now ≡ true) }
+    ensures first { option_map (λ k. k.now) result
+        ≡ find (λ key. matches how comparator key value.now) (strings_of keys.now) }
+    ensures matched { IfSome result (λ k. matches how comparator k.now value.now ≡ true) }
 {
     let first = keys.first().as_slice();
     if key_matches(how, first, value, comparator) {

@@ -11,8 +11,9 @@ ghost use Rattle.sqlite.specs.WalFiles.{image_at};
 ghost use Rattle.sqlite.specs.Files.{file_state, over_files};
 ghost use Rattle.record_tables.specs.Tables.{IsFree};
 ghost use Rattle.record_archive.specs.Archive.{Archive, empty_archive};
+ghost use Rattle.record_store.specs.Layouts.{HasArchiveTables};
 ghost use Rattle.record_store.specs.Stores.{StandsFor};
-ghost use Rattle.store_files.specs.Files.{FindsAt, KeepsNew, KeepsTogether, system_file};
+ghost use Rattle.store_files.specs.Files.{FindsAt, HoldsTables, KeepsNew, KeepsTogether, system_file};
 
 use crate::closing::leave;
 use crate::fault::NoStore;
@@ -25,14 +26,16 @@ use sqlite_disk::Disk;
 use std::alloc::Global;
 
 /// The store in the file at a path, which must be there and hold an archive. While the disk returns what was written to
-/// it, the store represents the archive that the files held.
+/// it, the store represents the archive that the files held, and what they held are an archive's tables.
 pub fn open_archive<S: Start>(
     rt: &HostRuntime,
     path: &str,
     start: S,
 ) -> Result<Store<FileStore<FileFrom<S>>>, NoStore>
-    ensures { IfOk result (λ s. HasCleanDisk (file_state s.conn) → (a : Archive)
+    ensures stands { IfOk result (λ s. HasCleanDisk (file_state s.conn) → (a : Archive)
         → FindsAt (image_at S.Start) a → StandsFor over_files s a) }
+    ensures layout { IfOk result (λ s. HasCleanDisk (file_state s.conn)
+        → HoldsTables HasArchiveTables (image_at S.Start)) }
 {
     look_at(rt, path)?;
     open_store(rt, path, start)

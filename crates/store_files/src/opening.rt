@@ -7,8 +7,7 @@ ghost use Rattle.sqlite.specs.WalReads.{AreClean};
 ghost use Rattle.sqlite.specs.WalFiles.{image_at, outcomes};
 ghost use Rattle.sqlite.specs.Recovery.{Image};
 ghost use Rattle.sqlite.specs.Files.{file_state, over_files};
-ghost use Rattle.record_tables.specs.Tables.{IsFree};
-ghost use Rattle.record_archive.specs.Archive.{Archive, empty_archive};
+ghost use Rattle.record_archive.specs.Archive.{Archive};
 ghost use Rattle.record_adoption.specs.Adoption.{Finds};
 ghost use Rattle.record_store.specs.Layouts.{HasArchiveTables};
 ghost use Rattle.record_store.specs.Stores.{StandsFor};
@@ -18,7 +17,6 @@ ghost use Rattle.store_files.specs.Files.{FindsAt, HoldsTables, KeepsFiles};
 use crate::closing::{Closing, close, leave};
 use crate::fault::NoStore;
 use crate::places::has_log;
-use class_plan::Plan;
 use record_store::Store;
 use record_tables::layout::{Layout, layout_of};
 use sqlite::{Alter, Connection, FileFrom, FileStore, Files, Start};
@@ -74,30 +72,6 @@ pub fn open_store<S: Start>(
             let _files = leave(conn);
             Err(fault)
         }
-    }
-}
-
-/// A new archive with a plan, in a database that has none of its tables.
-///
-/// Refused where the database refuses, or for lack of memory. The connection is then handed back, perhaps with the tables
-/// of an archive of another plan.
-pub fn lay_archive<S: Alter>(
-    alloc: Global,
-    conn: Connection<S>,
-    plan: Plan,
-) -> Result<Store<S>, (NoStore, Connection<S>)>
-    requires { conn.in_transaction ≡ false }
-    ensures { IfOk result (λ s. HasCleanDisk (state S.Store s.conn)
-        → IsFree (state S.Store conn).now.schema
-        → StandsFor S.Store s (record empty_archive { plan = plan })) }
-{
-    let mut store = match Store::create(alloc, conn) {
-        Ok(store) => store,
-        Err((fault, conn)) => return Err((NoStore::from(fault), conn)),
-    };
-    match store.revise(plan) {
-        Ok(()) => Ok(store),
-        Err(fault) => Err((NoStore::from(fault), store.into_connection())),
     }
 }
 

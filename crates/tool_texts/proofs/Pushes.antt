@@ -49,9 +49,9 @@ pushed_all t all rest none before = sym (append-nil t) ∙ ap (λ (r : List ℕ)
 pub pushed_one : (t0 t1 : List ℕ) (c : ℕ) → t1 ≡ t0 ++ encode_utf8 c → t1 ≡ t0 ++ encode_utf8_all (c ∷ [])
 pushed_one t0 t1 c push = push ∙ ap (λ (t : List ℕ). t0 ++ t) (sym (append-nil (encode_utf8 c)))
 
-pub pushed_two : (t0 t1 t2 : List ℕ) (c d : ℕ) → t1 ≡ t0 ++ encode_utf8 c → t2 ≡ t1 ++ encode_utf8 d
+pub push_two : (t0 t1 t2 : List ℕ) (c d : ℕ) → t1 ≡ t0 ++ encode_utf8 c → t2 ≡ t1 ++ encode_utf8 d
     → t2 ≡ t0 ++ encode_utf8_all (c ∷ d ∷ [])
-pushed_two t0 t1 t2 c d one two =
+push_two t0 t1 t2 c d one two =
     pushed_one t1 t2 d two ∙ ap (λ (t : List ℕ). t ++ encode_utf8_all (d ∷ [])) one
     ∙ append_assoc t0 (encode_utf8 c) (encode_utf8_all (d ∷ []))
 

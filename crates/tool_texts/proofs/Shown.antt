@@ -72,8 +72,8 @@ octet_shown octet =
     let one : List ℕ = hex_digit_at 1 octet ∷ [] in
     let two : List ℕ = hex_digit_at 0x10 octet ∷ one in
     let digits : List ℕ = backslash ∷ 120 ∷ two in
-    let are : AreShown digits = shown_cons (hex_digit_at 0x10 octet) one (digit_shown 0x10 octet)
-    (shown_cons (hex_digit_at 1 octet) [] (digit_shown 1 octet) refl) in
+    let last : AreShown one = shown_cons (hex_digit_at 1 octet) [] (digit_shown 1 octet) refl in
+    let are : AreShown digits = shown_cons (hex_digit_at 0x10 octet) one (digit_shown 0x10 octet) last in
     letter_shown (octet == 9) (octet == 13) (octet == 10) (octet == 39) (octet == 34) (octet == backslash)
     (cond (nat_lt octet 32) digits (cond (nat_lt octet 127) (octet ∷ []) digits))
     (printed (nat_lt octet 32) (nat_lt octet 127) octet digits (λ e. printable octet (ltb-true octet 127 e)) are)

@@ -122,7 +122,7 @@ fn push_number(text: &mut String, c: char) -> Result<(), AllocError>
 
 /// Adds a character after one that is plain, or after none: by its number, after a backslash, or plain, which is as it
 /// is.
-#[tactic(auto, unfolding(crate::specs::Quoting::shown_of), using(crate::proofs::Pushes::pushed_two))]
+#[tactic(auto, unfolding(crate::specs::Quoting::shown_of), using(crate::proofs::Pushes::push_two))]
 fn push_shown(text: &mut String, c: char, after_plain: bool) -> Result<(), AllocError>
     ensures { OnOk result (string_bytes text.new
         ≡ string_bytes text.old ++ encode_utf8_all (shown_of after_plain c)) }

@@ -6,4 +6,5 @@ use Rattle.rules_folder.proofs.setting.set_scripts.Given as goal
 
 abbrev pub invariant-loop-script : goal.invariant-loop-script
 invariant-loop-script g l = Goes (Calls g.D.Registry.clean g.D.Registry.stands g.D.Registry.may_leave g.D.Registry.keeps)
-    (by_officer (string_bytes l.rules.officer)) l.rules.scripts.items (drop l.script-index l.script-items) l.initial.desk l.desk
+    (by_officer (string_bytes l.rules.officer))
+    l.rules.scripts.items (drop l.script-index l.script-items) l.initial.desk l.desk
