@@ -14,7 +14,8 @@ use Rattle.run_report.specs.declared.nodes.Node.{Node}
 use Rattle.run_report.specs.declared.nodes.Thing.{Thing}
 use Rattle.run_report.specs.declared.nodes.Thing.TheVariants as things
 use Rattle.run_report.specs.Nodes.{test_name, command_name, thing_name, node_names, Part, command_part, test_part, part_of, Entry, node_entry}
-use Rattle.run_report.specs.Nodes.{node_entries, with_inside, followed_by, test_entries, inner_entries, row_entries, command_entries, ending_entries, commands_entries}
+use Rattle.run_report.specs.Nodes.{node_entries, with_inside, followed_by, test_entries}
+use Rattle.run_report.specs.Nodes.{inner_entries, row_entries, command_entries, ending_entries, commands_entries}
 
 -- ---- the end of a node
 
