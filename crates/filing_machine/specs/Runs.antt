@@ -10,12 +10,12 @@ use Rattle.sieve_meaning.specs.Outcome.{outcome_at}
 use Rattle.filing_table.specs.Machine.{State, Run, At, after_steps}
 use Rattle.filing_machine.specs.declared.state.Progress.{Progress}
 use Rattle.filing_machine.specs.declared.state.Progress.TheVariants.{Ended}
-use Rattle.filing_machine.specs.declared.state.Standing.{Standing}
+use Rattle.filing_machine.specs.declared.state.RunState.{RunState}
 use Rattle.filing_machine.specs.StateViews.{state, run_at, InCase, IsModest}
 
 -- what a machine keeps: its state, how far its run has come, and the number of its steps so far
 pub record Snapshot : Type 0 where
-  pub at : Standing
+  pub at : RunState
   pub progress : Progress
   pub steps : ℕ
 

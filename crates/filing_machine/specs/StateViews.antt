@@ -8,7 +8,7 @@ use Rattle.filing_machine.specs.declared.state.Item.{Item}
 use Rattle.filing_machine.specs.declared.state.Item.TheVariants.{Truth, Fields, Count}
 use Rattle.filing_machine.specs.declared.state.Progress.{Progress}
 use Rattle.filing_machine.specs.declared.state.Progress.TheVariants.{Going, Ended}
-use Rattle.filing_machine.specs.declared.state.Standing.{Standing}
+use Rattle.filing_machine.specs.declared.state.RunState.{RunState}
 use Rattle.filing_case.specs.Fields.{field_at}
 
 -- an item of the stack as an entry: a list of fields becomes the list of their values
@@ -17,7 +17,7 @@ entry c (Truth b) = T b
 entry c (Fields places) = L (map (λ place. (field_at c place).value) places)
 entry c (Count n) = N n
 
-abbrev pub state : Facts → Standing → State
+abbrev pub state : Facts → RunState → State
 state c s = record {
   place = s.place;
   stack = map (entry c) s.stack;

@@ -11,7 +11,7 @@ ghost use Rattle.filing_machine.specs.Items.{HasTwo, IsBare};
 ghost use Rattle.filing_machine.specs.declared.state.Progress.TheVariants.{Going, Ended};
 
 use crate::fields::{any_matches, fields_named, has_field};
-use crate::state::{Item, Progress, Standing};
+use crate::state::{Item, Progress, RunState};
 use filing_case::Case;
 use filing_image::{Image, Operation};
 use sieve_meaning::RunFault;
@@ -24,7 +24,7 @@ pub fn act<C: Case>(
     operation: Operation,
     image: &Image,
     case: &C,
-    at: &mut Standing,
+    at: &mut RunState,
 ) -> Result<Progress, AllocError>
     requires place { at.old.place + 1 < 2 ^ 16 }
     requires sound { act image.now (C.facts case.now) operation (state (C.facts case.now) at.old)
@@ -96,7 +96,7 @@ fn fail(number: u8) -> Progress
 }
 
 /// Goes on to the next place.
-fn go_on(at: &mut Standing) -> Result<Progress, AllocError>
+fn go_on(at: &mut RunState) -> Result<Progress, AllocError>
     requires { at.old.place < 2 ^ 62 }
     ensures to { result ≡ Ok Going }
     ensures at { at.new ≡ record at.old { place = at.old.place + 1 } }
@@ -106,7 +106,7 @@ fn go_on(at: &mut Standing) -> Result<Progress, AllocError>
 }
 
 /// Jumps to a place where this holds, and else goes on to the next one.
-fn jump_if(holds: bool, place: u16, at: &mut Standing) -> Result<Progress, AllocError>
+fn jump_if(holds: bool, place: u16, at: &mut RunState) -> Result<Progress, AllocError>
     requires { at.old.place < 2 ^ 62 }
     ensures to { result ≡ Ok Going }
     ensures at { at.new ≡ record at.old { place = (if holds then place else at.old.place + 1) } }
@@ -119,7 +119,7 @@ fn jump_if(holds: bool, place: u16, at: &mut Standing) -> Result<Progress, Alloc
 }
 
 /// Pushes an item and goes on to the next place.
-fn push_on(item: Item, at: &mut Standing) -> Result<Progress, AllocError>
+fn push_on(item: Item, at: &mut RunState) -> Result<Progress, AllocError>
     requires place { at.old.place < 2 ^ 62 }
     requires room { length at.old.stack < 32 }
     ensures to { result ≡ Ok Going }
@@ -130,7 +130,7 @@ fn push_on(item: Item, at: &mut Standing) -> Result<Progress, AllocError>
 }
 
 /// Enters the procedure with this first place, to return to the next place.
-fn enter(first: u16, at: &mut Standing) -> Result<Progress, AllocError>
+fn enter(first: u16, at: &mut RunState) -> Result<Progress, AllocError>
     requires place { at.old.place + 1 < 2 ^ 16 }
     requires bare { IsBare at.old.stack }
     requires room { length at.old.calls < 256 }
@@ -145,7 +145,7 @@ fn enter(first: u16, at: &mut Standing) -> Result<Progress, AllocError>
 }
 
 /// Returns from the last call; ends the run where there is none.
-fn go_back(at: &mut Standing) -> Result<Progress, AllocError>
+fn go_back(at: &mut RunState) -> Result<Progress, AllocError>
     requires bare { IsBare at.old.stack }
     ensures ok { IsOk result }
     ensures bare { at.old.stack ≡ [] }
@@ -163,7 +163,7 @@ fn go_back(at: &mut Standing) -> Result<Progress, AllocError>
 }
 
 /// Sets a slot.
-fn mark(slot: u16, at: &mut Standing) -> Result<Progress, AllocError>
+fn mark(slot: u16, at: &mut RunState) -> Result<Progress, AllocError>
     requires place { at.old.place < 2 ^ 62 }
     requires slot { slot < 64 }
     ensures to { result ≡ Ok Going }
@@ -175,7 +175,7 @@ fn mark(slot: u16, at: &mut Standing) -> Result<Progress, AllocError>
 }
 
 /// Sets the kept flag.
-fn keep(at: &mut Standing) -> Result<Progress, AllocError>
+fn keep(at: &mut RunState) -> Result<Progress, AllocError>
     requires { at.old.place < 2 ^ 62 }
     ensures to { result ≡ Ok Going }
     ensures at { at.new ≡ record at.old { place = at.old.place + 1; kept = true } }
@@ -185,7 +185,7 @@ fn keep(at: &mut Standing) -> Result<Progress, AllocError>
 }
 
 /// Cancels the implicit keep.
-fn discard(at: &mut Standing) -> Result<Progress, AllocError>
+fn discard(at: &mut RunState) -> Result<Progress, AllocError>
     requires { at.old.place < 2 ^ 62 }
     ensures to { result ≡ Ok Going }
     ensures at { at.new ≡ record at.old { place = at.old.place + 1; cancelled = true } }
@@ -201,7 +201,7 @@ fn file<C: Case>(
     case: &C,
     how: u8,
     path: &[u8],
-    at: &mut Standing,
+    at: &mut RunState,
 ) -> Result<Progress, AllocError>
     requires { at.old.place < 2 ^ 62 }
     ensures does { IfOk result
@@ -221,7 +221,7 @@ fn file<C: Case>(
 }
 
 /// Replaces the two lists on the top by one, in which the list pushed first comes first.
-fn join<C: Case>(case: &C, at: &mut Standing) -> Result<Progress, AllocError>
+fn join<C: Case>(case: &C, at: &mut RunState) -> Result<Progress, AllocError>
     requires place { at.old.place < 2 ^ 62 }
     requires two { HasTwo at.old.stack }
     requires in_case { AllByRecursion (InCase (C.facts case.now)) at.old.stack }

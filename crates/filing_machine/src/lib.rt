@@ -15,7 +15,7 @@ mod stack;
 mod state;
 mod top;
 
-pub use filing_case::{Case, OpenPaths, PieceCase, WholeCase};
+pub use filing_case::{Case, PieceCase, WholeCase};
 pub use laws::every_run_ends;
 pub use machine::{EndedRun, Machine, run};
 pub use sieve_meaning::Outcome;

@@ -15,7 +15,7 @@ use crate::act::act;
 use crate::calls::Calls;
 use crate::fields::first_match;
 use crate::stack::Stack;
-use crate::state::{Item, Progress, Standing};
+use crate::state::{Item, Progress, RunState};
 use crate::top::Top;
 use class_paths::Paths;
 use filing_case::Case;
@@ -28,7 +28,7 @@ use std::marker::Model;
 #[derive(Drop)]
 pub struct Machine {
     alloc: Global,
-    at: Standing,
+    at: RunState,
     progress: Progress,
     steps: u64,
 }
@@ -51,7 +51,7 @@ impl Machine {
         ensures stands { IfOk result (λ m. (c : Facts) → Stands _program.now c m) }
     {
         let stack = Stack::new(alloc)?;
-        let at = Standing {
+        let at = RunState {
             place: 0,
             stack,
             filed: Paths::new(alloc),

@@ -16,7 +16,7 @@ pub enum Item {
 
 /// The state of a run: the `State` of `filing_table`.
 #[derive(Drop)]
-pub struct Standing {
+pub struct RunState {
     /// The program counter: the place of the next instruction.
     pub place: usize,
     pub stack: Stack,

@@ -16,7 +16,7 @@ use Rattle.jiff_core.proofs.CalendarLemmas.{days_from_civil-day_count, day_count
 use Rattle.class_plan.specs.Calendar.{Civil, number_of, number_of_day}
 use Rattle.class_plan.proofs.CalendarLemmas.{civil_is}
 use Rattle.class_plan.proofs.Due.{from_zero}
-use Rattle.filing_session.specs.Words.{number_in}
+use Rattle.command_words.specs.Words.{digits_up_to}
 use Rattle.filing_session.specs.Dates.{has_dashes, civil_from, is_real, real_day, day_of, two_digits, civil_octets, day_octets}
 
 -- ---- days of words
@@ -24,11 +24,11 @@ use Rattle.filing_session.specs.Dates.{has_dashes, civil_from, is_real, real_day
 pub no_dashes : (word : List ℕ) → has_dashes word ≡ false → None ≡ day_of word
 unfolding day_of
 no_dashes word h = λ i.
-    real_day (if (sym h) i then civil_from (number_in 9999 (take 4 word)) (number_in 12 (take 2 (drop 5 word)))
-    (number_in 31 (take 2 (drop 8 word))) else None)
+    real_day (if (sym h) i then civil_from (digits_up_to 9999 (take 4 word)) (digits_up_to 12 (take 2 (drop 5 word)))
+    (digits_up_to 31 (take 2 (drop 8 word))) else None)
 
-pub day_read : (word : List ℕ) (y m d : Option ℕ) → has_dashes word ≡ true → y ≡ number_in 9999 (take 4 word)
-    → m ≡ number_in 12 (take 2 (drop 5 word)) → d ≡ number_in 31 (take 2 (drop 8 word))
+pub day_read : (word : List ℕ) (y m d : Option ℕ) → has_dashes word ≡ true → y ≡ digits_up_to 9999 (take 4 word)
+    → m ≡ digits_up_to 12 (take 2 (drop 5 word)) → d ≡ digits_up_to 31 (take 2 (drop 8 word))
     → real_day (civil_from y m d) ≡ day_of word
 unfolding day_of
 day_read word y m d h year month day = λ i. real_day (if (sym h) i then civil_from (year i) (month i) (day i) else None)

@@ -4,7 +4,7 @@ use Rattle.std.specs.Prelude.{◌==◌, not, nat_lt, if◌then◌else◌}
 use Rattle.std.specs.List.{position_or_len, onto_first}
 use Rattle.std.proofs.lemmas.List.Splits.{slice_split_first}
 use Rattle.std.proofs.lemmas.Bool.Decides.{nat_tests}
-use Rattle.filing_session.specs.Words.{words_of}
+use Rattle.command_words.specs.Words.{words_of}
 
 -- where the first space stands, or the text's length where there is none
 abbrev pub word_length : List ℕ → ℕ

@@ -9,24 +9,25 @@ use Rattle.filing_commands.specs.Standing.{plain, begin, turn}
 use Rattle.filing_session.specs.LineRequests.{LineRequest, Alone, One, Unknown, BadWord, request_of, row, verb_of}
 use Rattle.filing_session.specs.Dates.{day_of, day_octets}
 use Rattle.filing_session.specs.Replies.{reply_octets}
-use Rattle.filing_session.specs.Words.{next_as, number_in, number_of}
+use Rattle.command_words.specs.Words.{digits_up_to, number_up_to}
+use Rattle.filing_session.specs.Words.{next_as}
 
 -- days: 2023-11-14 is day 19675, and 2024-02-29 day 19782
 day_read : day_of (codes "2023-11-14") ≡ Some 19675
-unfolding day_of number_in days_from_civil day_count days_of_years days_of_months
+unfolding day_of digits_up_to days_from_civil day_count days_of_years days_of_months
 day_read = refl
 
 leap_day_read : day_of (codes "2024-02-29") ≡ Some 19782
-unfolding day_of number_in days_from_civil day_count days_of_years days_of_months
+unfolding day_of digits_up_to days_from_civil day_count days_of_years days_of_months
 leap_day_read = refl
 
 -- no leap day in a common year, no day before 1970, none without its dashes or its zeros
 no_leap_day : day_of (codes "2023-02-29") ≡ None
-unfolding day_of number_in
+unfolding day_of digits_up_to
 no_leap_day = refl
 
 too_early : day_of (codes "1969-12-31") ≡ None
-unfolding day_of number_in
+unfolding day_of digits_up_to
 too_early = refl
 
 no_dash : day_of (codes "2023-11 14") ≡ None
@@ -47,7 +48,7 @@ leap_day_told = refl
 
 -- what lines ask, with all that this computes with
 asked : List ℕ → LineRequest
-unfolding request_of verb_of row next_as day_of number_of number_in days_from_civil day_count days_of_years days_of_months
+unfolding request_of verb_of row next_as day_of number_up_to digits_up_to days_from_civil day_count days_of_years days_of_months
 asked line = request_of line
 
 turn_asked : asked (codes "TURN 1 1000000") ≡ Alone (turn 1 1000000)

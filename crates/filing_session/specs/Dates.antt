@@ -4,7 +4,7 @@ use Rattle.std.specs.Prelude.{ℕ, ℤ, pos, negsuc, List, ◌++◌, Bool, ◌&&
 use Rattle.jiff.specs.Words.{days_in_month}
 use Rattle.class_plan.specs.Calendar.{Civil, civil, number_of}
 use Rattle.filing_commands.specs.Limits.{last_day}
-use Rattle.filing_session.specs.Words.{number_in}
+use Rattle.command_words.specs.Words.{digits_up_to}
 
 -- ten octets, of which the fifth and the eighth are dashes
 abbrev pub has_dashes : List ℕ → Bool
@@ -19,8 +19,8 @@ civil_from None month day = None
 -- the year, the month and the day of a word: four, two and two digits
 abbrev pub civil_of : List ℕ → Option Civil
 civil_of word =
-    if has_dashes word then civil_from (number_in 9999 (take 4 word)) (number_in 12 (take 2 (drop 5 word)))
-    (number_in 31 (take 2 (drop 8 word))) else None
+    if has_dashes word then civil_from (digits_up_to 9999 (take 4 word)) (digits_up_to 12 (take 2 (drop 5 word)))
+    (digits_up_to 31 (take 2 (drop 8 word))) else None
 
 -- a date that the calendar has, in the years 1970 to 9999
 abbrev pub is_real : Civil → Bool

@@ -3,7 +3,8 @@ use Rattle.std.specs.Prelude.{ℕ, List, [], ◌∷◌, if◌then◌else◌, Opt
 use Rattle.std.specs.Str.{bytes_eq}
 use Rattle.filing_commands.specs.Office.{add_class, set_plan, set_script, set_global, activate, deactivate, set_image, file, try_image, hold, release, due, destroy}
 use Rattle.filing_commands.specs.Standing.{Command, plain, begin, turn, finish}
-use Rattle.filing_session.specs.Words.{words_of, number_of, greatest_number, greatest_length, greatest_count, name_of, next_as}
+use Rattle.command_words.specs.Words.{words_of, number_up_to, greatest_number, greatest_length}
+use Rattle.filing_session.specs.Words.{greatest_count, name_of, next_as}
 use Rattle.filing_session.specs.Dates.{day_of}
 use Rattle.filing_session.specs.Commands.{command_of, one_command, two_command}
 use Rattle.filing_session.specs.declared.requests.Request.{Request}
@@ -45,18 +46,18 @@ name more words = with_word (next_as name_of words) more
 
 -- the number of a record, a ticket or a moment
 abbrev pub number : (ℕ → Arguments) → Arguments
-number more words = with_word (next_as (number_of greatest_number) words) more
+number more words = with_word (next_as (number_up_to greatest_number) words) more
 
 -- the number of steps that a TURN grants
 abbrev pub count : (ℕ → Arguments) → Arguments
-count more words = with_word (next_as (number_of greatest_count) words) more
+count more words = with_word (next_as (number_up_to greatest_count) words) more
 
 abbrev pub day : (ℕ → Arguments) → Arguments
 day more words = with_word (next_as day_of words) more
 
 -- the length of a payload
 abbrev pub size : (ℕ → Arguments) → Arguments
-size more words = with_word (next_as (number_of greatest_length) words) more
+size more words = with_word (next_as (number_up_to greatest_length) words) more
 
 -- no more words
 abbrev pub done : LineRequest → Arguments

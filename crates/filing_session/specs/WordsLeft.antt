@@ -1,7 +1,7 @@
 -- The words that are still to be taken of a line.
 use Rattle.std.specs.Prelude.{ℕ, List, [], Option, Some, None}
 use denote.Ref.{Bor}
-use Rattle.filing_session.specs.Words.{words_of}
+use Rattle.command_words.specs.Words.{words_of}
 use Rattle.filing_session.specs.declared.words.Words.{Words}
 
 abbrev pub words_after : Option (Bor (List ℕ)) → List (List ℕ)

@@ -5,7 +5,7 @@ ghost use Rattle.class_plan.specs.Calendar.{number_of_day};
 ghost use Rattle.filing_session.specs.Dates.{has_dashes as has_dashes_of, civil_from, day_of, real_day};
 
 use crate::day::Day;
-use crate::words::read_digits;
+use command_words::read_digits;
 use class_plan::Date;
 
 /// How many octets a date has.

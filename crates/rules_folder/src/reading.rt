@@ -1,11 +1,11 @@
 //! The scripts of an officer, from the folder of all rules.
 
 use crate::fault::RulesFault;
+use command_words::is_name;
 use filing_commands::{MAX_SCRIPT_OCTETS, Payload};
 use payload_files::payload_of_file;
 use std::alloc::Global;
 use std::fs;
-use tool_texts::is_name;
 
 /// What the name of a script's file ends with.
 const ENDING: &str = ".sieve";

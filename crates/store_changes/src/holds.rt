@@ -1,10 +1,10 @@
 //! `hold` and `release`: records that must not be destroyed.
 
 use clap::ArgMatches;
+use command_words::is_name;
 use record_store::{Store, StoreFault};
 use sqlite::Alter;
 use store_console::{Failure, Status, Task, read_number, tell, write_text};
-use tool_texts::is_name;
 
 /// What is done with a hold.
 #[derive(Clone, Copy)]

@@ -1,6 +1,5 @@
 pub mod Choices
 pub mod Joins
-pub mod Lengths
 pub mod Zips
 pub mod Typed
 pub mod Pushes

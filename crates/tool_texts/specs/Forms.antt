@@ -2,8 +2,7 @@
 use Rattle.std.specs.Prelude.{ℕ, Bool, List, [], ◌∷◌, ◌||◌, ◌==◌, not, is_some, nat_le, if◌then◌else◌, Option, Some, None, option_map, codes, length, position}
 use Rattle.std.specs.List.{zip}
 use Rattle.std.specs.Str.{bytes_eq}
-use Rattle.tool_texts.specs.Words.{is_name, number_of, greatest_length, greatest_number}
-use Rattle.tool_texts.specs.Framing.{words_of}
+use Rattle.command_words.specs.Words.{words_of, is_name, number_up_to, greatest_length, greatest_number}
 use Rattle.tool_texts.specs.declared.forms.Payload.TheVariants as payload
 use Rattle.tool_texts.specs.declared.forms.Slot.{Slot}
 use Rattle.tool_texts.specs.declared.forms.Slot.TheVariants as slot
@@ -17,8 +16,8 @@ greatest_line = 512
 abbrev pub has_form : Slot → List ℕ → Bool
 has_form slot.Officer word = is_name word
 has_form slot.ScriptName word = is_name word
-has_form slot.Moment word = is_some (number_of greatest_number word)
-has_form (slot.Length kind) word = is_some (number_of greatest_length word)
+has_form slot.Moment word = is_some (number_up_to greatest_number word)
+has_form (slot.Length kind) word = is_some (number_up_to greatest_length word)
 
 -- the words after the name of a command that octets follow; no such words for any other name
 abbrev pub slots_of : (name : List ℕ) → List Slot

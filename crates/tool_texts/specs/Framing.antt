@@ -1,17 +1,10 @@
 -- The words of a command as typed, and its line as a session takes it.
-use Rattle.std.specs.Prelude.{ℕ, Bool, List, [], ◌∷◌, ◌++◌, ◌==◌, ◌&&◌, ◌-◌, nat_le, if◌then◌else◌, codes, decimal, length, map, take, drop, slice_index}
-use Rattle.std.specs.List.{join_with_byte, slice_split}
+use Rattle.std.specs.Prelude.{ℕ, List, [], ◌∷◌, ◌++◌, ◌==◌, ◌&&◌, ◌-◌, nat_le, if◌then◌else◌, codes, decimal, length, map, take, drop, slice_index}
+use Rattle.std.specs.List.{join_with_byte}
 use Rattle.tool_texts.specs.declared.framing.Framed.{Framed}
 use Rattle.tool_texts.specs.declared.framing.Framed.TheVariants as framed
 use Rattle.tool_texts.specs.declared.framing.LinePart.{LinePart}
 use Rattle.tool_texts.specs.declared.framing.LinePart.TheVariants.{Word, Moment, File, Here}
-
-abbrev pub is_space : ℕ → Bool
-is_space b = b == 32
-
--- a line's words, with one space between each two
-abbrev pub words_of : List ℕ → List (List ℕ)
-words_of line = slice_split is_space line
 
 -- a path as typed, without the quotation marks around it, if these are there
 abbrev pub path_in : List ℕ → List ℕ

@@ -2,11 +2,11 @@
 
 ghost use Rattle.std.specs.Prelude.{◌≡◌, map, IfOk};
 ghost use Rattle.std.specs.List.{slice_split};
-ghost use Rattle.tool_texts.specs.Framing.{words_of};
+ghost use Rattle.command_words.specs.Words.{words_of};
 ghost use Rattle.tool_texts.specs.Forms.{has_form as has_form_of, slots_of, is_plain as is_plain_of, first_wrong as first_wrong_of, misfit as misfit_of, fault_of_words as fault_of_words_of, fault_of};
 
 use crate::framing::words;
-use crate::words::{is_name, read_length, read_moment};
+use command_words::{is_name, read_length, read_number};
 use std::alloc::{AllocError, Global};
 
 /// The greatest number of octets that a line has before its line feed.
@@ -135,7 +135,7 @@ fn has_form(slot: Slot, word: &[u8]) -> bool
 {
     match slot {
         Slot::Officer | Slot::ScriptName => is_name(word),
-        Slot::Moment => read_moment(word).is_some(),
+        Slot::Moment => read_number(word, u64::MAX).is_some(),
         Slot::Length(_) => read_length(word).is_some(),
     }
 }

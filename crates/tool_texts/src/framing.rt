@@ -2,10 +2,11 @@
 
 ghost use Rattle.std.specs.Prelude.{◌≡◌, ◌++◌, ◌≤◌, ◌<◌, true, length, slice_index, map, IfOk, IfSome, OnOk};
 ghost use Rattle.std.specs.List.{join_with_byte};
-ghost use Rattle.tool_texts.specs.Framing.{line_of, session_word, word_of, words_of, path_in};
+ghost use Rattle.command_words.specs.Words.{words_of};
+ghost use Rattle.tool_texts.specs.Framing.{line_of, session_word, word_of, path_in};
 
 use crate::forms::{Payload, Slot, slots};
-use crate::words::read_length;
+use command_words::read_length;
 use itoa::Buffer;
 use std::alloc::{AllocError, Global};
 

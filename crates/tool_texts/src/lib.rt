@@ -7,11 +7,9 @@ mod framing;
 mod numbers;
 mod places;
 mod quoting;
-mod words;
 
 pub use forms::{LineFault, Payload, Slot, line_fault, slots};
 pub use framing::{Framed, LinePart, framed_line, parts, path_of};
 pub use numbers::{fault_text, refusal_text};
 pub use places::{Place, line_at, place_of};
 pub use quoting::{escaped, named, quoted};
-pub use words::is_name;

@@ -1,5 +1,5 @@
 use Rattle.std.proofs.Common.{◌≡◌, ◌+◌, ◌-◌, ◌∷◌, Some, ◌∙◌, ap, sym, rules, tests, arith, take, drop, length}
-use Rattle.filing_session.specs.Words.{words_of}
+use Rattle.command_words.specs.Words.{words_of}
 use Rattle.std.specs.Prelude.{◌==◌}
 use Rattle.std.proofs.lemmas.Grind.{common_steps}
 use Rattle.std.proofs.lemmas.Iterator.{YieldsList-from_slice}

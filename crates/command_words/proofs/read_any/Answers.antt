@@ -1,7 +1,7 @@
 use Rattle.std.proofs.Common.{◌≡◌, ◌∙◌, ℕ, List, subst, arith}
 use Rattle.std.specs.Str.Parse.{ParsesUnsigned}
-use Rattle.filing_session.proofs.Lengths.{digits_text, digits_read}
-use Rattle.filing_session.proofs.words.read_any.Goals as goal
+use Rattle.command_words.proofs.Digits.{digits_text, digits_read}
+use Rattle.command_words.proofs.read_any.Goals as goal
 
 pub returns-in_err-ok : goal.returns-in_err-ok
 returns-in_err-ok c = let text = digits_text c.args.digits.now c.requires in absurd (grind (arith, text))

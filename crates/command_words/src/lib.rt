@@ -1,14 +1,18 @@
-//! The names and numbers that words of a command line are, as the session reads them.
+//! The names and numbers that words of a command line are.
+//!
+//! A session reads its lines by these, and so do the tools that write lines for a session: a name has 1 to 64 visible
+//! octets, and a number is decimal, without a leading zero. `specs/Words` defines the same.
+#![tactic(auto)]
 
 ghost use Rattle.std.specs.Prelude.{◌≡◌, ◌≤◌, Some, None, true, nat_le, if◌then◌else◌, IfSome};
 ghost use Rattle.std.specs.Char.{is_ascii_digit};
 ghost use Rattle.std.specs.List.{list_all};
-ghost use Rattle.tool_texts.specs.Words.{are_digits as are_digits_of, number_in, number_of, greatest_number, greatest_length, is_name_octet, is_name as is_name_of};
+ghost use Rattle.command_words.specs.Words.{are_digits as are_digits_of, digits_up_to, number_up_to, greatest_number, greatest_length, is_name_octet, is_name as is_name_of};
 
 use std::str;
 
 /// How many octets a name has at most.
-const NAME_OCTETS: usize = 64;
+const MAX_NAME: usize = 64;
 
 /// The greatest length in octets that a command line may give for a payload.
 const MAX_LENGTH: u64 = 4_294_967_295;
@@ -33,7 +37,7 @@ fn are_digits(word: &[u8]) -> bool
 /// The number that decimal digits spell, where it fits 64 bits.
 fn read_any(digits: &[u8]) -> Option<u64>
     requires { are_digits_of digits.now ≡ true }
-    ensures { result ≡ number_in greatest_number digits.now }
+    ensures { result ≡ digits_up_to greatest_number digits.now }
 {
     str::from_utf8(digits).ok()?.parse().ok()
 }
@@ -51,8 +55,8 @@ fn at_most(number: u64, greatest: u64) -> Option<u64>
 
 /// The number that decimal digits spell, with leading zeros or without, where it is at most `greatest`. None for any
 /// other word.
-fn read_digits(word: &[u8], greatest: u64) -> Option<u64>
-    ensures number { result ≡ number_in greatest word.now }
+pub fn read_digits(word: &[u8], greatest: u64) -> Option<u64>
+    ensures number { result ≡ digits_up_to greatest word.now }
     ensures within { IfSome result (λ n. n ≤ greatest) }
 {
     if !are_digits(word) {
@@ -64,10 +68,10 @@ fn read_digits(word: &[u8], greatest: u64) -> Option<u64>
     }
 }
 
-/// The number of a decimal word without a leading zero, where it is at most `greatest`.
-#[tactic(auto, unfolding(crate::specs::Words::number_of))]
-fn read_number_to(word: &[u8], greatest: u64) -> Option<u64>
-    ensures number { result ≡ number_of greatest word.now }
+/// The number of a decimal word without a leading zero, where it is at most `greatest`. None for any other word.
+#[tactic(auto, unfolding(crate::specs::Words::number_up_to))]
+pub fn read_number(word: &[u8], greatest: u64) -> Option<u64>
+    ensures number { result ≡ number_up_to greatest word.now }
     ensures within { IfSome result (λ n. n ≤ greatest) }
 {
     match word {
@@ -76,18 +80,11 @@ fn read_number_to(word: &[u8], greatest: u64) -> Option<u64>
     }
 }
 
-/// A moment in seconds: decimal, without a leading zero, at most 18,446,744,073,709,551,615.
-pub fn read_moment(word: &[u8]) -> Option<u64>
-    ensures { result ≡ number_of greatest_number word.now }
-{
-    read_number_to(word, u64::MAX)
-}
-
-/// The length of a payload in octets: decimal, without a leading zero, at most 4,294,967,295.
+/// The length of a payload in octets: decimal, without a leading zero, at most 4,294,967,295. None for any other word.
 pub fn read_length(word: &[u8]) -> Option<u32>
-    ensures { result ≡ number_of greatest_length word.now }
+    ensures { result ≡ number_up_to greatest_length word.now }
 {
-    match read_number_to(word, MAX_LENGTH) {
+    match read_number(word, MAX_LENGTH) {
         Some(length) => Some(length as u32),
         None => None,
     }
@@ -104,5 +101,5 @@ fn are_graphic(word: &[u8]) -> bool
 pub fn is_name(word: &[u8]) -> bool
     ensures { result ≡ is_name_of word.now }
 {
-    (1..=NAME_OCTETS).contains(&word.len()) && are_graphic(word)
+    (1..=MAX_NAME).contains(&word.len()) && are_graphic(word)
 }

@@ -1,10 +1,10 @@
 use Rattle.std.proofs.Common.{rules, ◌≤◌, ◌∙◌, sym, arith}
-use Rattle.filing_session.specs.Words.{greatest_number}
-use Rattle.filing_session.proofs.Lengths.{number_in-none, none_lower, some_lower}
-use Rattle.filing_session.proofs.words.read_digits.Goals as goal
+use Rattle.command_words.specs.Words.{greatest_number}
+use Rattle.command_words.proofs.Digits.{digits_up_to-none, none_lower, some_lower}
+use Rattle.command_words.proofs.read_digits.Goals as goal
 
 pub returns-then-not-are_digits-clause-number : goal.returns-then-not-are_digits-clause-number
-returns-then-not-are_digits-clause-number c = number_in-none c.args.greatest c.args.word.now (search rules)
+returns-then-not-are_digits-clause-number c = digits_up_to-none c.args.greatest c.args.word.now (search rules)
 
 pub returns-in-Some-clause-number : goal.returns-in-Some-clause-number
 returns-in-Some-clause-number c =
