@@ -54,7 +54,8 @@ unfolding digits_up_to
 digits_up_to-none greatest word h = grind (arith, nat_tests)
 
 -- by a smaller greatest number
-pub none_lower : (greatest : ℕ) (word : List ℕ) → greatest ≤ greatest_number → None ≡ digits_up_to greatest_number word → None ≡ digits_up_to greatest word
+pub none_lower : (greatest : ℕ) (word : List ℕ) → greatest ≤ greatest_number → None ≡ digits_up_to greatest_number word
+    → None ≡ digits_up_to greatest word
 unfolding digits_up_to
 none_lower greatest word h e = grind (arith, nat_tests)
 

@@ -30,7 +30,8 @@ module _ (p : Program) (bounds : Bounds) (slots : bounds.slots
   where
     -- an operation with no jump and no call
     plain : (o : Operation) → InRange p o → jump_target o ≡ None → ((b : ℕ) → o ≡ Call b → ⊥) → Within p bounds.own last o
-    plain o in_range no_jump no_call = record { in_range = in_range; jumps = λ q to. absurd (cc (to, no_jump)); calls = λ b is. absurd (no_call b is) }
+    plain o in_range no_jump no_call =
+        record { in_range = in_range; jumps = λ q to. absurd (cc (to, no_jump)); calls = λ b is. absurd (no_call b is) }
 
     text_there : (b : ℕ) (t : List ℕ) → slice_get p.texts b ≡ Some t → b < length p.texts
     text_there b t e = slice_get_within p.texts b t e

@@ -5,8 +5,8 @@ ghost use Rattle.class_plan.specs.Calendar.{number_of_day};
 ghost use Rattle.filing_session.specs.Dates.{has_dashes as has_dashes_of, civil_from, day_of, real_day};
 
 use crate::day::Day;
-use command_words::read_digits;
 use class_plan::Date;
+use command_words::read_digits;
 
 /// How many octets a date has.
 const DATE_OCTETS: usize = 10;

@@ -86,7 +86,8 @@ module _ (schema : Schema) where
       let made = stepped (define.index table.0 def) _ c (rw new at free.2) in
       (on.0, found (table_named schema def.table) NoSuchTable on.0 on.1, sym (value_of (CreateIndex on.0) c made.2))
 
-  drops_table : (name : Name) (c : Command) → drop_table schema false name ≡ Ok c → (at : ℕ) × (table_named schema name ≡ Some at) × (c ≡ DropTable at)
+  drops_table : (name : Name) (c : Command) → drop_table schema false name ≡ Ok c
+      → (at : ℕ) × (table_named schema name ≡ Some at) × (c ≡ DropTable at)
   unfolding drop_table
   drops_table name c h = by_place (table_named schema name) refl
       (passed (is_some (view_named schema name)) Misuse _ c (passed (is_reserved name) Misuse _ c h))

@@ -57,7 +57,8 @@ opening_end_within bs n e = elim (tested (length bs == 0) (Err StringNotClosed) 
       (tested (begins_with 35 bs) (if nat_lt (prefix_len not_lf bs) (length bs) then Ok (suc (prefix_len not_lf bs))
       else Err StringNotClosed) _ n h.1) [
         | inl h1 ↦ elim (tested (nat_lt (prefix_len not_lf bs) (length bs)) (Ok (suc (prefix_len not_lf bs))) (Err StringNotClosed) n h1.1) [
-          | inl h2 ↦ (let s = same_kind (suc (prefix_len not_lf bs)) n h2.1 in let l = ltb-true (prefix_len not_lf bs) (length bs) h2.0 in omega arith)
+          | inl h2 ↦ (let s = same_kind (suc (prefix_len not_lf bs)) n h2.1 in
+              let l = ltb-true (prefix_len not_lf bs) (length bs) h2.0 in omega arith)
           | inr h2 ↦ absurd (no_kind StringNotClosed n h2.1)
         ]
         | inr h1 ↦ elim (tested (nat_lt 0 (line_end_len bs)) (Ok (line_end_len bs)) (Err NoToken) n h1.1) [
