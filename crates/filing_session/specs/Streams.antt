@@ -4,6 +4,10 @@ use Rattle.filing_session.specs.declared.tally.Tally.{Tally}
 use Rattle.filing_session.specs.declared.stream.Trouble.{Trouble}
 use Rattle.filing_session.specs.declared.stream.Trouble.TheVariants.{Interrupted, Failed}
 
+-- the counts before the first call
+abbrev pub no_troubles : Tally
+no_troubles = record { failures = 0; interruptions = 0; most_interruptions = 0; all_interruptions = 0 }
+
 -- a read into room for one octet or more that answered 0
 abbrev pub tells_end : (room : ℕ) → Result ℕ Trouble → Bool
 tells_end room (Ok n) = nat_lt 0 room && (n == 0)

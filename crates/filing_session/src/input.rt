@@ -4,6 +4,7 @@
 ghost use Rattle.std.specs.Prelude.{◌<◌, ◌≤◌, ◌≡◌, [], length, IfOk};
 ghost use Rattle.std.specs.Io.KnownBytes.{ReadConsumes};
 ghost use Rattle.filing_session.specs.Known.{octets_left};
+ghost use Rattle.filing_session.specs.Streams.{no_troubles};
 
 use crate::ahead::Ahead;
 use crate::stream::{Source, Trouble};
@@ -22,10 +23,12 @@ pub struct Input<R> {
 }
 
 impl<R: Read> Input<R> {
-    /// A source over a reader. What is left is what the reader has left.
+    /// A source over a reader. What is left is what the reader has left, and no trouble and no end was met yet.
     pub fn new(inner: R) -> Input<R>
         ensures inner { result.inner ≡ inner }
         ensures ahead { result.ahead ≡ [] }
+        ensures tally { result.tally ≡ no_troubles }
+        ensures ends { result.ends ≡ 0 }
     {
         Input {
             inner,

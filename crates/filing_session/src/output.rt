@@ -3,6 +3,7 @@
 
 ghost use Rattle.std.specs.Prelude.{◌≡◌, ◌≤◌, ◌++◌, [], length, take, false, true, IfOk, Ok};
 ghost use Rattle.std.specs.Io.KnownBytes.{Keeps, WriteAppends, append_known};
+ghost use Rattle.filing_session.specs.Streams.{no_troubles};
 ghost use Rattle.filing_session.specs.Written.{has_line_end};
 
 use crate::held::Held;
@@ -22,10 +23,11 @@ pub struct Output<W> {
 }
 
 impl<W: Write> Output<W> {
-    /// A sink over a writer, which holds nothing.
+    /// A sink over a writer, which holds nothing, and has met no trouble yet.
     pub fn new(inner: W) -> Output<W>
         ensures inner { result.inner ≡ inner }
         ensures held { result.held ≡ [] }
+        ensures tally { result.tally ≡ no_troubles }
     {
         Output {
             inner,

@@ -1,7 +1,7 @@
 //! How the troubles of a stream are counted.
 
 ghost use Rattle.std.specs.Prelude.{◌≡◌, max, not};
-ghost use Rattle.filing_session.specs.Streams.{Counts, CountsInARow, is_failed};
+ghost use Rattle.filing_session.specs.Streams.{Counts, CountsInARow, is_failed, no_troubles};
 
 use crate::stream::Trouble;
 
@@ -24,12 +24,7 @@ pub struct Tally {
 impl Tally {
     /// The counts before the first call, all 0.
     pub fn new() -> Tally
-        ensures { result ≡ record {
-          failures = 0;
-          interruptions = 0;
-          most_interruptions = 0;
-          all_interruptions = 0;
-        } }
+        ensures { result ≡ no_troubles }
     {
         Tally {
             failures: 0,

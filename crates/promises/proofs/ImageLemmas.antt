@@ -19,10 +19,7 @@ use Rattle.promises.specs.Records.{EndsWithinBudget, IsFaultAlone}
 use Rattle.promises.proofs.CitedLaws.{LengthsAreOne, OutcomesAreOne, ProgramsAreOne, RunsEnd}
 use Rattle.promises.proofs.Pinned.{budget_holds}
 use Rattle.promises.proofs.RecordLemmas.{meaning_fault_alone}
-use Rattle.promises.proofs.Verdicts.{image_or, one_image}
-
-pub one_good_image : ProgramsAreOne → (octets : List ℕ) (p q : Program) → IsGoodImage octets p → IsGoodImage octets q → p ≡ q
-one_good_image one_start octets p q h k = one_image one_start octets p q h.is_image k.is_image
+use Rattle.promises.proofs.Verdicts.{image_or}
 
 pub never_traps : ((p : Program) (c : Facts) (n : ℕ) → IsWell p → after_steps p c n ≢ Trap)
     → (octets : List ℕ) (p : Program) (c : Facts) (n : ℕ) → IsGoodImage octets p → after_steps p c n ≢ Trap

@@ -1,12 +1,12 @@
 -- Refusals by a registry, on any disk.
-use Rattle.std.proofs.Common.{◌≡◌, ◌≢◌, ℕ, Bool, true, false, refl, subst}
+use Rattle.std.proofs.Common.{◌≡◌, ◌≢◌, ℕ, Bool, true, false, refl, inl, subst}
 use Rattle.record_archive.specs.Archive.{Archive}
 use Rattle.filing_commands.specs.Answers.{refused}
 use Rattle.filing_commands.specs.ArchiveAnswers.{is_of_archive}
 use Rattle.filing_commands.specs.Calls.{Leads}
 use Rattle.filing_commands.specs.Standing.{Standing, Step}
-use Rattle.promises.specs.RefusedCalls.{HasTurnsMore, RefusedCall}
-use Rattle.promises.proofs.Unchanged.{refused_unchanged, turns_alone}
+use Rattle.promises.specs.RefusedCalls.{IsLeftBy, RefusedCall}
+use Rattle.promises.proofs.Unchanged.{refused_unchanged, steps_kept}
 
 not_both : (b : Bool) → b ≡ false → b ≡ true → ⊥
 not_both true off on = cc
@@ -32,12 +32,12 @@ module _ {D I : Type 0} (clean : D → Type 0) (stands : D → Standing → Type
           let P : Standing → Type 0 = λ s. stands x.new s in
           subst P (refused_unchanged x.state x.command x.number x.offset l.to l.is_one other) l.there
 
-  pub no_memory_at_registry : (x : RefusedCall clean stands may_leave keeps) → x.number ≡ 99 → HasTurnsMore stands x.state x.new
+  pub no_memory_at_registry : (x : RefusedCall clean stands may_leave keeps) → x.number ≡ 99 → IsLeftBy stands x.state x.command x.new
   no_memory_at_registry x poor = go (comes_from_archive x) refl
     where
-      go : (b : Bool) → comes_from_archive x ≡ b → HasTurnsMore stands x.state x.new
-      go true from_archive = record { to = x.state; there = x.call.unchanged from_archive refl x.state x.at_begin; same = refl }
+      go : (b : Bool) → comes_from_archive x ≡ b → IsLeftBy stands x.state x.command x.new
+      go true from_archive = record { to = x.state; there = x.call.unchanged from_archive refl x.state x.at_begin; steps = inl refl }
       go false own =
           let l = led x own in
           let P : ℕ → Type 0 = λ n. Step x.state x.command (refused n x.offset) l.to in
-          record { to = l.to; there = l.there; same = turns_alone x.state x.command x.offset l.to (subst P poor l.is_one) }
+          record { to = l.to; there = l.there; steps = steps_kept x.state x.command x.offset l.to (subst P poor l.is_one) }

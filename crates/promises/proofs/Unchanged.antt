@@ -1,5 +1,5 @@
 -- What a refusal leaves as it was, and that a whole capture gives its ticket up.
-use Rattle.std.proofs.Common.{◌≡◌, ◌≢◌, ◌+◌, ◌∷◌, [], ℕ, List, arith, ap, ◌∙◌, sym, subst, inl, inr, Bool, true, false, Option, Some, None}
+use Rattle.std.proofs.Common.{◌≡◌, ◌≢◌, ◌+◌, ◌<◌, ◌∷◌, [], ℕ, List, arith, refl, ap, ◌∙◌, sym, subst, inl, inr, Bool, true, false, Option, Some, None}
 use Rattle.std.specs.Prelude.{if◌then◌else◌, nat_le}
 use Rattle.record_archive.specs.Archive.{Line}
 use Rattle.sieve_meaning.specs.declared.run_fault.RunFault.{RunFault}
@@ -9,10 +9,9 @@ use Rattle.filing_commands.specs.Pinning.{BeginState}
 use Rattle.filing_commands.specs.Standing.{Command, plain, begin, turn, finish, Flight, Standing, Step, TurnStep}
 use Rattle.filing_commands.specs.Standing.{FinishStep, FinishWhole, flight_of, opening, turn_answer, without}
 use Rattle.promises.specs.Runs.{IsReached, Run}
-use Rattle.promises.specs.Serial.{forget}
-use Rattle.promises.proofs.Sessions.{step_follows}
+use Rattle.promises.specs.RefusedCalls.{KeepsSteps}
 use Rattle.promises.proofs.Sources.{AreInOrder, step_in_order}
-use Rattle.promises.proofs.TicketLemmas.{of_without}
+use Rattle.promises.proofs.TicketLemmas.{none_above, of_without}
 
 one_number : (m n : ℕ) (at on : Option ℕ) → refused m at ≡ refused n on → m ≡ n
 one_number m n at on e = cc
@@ -53,12 +52,20 @@ refused_unchanged s (begin officer moment message) n at new h other = h.0
 refused_unchanged s (turn t k) n at new h other = turn_unchanged s t k (flight_of t s.flights) n at new other h
 refused_unchanged s (finish t) n at new h other = finish_unchanged s t (flight_of t s.flights) n at new h
 
--- after 99 a TURN may keep the turns that were made
-pub turns_alone : (s : Standing) (c : Command) (at : Option ℕ) (new : Standing) → Step s c (refused 99 at) new → forget new ≡ forget s
-turns_alone s (plain c) at new h = step_follows s (plain c) (refused 99 at) new h
-turns_alone s (begin officer moment message) at new h = step_follows s (begin officer moment message) (refused 99 at) new h
-turns_alone s (turn t k) at new h = step_follows s (turn t k) (refused 99 at) new h
-turns_alone s (finish t) at new h = step_follows s (finish t) (refused 99 at) new h
+-- after 99 a TURN keeps the steps that it made
+turn_keeps : (s : Standing) (t k : ℕ) (f : Option Flight) (at : Option ℕ) (new : Standing) → TurnStep s t k f (refused 99 at) new
+    → KeepsSteps s (turn t k) new
+turn_keeps s t k None at new h = inl h.1
+turn_keeps s t k (Some f) at new (inl h) = absurd (turned_refused f (f.granted + k) 99 at h.0)
+turn_keeps s t k (Some f) at new (inr h) =
+    inr (record { ticket = t; count = k; made = h.1; command = refl; fewer = h.2.within; leaves = h.3 })
+
+pub steps_kept : (s : Standing) (c : Command) (at : Option ℕ) (new : Standing) → Step s c (refused 99 at) new → KeepsSteps s c new
+unfolding Step
+steps_kept s (plain c) at new h = inl (h.2 ∙ ap (λ x. record s { office = x }) (office_unchanged s.office c 99 at h.0 h.1))
+steps_kept s (begin officer moment message) at new h = inl h.0
+steps_kept s (turn t k) at new h = turn_keeps s t k (flight_of t s.flights) at new h
+steps_kept s (finish t) at new h = inl (finish_unchanged s t (flight_of t s.flights) 99 at new h)
 
 -- ---- tickets that are given up
 
@@ -85,8 +92,14 @@ filed_leaves : (s : Standing) (t : ℕ) (fault : Option RunFault) (lines : List 
 unfolding Step
 filed_leaves s t fault lines new h = finish_leaves s t (flight_of t s.flights) fault lines new h
 
+reached_in_order : (s : Standing) → IsReached s → AreInOrder s
+reached_in_order s reached = run_in_order (opening reached.archive) reached.commands reached.answers s reached.run (omega arith)
+
+-- no capture in flight has a ticket that was not given yet
+pub not_given : (s : Standing) (t : ℕ) → IsReached s → s.last < t → flight_of t s.flights ≡ None
+not_given s t reached later = none_above 0 s.last t s.flights (reached_in_order s reached) later
+
 pub given_up : (s : Standing) (t : ℕ) (fault : Option RunFault) (lines : List Line) (new : Standing) → IsReached s
     → Step s (finish t) (captured fault lines) new → flight_of t new.flights ≡ None
 given_up s t fault lines new reached h =
-    let order = run_in_order (opening reached.archive) reached.commands reached.answers s reached.run (omega arith) in
-    ap (flight_of t) (filed_leaves s t fault lines new h) ∙ of_without 0 s.last t s.flights order
+    ap (flight_of t) (filed_leaves s t fault lines new h) ∙ of_without 0 s.last t s.flights (reached_in_order s reached)

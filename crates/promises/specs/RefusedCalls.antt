@@ -1,10 +1,22 @@
--- Calls of a registry that are refused.
-use Rattle.std.specs.Prelude.{ℕ, Option}
+-- Commands and calls of a registry that are refused.
+use Rattle.std.specs.Prelude.{◌≡◌, ◌<◌, ◌⊎◌, ℕ, Option}
 use Rattle.record_archive.specs.Archive.{Archive}
 use Rattle.filing_commands.specs.Answers.{refused}
 use Rattle.filing_commands.specs.Calls.{Calls}
-use Rattle.filing_commands.specs.Standing.{Command, Standing}
-use Rattle.promises.specs.Serial.{SameButTurns}
+use Rattle.filing_commands.specs.Standing.{Command, Standing, turn, with_turns}
+
+-- a TURN made some of the steps that it was to make, and then no more
+pub record MakesSomeSteps (s : Standing) (c : Command) (new : Standing) : Type 0 where
+  pub ticket : ℕ
+  pub count : ℕ
+  pub made : ℕ
+  pub command : c ≡ turn ticket count
+  pub fewer : made < count
+  pub leaves : new ≡ with_turns s ticket made
+
+-- nothing changed, but that a TURN keeps the steps that it made
+abbrev pub KeepsSteps : Standing → Command → Standing → Type 0
+KeepsSteps s c new = (new ≡ s) ⊎ MakesSomeSteps s c new
 
 -- A registry that represents a state refuses a command with this number. Nothing is known of the disk under it.
 pub record RefusedCall {D I : Type 0} (clean : D → Type 0) (stands : D → Standing → Type 0) (may_leave : D → I → Type 0)
@@ -18,8 +30,8 @@ pub record RefusedCall {D I : Type 0} (clean : D → Type 0) (stands : D → Sta
   pub at_begin : stands old state
   pub call : Calls clean stands may_leave keeps old command (refused number offset) new
 
--- a registry represents a state that differs from this one in the turns of captures in flight alone
-pub record HasTurnsMore {D : Type 0} (stands : D → Standing → Type 0) (state : Standing) (new : D) : Type 0 where
+-- a registry represents this state, but for the steps that a TURN made
+pub record IsLeftBy {D : Type 0} (stands : D → Standing → Type 0) (state : Standing) (c : Command) (new : D) : Type 0 where
   pub to : Standing
   pub there : stands new to
-  pub same : SameButTurns to state
+  pub steps : KeepsSteps state c to

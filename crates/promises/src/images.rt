@@ -9,7 +9,7 @@ ghost use Rattle.sieve_meaning.specs.Outcome.{outcome};
 ghost use Rattle.sieve_meaning.specs.Program.{Commands};
 ghost use Rattle.filing_image.specs.Program.{Program};
 ghost use Rattle.filing_table.specs.Machine.{Trap, after_steps};
-ghost use Rattle.filing_commands.specs.Parts.{IsGood, IsGoodImage, RefusesImage};
+ghost use Rattle.filing_commands.specs.Parts.{IsGood, IsGoodImage, IsImageOf, RefusesImage};
 ghost use Rattle.promises.specs.Records.{EndsWithinBudget, IsFaultAlone};
 ghost use Rattle.promises.specs.Images.{Compiles};
 
@@ -19,12 +19,12 @@ use filing_machine::every_run_ends;
 use filing_table::a_run_ends_once;
 use sieve_text::{one_scan, one_tree, one_verdict};
 
-/// Any octets are the image of at most one program. Where that program may run:
+/// Any octets are the image of at most one program, whether it may run or not. Where it may:
 /// - no run of it traps, whatever the message is and whichever classes are open;
 /// - each run ends within the image's budget of steps, and with one outcome.
 pub fn accepted_images_run_to_their_end()
-    ensures program { (octets : List ℕ) (p q : Program) → IsGoodImage octets p
-        → IsGoodImage octets q → p ≡ q }
+    ensures program { (octets : List ℕ) (p q : Program) → IsImageOf octets p
+        → IsImageOf octets q → p ≡ q }
     ensures never_traps { (octets : List ℕ) (p : Program) (c : Facts) (n : ℕ) → IsGoodImage octets p
         → after_steps p c n ≢ Trap }
     ensures ends { (octets : List ℕ) (p : Program) (c : Facts) → IsGoodImage octets p

@@ -10,7 +10,7 @@ ghost use Rattle.filing_commands.specs.Standing.{Command, Flight, Standing, IsPi
 ghost use Rattle.promises.specs.Alike.{AnswerAlike};
 ghost use Rattle.promises.specs.Beginnings.{HasBegun};
 ghost use Rattle.promises.specs.Flights.{IsInFlight};
-ghost use Rattle.promises.specs.RefusedCalls.{HasTurnsMore, RefusedCall};
+ghost use Rattle.promises.specs.RefusedCalls.{IsLeftBy, KeepsSteps, RefusedCall};
 ghost use Rattle.promises.specs.Runs.{IsReached, SessionFrom};
 ghost use Rattle.promises.specs.Serial.{EqualAfterStriking, SameButTurns, SerialRun, forget, kept_answers, kept_commands};
 
@@ -41,17 +41,17 @@ pub fn equal_after_striking()
     a_run_ends_once();
 }
 
-/// A refusal changes nothing, with one exception: a TURN that is refused with 99 (no memory) keeps the steps that were
-/// made before. Of the calls of a registry this holds on any disk (`registry`, `registry_no_memory`).
+/// A refusal changes nothing, with one exception: a TURN that is refused with 99 (no memory) keeps the steps that it made
+/// before, which are fewer than it asked for. Of the calls of a registry this holds on any disk (`registry`, `registry_no_memory`).
 pub fn refusals_change_nothing<R: Registry>()
     ensures unchanged { (s : Standing) (c : Command) (n : ℕ) (at : Option ℕ) (new : Standing) →
         Step s c (refused n at) new → n ≢ 99 → new ≡ s }
     ensures no_memory { (s : Standing) (c : Command) (at : Option ℕ) (new : Standing)
-        → Step s c (refused 99 at) new → SameButTurns new s }
+        → Step s c (refused 99 at) new → KeepsSteps s c new }
     ensures registry { (x : RefusedCall R.clean R.stands R.may_leave R.keeps) → x.number ≢ 99
         → R.stands x.new x.state }
     ensures registry_no_memory { (x : RefusedCall R.clean R.stands R.may_leave R.keeps)
-        → x.number ≡ 99 → HasTurnsMore R.stands x.state x.new }
+        → x.number ≡ 99 → IsLeftBy R.stands x.state x.command x.new }
 {}
 
 /// In a session that begins with an archive:

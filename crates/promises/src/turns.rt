@@ -1,6 +1,6 @@
 //! Laws of turns and tickets, each the contract of a function without effect.
 
-ghost use Rattle.std.specs.Prelude.{◌≡◌, ◌≤◌, ◌↔◌, ℕ, None};
+ghost use Rattle.std.specs.Prelude.{◌≡◌, ◌<◌, ◌≤◌, ◌↔◌, ℕ, None};
 ghost use Rattle.record_archive.specs.Archive.{Archive};
 ghost use Rattle.filing_commands.specs.Answers.{Answer, refused};
 ghost use Rattle.filing_commands.specs.Standing.{Flight, Standing, Step, finish, opening, turn};
@@ -34,7 +34,7 @@ pub fn turns_add_up()
 }
 
 /// A TURN or a FINISH is refused with 91 exactly where its ticket is not in flight. A FINISH that makes the records of
-/// a capture gives the ticket up: it is not in flight any more.
+/// a capture gives the ticket up: it is not in flight any more. A ticket that was not given yet is not in flight either.
 pub fn tickets_are_looked_up_exactly()
     ensures turn { (s : Standing) (t count : ℕ) (a : Answer) (new : Standing)
         → Step s (turn t count) a new → (a ≡ refused 91 None) ↔ NoneInFlight s t }
@@ -42,6 +42,7 @@ pub fn tickets_are_looked_up_exactly()
         → Step s (finish t) a new → (a ≡ refused 91 None) ↔ NoneInFlight s t }
     ensures given_up { (s : Standing) (t : ℕ) (x : FinishOf s t) → IsReached s
         → NoneInFlight x.new t }
+    ensures not_given { (s : Standing) (t : ℕ) → IsReached s → s.last < t → NoneInFlight s t }
 {}
 
 /// In a session that begins with an archive:

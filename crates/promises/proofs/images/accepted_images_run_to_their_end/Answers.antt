@@ -1,8 +1,9 @@
-use Rattle.promises.proofs.ImageLemmas.{ends, never_traps, one_end, one_good_image}
+use Rattle.promises.proofs.ImageLemmas.{ends, never_traps, one_end}
+use Rattle.promises.proofs.Verdicts.{one_image}
 use Rattle.promises.proofs.images.accepted_images_run_to_their_end.Goals as goal
 
 pub returns-clause-program : goal.returns-clause-program
-returns-clause-program c = one_good_image c.one_spelling.ensures
+returns-clause-program c = one_image c.one_spelling.ensures
 
 pub returns-clause-never_traps : goal.returns-clause-never_traps
 returns-clause-never_traps c = never_traps c.every_run_ends.ensures.never_traps
