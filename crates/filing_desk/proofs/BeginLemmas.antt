@@ -28,7 +28,7 @@ use Rattle.filing_flights.specs.Flights.{Adds, AreHeld}
 use Rattle.filing_flights.specs.FlightViews.{FlightView, Holds}
 use Rattle.filing_flights.specs.Laws.{AreAsMany, OpenPathsAreClasses}
 use Rattle.filing_officers.specs.Register.{PinsFor, officer_at}
-use Rattle.filing_desk.specs.Beginning.{IsEntered, IsNumbered, KeepsAll, against_begin}
+use Rattle.filing_desk.specs.Beginning.{IsNewFlight, IsNumbered, KeepsAll, against_begin}
 use Rattle.filing_desk.specs.Standing.{AreOpenPaths, HasPathsOf, IsClean, MayLeave, StandsFor}
 use Rattle.filing_desk.specs.declared.desk.Desk.{Desk}
 use Rattle.filing_desk.proofs.FirstLemmas.{RunsEnd, after_begin, begins, first_begun, first_flight}
@@ -154,7 +154,7 @@ module _ {A I : Type 0} (is_clean : A → Type 0) (stood : A → Archive → Typ
       → against_begin old moment (length message) ≡ None → epoch_day day ≡ pos (moment / 86400) → KeepsAll old mid
       → (AreOpenPaths old.open_paths (plan_of old.store) → AreOpenPaths mid.open_paths (plan_of old.store))
       → (AreOpenPaths old.open_paths (plan_of old.store)
-      → IsEntered (plan_of old.store) old officer (old.last + 1) message day x) → new.store ≡ mid.store
+      → IsNewFlight (plan_of old.store) old officer (old.last + 1) message day x) → new.store ≡ mid.store
       → new.officers ≡ mid.officers → Adds mid.flights x new.flights → new.last ≡ old.last + 1
       → new.open_paths ≡ mid.open_paths → a ≡ begun (old.last + 1) x.program.budget
       → Calls (IsClean is_clean) (StandsFor stood) (MayLeave may_leave) keeps old (begin officer moment message) a new

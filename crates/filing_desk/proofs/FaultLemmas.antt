@@ -27,7 +27,7 @@ use Rattle.filing_commands.specs.Standing.{Standing, is_refusal, plain}
 use Rattle.filing_commands.specs.CallAnswers.{answer_of_lines, answer_of_outcome}
 use Rattle.filing_commands.specs.declared.fault.DeskFault.{DeskFault}
 use Rattle.filing_commands.specs.declared.fault.DeskFault.TheVariants.{NoMemory}
-use Rattle.filing_desk.specs.Judging.{IsFaultOf, IsTooLong}
+use Rattle.filing_desk.specs.Judging.{IsFaultOf, IsLongMessage}
 use Rattle.filing_desk.specs.Standing.{IsClean, MayLeave, StandsFor}
 use Rattle.filing_desk.specs.declared.desk.Desk.{Desk}
 use Rattle.filing_desk.proofs.ScriptLemmas.{library_meant}
@@ -122,12 +122,12 @@ module _ {A I : Type 0} (is_clean : A → Type 0) (stood : A → Archive → Typ
 
   pub file_no_message : (desk : Desk A) (script message : List ℕ) (tree : CommandTrees) (f : DeskFault) (a : Answer)
       → a ≡ refused_by f → IsGood script tree → length script ≤ greatest_script
-      → IsFaultOf (IsTooLong message) greatest_message message f
+      → IsFaultOf (IsLongMessage message) greatest_message message f
       → Calls (IsClean is_clean) (StandsFor stood) (MayLeave may_leave) keeps desk (plain (file script message)) a desk
   file_no_message desk script message tree f a told good short h = unchanged desk (file script message) a
       (λ e. refused_so _ _ told) (λ s stands.
       let P : Answer → Type 0 = λ x. OfficeStep s.office (file script message) x s.office in
-      subst P (sym told) (fault_step s.office (file script message) (IsTooLong message) greatest_message message f
+      subst P (sym told) (fault_step s.office (file script message) (IsLongMessage message) greatest_message message f
       (λ n long. inr (record { tree = tree; good = good; long = long.0; is_number = long.1 })) (λ n l.
       (l.0, short)) h))
 
@@ -141,12 +141,12 @@ module _ {A I : Type 0} (is_clean : A → Type 0) (stood : A → Archive → Typ
 
   pub try_no_message : (desk : Desk A) (image message : List ℕ) (program : Program) (f : DeskFault) (a : Answer)
       → a ≡ refused_by f → IsGoodImage image program → length image ≤ greatest_image
-      → IsFaultOf (IsTooLong message) greatest_message message f
+      → IsFaultOf (IsLongMessage message) greatest_message message f
       → Calls (IsClean is_clean) (StandsFor stood) (MayLeave may_leave) keeps desk (plain (try_image image message)) a desk
   try_no_message desk image message program f a told good short h = unchanged desk (try_image image message) a
       (λ e. refused_so _ _ told) (λ s stands.
       let P : Answer → Type 0 = λ x. OfficeStep s.office (try_image image message) x s.office in
-      subst P (sym told) (fault_step s.office (try_image image message) (IsTooLong message) greatest_message message f
+      subst P (sym told) (fault_step s.office (try_image image message) (IsLongMessage message) greatest_message message f
       (λ n long. inr (record { program = program; good = good; long = long.0; is_number = long.1 })) (λ n l.
       (l.0, short)) h))
 

@@ -7,7 +7,7 @@ use Rattle.std.specs.declared.alloc.Global.{Global}
 use Rattle.std.proofs.lemmas.Bool.{false≢true}
 use Rattle.class_plan.specs.Plans.{Listing}
 use Rattle.sieve_meaning.specs.Case.{Facts}
-use Rattle.filing_machine.specs.Runs.{Stands}
+use Rattle.filing_machine.specs.Runs.{IsOnRun}
 use Rattle.record_archive.specs.Archive.{Archive, capture, after_capture, capture_lines, has_room, AreClasses}
 use Rattle.record_archive.specs.Lines.{line_view}
 use Rattle.record_archive.specs.Calls.{CarriesOut, KeepsMade, Makes}
@@ -25,7 +25,7 @@ use Rattle.filing_commands.specs.declared.fault.DeskFault.TheVariants as faults
 use Rattle.filing_commands.specs.declared.results.Capture.{Capture}
 use Rattle.filing_flights.specs.Flights.{IsFound}
 use Rattle.filing_flights.specs.FlightViews.{FlightView, facts_in}
-use Rattle.filing_desk.specs.Filing.{Files, FilesSafely, IsArchiveFault, IsNotFiled}
+use Rattle.filing_desk.specs.Filing.{MakesRecords, FilesSafely, IsArchiveFault, IsNotFiled}
 use Rattle.filing_desk.specs.Standing.{IsShownBy}
 use Rattle.filing_desk.proofs.FlightLemmas.{none_found}
 use Rattle.filing_desk.proofs.ArchiveLemmas.{told}
@@ -67,19 +67,19 @@ module _ {A I : Type 0} (is_clean : A → Type 0) (stood : A → Archive → Typ
     (keeps : I → Archive → Type 0) where
   pub files_fault : (old new : A) (body : List ℕ) (day : ℕ) (classes : List (List ℕ))
       (result : Result (Vec Line Global) DeskFault) (f : DeskFault) → IsErr result → IsErrAnd result (λ x. x ≡ f)
-      → Files is_clean stood old new body day classes (Err f) → Files is_clean stood old new body day classes result
+      → MakesRecords is_clean stood old new body day classes (Err f) → MakesRecords is_clean stood old new body day classes result
   files_fault old new body day classes (Err e) f is same h = let P : DeskFault
-      → Type 0 = λ x. Files is_clean stood old new body day classes (Err x) in subst P (sym same) h
+      → Type 0 = λ x. MakesRecords is_clean stood old new body day classes (Err x) in subst P (sym same) h
   files_fault old new body day classes (Ok v) f is same h = absurd (false≢true is)
 
   pub file_poor : (store : A) (body : List ℕ) (day : ℕ) (classes : List (List ℕ))
-      → Files is_clean stood store store body day classes (Err faults.NoMemory)
+      → MakesRecords is_clean stood store store body day classes (Err faults.NoMemory)
   file_poor store body day classes = λ a stands are. (stands, λ clean. record { number = 99; told = refl; reason = inl (inl refl) })
 
   -- paths that are no classes of the archive's plan
   pub no_classes : (store : A) (plan : Listing) (body : List ℕ) (day : ℕ) (asked classes : List (List ℕ)) (b : Bool)
       (f : DeskFault) → ((a : Archive) → stood store a → plan ≡ a.plan) → asked ≡ classes → b ≡ false
-      → (IsTrue b ↔ AreClasses plan asked) → Files is_clean stood store store body day classes (Err f)
+      → (IsTrue b ↔ AreClasses plan asked) → MakesRecords is_clean stood store store body day classes (Err f)
   no_classes store plan body day asked classes b f kept same off is = λ a stands are.
       let P : List (List ℕ) → Type 0 = λ qs. AreClasses plan qs in
       let Q : Listing → Type 0 = λ p. AreClasses p classes in
@@ -89,7 +89,7 @@ module _ {A I : Type 0} (is_clean : A → Type 0) (stood : A → Archive → Typ
   pub file_refused : {E : Type 0} (old new : A) (body said : List ℕ) (day on : ℕ) (classes asked : List (List ℕ))
       (f : ArchiveFault E) → said ≡ body → on ≡ day → asked ≡ classes
       → CarriesOut {E = E} is_clean stood may_leave keeps old new (λ a. capture a said on asked) (AreLines on asked) (Err f)
-      → Files is_clean stood old new body day classes (Err (archive_fault f))
+      → MakesRecords is_clean stood old new body day classes (Err (archive_fault f))
   file_refused old new body said day on classes asked f b d c call = λ a stands are.
       let h = call.does a stands in
       let same : capture a said on asked ≡ capture a body day classes = λ i. capture a (b i) (d i) (c i) in
@@ -98,7 +98,7 @@ module _ {A I : Type 0} (is_clean : A → Type 0) (stood : A → Archive → Typ
   pub file_done : {E : Type 0} (old new : A) (body said : List ℕ) (day on : ℕ) (classes asked : List (List ℕ))
       (lines : Vec Line Global) → said ≡ body → on ≡ day → asked ≡ classes
       → CarriesOut {E = E} is_clean stood may_leave keeps old new (λ a. capture a said on asked) (AreLines on asked) (Ok lines)
-      → Files is_clean stood old new body day classes (Ok lines)
+      → MakesRecords is_clean stood old new body day classes (Ok lines)
   file_done old new body said day on classes asked lines b d c call = λ clean a stands.
       let h = call.does clean a stands in
       let same : capture a said on asked ≡ capture a body day classes = λ i. capture a (b i) (d i) (c i) in
@@ -146,6 +146,7 @@ module _ {A I : Type 0} (is_clean : A → Type 0) (stood : A → Archive → Typ
 pub none_shown : (o : Option Flight) → IsFound o None → o ≡ None
 none_shown o h = none_found o h
 
-pub shown : (o : Option Flight) (x : FlightView) → IsFound o (Some x) → Stands x.program (facts_in x.case) x.machine → IsShownBy o x.program x.machine
+pub shown : (o : Option Flight) (x : FlightView) → IsFound o (Some x) → IsOnRun x.program (facts_in x.case) x.machine
+    → IsShownBy o x.program x.machine
 shown None x h on = absurd h
-shown (Some f) x h on = let P : Facts → Type 0 = λ c. Stands x.program c x.machine in (h.program, subst P h.facts on, h.steps)
+shown (Some f) x h on = let P : Facts → Type 0 = λ c. IsOnRun x.program c x.machine in (h.program, subst P h.facts on, h.steps)

@@ -26,10 +26,10 @@ use Rattle.filing_commands.specs.Office.{with_archive}
 use Rattle.filing_commands.specs.Standing.{Standing, Flight, Step, FinishStep, flight_of, grant, is_refusal, with_turns, without, turn, finish}
 use Rattle.filing_commands.specs.declared.fault.DeskFault.{DeskFault}
 use Rattle.filing_flights.specs.Flights.{AreHeld, Finds, IsFound, Removes, Turns}
-use Rattle.filing_flights.specs.FlightViews.{FlightView, Holds, IsClass, IsOutcome, TellsEnd}
+use Rattle.filing_flights.specs.FlightViews.{FlightView, Holds, IsOpenAtBegin, IsOutcome, TellsEnd}
 use Rattle.filing_flights.specs.Laws.{CapturesHaveClasses, HasOpen}
 use Rattle.filing_officers.specs.Register.{office_of}
-use Rattle.filing_desk.specs.Filing.{Files, FilesSafely, IsArchiveFault, IsNotFiled}
+use Rattle.filing_desk.specs.Filing.{MakesRecords, FilesSafely, IsArchiveFault, IsNotFiled}
 use Rattle.filing_desk.specs.Standing.{AreOpenPaths, HasPathsOf, IsClean, MayLeave, StandsFor}
 use Rattle.filing_desk.specs.declared.desk.Desk.{Desk}
 use Rattle.filing_desk.proofs.ClassLemmas.{captured_plan}
@@ -177,8 +177,8 @@ module _ {A I : Type 0} (is_clean : A → Type 0) (stood : A → Archive → Typ
   -- after nothing was filed, the desk represents the same state
   finish_stays : (are_classes : CapturesHaveClasses) → ((x : A) (a : Archive) → stood x a → IsArchive a)
       → (old new : Desk A) (t : ℕ) (x : FlightView) (o : Outcome) (f : DeskFault) → Finds old.flights t (Some x)
-      → IsIncreasing o.classes → All (IsClass x) o.classes
-      → Files is_clean stood old.store new.store x.message (number_of_day x.day) o.classes (Err f)
+      → IsIncreasing o.classes → All (IsOpenAtBegin x) o.classes
+      → MakesRecords is_clean stood old.store new.store x.message (number_of_day x.day) o.classes (Err f)
       → new.officers ≡ old.officers → new.flights ≡ old.flights → new.last ≡ old.last → new.open_paths ≡ old.open_paths
       → (s : Standing) → StandsFor stood old s → StandsFor stood new s
       × (is_clean new.store → IsNotFiled s.office.archive x.message (number_of_day x.day) o.classes f)
@@ -276,8 +276,8 @@ module _ {A I : Type 0} (is_clean : A → Type 0) (stood : A → Archive → Typ
   pub finish_refused : CapturesHaveClasses → ((x : A) (a : Archive) → stood x a → IsArchive a)
       → (old new : Desk A) (t : ℕ) (x : FlightView) (b : Bool) (o : Outcome) (f : DeskFault) (a : Answer)
       → Finds old.flights t (Some x) → TellsEnd x b → b ≡ true → IsOutcome x o → IsIncreasing o.classes
-      → All (IsClass x) o.classes
-      → Files is_clean stood old.store new.store x.message (number_of_day x.day) o.classes (Err f) → IsArchiveFault f
+      → All (IsOpenAtBegin x) o.classes
+      → MakesRecords is_clean stood old.store new.store x.message (number_of_day x.day) o.classes (Err f) → IsArchiveFault f
       → FilesSafely is_clean stood may_leave keeps old.store new.store x.message (number_of_day x.day) o.classes (Err f)
       → (is_clean new.store → is_clean old.store) → new.officers ≡ old.officers → new.flights ≡ old.flights
       → new.last ≡ old.last → new.open_paths ≡ old.open_paths → a ≡ refused_by f
@@ -305,7 +305,7 @@ module _ {A I : Type 0} (is_clean : A → Type 0) (stood : A → Archive → Typ
   -- a capture is whole
   pub finish_done : (old new : Desk A) (t : ℕ) (x : FlightView) (b : Bool) (o : Outcome) (lines : Vec Line Global)
       → Finds old.flights t (Some x) → TellsEnd x b → b ≡ true → IsOutcome x o
-      → Files is_clean stood old.store new.store x.message (number_of_day x.day) o.classes (Ok lines)
+      → MakesRecords is_clean stood old.store new.store x.message (number_of_day x.day) o.classes (Ok lines)
       → FilesSafely is_clean stood may_leave keeps old.store new.store x.message (number_of_day x.day) o.classes (Ok lines)
       → (is_clean new.store → is_clean old.store) → new.officers ≡ old.officers → Removes old.flights t new.flights
       → new.last ≡ old.last → new.open_paths ≡ old.open_paths

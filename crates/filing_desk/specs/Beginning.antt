@@ -30,7 +30,7 @@ pub record KeepsAll {A : Type 0} (old new : Desk A) : Type 0 where
   pub last : new.last ≡ old.last
 
 -- a new capture of what stands at a desk with this plan, with no step made
-pub record IsEntered {A : Type 0} (plan : Listing) (desk : Desk A) (officer : List ℕ) (ticket : ℕ) (message : List ℕ) (day : Date)
+pub record IsNewFlight {A : Type 0} (plan : Listing) (desk : Desk A) (officer : List ℕ) (ticket : ℕ) (message : List ℕ) (day : Date)
     (x : FlightView) : Type 0 where
   pub program : Program
   pub paths : List (List ℕ)

@@ -24,12 +24,12 @@ pub record IsNotFiled (a : Archive) (body : List ℕ) (on : ℕ) (classes : List
   pub reason : IsTrouble number ⊎ ((number ≡ 87) × (capture a body on classes ≡ Err Full))
 
 -- the capture of a message in these classes is made whole, or not at all
-abbrev pub Files : {A : Type 0} → (clean : A → Type 0) → (stands : A → Archive → Type 0) → (old new : A) →
+abbrev pub MakesRecords : {A : Type 0} → (clean : A → Type 0) → (stands : A → Archive → Type 0) → (old new : A) →
     (body : List ℕ) (day : ℕ) (classes : List (List ℕ)) → Result (Vec Line Global) DeskFault → Type 0
-Files clean stands old new body day classes (Ok lines) =
+MakesRecords clean stands old new body day classes (Ok lines) =
     clean new → (a : Archive) → stands old a → Makes (stands new) (capture a body day classes) ×
     (map line_view lines.items ≡ capture_lines a day classes)
-Files clean stands old new body day classes (Err f) =
+MakesRecords clean stands old new body day classes (Err f) =
     (a : Archive) → stands old a → AreClasses a.plan classes → stands new a ×
     (clean new → IsNotFiled a body day classes f)
 

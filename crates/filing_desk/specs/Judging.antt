@@ -6,8 +6,8 @@ use Rattle.filing_commands.specs.declared.fault.DeskFault.{DeskFault}
 use Rattle.filing_commands.specs.declared.fault.DeskFault.TheVariants.{NoMemory}
 
 -- a message is refused with this number: it is too long
-abbrev pub IsTooLong : (message : List ℕ) (number : ℕ) → Type 0
-IsTooLong message number = (greatest_message < length message) × (number ≡ 95)
+abbrev pub IsLongMessage : (message : List ℕ) (number : ℕ) → Type 0
+IsLongMessage message number = (greatest_message < length message) × (number ≡ 95)
 
 -- a fault by the rules, with an offset exactly where its number is shown with one; or no memory (99), for a payload
 -- within its limit

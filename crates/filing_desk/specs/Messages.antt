@@ -24,6 +24,6 @@ IsShortPayload payload.TooLong = ⊥
 IsShortPayload payload.NoMemory = Unit {0}
 
 -- a message is not too long
-abbrev pub IsShort : Message → Type 0
-IsShort (message.Whole p) = IsShortPayload p
-IsShort (message.Pieces pieces) = length (whole_message pieces.now) ≤ greatest_message
+abbrev pub IsShortMessage : Message → Type 0
+IsShortMessage (message.Whole p) = IsShortPayload p
+IsShortMessage (message.Pieces pieces) = length (whole_message pieces.now) ≤ greatest_message

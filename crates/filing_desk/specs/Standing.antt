@@ -4,7 +4,7 @@ use Rattle.std.specs.List.{AllByRecursion}
 use Rattle.class_plan.specs.Plans.{Listing, has, is_open_in}
 use Rattle.filing_image.specs.Program.{Program}
 use Rattle.filing_case.specs.Message.{is_among}
-use Rattle.filing_machine.specs.Runs.{Stands, Snapshot}
+use Rattle.filing_machine.specs.Runs.{IsOnRun, Snapshot}
 use Rattle.record_archive.specs.Archive.{Archive}
 use Rattle.filing_commands.specs.Pinning.{case_in}
 use Rattle.filing_commands.specs.Standing.{Standing, Flight}
@@ -42,5 +42,5 @@ pub record StandsFor {A : Type 0} (stands : A → Archive → Type 0) (desk : De
 -- and its run's length
 abbrev pub IsShownBy : Option Flight → Program → Snapshot → Type 0
 IsShownBy None program machine = ⊥
-IsShownBy (Some f) program machine = (program ≡ f.pinned) × Stands program (case_in f.at_begin) machine ×
+IsShownBy (Some f) program machine = (program ≡ f.pinned) × IsOnRun program (case_in f.at_begin) machine ×
     (machine.steps ≡ min f.granted f.run_length)

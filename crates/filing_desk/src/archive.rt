@@ -3,7 +3,7 @@
 ghost use Rattle.std.specs.Prelude.{◌≡◌, ◌≤◌, ◌^◌, IfErr, MatchResult};
 ghost use Rattle.class_plan.specs.Calendar.{number_of_day};
 ghost use Rattle.record_archive.specs.declared.fault.ArchiveRefusal.TheVariants.{NoRecord};
-ghost use Rattle.filing_desk.specs.Filing.{Files, FilesSafely, IsArchiveFault};
+ghost use Rattle.filing_desk.specs.Filing.{MakesRecords, FilesSafely, IsArchiveFault};
 
 use class_paths::Paths;
 use filing_commands::DeskFault;
@@ -29,7 +29,7 @@ pub(crate) fn file_outcome<A: Records>(
     flight: &Flight,
     classes: &Paths,
 ) -> Result<Vec<Line>, DeskFault>
-    ensures files { Files A.clean A.stands store.old store.new flight.now.message
+    ensures files { MakesRecords A.clean A.stands store.old store.new flight.now.message
         (number_of_day flight.now.day) classes.now result }
     ensures safe { FilesSafely A.clean A.stands A.may_leave A.keeps store.old store.new
         flight.now.message (number_of_day flight.now.day) classes.now result }

@@ -9,8 +9,8 @@ ghost use Rattle.filing_commands.specs.Limits.{greatest_message};
 ghost use Rattle.filing_commands.specs.Standing as commands;
 ghost use Rattle.filing_commands.specs.Standing.{Standing, flight_of};
 ghost use Rattle.filing_commands.specs.CallAnswers.{answer_of_ticket};
-ghost use Rattle.filing_desk.specs.Beginning.{IsEntered, IsNumbered, KeepsAll, against_begin};
-ghost use Rattle.filing_desk.specs.Messages.{IsMessageOf, IsShort, whole_message};
+ghost use Rattle.filing_desk.specs.Beginning.{IsNewFlight, IsNumbered, KeepsAll, against_begin};
+ghost use Rattle.filing_desk.specs.Messages.{IsMessageOf, IsShortMessage, whole_message};
 ghost use Rattle.filing_desk.specs.Standing.{AreOpenPaths, IsShownBy};
 
 use crate::desk::Desk;
@@ -30,7 +30,7 @@ impl<A: Records> Desk<A> {
     /// The day of a moment, where one more capture may begin. Else 94, 95, 90 or 97, judged in this order.
     fn judge_begin(&self, moment: u64, message: &Message<'_>) -> Result<Date, DeskFault>
         ensures day { IfOk result (λ d. IsCaptureDay d × (epoch_day d ≡ pos (moment / 86400))) }
-        ensures short { OnOk result (IsShort message.now) }
+        ensures short { OnOk result (IsShortMessage message.now) }
         ensures few { OnOk result ((length self.now.flights < 64) × (self.now.last < 4294967295)) }
         ensures allowed { (m : List ℕ) → IsMessageOf message.now m →
             OnOk result (against_begin self.now moment (length m) ≡ None) }
@@ -83,7 +83,7 @@ impl<A: Records> Desk<A> {
         ensures kept { AreOpenPaths self.old.open_paths (A.plan_of self.old.store) →
             AreOpenPaths self.new.open_paths (A.plan_of self.old.store) }
         ensures entered { AreOpenPaths self.old.open_paths (A.plan_of self.old.store) →
-            IfOk result (IsEntered (A.plan_of self.old.store) self.old
+            IfOk result (IsNewFlight (A.plan_of self.old.store) self.old
             officer.now ticket message.items day) }
     {
         let program = self.officers.pin(officer)?;

@@ -4,7 +4,7 @@ ghost use Rattle.std.specs.Prelude.{◌≡◌, ℕ, List, ◌<◌, ◌≤◌, fa
 ghost use Rattle.filing_commands.specs.Limits.{greatest_message};
 ghost use Rattle.filing_commands.specs.Payloads.{IsOf};
 ghost use Rattle.filing_commands.specs.declared.fault.DeskFault.TheVariants.{NoMemory};
-ghost use Rattle.filing_desk.specs.Messages.{IsMessageOf, IsShort, IsShortPayload, whole_message};
+ghost use Rattle.filing_desk.specs.Messages.{IsMessageOf, IsShortMessage, IsShortPayload, whole_message};
 
 use filing_commands::{DeskFault, MAX_MESSAGE_OCTETS, Payload};
 use std::alloc::{AllocError, Global};
@@ -77,7 +77,7 @@ impl Message<'_> {
     pub fn is_too_long(&self) -> bool
         ensures told { (m : List ℕ) → IsMessageOf self.now m
             → result ≡ nat_lt greatest_message (length m) }
-        ensures short { result ≡ false → IsShort self.now }
+        ensures short { result ≡ false → IsShortMessage self.now }
     {
         match self {
             Message::Whole(payload) => is_payload_too_long(payload),
@@ -88,7 +88,7 @@ impl Message<'_> {
     /// The octets of the message, which the caller has found not too long; pieces are joined. 99 where there was no
     /// memory for them.
     pub fn octets(self, alloc: Global) -> Result<Vec<u8>, DeskFault>
-        requires { IsShort self }
+        requires { IsShortMessage self }
         ensures octets { (m : List ℕ) → IsMessageOf self.entry m
             → IfOk result (λ v. v.items ≡ m) }
         ensures within { IfOk result (λ v. length v.items ≤ greatest_message) }

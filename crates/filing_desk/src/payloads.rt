@@ -10,7 +10,7 @@ ghost use Rattle.filing_case.specs.Whole.{facts_by};
 ghost use Rattle.filing_commands.specs.Limits.{greatest_image, greatest_message, greatest_script};
 ghost use Rattle.filing_commands.specs.Parts.{IsGood, IsGoodImage, RefusesImage, RefusesScript};
 ghost use Rattle.filing_commands.specs.Payloads.{IsOf};
-ghost use Rattle.filing_desk.specs.Judging.{IsFaultOf, IsTooLong};
+ghost use Rattle.filing_desk.specs.Judging.{IsFaultOf, IsLongMessage};
 
 use crate::classes::PlanClasses;
 use class_plan::Plan;
@@ -91,7 +91,7 @@ pub fn judge_message<'a>(
     ensures case { (m : List ℕ) → IsOf greatest_message message.now m → IfOk result
         (λ c. facts_by (λ p. is_open_in (p.0).now) c ≡ case_of m (is_open_in plan.now)) }
     ensures refused { (m : List ℕ) → IsOf greatest_message message.now m →
-        IfErr result (IsFaultOf (IsTooLong m) greatest_message m) }
+        IfErr result (IsFaultOf (IsLongMessage m) greatest_message m) }
 {
     let octets = message.octets(MAX_MESSAGE_OCTETS, DeskFault::MessageTooLong)?;
     let case = WholeCase::from_message(alloc, octets, PlanClasses(plan))?;

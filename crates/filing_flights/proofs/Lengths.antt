@@ -11,20 +11,20 @@ use Rattle.filing_table.proofs.Once.{one_step, over_is_not_at}
 use Rattle.filing_machine.specs.declared.state.Progress.{Progress}
 use Rattle.filing_machine.specs.declared.state.Progress.TheVariants.{Going, Ended}
 use Rattle.filing_machine.specs.StateViews.{state, run_at}
-use Rattle.filing_machine.specs.Runs.{Snapshot, Stands}
+use Rattle.filing_machine.specs.Runs.{Snapshot, IsOnRun}
 use Rattle.filing_machine.proofs.Ends.{outcome_here}
 use Rattle.filing_flights.specs.Machines.{HasMade}
 
 -- a machine that has ended has made all steps of its run
 pub ended_at : (p : Program) (c : Facts) (m : Snapshot) (n : ℕ) (o : Outcome) (fault : Option RunFault)
-    → m.progress ≡ Ended fault → Stands p c m → HasOutcome p c n o → m.steps ≡ n
+    → m.progress ≡ Ended fault → IsOnRun p c m → HasOutcome p c n o → m.steps ≡ n
 ended_at p c m n o fault e h k = one_step p c m.steps n _ o (outcome_here p c m fault _ e refl h) k
 
-pub runs_at : (p : Program) (c : Facts) (m : Snapshot) → m.progress ≡ Going → Stands p c m → after_steps p c m.steps ≡ At (state c m.at)
+pub runs_at : (p : Program) (c : Facts) (m : Snapshot) → m.progress ≡ Going → IsOnRun p c m → after_steps p c m.steps ≡ At (state c m.at)
 runs_at p c m e h = sym h.on_run ∙ ap (λ progress. run_at progress (state c m.at)) e
 
 -- and one that has not has made fewer
-pub running_before : (p : Program) (c : Facts) (m : Snapshot) (n : ℕ) (o : Outcome) → m.progress ≡ Going → Stands p c m
+pub running_before : (p : Program) (c : Facts) (m : Snapshot) (n : ℕ) (o : Outcome) → m.progress ≡ Going → IsOnRun p c m
     → HasOutcome p c n o → m.steps < n
 running_before p c m n o e h k = elim (cases_order m.steps n) [
   | inl same ↦ absurd (over_is_not_at k.0 k.1 (state c m.at) (sym k.2.over ∙ ap (after_steps p c) (sym same) ∙ runs_at p c m e h))
@@ -34,7 +34,7 @@ running_before p c m n o e h k = elim (cases_order m.steps n) [
 
 -- turns that are made one after another add up
 pub made_by : (p : Program) (c : Facts) (old new : Snapshot) (n all k : ℕ) (o : Outcome) (progress : Progress)
-    → new.progress ≡ progress → Stands p c new → HasOutcome p c n o → old.steps ≡ min all n → HasMade old k new
+    → new.progress ≡ progress → IsOnRun p c new → HasOutcome p c n o → old.steps ≡ min all n → HasMade old k new
     → new.steps ≡ min (all + k) n
 made_by p c old new n all k o Going e h run at made =
     let early = running_before p c new n o e h run in

@@ -10,7 +10,7 @@ use Rattle.class_plan.specs.Plans.{IsPlan, Listing, Row, row_at, has, is_open_in
 use Rattle.record_archive.specs.Archive.{AreClasses}
 use Rattle.filing_case.specs.Message.{is_among}
 use Rattle.filing_commands.specs.Standing.{Flight}
-use Rattle.filing_flights.specs.FlightViews.{FlightView, Holds, IsClass}
+use Rattle.filing_flights.specs.FlightViews.{FlightView, Holds, IsOpenAtBegin}
 use Rattle.filing_flights.specs.Laws.{HasOpen}
 
 open_is_there : (o : Option Row) → unwrap_or (option_map (λ r. r.is_open) o) false ≡ true → is_some o ≡ true
@@ -22,20 +22,20 @@ pub open_has : (p : Listing) (q : List ℕ) → is_open_in p q ≡ true → has 
 open_has p q e = open_is_there (row_at q p.rows) e
 
 are_there : (x : FlightView) (p : Listing) (cs : List (List ℕ)) → has p.rows unfiled ≡ true → HasOpen x p
-    → AllByRecursion (IsClass x) cs → AllByRecursion (λ q. has p.rows q ≡ true) cs
+    → AllByRecursion (IsOpenAtBegin x) cs → AllByRecursion (λ q. has p.rows q ≡ true) cs
 are_there x p [] d opens all = tt
 are_there x p (q ∷ qs) d opens all = (is_there all.0, are_there x p qs d opens all.1)
   where
-    is_there : IsClass x q → has p.rows q ≡ true
+    is_there : IsOpenAtBegin x q → has p.rows q ≡ true
     is_there (inl same) = let P : List ℕ → Type 0 = λ r. has p.rows r ≡ true in subst P (sym same) d
     is_there (inr among) = opens q among
 
-pub are_classes : (x : FlightView) (p : Listing) (cs : List (List ℕ)) → IsPlan p → HasOpen x p → All (IsClass x) cs
+pub are_classes : (x : FlightView) (p : Listing) (cs : List (List ℕ)) → IsPlan p → HasOpen x p → All (IsOpenAtBegin x) cs
     → IsIncreasing cs → AreClasses p cs
 are_classes x p cs plan opens each up = record {
   classes = All-from_recursion (λ q.
       has p.rows q ≡ true) cs (are_there x p cs (open_has p unfiled plan.unfiled_open) opens
-      (recursion_from_All (IsClass x) cs each));
+      (recursion_from_All (IsOpenAtBegin x) cs each));
   in_order = up;
 }
 

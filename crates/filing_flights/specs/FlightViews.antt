@@ -69,5 +69,5 @@ abbrev pub IsOutcome : FlightView → Outcome → Type 0
 IsOutcome x o = (f : Flight) → Holds x f → IsAlone f.at_begin o
 
 -- the default class, or a path that was open at the beginning
-abbrev pub IsClass : FlightView → List ℕ → Type 0
-IsClass x q = (q ≡ unfiled) ⊎ (is_among x.case.paths q ≡ true)
+abbrev pub IsOpenAtBegin : FlightView → List ℕ → Type 0
+IsOpenAtBegin x q = (q ≡ unfiled) ⊎ (is_among x.case.paths q ≡ true)

@@ -5,7 +5,7 @@ use Rattle.class_plan.specs.Plans.{IsPlan, Listing, has, is_open_in}
 use Rattle.record_archive.specs.Archive.{AreClasses}
 use Rattle.filing_case.specs.Message.{is_among}
 use Rattle.filing_commands.specs.Standing.{Flight}
-use Rattle.filing_flights.specs.FlightViews.{FlightView, IsClass}
+use Rattle.filing_flights.specs.FlightViews.{FlightView, IsOpenAtBegin}
 use Rattle.filing_flights.specs.Flights.{AreHeld}
 
 -- there are as many captures as flights that they hold
@@ -23,4 +23,4 @@ HasOpen x p = (q : List ℕ) → is_among x.case.paths q ≡ true → has p.rows
 -- the classes of a capture, in order, are classes of each plan that has all paths that were open at its beginning
 abbrev pub CapturesHaveClasses : Type 0
 CapturesHaveClasses = (x : FlightView) (p : Listing) (classes : List (List ℕ)) → IsPlan p → HasOpen x p
-    → All (IsClass x) classes → IsIncreasing classes → AreClasses p classes
+    → All (IsOpenAtBegin x) classes → IsIncreasing classes → AreClasses p classes

@@ -6,8 +6,8 @@ ghost use Rattle.class_paths.specs.Paths.{IsIncreasing};
 ghost use Rattle.class_plan.specs.Dates.{IsCaptureDay};
 ghost use Rattle.sieve_meaning.specs.Case.{Facts};
 ghost use Rattle.filing_image.specs.Program.{Program};
-ghost use Rattle.filing_machine.specs.Runs.{Stands};
-ghost use Rattle.filing_flights.specs.FlightViews.{IsGranted, IsOutcome, IsClass, StopsShort, TellsEnd, TellsTurns, facts_in, has_ended};
+ghost use Rattle.filing_machine.specs.Runs.{IsOnRun};
+ghost use Rattle.filing_flights.specs.FlightViews.{IsGranted, IsOutcome, IsOpenAtBegin, StopsShort, TellsEnd, TellsTurns, facts_in, has_ended};
 ghost use Rattle.filing_flights.specs.Begun.{HoldsBegun};
 ghost use Rattle.filing_flights.specs.Machines.{HasMade, IsStopped};
 
@@ -36,7 +36,7 @@ pub struct Flight {
 impl Model for Flight {
     ghost use Rattle.class_plan.specs.Dates.{IsCaptureDay};
     ghost use Rattle.filing_flights.specs.FlightViews.{FlightView, facts_in};
-    ghost use Rattle.filing_machine.specs.Runs.{Stands};
+    ghost use Rattle.filing_machine.specs.Runs.{IsOnRun};
 
     ghost Value = { FlightView };
 
@@ -49,7 +49,7 @@ impl Model for Flight {
       machine = f.machine;
     } };
 
-    ghost invariant = { λ f. Stands f.program.value (facts_in f.case) f.machine
+    ghost invariant = { λ f. IsOnRun f.program.value (facts_in f.case) f.machine
         × IsCaptureDay f.day };
 }
 
@@ -112,7 +112,7 @@ impl Flight {
     /// The machine that runs the program.
     pub fn machine(&self) -> &Machine
         ensures value { result.now ≡ self.now.machine }
-        ensures stands { Stands self.now.program (facts_in self.now.case) self.now.machine }
+        ensures stands { IsOnRun self.now.program (facts_in self.now.case) self.now.machine }
     {
         &self.machine
     }
@@ -150,7 +150,7 @@ impl Flight {
         requires { has_ended self.now ≡ true }
         ensures alone { IfOk result (λ o. IsOutcome self.now o) }
         ensures in_order { IfOk result (λ o. IsIncreasing o.classes) }
-        ensures classes { IfOk result (λ o. All (IsClass self.now) o.classes) }
+        ensures classes { IfOk result (λ o. All (IsOpenAtBegin self.now) o.classes) }
     {
         self.machine.outcome()
     }
@@ -163,8 +163,8 @@ fn make_steps<C: Case>(
     case: &C,
     count: u32,
 ) -> Result<(), AllocError>
-    requires { Stands program.now (C.facts case.now) machine.old }
-    ensures stands { Stands program.now (C.facts case.now) machine.new }
+    requires { IsOnRun program.now (C.facts case.now) machine.old }
+    ensures stands { IsOnRun program.now (C.facts case.now) machine.new }
     ensures ok { OnOk result (HasMade machine.old count machine.new) }
     ensures err { OnErr result (IsStopped program.now machine.old count machine.new) }
 {

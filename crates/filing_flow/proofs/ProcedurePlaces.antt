@@ -3,7 +3,7 @@ use Rattle.std.proofs.Common.{◌≡◌, ℕ, zero, suc, ◌+◌, ◌<◌, ◌�
 use Rattle.std.specs.List.{count_by}
 use Rattle.std.proofs.lemmas.List.Recursion.{is_count_by}
 use Rattle.std.proofs.lemmas.Bool.{le-leb, lt-leb}
-use Rattle.filing_verify.specs.Well.{Ascends, AreProcedures}
+use Rattle.filing_verify.specs.Well.{Ascends, AreFirstPlaces}
 use Rattle.filing_flow.specs.Structure.{Flow, size}
 use Rattle.filing_flow.specs.Procedures.{places_from, whole_size}
 
@@ -53,7 +53,7 @@ begins_at_zero [] some = absurd (omega arith)
 begins_at_zero (a ∷ later) some = refl
 
 pub are_procedures : (places : ℕ) (procedures : List Flow) → places ≡ whole_size procedures → 1 ≤ length procedures
-    → length procedures ≤ 256 → AreProcedures places (places_from 0 procedures)
+    → length procedures ≤ 256 → AreFirstPlaces places (places_from 0 procedures)
 are_procedures places procedures long some few = record {
   some = omega (arith, some, places_long 0 procedures);
   most = omega (arith, few, places_long 0 procedures);

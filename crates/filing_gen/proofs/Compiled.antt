@@ -26,7 +26,7 @@ use Rattle.std.specs.Prelude.{slice_get}
 use Rattle.filing_image.specs.declared.instruction.Operation.{Operation}
 use Rattle.filing_flow.specs.Code.{places_in}
 use Rattle.filing_flow.proofs.Stands.{Named, stands_there}
-use Rattle.filing_gen.specs.Adds.{operands_of, HasRoom, IsCode, IsImageOf}
+use Rattle.filing_gen.specs.Adds.{operands_of, HasRoom, IsCode, IsImageOfOutput}
 use Rattle.filing_gen.specs.Emission.{commands_long}
 use Rattle.filing_gen.specs.declared.output.Output.{Output}
 use Rattle.filing_flow.specs.Compiled.{IsCompiled}
@@ -133,7 +133,7 @@ module _ (lib : Library) (slot : Slots) (count : ℕ) (has : HasSlots lib slot c
       good (omega (arith, slots, has.few)) (omega (arith, budget, script_small)) (omega (arith, budget, small))
 
   -- what was written is the program
-  code_of : (o : Output) (p : Program) (a : Flow) (b : ℕ) → IsCode o a → IsImageOf b count None o p → IsCodeOf p a
+  code_of : (o : Output) (p : Program) (a : Flow) (b : ℕ) → IsCode o a → IsImageOfOutput b count None o p → IsCodeOf p a
   code_of o p a b is made =
       let named : Named (operands_of o) (places_in p.texts p.numbers) = record { text = made.text; number = made.number } in
       record {
@@ -152,12 +152,12 @@ module _ (lib : Library) (slot : Slots) (count : ℕ) (has : HasSlots lib slot c
   )
 
   pub built_well : (o : Output) (p : Program) (b : ℕ) → IsCode o (main_flow lib slot known_as main)
-      → IsImageOf b count None o p → b ≡ linked_weight lib known_as main → b ≤ 60000 → IsWell p
+      → IsImageOfOutput b count None o p → b ≡ linked_weight lib known_as main → b ≤ 60000 → IsWell p
   built_well o p b is made weight small =
       well p (code_of o p (main_flow lib slot known_as main) b is made) made.slots (made.budget_is ∙ weight) (omega (arith, weight, small))
 
   pub built : (o : Output) (p : Program) (b : ℕ) → IsCode o (main_flow lib slot known_as main)
-      → IsImageOf b count None o p → IsWell p → b ≡ linked_weight lib known_as main → b ≤ 60000
+      → IsImageOfOutput b count None o p → IsWell p → b ≡ linked_weight lib known_as main → b ≤ 60000
       → IsCompiled lib known_as main p
   built o p b is made good weight small =
       record {

@@ -11,7 +11,7 @@ use Rattle.filing_image.specs.declared.instruction.Operation.{Operation}
 use Rattle.filing_image.specs.declared.instruction.Operation.TheVariants.{Call, Return}
 use Rattle.filing_verify.specs.Well.{IsWell, InRange, HasProcedures}
 use Rattle.filing_gen.specs.Pools.{IsAmong, octets_of}
-use Rattle.filing_gen.specs.Adds.{HasRoom, IsImageOf}
+use Rattle.filing_gen.specs.Adds.{HasRoom, IsImageOfOutput}
 use Rattle.filing_gen.specs.Correct.{FitsImage}
 use Rattle.filing_gen.specs.declared.output.Output.{Output}
 
@@ -50,7 +50,7 @@ module _ (o : Output) (budget slots : ℕ) (firsts : Option (List ℕ)) (texts :
   abbrev image : Program
   image = program_from budget texts numbers slots firsts code
 
-  pub is_image : IsImageOf budget slots firsts o image
+  pub is_image : IsImageOfOutput budget slots firsts o image
   is_image = record {
     budget_is = refl;
     slots = refl;
@@ -61,7 +61,7 @@ module _ (o : Output) (budget slots : ℕ) (firsts : Option (List ℕ)) (texts :
   }
 
   pub fits_image : HasRoom o 0 → length texts ≡ length o.texts → length numbers ≡ length o.numbers
-      → All (λ t. length t < 2 ^ 16) (octets_of texts) → ((p : Program) → IsImageOf budget slots firsts o p → IsWell p)
+      → All (λ t. length t < 2 ^ 16) (octets_of texts) → ((p : Program) → IsImageOfOutput budget slots firsts o p → IsWell p)
       → FitsImage image
   fits_image few as_many_texts as_many_numbers short all_well =
       let well = all_well image is_image in

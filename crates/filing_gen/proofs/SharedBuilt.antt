@@ -13,7 +13,7 @@ use Rattle.script_library.specs.Libraries.{Scripts, library_of}
 use Rattle.script_procedures.specs.Slots.{slots_of, HasSlots}
 use Rattle.script_procedures.specs.ProcedureCode.{procedure_of, AreProcedures}
 use Rattle.script_procedures.specs.declared.procedure.Procedure as code
-use Rattle.filing_gen.specs.Adds.{HasRoom, IsImageOf}
+use Rattle.filing_gen.specs.Adds.{HasRoom, IsImageOfOutput}
 use Rattle.filing_flow.specs.Compiled.{IsCompiled}
 use Rattle.filing_gen.specs.Procedures.{procedure_flows, shared_flows}
 use Rattle.filing_gen.specs.SharedCode.{IsSharedCode}
@@ -63,7 +63,7 @@ module _ (l : Scripts) (known_as : Option (List ℕ)) (main : Commands) where
 
     module _ (count : ℕ) (has : HasSlots lib (slots_of l) count) (o : Output) (p : Program) (budget : ℕ) (places : List ℕ) where
       pub shared_image : IsSharedCode o places (procedure_flows lib (slots_of l) (main_names known_as) 0
-          (map procedure_of ps)) → IsImageOf budget count (Some places) o p → (budget ≡ path_weight lib known_as main)
+          (map procedure_of ps)) → IsImageOfOutput budget count (Some places) o p → (budget ≡ path_weight lib known_as main)
           × (budget ≤ greatest_path) → length ps ≤ most_procedures
           → IsShared lib (slots_of l) count has known_as main p
       shared_image written made path few =
@@ -71,7 +71,7 @@ module _ (l : Scripts) (known_as : Option (List ℕ)) (main : Commands) where
           subst (λ (qs : List Procedure).
           IsSharedCode o places (procedure_flows lib (slots_of l) (main_names known_as) 0 qs)) are.are written in
           shared_compiled lib (slots_of l) count has known_as main o p budget code.stand code.long
-          (subst (λ (ns : List ℕ). IsImageOf budget count (Some ns) o p) code.places made) path.0 (omega (
+          (subst (λ (ns : List ℕ). IsImageOfOutput budget count (Some ns) o p) code.places made) path.0 (omega (
             arith,
             few,
             as_many,

@@ -19,7 +19,7 @@ use Rattle.filing_flow.specs.Procedures.{AreProceduresOf, AreSound, ProceduresSt
 use Rattle.filing_flow.proofs.Stands.{Named}
 use Rattle.filing_flow.proofs.WellProcedures.{typed_procedures_are_well}
 use Rattle.script_procedures.specs.Slots.{Slots, HasSlots}
-use Rattle.filing_gen.specs.Adds.{operands_of, IsImageOf}
+use Rattle.filing_gen.specs.Adds.{operands_of, IsImageOfOutput}
 use Rattle.filing_gen.specs.Procedures.{shared_flows}
 use Rattle.filing_gen.specs.declared.output.Output.{Output}
 use Rattle.filing_gen.proofs.WrittenProcedures.{procedures_there}
@@ -66,7 +66,7 @@ module _ (ps : List Procedure) (path : ℕ) where
 -- what was written is the program
 pub shared_program : (o : Output) (p : Program) (flows : List Flow)
     → ProceduresStand (operands_of o) o.code.items flows 0 → length o.code.items ≡ whole_size flows → (budget count : ℕ)
-    → IsImageOf budget count (Some (places_from 0 flows)) o p → AreProceduresOf p flows
+    → IsImageOfOutput budget count (Some (places_from 0 flows)) o p → AreProceduresOf p flows
 shared_program o p flows stand long budget count made =
     let named : Named (operands_of o) (places_in p.texts p.numbers) = record { text = made.text; number = made.number } in
     record {
@@ -90,7 +90,7 @@ module _ (lib : Library) (slot : Slots) (count : ℕ) (has : HasSlots lib slot c
     pub outcomes : (c : Facts) → (n : ℕ) × HasOutcome p c n (outcome_of (meaning c lib known_as main))
 
   pub shared_compiled : (o : Output) (p : Program) (budget : ℕ) → ProceduresStand (operands_of o) o.code.items flows 0
-      → length o.code.items ≡ whole_size flows → IsImageOf budget count (Some (places_from 0 flows)) o p
+      → length o.code.items ≡ whole_size flows → IsImageOfOutput budget count (Some (places_from 0 flows)) o p
       → budget ≡ path_weight lib known_as main → length (procedures lib known_as main) ≤ most_procedures
       → path_weight lib known_as main ≤ greatest_path → IsShared p
   shared_compiled o p budget stand long made path few short =

@@ -68,7 +68,7 @@ pub record IsCode (o : Output) (a : Flow) : Type 0 where
   pub numbers : length o.numbers ≤ size (whole a)
 
 -- The program is the output, with this budget, number of slots and first places of its procedures.
-pub record IsImageOf (budget count : ℕ) (first_places : Option (List ℕ)) (o : Output) (p : Program) : Type 0 where
+pub record IsImageOfOutput (budget count : ℕ) (first_places : Option (List ℕ)) (o : Output) (p : Program) : Type 0 where
   pub budget_is : p.budget ≡ budget
   pub slots : p.slots ≡ count
   pub procedures_are : p.procedures ≡ first_places

@@ -9,7 +9,7 @@ ghost use Rattle.filing_verify.specs.Well.{IsWell};
 ghost use Rattle.filing_flow.specs.Structure.{size};
 ghost use Rattle.filing_flow.specs.Types.{HasType};
 ghost use Rattle.filing_gen.specs.BlockCode.{script_flow};
-ghost use Rattle.filing_gen.specs.Adds.{HasRoom, IsCode, IsImageOf};
+ghost use Rattle.filing_gen.specs.Adds.{HasRoom, IsCode, IsImageOfOutput};
 ghost use Rattle.filing_gen.specs.Emission.{commands_long};
 ghost use Rattle.filing_gen.specs.Correct.{NamesOnce, FitsImage};
 ghost use Rattle.filing_flow.specs.Compiled.{IsCompiled};
@@ -89,8 +89,9 @@ pub fn image_of(
     first_places: Option<Vec<u16>>,
 ) -> Result<Verified, AllocError>
     requires few { HasRoom out 0 }
-    requires well { (p : Program) → IsImageOf budget slots (list_in first_places) out p → IsWell p }
-    ensures made { IfOk result (λ v. IsImageOf budget slots (list_in first_places) out v) }
+    requires well { (p : Program)
+        → IsImageOfOutput budget slots (list_in first_places) out p → IsWell p }
+    ensures made { IfOk result (λ v. IsImageOfOutput budget slots (list_in first_places) out v) }
     ensures once { IfOk result (λ v. NamesOnce v) }
 {
     let texts = out.texts.into_texts()?;

@@ -13,7 +13,7 @@ use Rattle.filing_table.proofs.Once.{over_is_not_at, first_end}
 use Rattle.filing_machine.specs.declared.state.Progress.{Progress}
 use Rattle.filing_machine.specs.declared.state.Progress.TheVariants.{Ended}
 use Rattle.filing_machine.specs.StateViews.{state, run_at}
-use Rattle.filing_machine.specs.Runs.{Snapshot, Stands}
+use Rattle.filing_machine.specs.Runs.{Snapshot, IsOnRun}
 use Rattle.filing_machine.proofs.Sound.{keeps, in_budget, never_traps}
 
 -- an end within the budget
@@ -43,13 +43,13 @@ module _ (p : Program) (c : Facts) (well : IsWell p) where
 
 -- a machine that has ended is at the end of its run
 pub ends_here : (p : Program) (c : Facts) (m : Snapshot) (fault : Option RunFault) → m.progress ≡ Ended fault
-    → Stands p c m → Ends p c m.steps fault (state c m.at)
+    → IsOnRun p c m → Ends p c m.steps fault (state c m.at)
 ends_here p c m fault ended stands = record {
   over = sym stands.on_run ∙ ap (λ (progress : Progress). run_at progress (state c m.at)) ended;
   going = stands.going;
 }
 
 pub outcome_here : (p : Program) (c : Facts) (m : Snapshot) (fault : Option RunFault) (o : Outcome)
-    → m.progress ≡ Ended fault → o ≡ outcome_at fault m.at.filed m.at.kept m.at.cancelled → Stands p c m
+    → m.progress ≡ Ended fault → o ≡ outcome_at fault m.at.filed m.at.kept m.at.cancelled → IsOnRun p c m
     → HasOutcome p c m.steps o
 outcome_here p c m fault o ended e stands = (fault, state c m.at, ends_here p c m fault ended stands, sym e)

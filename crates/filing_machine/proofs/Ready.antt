@@ -11,7 +11,7 @@ use Rattle.filing_table.specs.Machine.{State, At, Trap, act, step, after_steps}
 use Rattle.filing_machine.specs.declared.state.Progress.{Progress}
 use Rattle.filing_machine.specs.declared.state.Progress.TheVariants.{Going}
 use Rattle.filing_machine.specs.StateViews.{state, entry, run_at, IsModest}
-use Rattle.filing_machine.specs.Runs.{Snapshot, run_view, Stands, IsModestAt}
+use Rattle.filing_machine.specs.Runs.{Snapshot, run_view, IsOnRun, IsModestAt}
 use Rattle.filing_machine.proofs.Sound.{keeps, sound, ranges, depth, room, in_budget, steps_to}
 
 -- what a step relies on
@@ -31,7 +31,7 @@ budget_small : (x : Option (List ℕ)) (budget : ℕ) → budget ≤ greatest_bu
 budget_small None budget le = omega arith
 budget_small (Some firsts) budget le = le
 
-pub ready : (p : Program) (c : Facts) (m : Snapshot) → IsWell p → m.progress ≡ Going → Stands p c m → Ready p c m
+pub ready : (p : Program) (c : Facts) (m : Snapshot) → IsWell p → m.progress ≡ Going → IsOnRun p c m → Ready p c m
 ready p c m well running stands =
     let e : At (state c m.at) ≡ run_view c m = ap (λ (progress : Progress). run_at progress (state c m.at)) (sym running) in
     let k = keeps p c well m.steps (state c m.at) (e ∙ stands.on_run) in

@@ -25,7 +25,7 @@ run_view c m = run_at m.progress (state c m.at)
 
 -- The machine is where the run of this program in this case is after the machine's steps. Before each of them the run
 -- had not ended.
-pub record Stands (p : Program) (c : Facts) (m : Snapshot) : Type 0 where
+pub record IsOnRun (p : Program) (c : Facts) (m : Snapshot) : Type 0 where
   pub on_run : run_view c m ≡ after_steps p c m.steps
   pub going : (k : ℕ) → k < m.steps → (t : State) × (after_steps p c k ≡ At t)
   pub in_case : AllByRecursion (InCase c) m.at.stack

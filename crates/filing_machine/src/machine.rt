@@ -6,7 +6,7 @@ ghost use Rattle.filing_image.specs.Program.{Program};
 ghost use Rattle.sieve_meaning.specs.Case.{Facts};
 ghost use Rattle.filing_table.specs.Machine.{At, step, start};
 ghost use Rattle.filing_table.specs.Ends.{HasOutcome};
-ghost use Rattle.filing_machine.specs.Runs.{run_view, Stands, IsModestAt, Leaves};
+ghost use Rattle.filing_machine.specs.Runs.{run_view, IsOnRun, IsModestAt, Leaves};
 ghost use Rattle.filing_machine.specs.StateViews.{state, is_ended, InCase};
 ghost use Rattle.filing_machine.specs.declared.state.Progress.TheVariants.{Going};
 ghost use Rattle.filing_machine.specs.Tops.{top_of_stack, any_on_top, value_matches};
@@ -48,7 +48,7 @@ impl Machine {
         ensures start { IfOk result (λ m. (c : Facts) → run_view c m ≡ At start) }
         ensures fresh { IfOk result (λ m. m.steps ≡ 0) }
         ensures running { IfOk result (λ m. m.progress ≡ Going) }
-        ensures stands { IfOk result (λ m. (c : Facts) → Stands _program.now c m) }
+        ensures stands { IfOk result (λ m. (c : Facts) → IsOnRun _program.now c m) }
     {
         let stack = Stack::new(alloc)?;
         let at = RunState {
@@ -73,8 +73,8 @@ impl Machine {
     /// comes at `Values`, `Join` and `File` alone; the machine is then unchanged.
     pub fn step<C: Case>(&mut self, program: &Verified, case: &C) -> Result<(), AllocError>
         requires running { self.old.progress ≡ Going }
-        requires stands { Stands program.now (C.facts case.now) self.old }
-        ensures stands { Stands program.now (C.facts case.now) self.new }
+        requires stands { IsOnRun program.now (C.facts case.now) self.old }
+        ensures stands { IsOnRun program.now (C.facts case.now) self.new }
         ensures step { OnOk result (run_view (C.facts case.now) self.new ≡
             step program.now (C.facts case.now) (run_view (C.facts case.now) self.old)) }
         ensures count { OnOk result (self.new.steps ≡ self.old.steps + 1) }
@@ -141,7 +141,7 @@ impl Machine {
     pub fn outcome(&self) -> Result<Outcome, AllocError>
         requires { is_ended self.now.progress ≡ true }
         ensures leaves { IfOk result (λ o. Leaves self.now o) }
-        ensures of_run { IfOk result (λ o. (p : Program) (c : Facts) → Stands p c self.now →
+        ensures of_run { IfOk result (λ o. (p : Program) (c : Facts) → IsOnRun p c self.now →
             HasOutcome p c self.now.steps o) }
     {
         let Progress::Ended(fault) = self.progress else {

@@ -4,32 +4,32 @@ use Rattle.std.specs.Prelude.{◌==◌, ◌&&◌, not, nat_le, nat_lt, if◌then
 use Rattle.std.proofs.lemmas.List.{append-nil}
 use Rattle.std.proofs.lemmas.Grind.{common_steps}
 use Rattle.std.proofs.lemmas.Bool.Decides.{nat_tests}
-use Rattle.filing_session.specs.Lines.{Line, Whole, TooLong, line_length, cut_at, line_of}
+use Rattle.filing_session.specs.Lines.{InputLine, Whole, TooLong, line_length, cut_at, line_of}
 
 -- the line that begins with the octets seen and goes on with the input, with room for this number of further octets
-abbrev pub line_from : (room : ℕ) (seen input : List ℕ) → Line
+abbrev pub line_from : (room : ℕ) (seen input : List ℕ) → InputLine
 line_from room seen [] = cut_at seen
 line_from zero seen (x ∷ rest) = if x == 10 then Whole seen rest else TooLong rest
 line_from (suc room) seen (x ∷ rest) = if x == 10 then Whole seen rest else line_from room (seen ++ x ∷ []) rest
 
 -- the choice that `line_of` makes
-abbrev choice : (place size room : ℕ) (whole long cut : Line) → Line
+abbrev choice : (place size room : ℕ) (whole long cut : InputLine) → InputLine
 choice place size room whole long cut = if nat_lt place size && nat_le place room then whole else if nat_lt room size then long else cut
 
-choice_none : (room : ℕ) (whole long cut : Line) → choice 0 0 room whole long cut ≡ cut
+choice_none : (room : ℕ) (whole long cut : InputLine) → choice 0 0 room whole long cut ≡ cut
 choice_none room whole long cut = grind (arith, nat_tests)
 
-choice_first : (size room : ℕ) (whole long cut : Line) → choice 0 (suc size) room whole long cut ≡ whole
+choice_first : (size room : ℕ) (whole long cut : InputLine) → choice 0 (suc size) room whole long cut ≡ whole
 choice_first size room whole long cut = grind (arith, nat_tests)
 
-choice_full : (place size : ℕ) (whole long cut : Line) → choice (suc place) (suc size) zero whole long cut ≡ long
+choice_full : (place size : ℕ) (whole long cut : InputLine) → choice (suc place) (suc size) zero whole long cut ≡ long
 choice_full place size whole long cut = grind (arith, nat_tests)
 
-choice_more : (place size room : ℕ) (whole long cut : Line) → choice (suc place) (suc size) (suc room) whole long cut
+choice_more : (place size room : ℕ) (whole long cut : InputLine) → choice (suc place) (suc size) (suc room) whole long cut
     ≡ choice place size room whole long cut
 choice_more place size room whole long cut = grind (arith, nat_tests)
 
-abbrev line_at : (place room : ℕ) (seen input : List ℕ) → Line
+abbrev line_at : (place room : ℕ) (seen input : List ℕ) → InputLine
 line_at place room seen input =
     choice place (length input) room (Whole (seen ++ take place input) (drop (place + 1) input))
     (TooLong (drop (room + 1) input)) (cut_at (seen ++ input))

@@ -2,7 +2,7 @@
 use Rattle.std.specs.Prelude.{◌≡◌, ◌⊎◌, ℕ, zero, suc, ◌+◌, List, [], ◌∷◌, ◌++◌, if◌then◌else◌, nat_le, None, length, take, drop, codes, flat_map}
 use Rattle.filing_commands.specs.Answers.{Answer, refused}
 use Rattle.filing_commands.specs.Standing.{Command}
-use Rattle.filing_session.specs.Lines.{Line, Whole, TooLong, Cut, End, line_of}
+use Rattle.filing_session.specs.Lines.{InputLine, Whole, TooLong, Cut, End, line_of}
 use Rattle.filing_session.specs.LineRequests.{LineRequest, Alone, One, Two, Quit, Unknown, BadWord, request_of}
 use Rattle.filing_session.specs.Replies.{reply_octets}
 use Rattle.filing_session.specs.Streams.{IsAfter}
@@ -48,7 +48,7 @@ start_by_request Quit rest = Stop ending.Quit rest
 start_by_request Unknown rest = Got UnknownCommand rest
 start_by_request BadWord rest = Got WrongWord rest
 
-abbrev pub start_by_line : Line → InputStart
+abbrev pub start_by_line : InputLine → InputStart
 start_by_line (Whole text rest) = start_by_request (request_of text) rest
 start_by_line (TooLong rest) = Stop ending.LongLine rest
 start_by_line Cut = Stop ending.CutShort []

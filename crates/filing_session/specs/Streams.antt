@@ -56,8 +56,8 @@ abbrev pub IsInterrupted64 : (before now : Tally) → Type 0
 IsInterrupted64 before now = (64 ≤ now.interruptions) × RisesBy 64 before.all_interruptions now.all_interruptions
 
 -- some call failed, or 64 in a row were interrupted, all after the earlier counts
-abbrev pub GivesUp : (before now : Tally) → Type 0
-GivesUp before now = Rises before.failures now.failures ⊎ IsInterrupted64 before now
+abbrev pub StreamFails : (before now : Tally) → Type 0
+StreamFails before now = Rises before.failures now.failures ⊎ IsInterrupted64 before now
 
 -- the most interruptions there ever were in a row, where there come no more than this number of others
 abbrev pub most_with : Tally → (more : ℕ) → ℕ
@@ -68,7 +68,7 @@ most_with before more = max before.most_interruptions (before.interruptions + mo
 -- interruption is forgotten.
 abbrev pub TellsTroubles : {V T F : Type 0} → (troubles : V → Tally) → Result T F → (old new : V) → Type 0
 TellsTroubles troubles result old new = record {
-  fault : OnErr result (GivesUp (troubles old) (troubles new));
+  fault : OnErr result (StreamFails (troubles old) (troubles new));
   within : (troubles new).most_interruptions ≤ most_with (troubles old) 64;
   outlasts : OnOk result ((troubles new).failures ≡ (troubles old).failures);
   over : OnOk result ((troubles new).interruptions ≤ (troubles old).interruptions);

@@ -4,7 +4,7 @@ ghost use Rattle.std.specs.Prelude.{◌≡◌, ◌≢◌, OnOk, Ok, Err, IsErrOf
 ghost use Rattle.filing_commands.specs.Calls.{Calls};
 ghost use Rattle.filing_session.specs.Done.{HasDone, Hears, Says};
 ghost use Rattle.filing_session.specs.Session.{session_in, ending_octets, left_by, IsServed, IsAnswered, IsCut, EndsByInput};
-ghost use Rattle.filing_session.specs.Streams.{Rises, GivesUp, TellsTroubles, TriesOn};
+ghost use Rattle.filing_session.specs.Streams.{Rises, StreamFails, TellsTroubles, TriesOn};
 ghost use Rattle.filing_session.specs.Written.{Writes};
 
 use crate::items::{Reaction, SessionEnd, next};
@@ -89,9 +89,9 @@ pub fn serve<S: Source, K: Sink, R: Registry>(
         IsCut (Calls R.clean R.stands R.may_leave R.keeps) (session_in (S.left source.old))
         registry.old (K.written sink.old) (K.written sink.new) registry.new }
     ensures read { IsErrOf result ServeFault.Read →
-        GivesUp (S.troubles source.old) (S.troubles source.new) }
+        StreamFails (S.troubles source.old) (S.troubles source.new) }
     ensures write { IsErrOf result ServeFault.Write →
-        GivesUp (K.troubles sink.old) (K.troubles sink.new) }
+        StreamFails (K.troubles sink.old) (K.troubles sink.new) }
     ensures outlasts { OnOk result (((S.troubles source.new).failures
         ≡ (S.troubles source.old).failures)
         × ((K.troubles sink.new).failures ≡ (K.troubles sink.old).failures)) }

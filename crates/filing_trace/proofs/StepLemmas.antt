@@ -5,7 +5,7 @@ use Rattle.std.specs.Option.{unwrap_or}
 use Rattle.filing_image.specs.Program.{Program}
 use Rattle.sieve_meaning.specs.Case.{Facts}
 use Rattle.filing_table.specs.Machine.{State, after_steps}
-use Rattle.filing_machine.specs.Runs.{Snapshot, Stands}
+use Rattle.filing_machine.specs.Runs.{Snapshot, IsOnRun}
 use Rattle.filing_machine.specs.declared.state.Progress.{Progress}
 use Rattle.filing_machine.specs.declared.state.Progress.TheVariants.{Going, Ended}
 use Rattle.filing_machine.specs.StateViews.{state, run_at}
@@ -18,11 +18,11 @@ standing_at Going s = refl
 standing_at (Ended fault) s = refl
 
 -- where a machine is in its run
-here : (p : Program) (c : Facts) (m : Snapshot) → Stands p c m → state_of (after_steps p c m.steps) ≡ state c m.at
+here : (p : Program) (c : Facts) (m : Snapshot) → IsOnRun p c m → state_of (after_steps p c m.steps) ≡ state c m.at
 here p c m stands = ap state_of (sym stands.on_run) ∙ standing_at m.progress (state c m.at)
 
 -- what is read from the machine before a step and after it
-pub step_is_told : (p : Program) (c : Facts) (m n : Snapshot) (x : Step) → Stands p c m → Stands p c n
+pub step_is_told : (p : Program) (c : Facts) (m n : Snapshot) (x : Step) → IsOnRun p c m → IsOnRun p c n
     → n.steps ≡ m.steps + 1 → x.place ≡ m.at.place → x.top ≡ top_of_stack (state c n.at).stack
     → is_some x.matched ≡ finds p (state c m.at) → IfSome x.matched (λ f. is_found_by p c m.at.place f ≡ true)
     → IsStepRecord p c m.steps x

@@ -16,7 +16,7 @@ use Rattle.filing_image.specs.declared.version.Version.TheVariants.{One, Two}
 use Rattle.filing_image.specs.declared.instruction.Operation.{Operation}
 use Rattle.filing_image.specs.declared.instruction.Operation.TheVariants.{Jump, JumpIf, JumpUnless, Call}
 use Rattle.filing_verify.specs.Flow.{jump_target, first_place, target, IsReached, Continues, procedure_of}
-use Rattle.filing_verify.specs.Well.{InRange, Ascends, AreProcedures, HasProcedures, AreInRange, GoesForward, StaysInside}
+use Rattle.filing_verify.specs.Well.{InRange, Ascends, AreFirstPlaces, HasProcedures, AreInRange, GoesForward, StaysInside}
 use Rattle.filing_verify.specs.Passes.{GoesOnward, LeadsInside, RunsOn}
 
 pub no_procedures : (x : Option (List ℕ)) → version_of x ≡ One → x ≡ None
@@ -105,7 +105,7 @@ counted_to p (x ∷ xs) (suc i) le low high =
 
 -- ---- the procedures of a program
 
-procedures_are : (p : Program) (x : Option (List ℕ)) → HasProcedures p x → 0 < length (firsts_of x) → AreProcedures (length p.code) (firsts_of x)
+procedures_are : (p : Program) (x : Option (List ℕ)) → HasProcedures p x → 0 < length (firsts_of x) → AreFirstPlaces (length p.code) (firsts_of x)
 procedures_are p None h some = absurd (omega arith)
 procedures_are p (Some firsts) h some = h
 
@@ -138,7 +138,7 @@ jump_is program o q e = e
 
 module _ (program : Program) (in_range : AreInRange program) where
   -- of a program that has procedures
-  pub are : (b : ℕ) → b < length (first_places program) → AreProcedures (length program.code) (first_places program)
+  pub are : (b : ℕ) → b < length (first_places program) → AreFirstPlaces (length program.code) (first_places program)
   are b lt = procedures_are program program.procedures in_range.procedures (omega arith)
 
   module _ (b f : ℕ) (first : first_place program b ≡ Some f) where

@@ -9,7 +9,7 @@ use Rattle.filing_verify.specs.declared.kind.Kind.TheVariants.{Truth}
 use Rattle.filing_verify.specs.declared.fault.VerifyFault.TheVariants.{Operand, Backward, Stack, RunsOff, Budget}
 use Rattle.filing_verify.specs.Flow.{jump_target, goes_on, IsReached, Continues, procedure_of}
 use Rattle.filing_verify.specs.Shapes.{after, HasShapes}
-use Rattle.filing_verify.specs.Well.{InRange, Ascends, AreProcedures, AreInRange, GoesForward, StaysInside, AreCosts, Suffices, IsWell, Fails}
+use Rattle.filing_verify.specs.Well.{InRange, Ascends, AreFirstPlaces, AreInRange, GoesForward, StaysInside, AreCosts, Suffices, IsWell, Fails}
 use Rattle.filing_verify.specs.Passes.{cost_in}
 
 -- procedure 0 has places 0 and 1, and procedure 1 has places 2 and 3
@@ -41,7 +41,7 @@ within zero d lt = omega arith
 within (suc zero) d lt = omega arith
 within (suc (suc k)) d lt = absurd (omega arith)
 
-procedures : AreProcedures 4 (0 ∷ 2 ∷ [])
+procedures : AreFirstPlaces 4 (0 ∷ 2 ∷ [])
 procedures = record { some = omega arith; most = omega arith; start = refl; ascending = ascends; within = within }
 
 same_jump : (x o : Operation) → Some x ≡ Some o → jump_target x ≡ jump_target o

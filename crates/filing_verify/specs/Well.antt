@@ -32,7 +32,7 @@ Ascends numbers = (i : ℕ) → i + 1 < length numbers → slice_index numbers i
 
 -- the first places of 1 to 256 procedures in code with this number of places: the first is 0, and each other one is
 -- greater than the one before it
-pub record AreProcedures (places : ℕ) (firsts : List ℕ) : Type 0 where
+pub record AreFirstPlaces (places : ℕ) (firsts : List ℕ) : Type 0 where
   pub some : 0 < length firsts
   pub most : length firsts ≤ 256
   pub start : slice_index firsts 0 ≡ 0
@@ -42,7 +42,7 @@ pub record AreProcedures (places : ℕ) (firsts : List ℕ) : Type 0 where
 -- the procedures of a version 2 program; version 1 has none
 abbrev pub HasProcedures : Program → Option (List ℕ) → Type 0
 HasProcedures p None = Unit {0}
-HasProcedures p (Some firsts) = AreProcedures (length p.code) firsts
+HasProcedures p (Some firsts) = AreFirstPlaces (length p.code) firsts
 
 -- each jump, reached or not, goes to a place of its own procedure
 abbrev pub JumpsStay : Program → Type 0

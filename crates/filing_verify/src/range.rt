@@ -4,7 +4,7 @@ ghost use Rattle.std.specs.Prelude.{◌≡◌, IsTrue, ◌↔◌, ◌<◌, ℕ, 
 ghost use Rattle.filing_image.specs.declared.instruction.Operation.{Operation as OperationType};
 ghost use Rattle.filing_verify.specs.Flow.{jump_target, procedure_of};
 ghost use Rattle.filing_verify.specs.Passes.{JumpsOut};
-ghost use Rattle.filing_verify.specs.Well.{InRange, AreInRange, AreProcedures, Ascends, HasProcedures, JumpsStay};
+ghost use Rattle.filing_verify.specs.Well.{InRange, AreInRange, AreFirstPlaces, Ascends, HasProcedures, JumpsStay};
 
 use crate::flow::{jump_target, operation_at, place_count, procedure_of};
 use filing_image::{Image, Operation, Version};
@@ -52,7 +52,7 @@ fn has_procedures(image: &Image) -> bool
 
 /// Whether these are the first places of 1 to 256 procedures in code of `places` places.
 fn are_procedures(firsts: &[u16], places: usize) -> bool
-    ensures { IsTrue result ↔ AreProcedures places firsts.now }
+    ensures { IsTrue result ↔ AreFirstPlaces places firsts.now }
 {
     0 < firsts.len()
         && firsts.len() <= 256

@@ -13,7 +13,7 @@ use Rattle.filing_table.proofs.Once.{one_outcome, one_step}
 use Rattle.filing_machine.specs.declared.state.Progress.{Progress}
 use Rattle.filing_machine.specs.declared.state.Progress.TheVariants.{Going, Ended}
 use Rattle.filing_machine.specs.StateViews.{is_ended}
-use Rattle.filing_machine.specs.Runs.{Snapshot, Stands}
+use Rattle.filing_machine.specs.Runs.{Snapshot, IsOnRun}
 use Rattle.record_archive.specs.Archive.{Archive, Line}
 use Rattle.filing_commands.specs.Answers.{Answer, captured, refused}
 use Rattle.filing_commands.specs.Pinning.{BeginState, Choice, IsAlone, GivesOutcome, case_in, nothing, script, image_of}
@@ -108,14 +108,14 @@ held_pinned t [] (g ∷ fs) f a e = absurd a
 held_pinned t (x ∷ xs) [] f a e = absurd a
 
 -- the machine is on the run of what is pinned
-on_pinned : (f : Flight) (p : Program) (m : Snapshot) → p ≡ f.pinned → Stands p (case_in f.at_begin) m
-    → Stands f.pinned (case_in f.at_begin) m
-on_pinned f p m e h = let P : Program → Type 0 = λ q. Stands q (case_in f.at_begin) m in subst P e h
+on_pinned : (f : Flight) (p : Program) (m : Snapshot) → p ≡ f.pinned → IsOnRun p (case_in f.at_begin) m
+    → IsOnRun f.pinned (case_in f.at_begin) m
+on_pinned f p m e h = let P : Program → Type 0 = λ q. IsOnRun q (case_in f.at_begin) m in subst P e h
 
 -- a machine that has an outcome shows its fault
 pub told_at_end : (found : Option Flight) (p : Program) (m : Snapshot) (o : Outcome)
     → ((f : Flight) → found ≡ Some f → IsPinned f) → IsShownBy found p m
-    → ((q : Program) (c : Facts) → Stands q c m → HasOutcome q c m.steps o) → TellsFault found o.fault
+    → ((q : Program) (c : Facts) → IsOnRun q c m → HasOutcome q c m.steps o) → TellsFault found o.fault
 told_at_end None p m o pinned shown of = absurd shown
 told_at_end (Some f) p m o pinned shown of =
     let is = pinned f refl in

@@ -98,8 +98,8 @@ pub record IsFaulty {D : Type 0} (stands : D → Standing → Type 0) (s : Stand
 
 module _ {D : Type 0} (clean : D → Type 0) (stands : D → Standing → Type 0) (old : D) (officer : List ℕ) (moment : ℕ)
     (message : List ℕ) where
-  abbrev pub Begins : Result ℕ DeskFault → (new : D) → Type 0
-  Begins result new = (calls : List Call) × AreFirst officer moment message result calls × Follows clean stands old calls new
+  abbrev pub BeginsCapture : Result ℕ DeskFault → (new : D) → Type 0
+  BeginsCapture result new = (calls : List Call) × AreFirst officer moment message result calls × Follows clean stands old calls new
 
   -- What was to be done on a fault is done. Where messages are given up for a fault, one that was captured has none, on a
   -- clean disk, and one that was given up has the fault that is told, on any disk. Else none is given up.

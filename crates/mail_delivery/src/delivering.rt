@@ -6,7 +6,7 @@ ghost use Rattle.filing_commands.specs.Payloads.{IsOf};
 ghost use Rattle.filing_commands.specs.Standing.{Standing, flight_of};
 ghost use Rattle.filing_commands.specs.declared.fault.DeskFault.TheVariants.{NoMemory};
 ghost use Rattle.filing_desk.specs.Standing.{IsClean, StandsFor};
-ghost use Rattle.mail_delivery.specs.Deliveries.{Begins, Delivers, TellsFault};
+ghost use Rattle.mail_delivery.specs.Deliveries.{BeginsCapture, Delivers, TellsFault};
 
 use filing_commands::{Capture, DeskFault, Payload, Registry};
 use filing_desk::Desk;
@@ -32,7 +32,7 @@ pub enum Delivery {
     GivenUp(RunFault),
 }
 
-/// Begins a capture, and lets its run come to its end. Answers the ticket.
+/// BeginsCapture a capture, and lets its run come to its end. Answers the ticket.
 fn begin_and_run<A: Records>(
     desk: &mut Desk<A>,
     officer: &[u8],
@@ -40,7 +40,7 @@ fn begin_and_run<A: Records>(
     message: Payload,
 ) -> Result<u32, DeskFault>
     ensures { (m : List ℕ) → IsOf greatest_message message m
-        → Begins (IsClean A.clean) (StandsFor A.stands) desk.old officer.now moment m
+        → BeginsCapture (IsClean A.clean) (StandsFor A.stands) desk.old officer.now moment m
         result desk.new }
 {
     let (ticket, budget) = desk.begin(officer, moment, message)?;

@@ -10,7 +10,7 @@ use Rattle.filing_commands.specs.Answers.{Answer, begun}
 use Rattle.filing_commands.specs.Limits.{last_ticket, most_in_flight}
 use Rattle.filing_commands.specs.Standing.{Command, Flight, Standing, IsPinned, flight_of, grant, without, opening}
 use Rattle.promises.specs.Beginnings.{tickets_given, AreNumbersUpTo}
-use Rattle.promises.specs.Runs.{IsReached, Run}
+use Rattle.promises.specs.Runs.{IsReachedState, Run}
 use Rattle.promises.specs.Turns.{HasEnded}
 use Rattle.promises.proofs.Changes.{Change, step_change}
 use Rattle.promises.proofs.CitedLaws.{LengthsAreOne, RunsEnd}
@@ -82,16 +82,16 @@ run_within s (c ∷ cs) (a ∷ answers) new h k = run_within h.0 cs answers new 
 run_within s [] (a ∷ answers) new h k = absurd h
 run_within s (c ∷ cs) [] new h k = absurd h
 
-reached_within : (s : Standing) → IsReached s → IsWithinLimits s
+reached_within : (s : Standing) → IsReachedState s → IsWithinLimits s
 reached_within s h = run_within (opening h.archive) h.commands h.answers s h.run (record { pinned = tt; count = omega arith; last = omega arith })
 
-pub all_pinned : (s : Standing) → IsReached s → All IsPinned s.flights
+pub all_pinned : (s : Standing) → IsReachedState s → All IsPinned s.flights
 all_pinned s h = All-from_recursion IsPinned s.flights (reached_within s h).pinned
 
-pub most_flights : (s : Standing) → IsReached s → length s.flights ≤ most_in_flight
+pub most_flights : (s : Standing) → IsReachedState s → length s.flights ≤ most_in_flight
 most_flights s h = (reached_within s h).count
 
-pub most_tickets : (s : Standing) → IsReached s → s.last ≤ last_ticket
+pub most_tickets : (s : Standing) → IsReachedState s → s.last ≤ last_ticket
 most_tickets s h = (reached_within s h).last
 
 pinned_of : (t : ℕ) (fs : List Flight) (f : Flight) → AllPinned fs → flight_of t fs ≡ Some f → IsPinned f
@@ -103,7 +103,7 @@ pinned_of t (g ∷ fs) f h e = go (g.ticket == t) refl (pinned_of t fs f h.1)
     go false is rest = rest (rw is at e)
 
 -- a capture that was granted as many turns as its budget has come to its end
-pub enough_turns : RunsEnd → LengthsAreOne → (s : Standing) (t : ℕ) (f : Flight) → IsReached s
+pub enough_turns : RunsEnd → LengthsAreOne → (s : Standing) (t : ℕ) (f : Flight) → IsReachedState s
     → flight_of t s.flights ≡ Some f → f.pinned.budget ≤ f.granted → HasEnded f
 enough_turns ends_within one_step s t f h e enough =
     let within = (within_budget ends_within one_step f (pinned_of t s.flights f (reached_within s h).pinned e)).0 in

@@ -8,7 +8,7 @@ use Rattle.filing_commands.specs.Office.{Office, PlainCommand, OfficeStep, with_
 use Rattle.filing_commands.specs.Pinning.{BeginState}
 use Rattle.filing_commands.specs.Standing.{Command, plain, begin, turn, finish, Flight, Standing, Step, TurnStep}
 use Rattle.filing_commands.specs.Standing.{FinishStep, FinishWhole, flight_of, opening, turn_answer, without}
-use Rattle.promises.specs.Runs.{IsReached, Run}
+use Rattle.promises.specs.Runs.{IsReachedState, Run}
 use Rattle.promises.specs.RefusedCalls.{KeepsSteps}
 use Rattle.promises.proofs.Sources.{AreInOrder, step_in_order}
 use Rattle.promises.proofs.TicketLemmas.{none_above, of_without}
@@ -92,14 +92,14 @@ filed_leaves : (s : Standing) (t : ℕ) (fault : Option RunFault) (lines : List 
 unfolding Step
 filed_leaves s t fault lines new h = finish_leaves s t (flight_of t s.flights) fault lines new h
 
-reached_in_order : (s : Standing) → IsReached s → AreInOrder s
+reached_in_order : (s : Standing) → IsReachedState s → AreInOrder s
 reached_in_order s reached = run_in_order (opening reached.archive) reached.commands reached.answers s reached.run (omega arith)
 
 -- no capture in flight has a ticket that was not given yet
-pub not_given : (s : Standing) (t : ℕ) → IsReached s → s.last < t → flight_of t s.flights ≡ None
+pub not_given : (s : Standing) (t : ℕ) → IsReachedState s → s.last < t → flight_of t s.flights ≡ None
 not_given s t reached later = none_above 0 s.last t s.flights (reached_in_order s reached) later
 
-pub given_up : (s : Standing) (t : ℕ) (fault : Option RunFault) (lines : List Line) (new : Standing) → IsReached s
+pub given_up : (s : Standing) (t : ℕ) (fault : Option RunFault) (lines : List Line) (new : Standing) → IsReachedState s
     → Step s (finish t) (captured fault lines) new → flight_of t new.flights ≡ None
 given_up s t fault lines new reached h =
     ap (flight_of t) (filed_leaves s t fault lines new h) ∙ of_without 0 s.last t s.flights (reached_in_order s reached)

@@ -19,7 +19,7 @@ pub record SessionFrom (s : Standing) : Type 0 where
   pub run : Run s commands answers new
 
 -- a session that begins with an archive comes to this state
-pub record IsReached (s : Standing) : Type 0 where
+pub record IsReachedState (s : Standing) : Type 0 where
   pub archive : Archive
   pub commands : List Command
   pub answers : List Answer

@@ -11,7 +11,7 @@ ghost use Rattle.promises.specs.Alike.{AnswerAlike};
 ghost use Rattle.promises.specs.Beginnings.{HasBegun};
 ghost use Rattle.promises.specs.Flights.{IsInFlight};
 ghost use Rattle.promises.specs.RefusedCalls.{IsLeftBy, KeepsSteps, RefusedCall};
-ghost use Rattle.promises.specs.Runs.{IsReached, SessionFrom};
+ghost use Rattle.promises.specs.Runs.{IsReachedState, SessionFrom};
 ghost use Rattle.promises.specs.Serial.{EqualAfterStriking, SameButTurns, SerialRun, forget, kept_answers, kept_commands};
 
 use filing_commands::{Registry, pinned_runs_end_alone};
@@ -63,7 +63,7 @@ pub fn refusals_change_nothing<R: Registry>()
 pub fn captures_are_pinned()
     ensures at_begin { (a : Archive) (x : SessionFrom (opening a)) (t : ℕ) (f : Flight)
         → IsInFlight x.new t f → HasBegun (opening a) x.commands x.answers f }
-    ensures pinned { (s : Standing) → IsReached s → All IsPinned s.flights }
+    ensures pinned { (s : Standing) → IsReachedState s → All IsPinned s.flights }
     ensures budget { (f : Flight) → IsPinned f → (f.run_length ≤ f.pinned.budget) ×
         (f.pinned.budget ≡ budget_of f.at_begin) }
     ensures alone { (f : Flight) (n : ℕ) (o : Outcome) → IsPinned f

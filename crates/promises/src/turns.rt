@@ -6,7 +6,7 @@ ghost use Rattle.filing_commands.specs.Answers.{Answer, refused};
 ghost use Rattle.filing_commands.specs.Standing.{Flight, Standing, Step, finish, opening, turn};
 ghost use Rattle.promises.specs.Beginnings.{tickets_given, AreNumbersUpTo, BeginFrom, HasNoPlace, HasNoTicket, HasPlace, MayBegin};
 ghost use Rattle.promises.specs.Flights.{FinishOf, IsInFlight, NoneInFlight};
-ghost use Rattle.promises.specs.Runs.{IsReached, SessionFrom};
+ghost use Rattle.promises.specs.Runs.{IsReachedState, SessionFrom};
 ghost use Rattle.promises.specs.Turns.{AllGrant, HasEnded, IsRunning, TellsTurns};
 
 use filing_machine::every_run_ends;
@@ -26,7 +26,7 @@ pub fn turns_add_up()
         → Step s (turn t n) a new → IsInFlight new t f → TellsTurns f.granted f.run_length a }
     ensures finish { (s new : Standing) (t : ℕ) (a : Answer) (f : Flight)
         → Step s (finish t) a new → IsInFlight s t f → (a ≡ refused 92 None) ↔ IsRunning f }
-    ensures enough { (s : Standing) (t : ℕ) (f : Flight) → IsReached s → IsInFlight s t f
+    ensures enough { (s : Standing) (t : ℕ) (f : Flight) → IsReachedState s → IsInFlight s t f
         → f.pinned.budget ≤ f.granted → HasEnded f }
 {
     every_run_ends();
@@ -40,9 +40,9 @@ pub fn tickets_are_looked_up_exactly()
         → Step s (turn t count) a new → (a ≡ refused 91 None) ↔ NoneInFlight s t }
     ensures finish { (s : Standing) (t : ℕ) (a : Answer) (new : Standing)
         → Step s (finish t) a new → (a ≡ refused 91 None) ↔ NoneInFlight s t }
-    ensures given_up { (s : Standing) (t : ℕ) (x : FinishOf s t) → IsReached s
+    ensures given_up { (s : Standing) (t : ℕ) (x : FinishOf s t) → IsReachedState s
         → NoneInFlight x.new t }
-    ensures not_given { (s : Standing) (t : ℕ) → IsReached s → s.last < t → NoneInFlight s t }
+    ensures not_given { (s : Standing) (t : ℕ) → IsReachedState s → s.last < t → NoneInFlight s t }
 {}
 
 /// In a session that begins with an archive:
@@ -53,8 +53,8 @@ pub fn tickets_are_looked_up_exactly()
 pub fn beginnings_are_refused_exactly()
     ensures tickets { (a : Archive) (x : SessionFrom (opening a))
         → AreNumbersUpTo 0 (tickets_given x.answers) x.new.last }
-    ensures in_flight { (s : Standing) (x : BeginFrom s) → IsReached s
+    ensures in_flight { (s : Standing) (x : BeginFrom s) → IsReachedState s
         → (x.answer ≡ refused 90 None) ↔ (HasNoPlace s × MayBegin x.moment x.message) }
-    ensures used_up { (s : Standing) (x : BeginFrom s) → IsReached s → (x.answer ≡ refused 97 None)
-        ↔ (HasNoTicket s × HasPlace s × MayBegin x.moment x.message) }
+    ensures used_up { (s : Standing) (x : BeginFrom s) → IsReachedState s
+        → (x.answer ≡ refused 97 None) ↔ (HasNoTicket s × HasPlace s × MayBegin x.moment x.message) }
 {}

@@ -18,7 +18,7 @@ use Rattle.class_plan.specs.Schedules.{IsInRange, IsInRangeIfAny}
 use Rattle.class_plan.specs.Plans.{Row, Listing, IsPlan, IsClass, paths_of}
 use Rattle.record_tables.specs.Rows.{Tables}
 use Rattle.record_tables.specs.Changes.{ClassEntry, Rule}
-use Rattle.record_tables.specs.Reads.{class_entry, rule, pair, AreClasses, AreRules, ArePairs, FitsRule}
+use Rattle.record_tables.specs.Reads.{class_entry, rule, pair, AreClassRows, AreRules, ArePairs, FitsRule}
 use Rattle.record_rows.specs.Rules.{rule_at, with_own, own_rules, rules_of, entry_of_row, classes_of, flag, action_number}
 use Rattle.record_rows.specs.Merge.{schedule_in, merge}
 use Rattle.record_rows.specs.Texts.{HasTexts}
@@ -50,7 +50,7 @@ rows_rise path view same (r ∷ rows) h = (
 
 -- so the classes of the table are in order, with their texts or without
 pub classes_listed : (view : Row → ClassEntry) → ((r : Row) → (view r).path ≡ r.path) → (t : Tables) (p : Listing) → IsPlan p
-    → IsPermutation (map class_entry t.classes) (map view p.rows) → AreClasses t (map view p.rows)
+    → IsPermutation (map class_entry t.classes) (map view p.rows) → AreClassRows t (map view p.rows)
 classes_listed view path t p is same = record { same = same; in_order = rows_rise (λ (c : ClassEntry). c.path) view path p.rows is.in_order }
 
 -- the rules have paths after this one

@@ -14,7 +14,7 @@ use Rattle.record_archive.specs.Archive.{Message, Archive, IsArchive}
 use Rattle.record_tables.specs.Tables.{HasCommonTables, IsFirstSchema, IsArchiveSchema}
 use Rattle.record_tables.specs.Rows.{Tables, StoresCommon, AreKeyed}
 use Rattle.record_tables.specs.Changes.{ClassEntry, Rule}
-use Rattle.record_tables.specs.Reads.{Pair, pair, class_entry, rule, ArePairs, AreClasses}
+use Rattle.record_tables.specs.Reads.{Pair, pair, class_entry, rule, ArePairs, AreClassRows}
 use Rattle.record_tables.specs.declared.fault.Fault.{Fault}
 use Rattle.record_tables.specs.declared.fault.Fault.TheVariants.{NoArchive}
 pub use Rattle.record_tables.proofs.DropLemmas.{common_of as stores_common, first_common_of as stores_first_common}
@@ -123,7 +123,7 @@ lists_after {l} one clean h = holds_after (λ (db : Database). HasLists db l) on
 -- tables with the messages, records and holds of an archive
 listed : (db : Database) (t : Tables) (ps : List Pair) (cs : List ClassEntry) (a : Archive) → StoresCommon db t
     → AreKeyed t → t.messages ≡ a.messages → t.records ≡ a.records → map hold_of t.holds ≡ a.holds → AreOnce a.holds
-    → ArePairs t ps → AreClasses t cs → HasLists db (lists_with ps cs a)
+    → ArePairs t ps → AreClassRows t cs → HasLists db (lists_with ps cs a)
 listed db t ps cs a stored keyed messages records holds once pairs classes = record {
   tables = t;
   stored = stored;

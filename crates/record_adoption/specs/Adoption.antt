@@ -15,7 +15,7 @@ use Rattle.record_tables.specs.Tables.{HasNone, IsFree, IsFirstSchema, IsArchive
 use Rattle.record_archive.specs.Archive.{Message, Record, Archive, Hold, IsArchive, empty_archive, is_hold, next_number}
 use Rattle.record_tables.specs.Rows.{Tables, Due, Stores, StoresFirst, StoresCommon, AreKeyed}
 use Rattle.record_tables.specs.Changes.{ClassEntry, Rule}
-use Rattle.record_tables.specs.Reads.{HoldEntry, Pair, class_entry, pair, hold_cmp, AreHolds, ArePairs, AreClasses, AreRules}
+use Rattle.record_tables.specs.Reads.{HoldEntry, Pair, class_entry, pair, hold_cmp, AreHolds, ArePairs, AreClassRows, AreRules}
 use Rattle.record_tables.specs.Reads.{FitsRecord, FitsNumber, FitsHold, numbers_of}
 use Rattle.record_tables.specs.CodeRows.{record_of, hold_entry_of, pair_of, class_entry_of, rule_of, due_of}
 use Rattle.record_tables.specs.Steps.{IsIdle, Falls, CommitsNothingOf}
@@ -102,7 +102,7 @@ pub record ReadsSecond (db : Database) (t : Tables) (ps : List Pair) (rs : List 
   pub keyed : AreKeyed t
   pub settings : ArePairs t ps
   pub schedules : AreRules t rs
-  pub classes : AreClasses t cs
+  pub classes : AreClassRows t cs
   pub holds : AreOnce (map hold_of t.holds)
 
 -- rows of version 1, whatever they contain; each key is there once
@@ -110,7 +110,7 @@ pub record ReadsFirst (db : Database) (t : Tables) (ps : List Pair) (cs : List C
   pub stored : StoresFirst db t
   pub keyed : AreKeyed t
   pub settings : ArePairs t ps
-  pub classes : AreClasses t cs
+  pub classes : AreClassRows t cs
   pub holds : AreOnce (map hold_of t.holds)
 
 -- this holds of the settings, the schedules and the classes, whatever rows of version 2 the database has
@@ -203,7 +203,7 @@ pub record HasLists (db : Database) (l : CommonLists) : Type 0 where
   pub messages : numbers_of tables ≡ l.archive.messages
   pub holds : AreHolds tables l.archive.holds
   pub settings : ArePairs tables l.settings
-  pub classes : AreClasses tables l.classes
+  pub classes : AreClassRows tables l.classes
 
 -- the numbers fit in 32 bits
 pub record AreSmall (l : ArchiveLists) : Type 0 where

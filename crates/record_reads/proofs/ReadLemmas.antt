@@ -29,7 +29,7 @@ use Rattle.record_tables.proofs.Described.{Described, messages, records, holds a
 use Rattle.record_tables.specs.Tables.{Stands}
 use Rattle.record_tables.specs.Rows.{Tables, Hold, Stores, StoresCommon, AreKeyed, message_key, record_key, hold_key, due_key}
 use Rattle.record_tables.specs.Changes.{ClassEntry, Rule}
-use Rattle.record_tables.specs.Reads.{record_values, number_values, numbers_of, class_values, class_entry, AreClasses}
+use Rattle.record_tables.specs.Reads.{record_values, number_values, numbers_of, class_values, class_entry, AreClassRows}
 use Rattle.record_tables.specs.Reads.{rule_values, rule, AreRules, HoldEntry, hold_entry, hold_values, AreHolds, Pair}
 use Rattle.record_tables.specs.Reads.{pair, pair_values, ArePairs, due_values}
 use Rattle.record_reads.proofs.Queries.{Asked, AsksFor, query, all_records, asks_records, all_numbers, asks_numbers, all_holds, asks_holds}
@@ -121,7 +121,7 @@ shows_stored old new rows t s keyed h =
     ∙ ap (map due_values) (unfiltered t.dues refl)
 
 pub shows_classes : (old new : State) (rows : List Row) (t : Tables) (cs : List ClassEntry) → StoresCommon old.now t
-    → AreKeyed t → AreClasses t cs → Shown all_classes.text [] old new rows → rows ≡ map class_values cs
+    → AreKeyed t → AreClassRows t cs → Shown all_classes.text [] old new rows → rows ≡ map class_values cs
 shows_classes old new rows t cs s keyed are h =
     by_order classes all_classes asks_classes [] old new s.schema.classes t s.classes keyed rows h class_entry
     (λ c. (Text c.path ∷ [], class_values c)) (λ _. refl) (λ _. true) (λ _. refl) _

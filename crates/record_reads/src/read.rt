@@ -8,7 +8,7 @@ ghost use Rattle.std.specs.List.{AllByRecursion};
 ghost use Rattle.sqlite.specs.Held.{state};
 ghost use Rattle.record_tables.specs.Tables.{HasCommonTables, IsArchiveSchema};
 ghost use Rattle.record_tables.specs.Rows.{Tables, Stores, StoresCommon, AreKeyed};
-ghost use Rattle.record_tables.specs.Reads.{FitsRecord, FitsNumber, FitsHold, FitsRule, AreHolds, ArePairs, AreClasses, AreRules, numbers_of, ForRows};
+ghost use Rattle.record_tables.specs.Reads.{FitsRecord, FitsNumber, FitsHold, FitsRule, AreHolds, ArePairs, AreClassRows, AreRules, numbers_of, ForRows};
 ghost use Rattle.record_reads.specs.Lookups.{WasOpenOnNoArchive};
 ghost use Rattle.record_reads.specs.Quiet.{IsQuiet};
 ghost use Rattle.record_reads.specs.RawRows.{AreTypedRecords, AreTypedMessages, AreTypedHolds, AreTypedClasses, AreTypedSchedules};
@@ -122,9 +122,9 @@ pub fn settings<S: Alter>(alloc: Global, conn: &mut Connection<S>) -> Result<Vec
 /// All classes, in byte order of their paths.
 pub fn classes<S: Alter>(alloc: Global, conn: &mut Connection<S>) -> Result<Vec<ClassRow>, Fault>
     ensures all { Learns S.Store conn.old conn.new result
-        (λ db all. ForRows StoresCommon AreClasses db (λ cs. map class_entry_of all.items ≡ cs)) }
+        (λ db all. ForRows StoresCommon AreClassRows db (λ cs. map class_entry_of all.items ≡ cs)) }
     ensures none { Rejects S.Store conn.old conn.new result
-        (λ db. ForRows StoresCommon AreClasses db (λ cs. ⊥)) }
+        (λ db. ForRows StoresCommon AreClassRows db (λ cs. ⊥)) }
     ensures typed { Learns S.Store conn.old conn.new result
         (λ db all. HasCommonTables db.schema → AreTypedClasses db) }
     ensures same { ReadsAlone S.Store conn.old conn.new result

@@ -18,7 +18,7 @@ use Rattle.record_tables.specs.Changes as tables
 use Rattle.class_plan.specs.Calendar.{due_on}
 use Rattle.class_plan.specs.Plans.{schedule_at}
 use Rattle.record_adoption.specs.Counts.{count_at, only_at, tally}
-use Rattle.record_store.specs.Destruction.{IsFree, IsDestruction, against_destruction, with_destruction}
+use Rattle.record_store.specs.Destruction.{IsUnheld, IsDestruction, against_destruction, with_destruction}
 use Rattle.record_adoption.specs.Keeping.{StoresArchive, has_due, due_row, live_count}
 use Rattle.record_store.specs.Stores.{StandsFor}
 use Rattle.record_archive.specs.declared.fault.ArchiveRefusal.{ArchiveRefusal}
@@ -175,14 +175,14 @@ one_more n r (x ∷ rs) up at live = go (x.number == n) refl at (λ at. one_more
 -- ---- the counts
 
 -- the number of a free record is its own
-own_number : (a : Archive) (n : ℕ) (r : Record) → IsFree a n r → r.number ≡ n
+own_number : (a : Archive) (n : ℕ) (r : Record) → IsUnheld a n r → r.number ≡ n
 own_number a n r free = is_number r.number n (found_passes (has_number n) a.records r free.found)
 
-pub free_itself : (a : Archive) (n : ℕ) (r : Record) → IsFree a n r → IsFree a r.number r
-free_itself a n r free = subst (λ k. IsFree a k r) (sym (own_number a n r free)) free
+pub free_itself : (a : Archive) (n : ℕ) (r : Record) → IsUnheld a n r → IsUnheld a r.number r
+free_itself a n r free = subst (λ k. IsUnheld a k r) (sym (own_number a n r free)) free
 
 -- the live records of each message after the destruction
-pub count_destroyed : (a : Archive) (r : Record) → IsArchive a → IsFree a r.number r → (m : ℕ)
+pub count_destroyed : (a : Archive) (r : Record) → IsArchive a → IsUnheld a r.number r → (m : ℕ)
     → live_count (without a r) m - 1 ≡ (live_count a m - 1) - only_at r.message 1 m
 count_destroyed a r is free m = go (m == r.message) refl
   where
@@ -210,13 +210,14 @@ count_destroyed a r is free m = go (m == r.message) refl
         step
 
 -- whether the message stays, by the count of its live records beyond the first
-pub is_kept : (a : Archive) (r : Record) (k : ℕ) → IsArchive a → IsFree a r.number r → k ≡ live_count a r.message - 1 → 0 < k → is_shared a r ≡ true
+pub is_kept : (a : Archive) (r : Record) (k : ℕ) → IsArchive a → IsUnheld a r.number r → k ≡ live_count a r.message - 1 → 0 < k → is_shared a r ≡ true
 is_kept a r k is free counted some =
     let sum = one_more r.number r a.records is.in_order free.found free.live in
     let more : 0 < tally (is_other r.number r.message) a.records = omega (arith, counted, sum, some) in
     held_if (is_other r.number r.message) a.records more
 
-pub is_last : (a : Archive) (r : Record) (k : ℕ) → IsArchive a → IsFree a r.number r → k ≡ live_count a r.message - 1 → k ≡ 0 → is_shared a r ≡ false
+pub is_last : (a : Archive) (r : Record) (k : ℕ) → IsArchive a → IsUnheld a r.number r → k ≡ live_count a r.message - 1 → k ≡ 0
+    → is_shared a r ≡ false
 is_last a r k is free counted none =
     let sum = one_more r.number r a.records is.in_order free.found free.live in
     let most : tally (is_other r.number r.message) a.records ≤ 0 = omega (arith, counted, sum, none) in
@@ -264,7 +265,7 @@ still_there k m apart (x ∷ ms) h = go (x.number == m) (x.number == k) refl ref
     go false true one two h more = ap (λ c. c || has_message (messages_but m ms) k) two
     go false false one two h more = ap (λ c. c || has_message (messages_but m ms) k) two ∙ more h
 
-module _ (a : Archive) (r : Record) (is : IsArchive a) (free : IsFree a r.number r) where
+module _ (a : Archive) (r : Record) (is : IsArchive a) (free : IsUnheld a r.number r) where
   only : Only r.number r a.records
   only = only_one r.number r a.records is.in_order free.found
 
@@ -484,17 +485,17 @@ may_go a n day r at live free e = rw (at, live, free) (go (destroys (schedule_at
 
 -- ---- the store
 
-pub destroyed_archive : (a : Archive) (n : ℕ) (r : Record) → IsArchive a → IsFree a n r → IsArchive (without a r)
+pub destroyed_archive : (a : Archive) (n : ℕ) (r : Record) → IsArchive a → IsUnheld a n r → IsArchive (without a r)
 destroyed_archive a n r is free = destroyed_is_archive a r is (free_itself a n r free)
 
 -- the message is removed where the store counts no further live record of it
-goes : (a : Archive) (r : Record) (k : ℕ) (last : Option ℕ) → IsArchive a → IsFree a r.number r
+goes : (a : Archive) (r : Record) (k : ℕ) (last : Option ℕ) → IsArchive a → IsUnheld a r.number r
     → k ≡ live_count a r.message - 1 → MatchOption last (0 < k) (λ m. (m ≡ r.message) × (k ≡ 0)) → Goes a r last
 goes a r k None is free counted some = is_kept a r k is free counted some
 goes a r k (Some m) is free counted none = (none.0, is_last a r k is free counted none.1)
 
 pub keeps_destroyed : {S : Type 0} (g : Ghosts S) (old : Store S) (a : Archive) → StandsFor g old a
-    → (n : ℕ) (r : Record) (last : Option ℕ) → IsFree a n r
+    → (n : ℕ) (r : Record) (last : Option ℕ) → IsUnheld a n r
     → MatchOption last (0 < count_at old.others r.message) (λ m. (m ≡ r.message) × (count_at old.others r.message ≡ 0))
     → (was db : Database) → StoresArchive was a → IsDestruction n last was db → StoresArchive db (without a r)
 keeps_destroyed g old a s n r last free counted was db kept turns =

@@ -13,7 +13,7 @@ use Rattle.record_tables.specs.Tables.{IsArchiveSchema}
 use Rattle.record_tables.specs.Rows.{Tables}
 use Rattle.record_reads.specs.Lookups.{Looks}
 use Rattle.record_reads.specs.Pages as pages
-use Rattle.record_store.specs.Entries.{records_from, IsListable}
+use Rattle.record_store.specs.Entries.{records_from, IsListableRecord}
 use Rattle.record_store.proofs.DueLemmas.{le_is}
 
 -- a read of the archive's tables is a look at them
@@ -45,10 +45,10 @@ page_fits from most rs all = all_taken FitsRecord most _ (all-filter FitsRecord 
 
 -- no record of an archive was captured after 2199
 pub page_listable : (a : Archive) (from most : ℕ) → IsArchive a
-    → AllByRecursion IsListable (take most (records_from a from))
+    → AllByRecursion IsListableRecord (take most (records_from a from))
 page_listable a from most is =
-    let all = all_weaker (IsRecord a) IsListable (λ r h. h.day) a.records (recursion_from_All (IsRecord a) a.records is.records) in
-    all_taken IsListable most _ (all-filter IsListable (λ (r : Record). nat_le from r.number) a.records all)
+    let all = all_weaker (IsRecord a) IsListableRecord (λ r h. h.day) a.records (recursion_from_All (IsRecord a) a.records is.records) in
+    all_taken IsListableRecord most _ (all-filter IsListableRecord (λ (r : Record). nat_le from r.number) a.records all)
 
 is_got : {V : Type 0} (vs : List V) (i : ℕ) → i < length vs → None ≡ slice_get vs i → ⊥
 is_got [] i low none = absurd (omega arith)

@@ -10,14 +10,14 @@ use Rattle.record_archive.specs.declared.fault.ArchiveRefusal.{ArchiveRefusal}
 use Rattle.record_archive.specs.declared.fault.ArchiveRefusal.TheVariants as fault
 
 -- a live record that no hold keeps
-pub record IsFree (a : Archive) (n : ℕ) (r : Record) : Type 0 where
+pub record IsUnheld (a : Archive) (n : ℕ) (r : Record) : Type 0 where
   pub found : record_at a n ≡ Some r
   pub live : r.destroyed ≡ false
   pub free : is_held a n ≡ false
 
 -- the record is live, no hold keeps it, and the command destroys it by the day, if there is one
 abbrev pub IsDestroyable : ℕ → Option ℕ → Archive → Record → Type 0
-IsDestroyable n day a r = IsFree a n r × (destroy_by a n day (record_at a n) ≡ Ok (without a r))
+IsDestroyable n day a r = IsUnheld a n r × (destroy_by a n day (record_at a n) ≡ Ok (without a r))
 
 -- the plan's refusal, if any, of the destruction of a record by a day, if there is one
 abbrev pub against_destruction : Listing → Option ℕ → Record → Option ArchiveRefusal

@@ -44,8 +44,8 @@ listed p r names = record {
 }
 
 -- the day of the capture is not after 2199-12-31
-abbrev pub IsListable : Record → Type 0
-IsListable r = r.day ≤ 84005
+abbrev pub IsListableRecord : Record → Type 0
+IsListableRecord r = r.day ≤ 84005
 
 -- the names of the holds on the record of a number, in byte order
 abbrev pub hold_names : Archive → ℕ → List (List ℕ)

@@ -8,7 +8,7 @@ ghost use Rattle.record_tables.specs.CodeRows.{record_of};
 ghost use Rattle.record_archive.specs.Archive as archive;
 ghost use Rattle.record_archive.specs.Archive.{Archive};
 ghost use Rattle.record_adoption.specs.Counts.{count_at};
-ghost use Rattle.record_store.specs.Destruction.{IsFree, IsDestruction, against_destruction, without_body, IsDestroyable};
+ghost use Rattle.record_store.specs.Destruction.{IsUnheld, IsDestruction, against_destruction, without_body, IsDestroyable};
 ghost use Rattle.record_archive.specs.Faults.{WhereRefused, is_trouble};
 ghost use Rattle.record_archive.specs.Calls.{Quietly};
 ghost use Rattle.record_store.specs.Stores.{StandsFor, ObeysRows, Tells, Leaves, LeavesAll, LeavesAllowed, Falls, ChangesWhere, IsOpenOnOk, IsNeverOwn};
@@ -140,7 +140,7 @@ impl<S: Alter> Store<S> {
     /// Destroys a live record that no hold keeps.
     fn remove_record(&mut self, number: u32, row: &RecordRow) -> Result<(), StoreFault>
         ensures ok { OnOk result (ChangesWhere S.Store self.old self.new
-            (λ a. IsFree a number (record_of row.now))
+            (λ a. IsUnheld a number (record_of row.now))
             (λ a. archive.without a (record_of row.now))) }
         ensures err { OnErr result
             ((a : Archive) → StandsFor S.Store self.old a → StandsFor S.Store self.new a) }
@@ -149,7 +149,7 @@ impl<S: Alter> Store<S> {
         ensures cause { IsNeverOwn S.Store self.old self.new result }
         ensures open { IsOpenOnOk S.Store self.new result }
         ensures crash { LeavesAllowed S.Store self.old self.new
-            (λ a. IsFree a number (record_of row.now))
+            (λ a. IsUnheld a number (record_of row.now))
             (λ a. archive.without a (record_of row.now)) }
     {
         if !self.conn.is_autocommit() {

@@ -7,7 +7,7 @@ ghost use Rattle.record_archive.specs.Faults.{is_trouble};
 ghost use Rattle.record_reads.specs.Pages.{is_between};
 ghost use Rattle.record_tables.specs.CodeRows.{record_of, hold_entry_of};
 ghost use Rattle.record_adoption.specs.Adoption.{sorted_holds};
-ghost use Rattle.record_store.specs.Entries.{entry_view, listed, names_at_front, listed_beside, records_from, entries_from, AreHoldsOf, IsPage, IsListable, is_counted};
+ghost use Rattle.record_store.specs.Entries.{entry_view, listed, names_at_front, listed_beside, records_from, entries_from, AreHoldsOf, IsPage, IsListableRecord, is_counted};
 ghost use Rattle.record_store.specs.Faults.{is_own};
 ghost use Rattle.record_store.specs.Stores.{StandsFor, Tells, LeavesAll, Falls, IsOpenOnOk, IsNeverOwn};
 
@@ -73,7 +73,7 @@ fn entry_of(plan: &Plan, row: RecordRow, holds: Vec<Vec<u8>>) -> Result<Entry, S
     ensures entry { IfOk result
         (λ e. entry_view e ≡ listed plan.now (record_of row) (path_list holds.items)) }
     ensures trouble { IfErr result (λ f. is_trouble f ≡ true) }
-    ensures lost { IfErr result (λ f. IsListable (record_of row) → is_own f ≡ false) }
+    ensures lost { IfErr result (λ f. IsListableRecord (record_of row) → is_own f ≡ false) }
 {
     if row.day > LAST_CAPTURE_DAY {
         return Err(LOST);
@@ -108,7 +108,7 @@ fn entries_beside(
         listed_beside plan.now (map hold_entry_of holds.now) (map record_of rows.items)) }
     ensures trouble { IfErr result (λ f. is_trouble f ≡ true) }
     ensures lost { IfErr result
-        (λ f. AllByRecursion IsListable (map record_of rows.items) → is_own f ≡ false) }
+        (λ f. AllByRecursion IsListableRecord (map record_of rows.items) → is_own f ≡ false) }
 {
     let mut entries = Vec::new(alloc);
     let mut at = 0;

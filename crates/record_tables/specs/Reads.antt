@@ -79,7 +79,7 @@ abbrev pub class_entry : Class → ClassEntry
 class_entry c = record { path = c.path; is_open = c.is_open; schedule = c.schedule }
 
 -- these are the classes of the table, in byte order of their paths
-pub record AreClasses (t : Tables) (cs : List ClassEntry) : Type 0 where
+pub record AreClassRows (t : Tables) (cs : List ClassEntry) : Type 0 where
   pub same : IsPermutation (map class_entry t.classes) cs
   pub in_order : IsAscending (λ (x y : ClassEntry). slice_cmp nat_cmp x.path y.path ≡ Less) cs
 

@@ -37,12 +37,12 @@ FindsAt image a = Holds Finds image a ⊎ (IsNothing image × (a ≡ empty_archi
 abbrev pub HoldsTables : (Schema → Type 0) → Image → Type 0
 HoldsTables Are image = (db : Database) → IsDatabase db → ∥ HoldsDatabase image db.trees ∥₁ → Are db.schema
 
-abbrev pub Keeps : Database → Archive → Type 0
-Keeps db a = StoresArchive db a × IsArchive a
+abbrev pub KeepsArchive : Database → Archive → Type 0
+KeepsArchive db a = StoresArchive db a × IsArchive a
 
 -- the files recover to a database that keeps the archive
 abbrev pub KeepsAt : Archive → Image → Type 0
-KeepsAt a image = Holds Keeps image a
+KeepsAt a image = Holds KeepsArchive image a
 
 -- However the files are left, also by a crash, they recover to a database that keeps the archive, and so does the
 -- database file with no log where that was copied. Where a fault has shut the store, see `LeavesBy`.

@@ -1,7 +1,7 @@
 use Rattle.std.proofs.Common.{◌≡◌, ℕ, List, ap, subst, sym}
 use Rattle.filing_image.specs.Program.{Program, list_in}
 use Rattle.filing_gen.specs.Pools.{IsOnce}
-use Rattle.filing_gen.specs.Adds.{IsImageOf}
+use Rattle.filing_gen.specs.Adds.{IsImageOfOutput}
 use Rattle.filing_gen.proofs.ImageParts.{is_image, fits_image}
 use Rattle.filing_gen.proofs.program.image_of.Goals as goal
 
@@ -18,7 +18,7 @@ returns-clause-made c =
     let texts = c.in_ok-texts in
     let numbers = c.in_ok-numbers in
     let firsts = list_in c.args.first_places in
-    subst (λ (p : Program). IsImageOf c.args.budget c.args.slots firsts c.args.out p) (sym c.image_of_parts.ensures)
+    subst (λ (p : Program). IsImageOfOutput c.args.budget c.args.slots firsts c.args.out p) (sym c.image_of_parts.ensures)
     (is_image c.args.out c.args.budget c.args.slots firsts texts.texts.items numbers.numbers.items _
     c.shrink_to_fit.ensures.items texts.ensures.places numbers.ensures.places)
 

@@ -1,10 +1,10 @@
 use Rattle.std.proofs.Common.{◌≤◌, ◌-◌}
-use Rattle.filing_machine.specs.Runs.{Stands}
+use Rattle.filing_machine.specs.Runs.{IsOnRun}
 use Rattle.filing_machine.proofs.machine.run.Given as goal
 
 abbrev pub invariant-loop-machine : goal.invariant-loop-machine
 invariant-loop-machine g l = record {
-  stands : Stands l.program (g.C.Case.facts l.case) l.machine;
+  stands : IsOnRun l.program (g.C.Case.facts l.case) l.machine;
   budget : l.machine.steps ≤ l.program.budget;
 }
 

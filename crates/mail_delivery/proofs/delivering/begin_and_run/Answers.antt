@@ -6,7 +6,7 @@ use Rattle.filing_commands.specs.Faults.{refused_by}
 use Rattle.filing_commands.specs.Standing.{begin, turn}
 use Rattle.filing_commands.specs.declared.fault.DeskFault.{DeskFault}
 use Rattle.filing_desk.specs.Standing.{IsClean, MayLeave, StandsFor}
-use Rattle.mail_delivery.specs.Deliveries.{Begins, first_calls}
+use Rattle.mail_delivery.specs.Deliveries.{BeginsCapture, first_calls}
 use Rattle.mail_delivery.proofs.CallLemmas.{calls_on, one_call, passed_on}
 use Rattle.mail_delivery.proofs.delivering.begin_and_run.Goals as goal
 
@@ -19,7 +19,7 @@ returns-in_err-ticket g c = λ m is.
     let out = c.from_residual in
     let fault = c.in_err-ticket.field-0.0 in
     let asked = begin c.args.officer.now c.args.moment m in
-    let Told : Result ℕ DeskFault → Type 0 = λ r. Begins clean stands c.args.desk.now c.args.officer.now c.args.moment m r c.begin.new.self in
+    let Told : Result ℕ DeskFault → Type 0 = λ r. BeginsCapture clean stands c.args.desk.now c.args.officer.now c.args.moment m r c.begin.new.self in
     subst Told (sym (passed_on out.result fault out.ensures.0 out.ensures.1)) (
       record { command = asked; answer = refused_by fault } ∷ [],
       inl refl,
@@ -37,7 +37,7 @@ returns-in_err-turn g c = λ m is.
     let t = c.in_ok-ticket.ticket in
     let b = c.in_ok-ticket.budget in
     let asked = begin c.args.officer.now c.args.moment m in
-    let Told : Result ℕ DeskFault → Type 0 = λ r. Begins clean stands c.args.desk.now c.args.officer.now c.args.moment m r c.turn.new.self in
+    let Told : Result ℕ DeskFault → Type 0 = λ r. BeginsCapture clean stands c.args.desk.now c.args.officer.now c.args.moment m r c.turn.new.self in
     let Turns : ℕ → Type 0 = λ n. Calls clean stands may_leave keeps c.begin.new.self (turn n b) (refused_by fault) c.turn.new.self in
     subst Told (sym (passed_on out.result fault out.ensures.0 out.ensures.1)) (
       first_calls c.args.officer.now c.args.moment m t b (refused_by fault),

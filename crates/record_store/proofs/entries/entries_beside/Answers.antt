@@ -3,7 +3,7 @@ use Rattle.std.specs.List.{AllByRecursion}
 use Rattle.std.proofs.lemmas.List.{length-map, take_rest}
 use Rattle.record_tables.specs.CodeRows.{record_of, hold_entry_of}
 use Rattle.record_archive.specs.Archive.{path_list}
-use Rattle.record_store.specs.Entries.{entry_view, names_at_front, listed_beside, IsListable}
+use Rattle.record_store.specs.Entries.{entry_view, names_at_front, listed_beside, IsListableRecord}
 use Rattle.record_store.proofs.Causes.{passed_own}
 use Rattle.record_store.proofs.EntryLoops.{entry_next, still_low}
 use Rattle.record_store.proofs.entries.entries_beside.Goals as goal
@@ -16,7 +16,7 @@ loop-row-init c = record {
       ∙ ap (λ l. listed_beside c.args.plan.now (map hold_entry_of c.args.holds.now) (map record_of l))
       c.into_iter-row-iterator.ensures.into_iter_gives.0;
   low = omega arith;
-  listable = subst (λ l. AllByRecursion IsListable (map record_of l)) (sym c.into_iter-row-iterator.ensures.into_iter_gives.0);
+  listable = subst (λ l. AllByRecursion IsListableRecord (map record_of l)) (sym c.into_iter-row-iterator.ensures.into_iter_gives.0);
 }
 
 pub loop-row-preserved : goal.loop-row-preserved
@@ -39,7 +39,7 @@ loop-row-preserved c =
           (ap (λ l. map entry_view c.loop-row.entries.items ++ listed_beside p (map hold_entry_of (drop at holds)) (map record_of l))
           (sym c.in-Some.ensures.steps.0) ∙ was.entries));
       listable = λ all.
-          (subst (λ l. AllByRecursion IsListable (map record_of l)) c.in-Some.ensures.steps.0 (was.listable all)).1;
+          (subst (λ l. AllByRecursion IsListableRecord (map record_of l)) c.in-Some.ensures.steps.0 (was.listable all)).1;
       low = still_low hold_entry_of record_of entry_view p holds whole at c.len-at.result c.in-Some.row.number names was.low are count;
     }
 
@@ -47,5 +47,5 @@ pub returns-in_err-entry-clause-lost : goal.returns-in_err-entry-clause-lost
 returns-in_err-entry-clause-lost c =
     passed_own c.from_residual-in_err-entry.result c.in_err-entry.field-0.0 _ c.from_residual-in_err-entry.ensures.1
     (λ all. c.in_err-entry.ensures.lost (subst (λ l.
-    AllByRecursion IsListable (map record_of l)) c.in-Some.ensures.steps.0
+    AllByRecursion IsListableRecord (map record_of l)) c.in-Some.ensures.steps.0
     (c.loop-row.invariant.listable all)).0)

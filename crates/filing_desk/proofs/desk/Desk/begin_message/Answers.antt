@@ -3,7 +3,7 @@ use Rattle.class_plan.specs.Plans.{Listing}
 use Rattle.filing_commands.specs.Answers.{begun}
 use Rattle.filing_commands.specs.declared.fault.DeskFault.TheVariants.{NoMemory}
 use Rattle.filing_image.specs.Program.{Program}
-use Rattle.filing_desk.specs.Beginning.{IsEntered}
+use Rattle.filing_desk.specs.Beginning.{IsNewFlight}
 use Rattle.filing_desk.specs.Standing.{AreOpenPaths}
 use Rattle.filing_desk.proofs.BeginLemmas.{begin_done, begin_poor, begin_refused, ticket_fault}
 use Rattle.filing_desk.proofs.desk.Desk.begin_message.Goals as goal
@@ -61,7 +61,8 @@ returns g c = λ m is.
     let old = c.args.self.now in
     let entered = c.enter.ensures in
     let x = c.in_ok-flight.flight in
-    let P : List ℕ → Type 0 = λ message. IsEntered (g.A.Records.plan_of old.store) old c.args.officer.now (old.last + 1) message c.in_ok-day.day x in
+    let P : List ℕ → Type 0 = λ message.
+    IsNewFlight (g.A.Records.plan_of old.store) old c.args.officer.now (old.last + 1) message c.in_ok-day.day x in
     let budget : c.budget-budget.result ≡ x.program.budget = c.budget-budget.ensures ∙ ap (λ (p : Program). p.budget) c.program.ensures in
     begin_done g.A.Records.clean g.A.Records.stands g.A.Records.may_leave
     g.A.Records.keeps g.A.Records.plan_of g.met.A.Records.plan_is

@@ -1,7 +1,7 @@
 use Rattle.std.proofs.Common.{◌∙◌, ap, subst}
 use Rattle.filing_image.specs.Program.{Program}
 use Rattle.filing_case.specs.Message.{case_of, is_among}
-use Rattle.filing_machine.specs.Runs.{Stands}
+use Rattle.filing_machine.specs.Runs.{IsOnRun}
 use Rattle.filing_flights.specs.FlightViews.{FlightView, facts_in}
 use Rattle.filing_flights.proofs.BegunLemmas.{holds_begun}
 use Rattle.filing_flights.proofs.flight.Flight.begin.Goals as goal
@@ -9,7 +9,7 @@ use Rattle.filing_flights.proofs.flight.Flight.begin.Goals as goal
 pub invariant_of-result : goal.invariant_of-result
 invariant_of-result c =
     let facts = facts_in c.in_ok-case.case in
-    let P : Program → Type 0 = λ p. Stands p facts c.in_ok-machine.machine in
+    let P : Program → Type 0 = λ p. IsOnRun p facts c.in_ok-machine.machine in
     (subst P c.deref.ensures (c.in_ok-machine.ensures.stands facts), c.requires.day)
 
 pub returns : goal.returns

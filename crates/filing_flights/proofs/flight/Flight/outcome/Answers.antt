@@ -1,7 +1,7 @@
 use Rattle.std.proofs.Common.{subst}
 use Rattle.std.specs.Prelude.{All, IfOk}
 use Rattle.std.proofs.lemmas.List.Elements.{All-from_recursion}
-use Rattle.filing_flights.specs.FlightViews.{FlightView, IsClass, IsOutcome, facts_in}
+use Rattle.filing_flights.specs.FlightViews.{FlightView, IsOpenAtBegin, IsOutcome, facts_in}
 use Rattle.filing_flights.proofs.HeldLemmas.{outcome_alone}
 use Rattle.filing_flights.proofs.ResultLemmas.{if_ok_map}
 use Rattle.filing_flights.proofs.ClassLemmas.{classes_open}
@@ -41,8 +41,8 @@ returns-clause-classes c =
       day = at.day;
       machine = at.machine;
     } in
-    let P : FlightView → Type 0 = λ y. IfOk c.outcome.result (λ o. All (IsClass y) o.classes) in
+    let P : FlightView → Type 0 = λ y. IfOk c.outcome.result (λ o. All (IsOpenAtBegin y) o.classes) in
     subst P c.self.view_is
     (if_ok_map c.outcome.result c.outcome.ensures.of_run
-    (λ o of. All-from_recursion (IsClass x) o.classes (classes_open at.program.value (facts_in at.case) at.machine.steps
+    (λ o of. All-from_recursion (IsOpenAtBegin x) o.classes (classes_open at.program.value (facts_in at.case) at.machine.steps
     o (of at.program.value (facts_in at.case) c.self.invariant.0)).each))

@@ -1,6 +1,6 @@
 use Rattle.std.proofs.Common.{sym, subst}
 use Rattle.filing_image.specs.Program.{Program}
-use Rattle.filing_machine.specs.Runs.{Stands}
+use Rattle.filing_machine.specs.Runs.{IsOnRun}
 use Rattle.filing_flights.specs.FlightViews.{FlightView, IsGranted, StopsShort, facts_in}
 use Rattle.filing_flights.specs.Machines.{IsStopped}
 use Rattle.filing_flights.proofs.HeldLemmas.{made_grants, stopped_short, with_machine}
@@ -9,12 +9,12 @@ use Rattle.filing_flights.proofs.flight.Flight.turn.Goals as goal
 
 pub make_steps-requires : goal.make_steps-requires
 make_steps-requires c =
-    let P : Program → Type 0 = λ p. Stands p (facts_in c.self.inside.case) c.self.inside.machine in
+    let P : Program → Type 0 = λ p. IsOnRun p (facts_in c.self.inside.case) c.self.inside.machine in
     subst P (sym c.deref.ensures) c.self.invariant.0
 
 pub invariant_of-self : goal.invariant_of-self
 invariant_of-self c =
-    let P : Program → Type 0 = λ p. Stands p (facts_in c.self.inside.case) c.make_steps.new.machine in
+    let P : Program → Type 0 = λ p. IsOnRun p (facts_in c.self.inside.case) c.make_steps.new.machine in
     (subst P c.deref.ensures c.make_steps.ensures.stands, c.self.invariant.1)
 
 pub returns-clause-ok : goal.returns-clause-ok
@@ -30,7 +30,7 @@ returns-clause-ok c =
       machine = at.machine;
     } in
     let m = c.make_steps.new.machine in
-    let S : Program → Type 0 = λ p. Stands p (facts_in at.case) m in
+    let S : Program → Type 0 = λ p. IsOnRun p (facts_in at.case) m in
     let P : FlightView → Type 0 = λ y. IsGranted y c.args.count (with_machine x m) in
     on_ok_map c.make_steps.result c.make_steps.ensures.ok (λ made.
     subst P c.self.view_is (made_grants x m c.args.count (subst S c.deref.ensures c.make_steps.ensures.stands)
@@ -49,7 +49,7 @@ returns-clause-err c =
       machine = at.machine;
     } in
     let m = c.make_steps.new.machine in
-    let S : Program → Type 0 = λ p. Stands p (facts_in at.case) m in
+    let S : Program → Type 0 = λ p. IsOnRun p (facts_in at.case) m in
     let T : Program → Type 0 = λ p. IsStopped p at.machine c.args.count m in
     let P : FlightView → Type 0 = λ y. StopsShort y c.args.count (with_machine x m) in
     on_err_map c.make_steps.result c.make_steps.ensures.err (λ stop.

@@ -3,7 +3,7 @@ use Rattle.std.proofs.lemmas.Bool.{false≢true}
 use Rattle.filing_image.specs.declared.instruction.Operation.TheVariants.{PushTrue}
 use Rattle.filing_table.specs.Machine.{step}
 use Rattle.filing_machine.specs.StateViews.{state, run_at, IsModest}
-use Rattle.filing_machine.specs.Runs.{Stands, Snapshot, run_view, IsModestAt}
+use Rattle.filing_machine.specs.Runs.{IsOnRun, Snapshot, run_view, IsModestAt}
 use Rattle.filing_machine.proofs.Ready.{ready, one_more, modest_here}
 use Rattle.filing_machine.proofs.machine.Machine.step.Goals as goal
 
@@ -11,12 +11,12 @@ pub offset_bounds-code-self-inside : goal.offset_bounds-code-self-inside
 offset_bounds-code-self-inside g c =
     let p = c.args.program.now in
     let f = g.C.Case.facts c.args.case.now in
-    let stands : Stands p f (record {
+    let stands : IsOnRun p f (record {
       at = c.self.inside.at;
       progress = c.self.inside.progress;
       steps =
           c.self.inside.steps;
-    }) = subst (Stands p f) (sym c.self.view_is) c.requires.stands in
+    }) = subst (IsOnRun p f) (sym c.self.view_is) c.requires.stands in
     let r = ready p f _ c.image-image.ensures.well (rw (← c.self.view_is) at c.requires.running) stands in
     let code-is : c.code.result.now ≡ p.code = c.code.ensures.value ∙ ap (λ q. q.code) c.image-image.ensures.is in
     omega (arith, r.within, c.code.type_inv, ap length code-is)
@@ -25,12 +25,12 @@ pub bounds-code-self-inside : goal.bounds-code-self-inside
 bounds-code-self-inside g c =
     let p = c.args.program.now in
     let f = g.C.Case.facts c.args.case.now in
-    let stands : Stands p f (record {
+    let stands : IsOnRun p f (record {
       at = c.self.inside.at;
       progress = c.self.inside.progress;
       steps =
           c.self.inside.steps;
-    }) = subst (Stands p f) (sym c.self.view_is) c.requires.stands in
+    }) = subst (IsOnRun p f) (sym c.self.view_is) c.requires.stands in
     let r = ready p f _ c.image-image.ensures.well (rw (← c.self.view_is) at c.requires.running) stands in
     let code-is : c.code.result.now ≡ p.code = c.code.ensures.value ∙ ap (λ q. q.code) c.image-image.ensures.is in
     rw code-is r.within
@@ -39,12 +39,12 @@ pub act-requires-clause-place : goal.act-requires-clause-place
 act-requires-clause-place g c =
     let p = c.args.program.now in
     let f = g.C.Case.facts c.args.case.now in
-    let stands : Stands p f (record {
+    let stands : IsOnRun p f (record {
       at = c.self.inside.at;
       progress = c.self.inside.progress;
       steps =
           c.self.inside.steps;
-    }) = subst (Stands p f) (sym c.self.view_is) c.requires.stands in
+    }) = subst (IsOnRun p f) (sym c.self.view_is) c.requires.stands in
     let r = ready p f _ c.image-image.ensures.well (rw (← c.self.view_is) at c.requires.running) stands in
     let code-is : c.code.result.now ≡ p.code = c.code.ensures.value ∙ ap (λ q. q.code) c.image-image.ensures.is in
     omega (arith, r.within, c.code.ensures.short, ap length code-is)
@@ -53,12 +53,12 @@ pub act-requires-clause-sound : goal.act-requires-clause-sound
 act-requires-clause-sound g c =
     let p = c.args.program.now in
     let f = g.C.Case.facts c.args.case.now in
-    let stands : Stands p f (record {
+    let stands : IsOnRun p f (record {
       at = c.self.inside.at;
       progress = c.self.inside.progress;
       steps =
           c.self.inside.steps;
-    }) = subst (Stands p f) (sym c.self.view_is) c.requires.stands in
+    }) = subst (IsOnRun p f) (sym c.self.view_is) c.requires.stands in
     let r = ready p f _ c.image-image.ensures.well (rw (← c.self.view_is) at c.requires.running) stands in
     let code-is : c.code.result.now ≡ p.code = c.code.ensures.value ∙ ap (λ q. q.code) c.image-image.ensures.is in
     rw (code-is, c.image-image.ensures.is) r.sound
@@ -67,12 +67,12 @@ pub act-requires-clause-deep : goal.act-requires-clause-deep
 act-requires-clause-deep g c =
     let p = c.args.program.now in
     let f = g.C.Case.facts c.args.case.now in
-    let stands : Stands p f (record {
+    let stands : IsOnRun p f (record {
       at = c.self.inside.at;
       progress = c.self.inside.progress;
       steps =
           c.self.inside.steps;
-    }) = subst (Stands p f) (sym c.self.view_is) c.requires.stands in
+    }) = subst (IsOnRun p f) (sym c.self.view_is) c.requires.stands in
     let r = ready p f _ c.image-image.ensures.well (rw (← c.self.view_is) at c.requires.running) stands in
     let code-is : c.code.result.now ≡ p.code = c.code.ensures.value ∙ ap (λ q. q.code) c.image-image.ensures.is in
     r.deep
@@ -81,12 +81,12 @@ pub act-requires-clause-room : goal.act-requires-clause-room
 act-requires-clause-room g c =
     let p = c.args.program.now in
     let f = g.C.Case.facts c.args.case.now in
-    let stands : Stands p f (record {
+    let stands : IsOnRun p f (record {
       at = c.self.inside.at;
       progress = c.self.inside.progress;
       steps =
           c.self.inside.steps;
-    }) = subst (Stands p f) (sym c.self.view_is) c.requires.stands in
+    }) = subst (IsOnRun p f) (sym c.self.view_is) c.requires.stands in
     let r = ready p f _ c.image-image.ensures.well (rw (← c.self.view_is) at c.requires.running) stands in
     let code-is : c.code.result.now ≡ p.code = c.code.ensures.value ∙ ap (λ q. q.code) c.image-image.ensures.is in
     r.room
@@ -95,12 +95,12 @@ pub overflow_add-self : goal.overflow_add-self
 overflow_add-self g c =
     let p = c.args.program.now in
     let f = g.C.Case.facts c.args.case.now in
-    let stands : Stands p f (record {
+    let stands : IsOnRun p f (record {
       at = c.self.inside.at;
       progress = c.self.inside.progress;
       steps =
           c.self.inside.steps;
-    }) = subst (Stands p f) (sym c.self.view_is) c.requires.stands in
+    }) = subst (IsOnRun p f) (sym c.self.view_is) c.requires.stands in
     let r = ready p f _ c.image-image.ensures.well (rw (← c.self.view_is) at c.requires.running) stands in
     let code-is : c.code.result.now ≡ p.code = c.code.ensures.value ∙ ap (λ q. q.code) c.image-image.ensures.is in
     omega (arith, r.budget, r.small)
@@ -109,12 +109,12 @@ pub returns-clause-stands : goal.returns-clause-stands
 returns-clause-stands g c =
     let p = c.args.program.now in
     let f = g.C.Case.facts c.args.case.now in
-    let stands : Stands p f (record {
+    let stands : IsOnRun p f (record {
       at = c.self.inside.at;
       progress = c.self.inside.progress;
       steps =
           c.self.inside.steps;
-    }) = subst (Stands p f) (sym c.self.view_is) c.requires.stands in
+    }) = subst (IsOnRun p f) (sym c.self.view_is) c.requires.stands in
     let r = ready p f _ c.image-image.ensures.well (rw (← c.self.view_is) at c.requires.running) stands in
     let code-is : c.code.result.now ≡ p.code = c.code.ensures.value ∙ ap (λ q. q.code) c.image-image.ensures.is in
     let does = rw (code-is, c.image-image.ensures.is) at c.in_ok-self-inside.ensures.does in
@@ -130,12 +130,12 @@ pub returns-clause-step : goal.returns-clause-step
 returns-clause-step g c =
     let p = c.args.program.now in
     let f = g.C.Case.facts c.args.case.now in
-    let stands : Stands p f (record {
+    let stands : IsOnRun p f (record {
       at = c.self.inside.at;
       progress = c.self.inside.progress;
       steps =
           c.self.inside.steps;
-    }) = subst (Stands p f) (sym c.self.view_is) c.requires.stands in
+    }) = subst (IsOnRun p f) (sym c.self.view_is) c.requires.stands in
     let r = ready p f _ c.image-image.ensures.well (rw (← c.self.view_is) at c.requires.running) stands in
     let code-is : c.code.result.now ≡ p.code = c.code.ensures.value ∙ ap (λ q. q.code) c.image-image.ensures.is in
     let does = rw (code-is, c.image-image.ensures.is) at c.in_ok-self-inside.ensures.does in
@@ -147,12 +147,12 @@ pub returns-clause-budget : goal.returns-clause-budget
 returns-clause-budget g c =
     let p = c.args.program.now in
     let f = g.C.Case.facts c.args.case.now in
-    let stands : Stands p f (record {
+    let stands : IsOnRun p f (record {
       at = c.self.inside.at;
       progress = c.self.inside.progress;
       steps =
           c.self.inside.steps;
-    }) = subst (Stands p f) (sym c.self.view_is) c.requires.stands in
+    }) = subst (IsOnRun p f) (sym c.self.view_is) c.requires.stands in
     let r = ready p f _ c.image-image.ensures.well (rw (← c.self.view_is) at c.requires.running) stands in
     let code-is : c.code.result.now ≡ p.code = c.code.ensures.value ∙ ap (λ q. q.code) c.image-image.ensures.is in
     r.budget
@@ -161,12 +161,12 @@ pub returns-in_err-self-inside-clause-budget : goal.returns-in_err-self-inside-c
 returns-in_err-self-inside-clause-budget g c =
     let p = c.args.program.now in
     let f = g.C.Case.facts c.args.case.now in
-    let stands : Stands p f (record {
+    let stands : IsOnRun p f (record {
       at = c.self.inside.at;
       progress = c.self.inside.progress;
       steps =
           c.self.inside.steps;
-    }) = subst (Stands p f) (sym c.self.view_is) c.requires.stands in
+    }) = subst (IsOnRun p f) (sym c.self.view_is) c.requires.stands in
     let r = ready p f _ c.image-image.ensures.well (rw (← c.self.view_is) at c.requires.running) stands in
     let code-is : c.code.result.now ≡ p.code = c.code.ensures.value ∙ ap (λ q. q.code) c.image-image.ensures.is in
     omega (arith, r.budget)
@@ -175,12 +175,12 @@ pub returns-in_err-self-inside-clause-modest : goal.returns-in_err-self-inside-c
 returns-in_err-self-inside-clause-modest g c =
     let p = c.args.program.now in
     let f = g.C.Case.facts c.args.case.now in
-    let stands : Stands p f (record {
+    let stands : IsOnRun p f (record {
       at = c.self.inside.at;
       progress = c.self.inside.progress;
       steps =
           c.self.inside.steps;
-    }) = subst (Stands p f) (sym c.self.view_is) c.requires.stands in
+    }) = subst (IsOnRun p f) (sym c.self.view_is) c.requires.stands in
     let r = ready p f _ c.image-image.ensures.well (rw (← c.self.view_is) at c.requires.running) stands in
     let code-is : c.code.result.now ≡ p.code = c.code.ensures.value ∙ ap (λ q. q.code) c.image-image.ensures.is in
     λ modest.

@@ -3,7 +3,7 @@ use Rattle.jiff.specs.Words.{epoch_day}
 use Rattle.record_tables.specs.CodeRows.{record_of}
 use Rattle.record_archive.specs.Archive as archive
 use Rattle.record_archive.specs.Archive.{Archive}
-use Rattle.record_store.specs.Destruction.{IsFree}
+use Rattle.record_store.specs.Destruction.{IsUnheld}
 use Rattle.record_store.specs.Stores.{Leaves}
 use Rattle.record_store.proofs.AllowedLemmas.{leaves_allowed}
 use Rattle.record_store.proofs.store.Store.destroy.Given.{Over}
@@ -19,7 +19,7 @@ left g c =
     archive.destroy_by a n k (archive.record_at a n))) c.number_from_1970.ensures
     (leaves_allowed g.S.Store c.args.self.now c.judge_destruction.new.self c.remove_record.new.self (λ (a : Archive).
     archive.destroy_by a n c.number_from_1970.result (archive.record_at a n)) (λ (a : Archive).
-    IsFree a n r) (λ (a : Archive). archive.without a r)
+    IsUnheld a n r) (λ (a : Archive). archive.without a r)
     c.in_ok-record.ensures.tells c.judge_destruction.ensures.crash c.in_ok-record.ensures.open c.remove_record.ensures.crash)
 
 pub returns-clause-crash : goal.returns-clause-crash

@@ -3,7 +3,7 @@ use Rattle.std.specs.List.{AllByRecursion}
 use Rattle.std.proofs.lemmas.List.{take-map}
 use Rattle.record_archive.specs.Archive.{Archive}
 use Rattle.record_tables.specs.CodeRows.{record_of, hold_entry_of}
-use Rattle.record_store.specs.Entries.{entry_of, records_from, listed_beside, IsPage, IsListable}
+use Rattle.record_store.specs.Entries.{entry_of, records_from, listed_beside, IsPage, IsListableRecord}
 use Rattle.record_store.proofs.Causes.{passed_cause}
 use Rattle.record_store.proofs.CommandLemmas.{leaves_then}
 use Rattle.record_store.proofs.EntryLemmas.{page_is, limited_is}
@@ -50,6 +50,6 @@ returns-in_err-entries-clause-cause g c =
     passed_cause g.S.Store c.args.self.now c.holds_on.new.self c.from_residual-in_err-entries.result
     c.in_err-entries.field-0.0 c.from_residual-in_err-entries.ensures.1
     (λ (a : Archive) s clean.
-    c.in_err-entries.ensures.lost (subst (AllByRecursion IsListable)
+    c.in_err-entries.ensures.lost (subst (AllByRecursion IsListableRecord)
     (sym ((c.in_ok-rows.ensures.tells a s).1 (c.holds_on.ensures.falls clean)))
     (page_listable a c.args.from c.limit_of.result s.archive)))

@@ -3,7 +3,7 @@ use Rattle.record_tables.specs.Changes.{Always}
 use Rattle.record_tables.specs.CodeRows.{record_of}
 use Rattle.record_archive.specs.Archive as archive
 use Rattle.record_archive.specs.Archive.{Archive}
-use Rattle.record_store.specs.Destruction.{IsFree, with_destruction}
+use Rattle.record_store.specs.Destruction.{IsUnheld, with_destruction}
 use Rattle.record_store.proofs.CommandLemmas.{fell, stands_turned, leaves_turned}
 use Rattle.record_store.proofs.DestroyLemmas.{keeps_destroyed, destroyed_archive, count_destroyed, next_destroyed, free_itself}
 use Rattle.record_store.proofs.Causes.{never_busy}
@@ -26,7 +26,7 @@ returns-in-Ok-clause-crash g c = λ (a : Archive) s.
     let n = c.args.number in
     let r = record_of c.args.row.now in
     let last = c.last_body-last.result in
-    leaves_turned g.S.Store c.args.self.now c.transact.new.conn a (archive.without a r) (IsFree a n r) Always (with_destruction n last) s
+    leaves_turned g.S.Store c.args.self.now c.transact.new.conn a (archive.without a r) (IsUnheld a n r) Always (with_destruction n last) s
     (destroyed_archive a n r s.archive) (λ was kept free. tt) (λ was db kept free turns.
     keeps_destroyed g.S.Store c.args.self.now a s n r last free c.last_body-last.ensures was db kept turns)
     c.transact.ensures.live c.transact.ensures.crash
@@ -36,7 +36,7 @@ returns-in-Err-clause-crash g c = λ (a : Archive) s.
     let n = c.args.number in
     let r = record_of c.args.row.now in
     let last = c.last_body-last.result in
-    leaves_turned g.S.Store c.args.self.now c.transact.new.conn a (archive.without a r) (IsFree a n r) Always (with_destruction n last) s
+    leaves_turned g.S.Store c.args.self.now c.transact.new.conn a (archive.without a r) (IsUnheld a n r) Always (with_destruction n last) s
     (destroyed_archive a n r s.archive) (λ was kept free. tt) (λ was db kept free turns.
     keeps_destroyed g.S.Store c.args.self.now a s n r last free c.last_body-last.ensures was db kept turns)
     c.transact.ensures.live c.transact.ensures.crash
