@@ -65,7 +65,7 @@ module _ {D I : Type 0} (clean : D → Type 0) (stands : D → Standing → Type
       let led = in_ending session old written desk new told ok in
       (led.0, λ s there. let l = led.1 s there in record { to = l.to; is_one = inr l.is_one; there = l.there })
 
-  -- the same for what was done, whatever the streams tell
+  -- the same for what was done, whatever the streams know
   pub done_refines :
       ((items : List Item) (answers : List Answer) → Refines clean stands (λ desk. Run (Calls clean stands may_leave keeps) desk items answers)
       (λ s. Run Step s items answers))

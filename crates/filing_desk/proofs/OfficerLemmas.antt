@@ -66,7 +66,7 @@ tells_no_script _ = false
 abbrev failed : DeskFault → Result (Unit {0}) DeskFault
 failed f = Err f
 
--- where memory is short, the officer has the script, since a script that is not there is told first
+-- where memory is short, the officer has the script, since a script that is not there is refused first
 has_script : (b : Bool) (f : DeskFault) → f ≡ NoMemory → (b ≡ false → failed f ≡ failed NoScript) → b ≡ true
 has_script true f poor missing = refl
 has_script false f poor missing = absurd (false≢true (ap tells_no_script (ap failed (sym poor) ∙ missing refl)))

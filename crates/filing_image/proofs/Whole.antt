@@ -34,7 +34,7 @@ chosen true b v e = inl (refl, cc)
 chosen false true v e = inr (refl, cc)
 chosen false false v e = absurd cc
 
--- the octet that tells a version is the last of its mark
+-- the octet of a version is the last of its mark
 told_is : (d : ℕ) (v : Version) → version_of_octet d ≡ Some v → 0x53 ∷ 0x46 ∷ 0x49 ∷ d ∷ [] ≡ mark v
 told_is d v e = elim (chosen (eqb d 0x31) (eqb d 0x32) v e) [
   | inl (t, is) ↦ let d-is : d ≡ 0x31 = eqb-true _ _ t in rw (d-is, is) refl

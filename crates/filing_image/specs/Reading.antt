@@ -46,11 +46,11 @@ many_at read (suc n) octets = do
   others ← many_at read n first.1
   Some (first.0 ∷ others.0, others.1)
 
--- the version that the last octet of a mark tells
+-- the version by the last octet of a mark
 abbrev pub version_of_octet : ℕ → Option Version
 version_of_octet b = if b == 0x31 then Some One else (if b == 0x32 then Some Two else None)
 
--- the version that the mark tells, and the octets after the mark
+-- the version of the mark, and the octets after the mark
 unfoldable pub version_and_rest : List ℕ → Option (Version × List ℕ)
 version_and_rest (b0 ∷ b1 ∷ b2 ∷ b3 ∷ rest) = if (b0 == 0x53) && ((b1 == 0x46) && (b2 == 0x49))
     then version_of_octet b3 >>= (λ v. Some (v, rest)) else None

@@ -87,7 +87,7 @@ fn written_at(alloc: Global, octets: &[u8]) -> Result<(Written, &[u8]), FormFaul
     Ok((written, rest))
 }
 
-/// Reads the mark `SFI1` or `SFI2`; answers the version that it tells and the rest.
+/// Reads the mark `SFI1` or `SFI2`; answers its version and the rest.
 #[tactic(auto, unfolding(crate::specs::Reading::version_and_rest))]
 fn after_mark(octets: &[u8]) -> Result<(Version, &[u8]), FormFault>
     ensures { Gives (λ x. (x.0, x.1.now)) result (version_and_rest octets.now) }
@@ -98,7 +98,7 @@ fn after_mark(octets: &[u8]) -> Result<(Version, &[u8]), FormFault>
     }
 }
 
-/// The version that the last octet of a mark tells.
+/// The version by the last octet of a mark.
 fn version_of_octet(told: u8) -> Result<Version, FormFault>
     ensures { Gives (λ v. v) result (version_of_octet told) }
 {

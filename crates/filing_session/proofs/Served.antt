@@ -101,8 +101,8 @@ ok_no_err : {E : Type 0} (x : Unit {0}) (f : E) → Ok x ≡ Err f → ⊥
 ok_no_err x f h = cc
 
 module _ {D : Type 0} (Does : D → Command → Answer → D → Type 0) where
-  -- A number of items were done, and answered where the sink tells. Where the source tells, they are the first of the
-  -- session, and what is left has the further ones.
+  -- A number of items were done, and answered where the sink knows its octets. Where the source does, they are
+  -- the first of the session, and what is left has the further ones.
   pub record Doing (source_tells sink_tells : Type 0) (count : ℕ) (all : Session) (s₀ : D) (w₀ left : List ℕ) (s : D) (w : List ℕ) : Type 0 where
     pub items : List Item
     pub answers : List Answer

@@ -29,7 +29,7 @@ of_last t (x ∷ fs) f same e = go (x.ticket == t) refl (of_last t fs f same)
     go true is rest = absurd (let some : Some x ≡ None = rw is at e in cc)
     go false is rest = rw is (rest (rw is at e))
 
--- the fault that is told of a capture, however many turns it was granted
+-- the fault that is reported of a capture, however many turns it was granted
 told_granted : (k : ℕ) (f : Flight) (found : Option Flight) (fault : RunFault) → found ≡ Some (granted_more k f)
     → TellsFault found (Some fault) → HasFault f.at_begin (Some fault)
 told_granted k f found fault e h =
@@ -68,7 +68,7 @@ module _ (s to : Standing) (officer : List ℕ) (moment : ℕ) (message : List �
       let Has : BeginState → Type 0 = λ x. HasFault x (Some fault) in
       subst Has begins.at_begin (told_granted found.0 f (flight_of t to.flights) fault found.1 told)
 
-  -- where no capture had the ticket, the fault that is told is the one of the capture that was begun
+  -- where no capture had the ticket, the fault that is reported is the one of the capture that was begun
   pub fault_begun : (fault : RunFault) → Goes s (first_calls officer moment message t b turned) to
       → flight_of (s.last + 1) s.flights ≡ None → TellsFault (flight_of t to.flights) (Some fault)
       → HasFault (begin_state s.office officer moment message) (Some fault)
@@ -77,7 +77,7 @@ module _ (s to : Standing) (officer : List ℕ) (moment : ℕ) (message : List �
       let Turns : Standing → Type 0 = λ z. TurnStep mid t b (flight_of t mid.flights) turned z in
       begun_fault mid fault free begins (subst Turns (sym is) step) told
 
--- a message whose fault is told in each state that the desk represents after its BEGIN and TURN
+-- a message whose fault is reported in each state that the desk represents after its BEGIN and TURN
 pub is_faulty : {D : Type 0} (stands : D → Standing → Type 0) (s to : Standing) (officer : List ℕ) (moment : ℕ)
     (message : List ℕ) (t b : ℕ) (turned : Answer) (fault : RunFault) (new : D)
     → Goes s (first_calls officer moment message t b turned) to → stands new to

@@ -42,7 +42,7 @@ files_told : (old new : Archive) (s : BeginState) (told fault : Option RunFault)
 files_told old new s told fault lines h k =
     k.2 ∙ ap (λ (o : Outcome). o.fault) (alone_once s k.0 h.0 k.1 h.1) ∙ h.2
 
--- ---- what FINISH answers after a fault was told
+-- ---- what FINISH answers after a fault was reported
 
 module _ (s new : Standing) (t : ℕ) where
   captured_whole : (early : Bool) (x : BeginState) (told fault : Option RunFault) (lines : List Line)
@@ -58,7 +58,7 @@ module _ (s new : Standing) (t : ℕ) where
   captured_found (Some f) told fault lines h step =
       captured_whole (nat_lt f.granted f.run_length) f.at_begin told fault lines h step
 
-  -- a capture that FINISH answers has the fault that was told
+  -- a capture that FINISH answers has the fault that was reported
   pub captured_told : (told fault : Option RunFault) (lines : List Line) → TellsFault (flight_of t s.flights) fault
       → Step s (finish t) (captured told lines) new → told ≡ fault
   unfolding Step
@@ -81,13 +81,13 @@ module _ (s new : Standing) (t : ℕ) where
   fault_found None fault a h step = absurd cc
   fault_found (Some f) fault a h step = fault_whole (nat_lt f.granted f.run_length) f.at_begin fault a h step
 
-  -- after a fault was told, FINISH answers it, or is refused
+  -- after a fault was reported, FINISH answers it, or is refused
   pub fault_answered : (fault : RunFault) (a : Answer) → TellsFault (flight_of t s.flights) (Some fault)
       → Step s (finish t) a new → AnswersFault fault a
   unfolding Step
   fault_answered fault a h step = fault_found (flight_of t s.flights) fault a h step
 
--- a fault is told of a capture that has come to its end
+-- a fault is reported of a capture that has come to its end
 pub told_of : (f : Flight) (fault : RunFault) → TellsFault (Some f) (Some fault) → HasFault f.at_begin (Some fault)
 told_of f fault h = go (nat_lt f.granted f.run_length) h
   where

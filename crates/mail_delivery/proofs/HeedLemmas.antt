@@ -16,7 +16,7 @@ use Rattle.mail_delivery.proofs.BegunLemmas.{is_faulty}
 
 module _ {D : Type 0} (clean : D → Type 0) (stands : D → Standing → Type 0) (old : D) (officer : List ℕ) (moment : ℕ)
     (message : List ℕ) where
-  -- a message that is given up has the fault that is told of its capture
+  -- a message that is given up has the fault that is reported of its capture
   given_up_for : (calls : List Call) (t b : ℕ) (turned : Answer) (fault : RunFault) (new : D)
       → calls ≡ first_calls officer moment message t b turned → Follows clean stands old calls new
       → ((z : Standing) → stands new z → TellsFault (flight_of t z.flights) (Some fault))
@@ -38,7 +38,7 @@ module _ {D : Type 0} (clean : D → Type 0) (stands : D → Standing → Type 0
   heeds_given_up Capture calls t b turned fault new is follows told none =
       let no : ◌≡◌ {A = Option RunFault} (Some fault) None = none refl in cc
 
-  -- a message that is captured has the fault that is told of its capture
+  -- a message that is captured has the fault that is reported of its capture
   captured_for : {I : Type 0} (may_leave : D → I → Type 0) (keeps : I → Archive → Type 0) (calls : List Call) (t : ℕ)
       (told : Option RunFault) (lines : List Line) (mid new : D) → Follows clean stands old calls mid
       → ((z : Standing) → stands mid z → TellsFault (flight_of t z.flights) None)

@@ -44,7 +44,7 @@ pub record Follows {D : Type 0} (clean : D → Type 0) (stands : D → Standing 
 abbrev pub HasFault : BeginState → Option RunFault → Type 0
 HasFault at_begin fault = (o : Outcome) × IsAlone at_begin o × (o.fault ≡ fault)
 
--- What is told of a capture that is looked up: the fault of its outcome alone, where it has come to its end; and none
+-- What is reported of a capture that is looked up: the fault of its outcome alone, where it has come to its end; and none
 -- where it has not, or where no capture is found.
 abbrev pub TellsFault : Option Flight → Option RunFault → Type 0
 TellsFault None told = told ≡ None
@@ -102,7 +102,7 @@ module _ {D : Type 0} (clean : D → Type 0) (stands : D → Standing → Type 0
   BeginsCapture result new = (calls : List Call) × AreFirst officer moment message result calls × Follows clean stands old calls new
 
   -- What was to be done on a fault is done. Where messages are given up for a fault, one that was captured has none, on a
-  -- clean disk, and one that was given up has the fault that is told, on any disk. Else none is given up.
+  -- clean disk, and one that was given up has the fault that is reported, on any disk. Else none is given up.
   abbrev pub Heeds : Result Delivery DeskFault → OnFault → (new : D) → Type 0
   Heeds (Ok (Captured c)) GiveUp new = clean new → (s : Standing) → stands old s → c.fault ≡ None
   Heeds (Ok (GivenUp fault)) GiveUp new = (s : Standing) → stands old s → IsFaulty stands s officer moment message fault new

@@ -27,7 +27,7 @@ fn read_scripts(rt: &HostRuntime, asked: &ArgMatches<'_>) -> Result<Option<Scrip
     unless_full(rt, Scripts::new(rt.alloc(), main, others))
 }
 
-/// Tells a person where to look for what a run that ended with a fault has missed.
+/// Says on standard error where to look for what a run that ended with a fault has missed.
 fn tell_lack(rt: &HostRuntime, asked: &ArgMatches<'_>, fault: Option<RunFault>) {
     let words = match fault {
         Some(RunFault::ClassNotOpen) if asked.get_str("plan").is_none() => {
@@ -92,7 +92,7 @@ fn show_run(rt: &HostRuntime, program: &Verified, question: &Question) -> Result
     Ok(Verdict::Good)
 }
 
-/// Tells why a script files the message.
+/// Says why a script files the message.
 fn tell_script(
     rt: &HostRuntime,
     asked: &ArgMatches<'_>,

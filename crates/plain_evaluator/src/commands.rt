@@ -162,7 +162,7 @@ fn run_command<'a, L: Entry, O: Observer>(
     }
 }
 
-/// Runs commands in order as long as each goes on. The observer is told each, and what it comes to.
+/// Runs commands in order as long as each goes on. The observer gets each, and what it comes to.
 #[cycle(running)]
 pub fn run<'a, L: Entry, O: Observer>(
     alloc: Global,

@@ -2,8 +2,8 @@
 
 ghost use Rattle.plain_evaluator.specs.Acts.{ActsAreDone};
 
-/// What an observer is told that a command does is what the command does in the meaning of scripts. The function does
-/// nothing: its contract is the law.
+/// What is reported to an observer as done by a command is what the command does in the meaning of scripts. The
+/// function does nothing: its contract is the law.
 pub fn acts_are_done()
     ensures { ActsAreDone }
 {}

@@ -1,10 +1,10 @@
 //! A plain evaluator of Sieve scripts (RFC 5228, with RFC 3894 and RFC 6609). It walks over the tree of a script and of
 //! those that it includes, with no image and no machine between. Mailfile itself runs scripts by `filing_gen` and
-//! `filing_machine`; with this crate a program can compare the two, and tell an observer what a run comes to.
+//! `filing_machine`; with this crate a program can compare the two, and let an observer follow a run.
 //!
 //! In `specs/`, `Case` says what a case means, `Runs` what each part of a run has to answer, and `Acts` what single
-//! commands do. The modules from the bottom: `case` (the message), `observer` (what is told), `truth` (tests), `filing`
-//! and `scope` (what a run keeps), `entry`, `includes`, `commands`, `levels`, `outcome`, `laws`.
+//! commands do. The modules from the bottom: `case` (the message), `observer` (what is reported), `truth` (tests),
+//! `filing` and `scope` (what a run keeps), `entry`, `includes`, `commands`, `levels`, `outcome`, `laws`.
 #![tactic(auto)]
 
 mod case;

@@ -1,4 +1,4 @@
-//! What a run tells of itself while it goes on. Nothing that an observer does changes the run.
+//! What a run reports while it goes on. Nothing that an observer does changes the run.
 
 ghost use Rattle.std.specs.Prelude.{◌≡◌};
 ghost use Rattle.sieve_syntax.specs.View.{test_of};
@@ -50,8 +50,8 @@ pub enum Inclusion {
     TooDeep,
 }
 
-/// Is told what a run comes to, in its order. What is entered is left in the opposite order, except where memory runs
-/// out. Of a test that is not needed, and of a command that is not reached, nothing is told.
+/// Gets what a run comes to, in its order. What is entered is left in the opposite order, except where memory runs
+/// out. Of a test that is not needed, and of a command that is not reached, nothing is reported.
 pub trait Observer {
     /// The run comes to a command.
     fn enter_command(&mut self, command: &Command);

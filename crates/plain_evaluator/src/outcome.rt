@@ -71,7 +71,7 @@ fn main_entered<'a>(
 
 /// What a main script captures a message in: the outcome of what the script means in the message's case. The script may
 /// be known by a personal name, and may include the scripts of two shelves. Its weight is not looked at: a script that
-/// is too heavy for an image is run like any other. The observer is told what the run comes to. The only error is out
+/// is too heavy for an image is run like any other. The observer gets what the run comes to. The only error is out
 /// of memory.
 pub fn evaluate_observed<'a, O: Observer>(
     alloc: Global,

@@ -161,7 +161,7 @@ fn answer_of<O: Observer>(case: &BorrowedCase<'_, Paths>, test: &Test, observer:
     }
 }
 
-/// Whether a test is true in a case. The observer is told the test, its answer, and what was evaluated for it.
+/// Whether a test is true in a case. The observer gets the test, its answer, and what was evaluated for it.
 #[cycle(truth)]
 fn is_true<O: Observer>(case: &BorrowedCase<'_, Paths>, test: &Test, observer: &mut O) -> bool
     ensures { result ≡ truth (facts_of case.now) (test_in (test_of test.now)) }

@@ -191,7 +191,7 @@ accepted : {l : ArchiveLists} (t : Tables) (p : Listing) → IsPlan p → AreOnc
 accepted t p plan once lists are = judged_archive (archive_of t p) (record { plan = plan; once = once }) (judged_as refl lists are)
 
 module _ {db : Database} {t : Tables} {ps : List Pair} {cs : List ClassEntry} {r : CommonRows} {p : Listing} where
-  -- what was read tells a plan, and was accepted: the database has an archive
+  -- what was read is a plan's, and was accepted: the database has an archive
   pub second_sound : {rs rules : List Rule} → ReadsSecond db t ps rs cs → common_lists r ≡ lists_with ps cs (archive_of t p)
       → rules ≡ rs → IsPlan p → TellsSecond r rules p → IsJudged p (lists_of r.archive) → HasArchive db
   second_sound d lists same plan tells are = record {

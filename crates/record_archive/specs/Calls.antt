@@ -38,7 +38,7 @@ pub record CarriesOut {A I X E : Type 0} (clean : A → Type 0) (stands : A → 
   pub kept : OnOk result (clean new → (a : Archive) → stands old a → (image : I) → may_leave new image →
       KeepsMade keeps image (command a))
 
--- the answer of a call that tells no more than that it is done
+-- the answer of a call that says no more than that it is done
 abbrev pub Quietly : {X : Type 0} → Archive → X → Type 0
 Quietly a x = Unit {0}
 

@@ -14,7 +14,7 @@ use crate::fault::ArchiveFault;
 use crate::line::Line;
 use class_plan::{Date, Plan};
 
-/// An archive of records that is kept somewhere. Its one implementation is the `Store` of `record_store`.
+/// An archive of records that is kept somewhere. The `Store` of `record_store` is one.
 ///
 /// Each call carries out a command of `Archive` in `specs/`. Besides the refusals of each call, every call that changes
 /// or reads records may be refused with 89 (the keeper, with its cause) and 99 (no memory). A refusal changes nothing.

@@ -175,7 +175,7 @@ due_list_is a is day =
     ∙ ap (λ k. map (line_of a) (sort_by k Z)) order
     ∙ sym (sort_by-map line_cmp (line_of a) Z)
 
--- ---- due days that can be told
+-- ---- due days that can be listed
 
 -- the number of the record fits in 32 bits, and the due day is not after 9999-12-31
 abbrev IsSmall : Due → Type 0

@@ -1,7 +1,7 @@
 //! Reports on runs: why a message is filed where it is, for people.
 //!
-//! The evaluator of `plain_evaluator` tells a `Narrator` what a run comes to; `script_places` says where the commands
-//! and tests stand. A `Report` shows both, in lines (`report_text`) or as JSON (`report_json`).
+//! The evaluator of `plain_evaluator` reports to a `Narrator` what a run comes to; `script_places` says where the
+//! commands and tests stand. A `Report` shows both, in lines (`report_text`) or as JSON (`report_json`).
 //!
 //! The modules from the bottom: `nodes` (the commands and tests of a script in one list) and `book` (all scripts of a
 //! run, with places), `narrator` (what a run comes to), `words`,

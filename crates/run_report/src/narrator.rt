@@ -18,7 +18,7 @@ pub enum Told {
     Did(Act),
     /// This became of an include.
     Included(Inclusion),
-    /// An include entered a script whose run is told before.
+    /// An include entered a script whose run was reported before.
     EnteredAgain,
     /// A test has this answer.
     Answered(bool),
@@ -33,7 +33,7 @@ pub struct Row {
     pub told: Told,
 }
 
-/// What a run came to, in its order. What a script does when it is entered again is not told again.
+/// What a run came to, in its order. What a script does when it is entered again is not kept again.
 #[derive(Drop)]
 pub struct Narration {
     pub rows: Vec<Row>,
@@ -82,9 +82,9 @@ pub struct Narrator<'n, 'a> {
     open: Vec<Open>,
     /// Where the runs of including scripts go on.
     returns: Vec<Mark>,
-    /// Which pages were told.
+    /// Which pages were reported.
     told: Vec<bool>,
-    /// How many of the active scripts are not told, the innermost of them all.
+    /// How many of the active scripts are not reported, the innermost of them all.
     untold: usize,
     /// Whether memory ran out.
     has_failed: bool,
@@ -110,7 +110,7 @@ impl<'n, 'a> Narrator<'n, 'a> {
         })
     }
 
-    /// What was told. The only error is that memory ran out while it was.
+    /// What was reported. The only error is that memory ran out while it was.
     pub fn finish(self) -> Result<Narration, AllocError> {
         if self.has_failed {
             return Err(AllocError);
@@ -145,7 +145,7 @@ impl<'n, 'a> Narrator<'n, 'a> {
         }
     }
 
-    /// Tells what became of the command or test that was entered last.
+    /// Keeps what became of the command or test that was entered last.
     fn tell(&mut self, told: Told) {
         let Some(Open { row: Some(row), .. }) = self.open.last().copied() else {
             return;
@@ -215,7 +215,7 @@ impl<'n, 'a> Narrator<'n, 'a> {
         }
     }
 
-    /// Enters a script, which is told unless it was before, or is run by one that is not told.
+    /// Enters a script, which is reported unless it was before, or is run by one that is not reported.
     fn enter_script(&mut self, page: usize) -> Result<(), AllocError> {
         let was_told = self.told.get(page).copied().unwrap_or(true);
         if self.untold > 0 || was_told {
@@ -233,7 +233,7 @@ impl<'n, 'a> Narrator<'n, 'a> {
         Ok(())
     }
 
-    /// Tells an include, and enters its script.
+    /// Keeps an include, and enters its script.
     fn take_include(
         &mut self,
         include: &Include<'_>,

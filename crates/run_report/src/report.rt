@@ -46,7 +46,7 @@ fn push_digests(alloc: Global, text: &mut String, digests: &[Digest]) -> Result<
 }
 
 /// The report in lines: the verdict, the message as it was read, the way of the run by the source, and the digests. The
-/// way is left out where no run was told. The only error is out of memory.
+/// way is left out where no run was reported. The only error is out of memory.
 pub fn report_text(alloc: Global, report: &Report<'_, '_, '_>) -> Result<String, AllocError>
     requires { IsOfMessage report.now }
 {

@@ -119,7 +119,7 @@ pub fn push_line(text: &mut String, depth: usize, line: &str) -> Result<(), Allo
     text.push('\n')
 }
 
-/// Adds what a row tells.
+/// Adds what a row says.
 fn push_row(
     alloc: Global,
     text: &mut String,

@@ -110,7 +110,7 @@ impl Walk<'_> {
 }
 
 /// The includes that come back to a script that is still running, in a walk from the first of some scripts along their
-/// includes in order. Each script is entered once, so of the ways that lead into a circle the first one is told.
+/// includes in order. Each script is entered once, so of the ways that lead into a circle the first one is reported.
 /// An include with `:once` comes back to nothing. The only error is out of memory.
 pub fn circles_of(alloc: Global, scripts: &[Vec<Edge>]) -> Result<Vec<Circle>, AllocError> {
     let mut walk = Walk {

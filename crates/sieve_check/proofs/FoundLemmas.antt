@@ -20,7 +20,7 @@ any_found has get test turn f [] = sym (or-false (get f))
 any_found has get test turn f (p ∷ ps) = any_found has get test turn (findings_with has f p) ps
     ∙ ap (λ (b : Bool). b || list_any test ps) (turn f p) ∙ or_assoc (get f) (test p) (list_any test ps)
 
--- whether a tag comes after a positional argument; the flag tells that one came before these pieces
+-- whether a tag comes after a positional argument; the flag says whether one came before these pieces
 after_from : Bool → List PieceWord → Bool
 after_from true ps = list_any is_tagged ps
 after_from false ps = tag_after ps
@@ -51,7 +51,7 @@ pub tag_after_found : (has : Capability → Bool) (ps : List PieceWord) → (fin
 unfolding after_from
 tag_after_found has ps = after_found has no_findings ps
 
--- whether there is a second tag; the flag tells that one came before these pieces
+-- whether there is a second tag; the flag says whether one came before these pieces
 second_from : Bool → List PieceWord → Bool
 second_from true ps = list_any is_tagged ps
 second_from false [] = false

@@ -277,7 +277,7 @@ abbrev pub place_rules : Bool → CommandWord → PlacedCommand → List Rule
 place_rules begun w p = (is_require w.role && names_unknown p.args, 30) ∷ (is_require w.role && begun, 31) ∷
     (lacks_branch w.role p.follows_branch, 39) ∷ (has_wrong_ending w.has_block p.has_block, 40) ∷ []
 
--- 32: an unknown command (RFC 5228, section 2.10.5). Nothing else of it is judged. `has` tells the capabilities named
+-- 32: an unknown command (RFC 5228, section 2.10.5). Nothing else of it is judged. `has` knows the capabilities named
 -- before, and `begun` whether a command other than `require` comes before.
 abbrev pub place_breaches : (Capability → Bool) → Bool → Option CommandWord → PlacedCommand → List ℕ
 place_breaches has begun None p = 32 ∷ []

@@ -34,7 +34,7 @@ comparisons c (Any ∷ is) text = 0
 
 -- a search, its answer, and its comparisons, which are those of all its tries. What comes before the first `*` is tried
 -- at the front of the value only. What comes after a `*` is tried at one place after another, from where the items
--- before it ended, up to the first place where it fits. The flag tells that a `*` comes before the items
+-- before it ended, up to the first place where it fits. The flag says whether a `*` comes before the items
 pub data Search (c : Comparator) : Bool → List Item → List ℕ → Bool → ℕ → Type 0 where
   covers_all : (starred : Bool) (items : List Item) (text : List ℕ) → trial c items text ≡ covered →
       Search c starred items text true (comparisons c items text)

@@ -29,7 +29,7 @@ Contains c key value = (before : List ℕ) × (after : List ℕ) × (fold c valu
 abbrev pub item_of : ℕ → Item
 item_of b = if b == 42 then Any else if b == 63 then One else Octet b
 
--- the items of a pattern; the flag tells that a backslash has just come. A backslash makes the next octet match itself,
+-- the items of a pattern; the flag says whether a backslash came. A backslash makes the next octet match itself,
 -- and a last lone backslash matches a backslash
 unfoldable pub items_from : Bool → List ℕ → List Item
 items_from false [] = []

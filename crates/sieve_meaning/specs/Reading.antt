@@ -29,7 +29,7 @@ is_tag name (arguments.Strings l) = false
 abbrev pub has_tag : List ℕ → List Argument → Bool
 has_tag name args = list_any (is_tag name) args
 
--- the string lists, skipping one directly after `:comparator`; the flag tells that the tag has just come
+-- the string lists, skipping one directly after `:comparator`; the flag says whether the tag has just come
 unfoldable pub string_lists : Bool → List Argument → List StringList
 string_lists follows_tag [] = []
 string_lists true (arguments.Strings l ∷ args) = string_lists false args
@@ -41,7 +41,7 @@ string_lists follows_tag (arguments.Tag t ∷ args) = string_lists (same_word t 
 abbrev pub comparator_named : List ℕ → Comparator
 comparator_named s = if bytes_eq s (codes "i;octet") then comparators.Octet else comparators.Casemap
 
--- the comparator; the flag tells that `:comparator` has just come. It is `i;ascii-casemap` where none is named (RFC
+-- the comparator; the flag says whether `:comparator` has just come. It is `i;ascii-casemap` where none is named (RFC
 -- 5228, section 2.7.3)
 unfoldable pub comparator_from : Bool → List Argument → Comparator
 comparator_from follows_tag [] = comparators.Casemap

@@ -51,7 +51,7 @@ abbrev pub is_last_line : List ℕ → Bool
 is_last_line [] = false
 is_last_line (b ∷ bs) = (b == 46) && ((length bs == 0) || nat_lt 0 (line_end_len bs))
 
--- how many octets come before the line that is a single dot, or all there are; the flag tells that a line begins here
+-- how many octets come before the line that is a single dot, or all there are; the flag says whether a line begins here
 unfoldable pub lines_len : Bool → List ℕ → ℕ
 lines_len at_start [] = 0
 lines_len at_start (b ∷ bs) = if at_start && is_last_line (b ∷ bs) then 0 else suc (lines_len (b == 10) bs)

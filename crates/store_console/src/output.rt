@@ -26,7 +26,7 @@ pub fn write_text(rt: &HostRuntime, text: &str) -> Result<(), Failure> {
     write(rt, text.as_bytes())
 }
 
-/// Tells a person something on standard error, after the name of the program.
+/// Writes something on standard error, after the name of the program.
 pub fn tell(rt: &HostRuntime, text: &str) {
     let _ = eprintln!(rt; "mailfile-store: {text}");
 }

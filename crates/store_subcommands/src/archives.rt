@@ -96,7 +96,7 @@ pub fn make<A: Archives>(
 }
 
 /// What was done with an archive that is closed now. Where it may not keep that, this is the failure, by `TryAgain`; why
-/// something was not done is told before.
+/// something was not done is written before.
 pub fn settled<T: Drop>(
     rt: &HostRuntime,
     path: &str,

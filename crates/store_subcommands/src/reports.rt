@@ -5,7 +5,7 @@ use clap::error::ErrorKind;
 use std::process::ExitCode;
 use store_console::{Failure, Status, tell};
 
-/// Tells on standard error what `clap` reports, and answers its status. For `--help` it is no fault. Where there was no
+/// Writes on standard error what `clap` reports, and answers its status. For `--help` it is no fault. Where there was no
 /// memory to read the command line, that may work later, as with any other lack of memory.
 pub fn report_usage(rt: &HostRuntime, error: &Error) -> ExitCode {
     if let ErrorKind::OutOfMemory = error.kind() {
@@ -19,7 +19,7 @@ pub fn report_usage(rt: &HostRuntime, error: &Error) -> ExitCode {
     }
 }
 
-/// Tells on standard error why something was not done, unless that was told, or the reader of the output has gone.
+/// Writes on standard error why something was not done, unless that was written, or the reader of the output has gone.
 pub fn tell_failure(rt: &HostRuntime, failure: &Failure) {
     match failure {
         Failure::NoMemory => tell(rt, "out of memory"),
@@ -37,7 +37,7 @@ pub fn code_of(failure: &Failure) -> ExitCode {
     }
 }
 
-/// Ends after a failure, which is told.
+/// Ends after a failure, which is written.
 pub fn end_with(rt: &HostRuntime, failure: &Failure) -> ExitCode {
     tell_failure(rt, failure);
     code_of(failure)

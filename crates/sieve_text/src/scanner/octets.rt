@@ -121,7 +121,7 @@ fn first_stray(script: &[u8]) -> usize
     n
 }
 
-/// How many octets come before the first octet 0 or CR without LF; all of them if there is none. One search tells
+/// How many octets come before the first octet 0 or CR without LF; all of them if there is none. One search finds
 /// whether there is an octet 0 or a CR at all.
 pub fn stray_length(script: &[u8]) -> usize
     ensures value { result ≡ stray_len script.now }

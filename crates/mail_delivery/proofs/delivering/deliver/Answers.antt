@@ -62,7 +62,7 @@ returns-in_err-capture g c = λ m is.
       tt,
     )
 
--- what is told of the capture of a ticket in each state that the desk represents
+-- what is reported of the capture of a ticket in each state that the desk represents
 abbrev TellsAll : {D : Type 0} (stands : D → Standing → Type 0) (desk : D) (t : ℕ) → Option RunFault → Type 0
 TellsAll stands desk t told = (z : Standing) → stands desk z → TellsFault (flight_of t z.flights) told
 
