@@ -32,8 +32,8 @@ impl FromRow for DueRecordRow {
 
 /// The records with a due day not after a day, in days since 1970-01-01, by due day and then by number.
 ///
-/// A column of another kind, or a number of 2^32 or more, is refused as no archive. The other refusals are no memory
-/// and the errors of `sqlite`.
+/// Refused as no archive is a column of another kind, or a number that is negative or 2^32 or more. The other
+/// refusals are no memory and the errors of `sqlite`.
 pub fn due_records_by<S: Alter>(
     alloc: Global,
     conn: &mut Connection<S>,

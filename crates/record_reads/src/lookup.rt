@@ -1,7 +1,7 @@
 //! Rows that are looked up by their keys. Outside a transaction nothing changes.
 //!
-//! A column of another kind, or a number of 2^32 or more, is refused as no archive. The other refusals are no memory
-//! and the errors of `sqlite`.
+//! Refused as no archive is a column of another kind, a number that is negative or 2^32 or more, or a flag that is
+//! neither 0 nor 1. The other refusals are no memory and the errors of `sqlite`.
 
 ghost use Rattle.std.specs.Prelude.{◌≡◌, option_map, OnOk, IsTrue};
 ghost use Rattle.std.specs.List.{AllByRecursion};

@@ -1,7 +1,7 @@
 //! The holds in the order in which they were placed.
 //!
-//! A column of another kind, or a number of 2^32 or more, is refused as no archive. The other refusals are no memory
-//! and the errors of `sqlite`.
+//! Refused as no archive is a column of another kind, or a number that is negative or 2^32 or more. The other
+//! refusals are no memory and the errors of `sqlite`.
 
 ghost use Rattle.std.specs.Prelude.{◌≡◌, map};
 ghost use Rattle.std.specs.List.{AllByRecursion};

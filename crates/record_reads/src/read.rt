@@ -1,7 +1,7 @@
 //! Reads of the tables, as typed rows.
 //!
-//! A column of another kind, or a number of 2^32 or more, is refused as no archive. The other refusals are no memory
-//! and the errors of `sqlite`.
+//! Refused as no archive is a column of another kind, a number that is negative or 2^32 or more, or a flag that is
+//! neither 0 nor 1. The other refusals are no memory and the errors of `sqlite`.
 
 ghost use Rattle.std.specs.Prelude.{◌≡◌, map};
 ghost use Rattle.std.specs.List.{AllByRecursion};

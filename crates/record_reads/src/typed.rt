@@ -22,7 +22,7 @@ pub(crate) trait FromRow: Drop {
 
     ghost is_readable: { List Value → Type 0 };
 
-    /// Reads the value, exactly where each column has the right kind, and each number is below 2^32.
+    /// Reads the value, exactly where each column has the right kind, and each number is from 0 to 2^32 - 1.
     fn from_row(alloc: Global, row: &Row) -> Result<Self, Fault>
         ensures ok { IfOk result (λ x. reads row.now x) }
         ensures none { IfErr result
