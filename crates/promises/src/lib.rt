@@ -1,11 +1,13 @@
-//! What Mailfile promises. Each promise is the contract of a function without effect, which only calls the laws of
-//! other crates that its proof takes. To know what is promised, read this crate and the definitions that its contracts
-//! cite.
+//! Promises of Mailfile on five subjects: images, scripts, records with their due dates, the order of turns, and
+//! tickets. Each is the contract of a function without effect, which only calls the laws of other crates that its proof
+//! takes. To know them, read this crate and the definitions that its contracts cite. Destruction, files and crashes,
+//! deliveries, copies, the tools, and how lines are read and replies written are subjects of other crates.
 //!
 //! - `images`: an image that is accepted runs to its end without a trap and within its budget, and a compiled script
 //!   captures what the script means.
 //! - `records`: a capture makes a record in each class of its outcome and in no other. Each line of a record gives its
-//!   due day, which comes the period of its class after the day of the capture. A due list is whole.
+//!   due day, which comes the period of its class after the day of the capture, or at the end of the year in which that
+//!   period ends, where the schedule says so. A due list is whole.
 //! - `laws`: the turns of captures do not matter. What is refused changes nothing. What stood at the beginning of a
 //!   capture holds for it to its end.
 //! - `turns`: what a session answers about its captures in flight and their tickets.

@@ -31,15 +31,16 @@ pub fn dry_runs_store_nothing()
 
 /// FINISH makes one record for each class of the outcome of the capture alone, with the day of the moment of its BEGIN.
 /// A capture that ended in a fault is in the default class alone. Each line that is answered gives one of the records
-/// and its due day. That day comes the period of the record's class after the day of the capture, in the plan as it is.
+/// and its due day by the plan as it is. That day comes the period of the record's class after the day of the capture,
+/// or it is the last day of the year in which that period ends, where the schedule says so.
 pub fn finished_captures_are_whole()
     ensures { (s : Standing) (t : ℕ) (f : Flight) (x : FinishOf s t) → IsInFlight s t f
         → FilesAlone s.office.archive f.at_begin x.fault x.lines x.new.office.archive }
 {}
 
 /// DUE answers the due list of the day, and changes nothing. Each line is that of a live record without a hold whose
-/// due day is not later. The due day comes the period of the record's class after the day of its capture, in the plan
-/// as it is now.
+/// due day by the plan as it is now is not later. The due day comes the period of the record's class after the day of
+/// its capture, or it is the last day of the year in which that period ends, where the schedule says so.
 pub fn due_lists_are_whole()
     ensures { (s new : Standing) (day : ℕ) (lines : List Line)
         → Step s (plain (due day)) (listed lines) new → IsDueList s.office.archive day lines
