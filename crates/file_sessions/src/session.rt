@@ -120,12 +120,13 @@ pub fn serve_connection<D: Disk + Drop, In: Source, Out: Sink>(
 /// checksums.
 ///
 /// While the disk returns what was written to it, the session begins at the archive that the files held, what is
-/// written are the answers of its commands there, and the files keep the archive that it leads to, also over a crash.
-/// Whatever faults of the disk shut the store, and wherever a crash falls, the files keep the archive after the first
-/// of the commands, among them all that the archive has carried out (`left`). `Shut` and `Cut` are reported only where the
-/// disk has failed (`shut`). A session is served only where the files hold an archive's tables, or none of their names
-/// (`layout`). Of octets it says what the streams know of theirs. What the files held, and how a write
-/// that a crash cuts short is read, is what `S` says. No code knows it, so this holds whatever it is.
+/// written are the answers of its commands there, and the files keep the archive that it leads to, also over a crash,
+/// unless the end is `Shut` or `Cut`. Unless it is `Cut`, whatever faults of the disk shut the store, and wherever a
+/// crash falls, the files keep the archive after the first of the commands, among them all that the archive has carried
+/// out (`left`). `Shut` and `Cut` are reported only where the disk has failed (`shut`). A session is served only where
+/// the files hold an archive's tables, or none of their names (`layout`). Of octets it says what the streams know of
+/// theirs. What the files held, and how a write that a crash cuts short is read, is what `S` says. No code knows it, so
+/// this holds whatever it is.
 ///
 /// No session is served, and nothing is read, where the files cannot be opened, where they hold no archive (88), and
 /// where the database refuses (89) or there is no memory (99). Over files that hold an archive there is no other cause.

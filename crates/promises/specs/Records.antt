@@ -37,8 +37,8 @@ abbrev pub ImageEnds : Office → (octets message : List ℕ) → Outcome → Ty
 ImageEnds s octets message o =
     (p : Program) × IsGoodImage octets p × EndsWithinBudget p (case_of message (is_open_in s.archive.plan)) o
 
--- the line of a record: its number, its class, and the day that comes the class's period after its own, if the period
--- ends
+-- the line of a record: its number, its class, and its due day, if its period ends: the day that comes the class's period
+-- after its own, or the last day of that year where the schedule says so
 pub record IsLineOf (plan : Listing) (r : Record) (l : Line) : Type 0 where
   pub number : l.number ≡ r.number
   pub class : l.path ≡ r.path
