@@ -27,9 +27,10 @@ pub fn turns_do_not_matter()
         (kept_commands x.commands x.answers) (kept_answers x.commands x.answers) (forget x.new) }
 {}
 
-/// Two sessions that are equal after striking have the same answers to the commands that are left, except for offsets and
-/// for 20 in the place of 21. They leave the same archive, scripts and programs, and the same tickets with what stood at their beginnings. Both
-/// begin in one state, or in two that differ only in the steps granted to their captures in flight.
+/// Two sessions that are equal after striking have the same answers to the commands that are left, except for offsets
+/// and for 20 in the place of 21. They leave the same archive, scripts and programs, and the same tickets with what
+/// stood at their beginnings. Both begin in one state, or in two that differ only in the steps granted to their captures
+/// in flight.
 pub fn equal_after_striking()
     ensures { (s t : Standing) (x : SessionFrom s) (y : SessionFrom t) → SameButTurns s t
         → EqualAfterStriking x y → AnswerAlike x y × SameButTurns x.new y.new }
