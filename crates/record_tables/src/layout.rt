@@ -12,7 +12,7 @@ use sqlite_value::keys::Collation;
 use sqlite_value::value::Value;
 
 /// Which version's tables a database has.
-#[derive(Clone, Copy, Debug, PartialEq, Eq)]
+#[derive(Clone, Copy, PartialEq, Eq)]
 pub enum Layout {
     /// None: no table has one of the archive's names.
     Empty,

@@ -6,7 +6,7 @@ ghost use Rattle.report_page.specs.Counting.{is_due as is_due_by_day, is_dated a
 use crate::dates::DueDay;
 
 /// What a report counts of a record.
-#[derive(Clone, Copy, Debug)]
+#[derive(Clone, Copy)]
 pub struct Seen {
     pub is_destroyed: bool,
     /// Whether a hold keeps it.
@@ -35,7 +35,7 @@ impl Seen {
 }
 
 /// How many records there are.
-#[derive(Clone, Copy, Debug)]
+#[derive(Clone, Copy)]
 pub struct Counts {
     pub records: u64,
     /// Those that are not destroyed.

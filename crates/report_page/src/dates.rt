@@ -5,7 +5,7 @@ ghost use Rattle.report_page.specs.Days.{IsDueDay};
 use class_plan::{Date, day_number};
 
 /// A due date, as a report counts it.
-#[derive(Clone, Copy, Debug)]
+#[derive(Clone, Copy)]
 pub struct DueDay {
     /// Its day, counted from 1970-01-01.
     pub day: u32,

@@ -15,7 +15,7 @@ const FIRST: u16 = 1970;
 const YEARS: usize = 8030;
 
 /// How many records fall due in a year.
-#[derive(Clone, Copy, Debug)]
+#[derive(Clone, Copy)]
 pub struct Year {
     /// By the day of the report.
     pub due: u64,
@@ -46,7 +46,7 @@ impl Year {
 }
 
 /// A column of a timeline: the records that fall due in a number of years.
-#[derive(Clone, Copy, Debug)]
+#[derive(Clone, Copy)]
 pub struct Column {
     /// Its first year.
     pub from: u16,

@@ -4,7 +4,7 @@ ghost use Rattle.std.specs.Prelude.{◌≡◌};
 ghost use Rattle.sieve_meaning.specs.RunFaults.{number_of, fault_of};
 
 /// The fault with which a run ends. It then captures in the default class alone.
-#[derive(Clone, Copy, Debug, PartialEq, Eq)]
+#[derive(Clone, Copy, PartialEq, Eq)]
 pub enum RunFault {
     /// 1: a `fileinto` of a class that is not open (RFC 5228, section 4.1).
     ClassNotOpen,
