@@ -1,6 +1,6 @@
 # shellcheck shell=bash
 # shellcheck disable=SC2317,SC2034 # count calls its checks by their names, and variables are for what is sourced
-# Plays each command at its limits, in the cases of sessions/limits.bash. ./hostile sources this file.
+# Plays each command at its limits, in the cases of sessions/limits.bash. ./hostile sources this file after store_limits.bash.
 
 : "${root:?}" "${work:?}"
 
@@ -15,11 +15,11 @@ size_and_ticks() {
         END { if (size > 0) print size, ticks }' "/proc/$1/status" "/proc/$1/stat" 2> /dev/null
 }
 
-# Serves a session by the program in place of it, and adds its seconds and those of a processor; keeps the greatest size that the
-# system reports of the process. It looks some fifty times a second, so of a short run it sees too little, or nothing.
+# Runs a program with its words, and adds its seconds and those of a processor; keeps the greatest size that the system reports of the
+# process. It looks some fifty times a second, so of a short run it sees too little, or nothing.
 measured() {
     local process seen size ticks=0 began=${EPOCHREALTIME/[.,]/} status=0
-    "$mailfile" "$@" <&0 &
+    "$@" <&0 &
     process=$!
     while seen=$(size_and_ticks "$process") && [[ -n $seen ]]; do
         read -r size ticks <<< "$seen"
@@ -32,14 +32,20 @@ measured() {
     return "$status"
 }
 
+# Serves a session in place of the program.
+served() {
+    measured "$mailfile" "$@"
+}
+
 # Whether the rows that a query of the store finds are those of a file, where sqlite3 is there to ask.
 has_rows() {
     [[ ! -f $1.sql || -z $sqlite3 ]] || "$sqlite3" -batch "$2" < "$1.sql" | cmp -s - "$1.rows"
 }
 
-# Plays the parts of a case over one store, and looks into the store after each.
+# Plays the parts of a case over one store, and looks into the store after each. Where mailfile-store is asked after them, what that
+# takes is measured alone.
 limit_as_expected() {
-    local part
+    local part here=$scratch after=after_${1##*/}
     rm -f -- "$scratch/store"*
     [[ ! -f $1/0.sql ]] || "$sqlite3" -batch "$scratch/store" < "$1/0.sql" || return
     for ((part = 1; part <= $(find "$1" -name '*.session' | wc -l); part++)); do
@@ -49,6 +55,10 @@ limit_as_expected() {
             return 1
         }
     done
+    if declare -F "$after" > "$work/said"; then
+        spent=0 worked=0 greatest=0
+        "$after" "$1"
+    fi
 }
 
 # Writes and plays a case, of which the second argument says what it shows, and says what it took.
@@ -64,7 +74,7 @@ limit() {
         awk -v spent=$spent -v worked=$worked -v each="$(getconf CLK_TCK)" -v size=$greatest -v what="$2" \
             'BEGIN { printf("%6.1f s %6.1f s of a processor %5.0f MB   %s\n", spent / 1e6, worked / each, size / 1000, what) }'
     fi
-    rm -rf -- "$folder" "$scratch/store"*
+    rm -rf -- "$folder" "${scratch:?}"/*
 }
 
 # Makes a folder for the stores, in memory if the system has room there. Elsewhere each command that changes one waits for a disk.
@@ -77,9 +87,11 @@ make_scratch() {
 
 # Plays the cases of some names, or all.
 limits() {
-    local name what mailfile program=measured sqlite3
+    local name what mailfile program=served sqlite3 status
     ensure_program mailfile
+    ensure_program mailfile_store
     mailfile=$(program_of mailfile)
+    keeper=(measured "$(program_of mailfile_store)")
     sqlite3=$(command -v sqlite3) || echo "no store is looked into: that takes sqlite3"
     make_scratch
     while read -r name what; do

@@ -10,16 +10,19 @@ begin() {
     rm -rf -- "$here" && mkdir -- "$here"
 }
 
-# Runs the program with its words, and for a minute at most. Sets `status`, and leaves what it wrote in the files `said` and `error`.
+# What starts the program: it has a minute at most.
+keeper=(timeout 60 ./mailfile-store)
+
+# Runs the program with its words. Sets `status`, and leaves what it wrote in the files `said` and `error`.
 run() {
     status=0
-    timeout 60 ./mailfile-store "$@" > "$work/said" 2> "$work/error" || status=$?
+    "${keeper[@]}" "$@" > "$work/said" 2> "$work/error" || status=$?
 }
 
-# Reports how the last run ended, and fails.
+# Reports how the last run ended, with the beginning of what it wrote, and fails.
 shows_run() {
     printf 'status %s: %s\n' "$status" "$(head -n 3 -- "$work/error")"
-    cat -- "$work/said"
+    head -c 10000 -- "$work/said"
     return 1
 }
 

@@ -7,7 +7,8 @@
 #
 # In the folder there are then the parts of the case: 1.session and 1.expected, 2.session and so on, which are played in this order over
 # one store (README.md). With them there may be 0.sql, by which the system's sqlite3 makes the store, and N.sql, a query of the store
-# after part N, whose rows are in N.rows.
+# after part N, whose rows are in N.rows. What `mailfile-store` is given and has to answer after the last part is in files that
+# limits/stores.bash names.
 set -euo pipefail
 
 here=$(dirname -- "$(readlink -f -- "${BASH_SOURCE[0]}")")
@@ -28,7 +29,10 @@ images images at their limits
 holds a record with 200,000 holds
 officers 100,000 officers, each with a script and without
 words names, paths, lines, words, numbers and strings at their limits
-numbers the last record numbers'
+numbers the last record numbers
+listed_records 300,000 records that mailfile-store lists, counts, reports and copies
+shown_messages messages of 8 MiB that mailfile-store delivers, takes over, shows and exports
+copied_messages a copy of messages of 8 MiB, two of which were destroyed before'
 
 # Ends the part before, and begins one: its session is written to 3, and its answers to 4.
 part() {
@@ -110,12 +114,21 @@ message_of() {
     rm -- "$folder/line"
 }
 
+# A message of a number of octets that is one field, and one whose field is one encoded word. Both values are of `x` and end with
+# ` invoice`; the first has 17 octets fewer of `x` than the message has octets, and the second 29.
+field_of() {
+    printf 'Subject: ' && times $(($1 - 17)) x && printf ' invoice'
+}
+word_of() {
+    printf 'Subject: =?utf-8?q?' && times $(($1 - 29)) x && printf '_invoice?='
+}
+
 # Messages of 8 MiB: one that is nearly all body, one that is one field, and one whose field is one encoded word.
 messages() {
     local last='if header :contains "subject" "invoice" { discard; }' over='if size :over 8388607 { discard; }'
     message_of $MESSAGE > "$folder/body"
-    { printf 'Subject: ' && times $((MESSAGE - 17)) x && printf ' invoice'; } > "$folder/field"
-    { printf 'Subject: =?utf-8?q?' && times $((MESSAGE - 29)) x && printf '_invoice?='; } > "$folder/word"
+    field_of $MESSAGE > "$folder/field"
+    word_of $MESSAGE > "$folder/word"
     part 1
     ask_file 'if header :contains "subject" "xx invoice" { discard; }' "$folder/word" discarded
     ask_file 'if header :contains "subject" "_" { discard; }' "$folder/word" 'class unfiled'
@@ -339,7 +352,7 @@ words() {
     rm -- "$folder/message"
 }
 
-for file in archives scripts images; do
+for file in archives scripts images stores; do
     # shellcheck source=/dev/null
     . "$here/limits/$file.bash"
 done

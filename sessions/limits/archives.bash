@@ -57,11 +57,9 @@ ask_plan() {
     } | ask_with 'PLAN @' ok
 }
 
-# 300,000 records, listed, held, revised and destroyed by sessions of which each finds what the ones before have left.
-archive() {
-    local class by=2100-06-30
-    dates 450005 > "$folder/dates"
-    part 1
+# Captures all records.
+ask_records() {
+    local class
     ask_plan 1
     for class in 0 1 2 3 4; do
         octets 'print "SFI1" four(2) two(1) two(0) two(0) two(2) text("c'$class'") code(17, 0, 0) code(20, 0, 0)' |
@@ -69,18 +67,36 @@ archive() {
     done
     each_record 'printf "BEGIN o%d %.0f 6\nhello\nTURN %d 2\nFINISH %d\n", i % 5, 86400 * day(i), i, i' >&3
     each_record 'print "ticket " i " budget 2\nended 2\n" line(i, 1)' >&4
-    part 2
-    ask_due 1 9999-12-31 1
+}
+
+# Places the holds.
+ask_holds() {
     each_record 'if (is_held(i)) print "HOLD audit " i' >&3
     each_record 'if (is_held(i)) print "ok"' >&4
+}
+
+# Destroys each record that may be destroyed by a day under the second plan, and asks that of all others.
+ask_destructions() {
+    each_record "print \"DESTROY \" i \" $1\"" >&3
+    each_record "print destroyed(i, \"$1\")" >&4
+}
+
+# 300,000 records, listed, held, revised and destroyed by sessions of which each finds what the ones before have left.
+archive() {
+    local by=2100-06-30
+    dates 450005 > "$folder/dates"
+    part 1
+    ask_records
+    part 2
+    ask_due 1 9999-12-31 1
+    ask_holds
     ask_due 1 2100-12-31 '! is_held(i)'
     part 3
     ask_plan 2
     ask_due 2 9999-12-31 '! is_held(i)'
     part 4
     ask_due 2 2199-12-31 '! is_held(i)'
-    each_record "print \"DESTROY \" i \" $by\"" >&3
-    each_record "print destroyed(i, \"$by\")" >&4
+    ask_destructions "$by"
     part 5
     ask_due 2 9999-12-31 "! is_held(i) && destroyed(i, \"$by\") != \"ok\""
     ask "DESTROY 7 $by" 'refused 81'
