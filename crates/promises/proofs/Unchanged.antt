@@ -58,7 +58,7 @@ turn_keeps : (s : Standing) (t k : ℕ) (f : Option Flight) (at : Option ℕ) (n
 turn_keeps s t k None at new h = inl h.1
 turn_keeps s t k (Some f) at new (inl h) = absurd (turned_refused f (f.granted + k) 99 at h.0)
 turn_keeps s t k (Some f) at new (inr h) =
-    inr (record { ticket = t; count = k; made = h.1; command = refl; fewer = h.2.within; leaves = h.3 })
+    inr (record { ticket = t; count = k; made = h.1.0; command = refl; fewer = h.1.1.within; leaves = h.1.2 })
 
 pub steps_kept : (s : Standing) (c : Command) (at : Option ℕ) (new : Standing) → Step s c (refused 99 at) new → KeepsSteps s c new
 unfolding Step
