@@ -1,6 +1,7 @@
 //! Databases from which a store is adopted: of version 1, of version 2, with other tables before, between and after
 //! ours, and others, which are refused with 88.
 
+use crate::pages::page;
 use class_plan::{Plan, date_of, day_number, day_of};
 use record_store::{ArchiveRefusal, Line, Store, StoreFault, are_classes};
 use record_tables::alone::is_alone;
@@ -291,8 +292,8 @@ fn hold_and_destroy(
     Ok(())
 }
 
-/// Plays each call of a store over an archive without records, and adopts what it leaves.
-fn each_call(rt: &impl Abort, alloc: Global, conn: Database) -> Result<(), Fail> {
+/// Plays each call of a store over an archive without records, adopts what it leaves, and answers the database.
+fn each_call(rt: &impl Abort, alloc: Global, conn: Database) -> Result<Database, Fail> {
     let mut store = adopted(alloc, conn)?;
     plan_both(rt, alloc, &mut store)?;
     let one = captured(alloc, &mut store, b"one", true)?;
@@ -304,27 +305,40 @@ fn each_call(rt: &impl Abort, alloc: Global, conn: Database) -> Result<(), Fail>
     assert_eq!(rt; due(alloc, &mut again, 60_000)?.as_str(), "3 due 20041; ");
     assert!(rt; matches!(&again.message(2), Ok(body) if body.as_slice() == b"one".as_slice()));
     assert!(rt; matches!(&again.message(4), Ok(body) if body.as_slice() == b"two".as_slice()));
-    Ok(())
+    assert_eq!(rt;
+        page(alloc, &mut again, 1, 9)?.as_str(),
+        "1 tax 19675 1 destroyed; 2 unfiled 19675 1 live; 3 tax 19675 due 20041 3 live; 4 unfiled 19675 3 live; "
+    );
+    Ok(again.into_connection())
+}
+
+/// Checks that the table `a` still has its row, of which no key can be taken again.
+fn keeps_other_row(rt: &impl Abort, conn: &mut Database) {
+    assert!(rt; conn.execute_batch("INSERT INTO a VALUES (1, 'z')").is_err());
+    assert!(rt; conn.execute_batch("INSERT INTO a VALUES (2, 'x')").is_err());
+    assert!(rt; conn.execute_batch("INSERT INTO a VALUES (2, 'z')").is_ok());
 }
 
 #[test]
 fn version_2(rt: HostRuntime) -> Result<(), Fail> {
     let alloc = rt.alloc();
+    let _alone = each_call(&rt, alloc, second(alloc, ["", "", ""])?)?;
     let [one, two, three] = OTHERS;
     for others in [
-        ["", "", ""],
         [one, "", ""],
         ["", one, ""],
         ["", "", one],
         [one, two, three],
     ] {
-        each_call(&rt, alloc, second(alloc, others)?)?;
+        let mut conn = each_call(&rt, alloc, second(alloc, others)?)?;
+        keeps_other_row(&rt, &mut conn);
     }
     let mut conn = Connection::open_in_memory(alloc)?;
     conn.execute_batch(SCHEDULES)?;
     lay_first(&mut conn)?;
     conn.execute_batch(SECOND_ROWS)?;
-    each_call(&rt, alloc, conn)
+    let _adopted = each_call(&rt, alloc, conn)?;
+    Ok(())
 }
 
 #[test]

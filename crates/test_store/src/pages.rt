@@ -42,7 +42,7 @@ fn put_entry(text: &mut String, entry: &Entry) -> Result<(), Fail> {
 }
 
 /// A page of a store's records as text.
-fn page(
+pub(crate) fn page(
     alloc: Global,
     store: &mut Store<MemStore>,
     from: u32,
