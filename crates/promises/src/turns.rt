@@ -56,5 +56,6 @@ pub fn beginnings_are_refused_exactly()
     ensures in_flight { (s : Standing) (x : BeginFrom s) → IsReachedState s
         → (x.answer ≡ refused 90 None) ↔ (HasNoPlace s × MayBegin x.moment x.message) }
     ensures used_up { (s : Standing) (x : BeginFrom s) → IsReachedState s
-        → (x.answer ≡ refused 97 None) ↔ (HasNoTicket s × HasPlace s × MayBegin x.moment x.message) }
+        → (x.answer ≡ refused 97 None)
+        ↔ (HasNoTicket s × HasPlace s × MayBegin x.moment x.message) }
 {}
