@@ -55,9 +55,10 @@ copy_tells() {
     rm -- "$here/copy-wal" && tells "$1" "$here/copy"
 }
 
-# Whether neither the copy nor its log has a line of what was destroyed, and the copy has those of other messages.
+# Whether neither the copy nor its log has a line of what was destroyed, and the copy has those of other messages. A line is looked for
+# whole, since the sum at the end of a page may look like the end of another line.
 copy_has_nothing_destroyed() {
-    grep -q -a -F -f "$1/kept" -- "$here/copy" && ! grep -q -a -F -f "$1/gone" -- "$here/copy" "$here/copy-wal"
+    grep -q -x -a -F -f "$1/kept" -- "$here/copy" && ! grep -q -x -a -F -f "$1/gone" -- "$here/copy" "$here/copy-wal"
 }
 
 # Whether a message of 8 MiB is delivered, and one with an octet more is refused (65), and captured nowhere.
