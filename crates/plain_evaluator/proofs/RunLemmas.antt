@@ -15,7 +15,7 @@ use Rattle.sieve_meaning.specs.Reading.{only_in, block_in, program_of, branches_
 use Rattle.sieve_meaning.specs.Meaning as meaning
 use Rattle.sieve_meaning.specs.Meaning.{Included, run, run_branches, and_then}
 use Rattle.sieve_meaning.specs.Program.{Include}
-use Rattle.plain_evaluator.specs.Runs.{runs_from, IsNoIf, PlainlyEnds, BranchLeads, Leads, commands_in}
+use Rattle.plain_evaluator.specs.Runs.{runs_from, IsNoIf, PlainlyEnds, BranchEnds, Ends, commands_in}
 use Rattle.sieve_meaning.specs.Branching.{part_of}
 use Rattle.sieve_meaning.specs.declared.branches.BranchPart.TheVariants.{Branch, Otherwise, Plain}
 
@@ -39,8 +39,8 @@ and_then-if false x y go = refl
 pub branch_leads : (facts : Facts) (inc : Included) (word : CommandWord) (is_open : Bool) (name : List ℕ)
     (args : List Argument) (inner : InnerTests) (finish : EndingTree) (f : meaning.Filing) (e : meaning.Ending)
     (opens : Bool) → command_word name ≡ word → part_of word is_open ≡ Branch
-    → BranchLeads facts inc (command name args inner finish) f e opens
-    → Leads facts inc is_open (command name args inner finish) f e opens
+    → BranchEnds facts inc (command name args inner finish) f e opens
+    → Ends facts inc is_open (command name args inner finish) f e opens
 unfolding runs_from
 branch_leads facts inc words.If true name args inner finish f e opens is part told more =
     rw is (and_then-if (truth facts (only_in inner)) (run facts inc (block_in finish) f)
@@ -67,7 +67,7 @@ branch_leads facts inc words.Other is_open name args inner finish f e opens is p
 pub otherwise_leads : (facts : Facts) (inc : Included) (word : CommandWord) (is_open : Bool) (name : List ℕ)
     (args : List Argument) (inner : InnerTests) (finish : EndingTree) (f : meaning.Filing) (e : meaning.Ending)
     → command_word name ≡ word → part_of word is_open ≡ Otherwise → e ≡ runs_from facts inc false (commands_in finish) f
-    → Leads facts inc is_open (command name args inner finish) f e false
+    → Ends facts inc is_open (command name args inner finish) f e false
 unfolding runs_from
 otherwise_leads facts inc words.Else true name args inner finish f e is part told more = rw (is, told, block_in-commands finish) refl
 otherwise_leads facts inc words.Else false name args inner finish f e is part told more = cc
@@ -87,7 +87,7 @@ otherwise_leads facts inc words.Other is_open name args inner finish f e is part
 pub plain_leads : (facts : Facts) (inc : Included) (word : CommandWord) (is_open : Bool) (name : List ℕ)
     (args : List Argument) (inner : InnerTests) (finish : EndingTree) (f : meaning.Filing) (e : meaning.Ending)
     → command_word name ≡ word → part_of word is_open ≡ Plain → (IsNoIf word → PlainlyEnds facts inc word args f e)
-    → Leads facts inc is_open (command name args inner finish) f e false
+    → Ends facts inc is_open (command name args inner finish) f e false
 unfolding runs_from
 plain_leads facts inc words.If is_open name args inner finish f e is part told more = cc
 plain_leads facts inc words.ElsIf true name args inner finish f e is part told more = cc
@@ -140,7 +140,7 @@ runs_from_none facts inc false f = refl
 pub branch_taken : (facts : Facts) (inc : Included) (name : List ℕ) (args : List Argument) (inner : InnerTests)
     (finish : EndingTree) (f : meaning.Filing) (e : meaning.Ending) → truth facts (only_in inner) ≡ true
     → e ≡ runs_from facts inc false (commands_in finish) f
-    → BranchLeads facts inc (command name args inner finish) f e false
+    → BranchEnds facts inc (command name args inner finish) f e false
 unfolding runs_from
 branch_taken facts inc name args inner finish f e holds told more = rw (holds, told, block_in-commands finish) refl
 

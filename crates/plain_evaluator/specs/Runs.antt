@@ -89,8 +89,8 @@ PlainlyEnds facts inc word args f e = (t : Test) (inner : Commands) (rest : Bran
     run facts inc (command_named word args t inner rest more) f ≡ and_then e (run facts inc more)
 
 -- a command before further ones has this ending, and leaves the branches after it open or not
-abbrev pub Leads : Facts → Included → Bool → CommandTree → meaning.Filing → meaning.Ending → Bool → Type 0
-Leads facts inc is_open c f e opens = (more : CommandTrees) →
+abbrev pub Ends : Facts → Included → Bool → CommandTree → meaning.Filing → meaning.Ending → Bool → Type 0
+Ends facts inc is_open c f e opens = (more : CommandTrees) →
     runs_from facts inc is_open (command_then c more) f ≡ and_then e (runs_from facts inc opens more)
 
 abbrev pub commands_in : EndingTree → CommandTrees
@@ -98,8 +98,8 @@ commands_in semicolon = no_commands
 commands_in (block cs) = cs
 
 -- a test, and a block that is run where the test is true, have this ending
-abbrev pub BranchLeads : Facts → Included → CommandTree → meaning.Filing → meaning.Ending → Bool → Type 0
-BranchLeads facts inc (command name args inner finish) f e opens = (more : CommandTrees) →
+abbrev pub BranchEnds : Facts → Included → CommandTree → meaning.Filing → meaning.Ending → Bool → Type 0
+BranchEnds facts inc (command name args inner finish) f e opens = (more : CommandTrees) →
     (if truth facts (only_in inner) then and_then (run facts inc (block_in finish) f) (runs_from facts inc false more)
     else runs_from facts inc true more f) ≡ and_then e (runs_from facts inc opens more)
 
@@ -108,8 +108,8 @@ BranchLeads facts inc (command name args inner finish) f e opens = (more : Comma
 abbrev pub PlainlyEndsAt : ℕ → Scope → CommandWord → List Argument → meaning.Filing → meaning.Ending → Type 0
 PlainlyEndsAt left s word args f e = PlainlyEnds (facts_at s) (includes_at left s) word args f e
 
-abbrev pub LeadsAt : ℕ → Scope → Bool → CommandTree → meaning.Filing → meaning.Ending → Bool → Type 0
-LeadsAt left s is_open c f e opens = Leads (facts_at s) (includes_at left s) is_open c f e opens
+abbrev pub EndsAt : ℕ → Scope → Bool → CommandTree → meaning.Filing → meaning.Ending → Bool → Type 0
+EndsAt left s is_open c f e opens = Ends (facts_at s) (includes_at left s) is_open c f e opens
 
-abbrev pub BranchLeadsAt : ℕ → Scope → CommandTree → meaning.Filing → meaning.Ending → Bool → Type 0
-BranchLeadsAt left s c f e opens = BranchLeads (facts_at s) (includes_at left s) c f e opens
+abbrev pub BranchEndsAt : ℕ → Scope → CommandTree → meaning.Filing → meaning.Ending → Bool → Type 0
+BranchEndsAt left s c f e opens = BranchEnds (facts_at s) (includes_at left s) c f e opens

@@ -3,10 +3,10 @@
 ghost use Rattle.std.specs.Prelude.{◌≡◌, IfOk, map, false};
 ghost use Rattle.sieve_syntax.specs.View.{command_of, commands_of, ending_of};
 ghost use Rattle.plain_evaluator.specs.Case.{facts_of};
-ghost use Rattle.plain_evaluator.specs.Runs.{ending_at, filing_of, commands_in, filing_into, IsNoIf, runs_at_level, PlainlyEndsAt, LeadsAt, BranchLeadsAt};
+ghost use Rattle.plain_evaluator.specs.Runs.{ending_at, filing_of, commands_in, filing_into, IsNoIf, runs_at_level, PlainlyEndsAt, EndsAt, BranchEndsAt};
 
 use crate::case::BorrowedCase;
-use crate::entry::Entry;
+use crate::entry::ScriptEntry;
 use crate::filing::{Ending, Filing};
 use crate::includes::run_include;
 use crate::observer::{Act, Observer};
@@ -48,7 +48,7 @@ fn file_into<O: Observer>(
 }
 
 /// A command that is no branch, and has no block.
-fn run_plain<'a, L: Entry, O: Observer>(
+fn run_plain<'a, L: ScriptEntry, O: Observer>(
     alloc: Global,
     scope: &Scope<'_, '_, 'a>,
     word: CommandWord,
@@ -96,7 +96,7 @@ fn run_plain<'a, L: Entry, O: Observer>(
 
 /// Runs the block that a command ends with.
 #[cycle(running)]
-fn run_block<'a, L: Entry, O: Observer>(
+fn run_block<'a, L: ScriptEntry, O: Observer>(
     alloc: Global,
     scope: &Scope<'_, '_, 'a>,
     ending: &'a CommandEnding,
@@ -114,14 +114,14 @@ fn run_block<'a, L: Entry, O: Observer>(
 
 /// Runs an `if`, or an `elsif` that is open. Answers whether the branches after it are open.
 #[cycle(running)]
-fn run_branch<'a, L: Entry, O: Observer>(
+fn run_branch<'a, L: ScriptEntry, O: Observer>(
     alloc: Global,
     scope: &Scope<'_, '_, 'a>,
     command: &'a Command,
     filing: &mut Filing<'a>,
     observer: &mut O,
 ) -> Result<(Ending, bool), AllocError>
-    ensures { IfOk result (λ r. BranchLeadsAt L.depth scope.now (command_of command.now)
+    ensures { IfOk result (λ r. BranchEndsAt L.depth scope.now (command_of command.now)
         (filing_of filing.old) (ending_at r.0 filing.new) r.1) }
 {
     if !is_only_true(scope.case, &command.tests, observer) {
@@ -133,7 +133,7 @@ fn run_branch<'a, L: Entry, O: Observer>(
 
 /// Runs one command. Answers whether the branches after it are open.
 #[cycle(running)]
-fn run_command<'a, L: Entry, O: Observer>(
+fn run_command<'a, L: ScriptEntry, O: Observer>(
     alloc: Global,
     scope: &Scope<'_, '_, 'a>,
     command: &'a Command,
@@ -141,7 +141,7 @@ fn run_command<'a, L: Entry, O: Observer>(
     filing: &mut Filing<'a>,
     observer: &mut O,
 ) -> Result<(Ending, bool), AllocError>
-    ensures { IfOk result (λ r. LeadsAt L.depth scope.now is_open (command_of command.now)
+    ensures { IfOk result (λ r. EndsAt L.depth scope.now is_open (command_of command.now)
         (filing_of filing.old) (ending_at r.0 filing.new) r.1) }
 {
     let word = command_word(command.name.as_slice());
@@ -164,7 +164,7 @@ fn run_command<'a, L: Entry, O: Observer>(
 
 /// Runs commands in order as long as each goes on. The observer gets each, and what it comes to.
 #[cycle(running)]
-pub fn run<'a, L: Entry, O: Observer>(
+pub fn run<'a, L: ScriptEntry, O: Observer>(
     alloc: Global,
     scope: &Scope<'_, '_, 'a>,
     commands: &'a Vec<Command>,

@@ -13,7 +13,7 @@ use sieve_syntax::Script;
 use std::alloc::{AllocError, Global};
 
 /// How scripts are entered at one level.
-pub trait Entry: Level {
+pub trait ScriptEntry: Level {
     /// Enters the script that an include names, which is there and not active, and runs it.
     fn enter<'a, O: Observer>(
         alloc: Global,

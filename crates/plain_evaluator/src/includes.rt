@@ -7,7 +7,7 @@ ghost use Rattle.sieve_meaning.specs.Scripts.{include_view, script_of};
 ghost use Rattle.plain_evaluator.specs.Runs.{ending_at, filing_of, includes_at, missing_ending as missing_of};
 ghost use Rattle.plain_evaluator.specs.declared.filing.Filing.{Filing};
 
-use crate::entry::Entry;
+use crate::entry::ScriptEntry;
 use crate::filing::{Ending, Filing};
 use crate::observer::{Inclusion, Observer};
 use crate::scope::Scope;
@@ -52,7 +52,7 @@ fn missing(is_optional: bool) -> Ending
 /// Runs an include (RFC 6609, section 3.2), judged in this order. Under `:once` it does nothing where its script was
 /// entered before. A missing script is a fault, or nothing under `:optional`; an active one is a fault. Any other is
 /// entered.
-pub fn run_include<'a, L: Entry, O: Observer>(
+pub fn run_include<'a, L: ScriptEntry, O: Observer>(
     alloc: Global,
     scope: &Scope<'_, '_, 'a>,
     include: &Include<'a>,

@@ -6,7 +6,7 @@ ghost use Rattle.plain_evaluator.specs.Runs.{ending_at};
 ghost use Rattle.plain_evaluator.specs.declared.filing.Filing.{Filing};
 
 use crate::commands::run;
-use crate::entry::Entry;
+use crate::entry::ScriptEntry;
 use crate::filing::{Ending, Filing};
 use crate::observer::{Inclusion, Observer};
 use crate::scope::Scope;
@@ -15,7 +15,7 @@ use sieve_syntax::Script;
 use std::alloc::{AllocError, Global};
 
 /// No further script may be active: to enter one is a fault.
-impl Entry for Deepest {
+impl ScriptEntry for Deepest {
     fn enter<'a, O: Observer>(
         _alloc: Global,
         _scope: &Scope<'_, '_, 'a>,
@@ -54,7 +54,7 @@ fn ended(ending: Ending) -> Ending
 }
 
 /// One more script may be active than at the level below: it is run at that level.
-impl<L: Entry> Entry for Above<L> {
+impl<L: ScriptEntry> ScriptEntry for Above<L> {
     fn enter<'a, O: Observer>(
         alloc: Global,
         scope: &Scope<'_, '_, 'a>,

@@ -7,7 +7,7 @@ use Rattle.plain_evaluator.specs.Runs.{ending_at, filing_of}
 use Rattle.sieve_meaning.specs.Scripts.{include_view, script_of}
 use Rattle.plain_evaluator.specs.declared.filing.Filing.{Filing}
 use Rattle.plain_evaluator.proofs.IncludeLemmas.{entered_runs, filing_entered}
-use Rattle.plain_evaluator.proofs.levels.AboveEntry.enter.Goals as goal
+use Rattle.plain_evaluator.proofs.levels.AboveScriptEntry.enter.Goals as goal
 
 pub returns : goal.returns
 returns g c =
