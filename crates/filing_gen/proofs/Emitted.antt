@@ -245,22 +245,22 @@ first_of_block x y z a r f e ends is h k =
     }
 
 -- Once the rest is added, so is the whole, where the blocks around end as they should.
-pub record Leads (old now : Output) (rest whole : Flow) (Ends : List ℕ → Type 0) : Type 0 where
+pub record Completes (old now : Output) (rest whole : Flow) (Ends : List ℕ → Type 0) : Type 0 where
   pub emits : (x : Output) (ends : List ℕ) → Ends ends → Emits now x rest ends → Emits old x whole ends
   pub code : length now.code.items + size rest ≡ length old.code.items + size whole
   pub texts : length now.texts + size rest ≤ length old.texts + size whole
   pub numbers : length now.numbers + size rest ≤ length old.numbers + size whole
 
-pub leads_first : (x : Output) (a : Flow) (Ends : List ℕ → Type 0) → Leads x x a a Ends
+pub leads_first : (x : Output) (a : Flow) (Ends : List ℕ → Type 0) → Completes x x a a Ends
 leads_first x a Ends = record { emits = λ y ends e h. h; code = refl; texts = omega arith; numbers = omega arith }
 
-pub leads_last : (x y : Output) (a rest : Flow) (Ends : List ℕ → Type 0) → Leads x y rest a Ends → rest ≡ nothing
+pub leads_last : (x y : Output) (a rest : Flow) (Ends : List ℕ → Type 0) → Completes x y rest a Ends → rest ≡ nothing
     → (ends : List ℕ) → Ends ends → Emits x y a ends
 leads_last x y a rest Ends h is ends e = h.emits y ends e (subst (λ (r : Flow). Emits y y r ends) (sym is) (emits_nothing y ends))
 
 pub leads_more : (x y z : Output) (a b rest whole : Flow) (Ends : List ℕ → Type 0) (some : List ℕ) → Ends some
-    → Leads x y rest whole Ends → rest ≡ sequence a b → ((ends : List ℕ) → Ends ends → Emits y z a ends)
-    → Leads x z b whole Ends
+    → Completes x y rest whole Ends → rest ≡ sequence a b → ((ends : List ℕ) → Ends ends → Emits y z a ends)
+    → Completes x z b whole Ends
 leads_more x y z a b rest whole Ends some there h is e =
     let g = grows y z a some (e some there) in
     let same : size rest ≡ size a + size b = ap size is in
@@ -273,8 +273,8 @@ leads_more x y z a b rest whole Ends some there h is e =
 
 -- two parts at once
 pub leads_both : (x y z : Output) (a b c rest whole : Flow) (Ends : List ℕ → Type 0) (some : List ℕ) → Ends some
-    → Leads x y rest whole Ends → rest ≡ sequence a (sequence b c)
-    → ((ends : List ℕ) → Ends ends → Emits y z (sequence a b) ends) → Leads x z c whole Ends
+    → Completes x y rest whole Ends → rest ≡ sequence a (sequence b c)
+    → ((ends : List ℕ) → Ends ends → Emits y z (sequence a b) ends) → Completes x z c whole Ends
 leads_both x y z a b c rest whole Ends some there h is e =
     let g = grows y z (sequence a b) some (e some there) in
     let same : size rest ≡ size a + (size b + size c) = ap size is in

@@ -34,7 +34,7 @@ use Rattle.filing_gen.proofs.Names.{or_nothing, AreAsked, apart_from, once_turn,
 use Rattle.filing_gen.proofs.EndedBlocks.{jumps_ended}
 use Rattle.filing_gen.proofs.Types.{keys_typed}
 use Rattle.filing_gen.proofs.Emitted.{emits_sequence, emits_assoc, emits_block, emits_nothing, action_emitted}
-use Rattle.filing_gen.proofs.Emitted.{leave_emitted, grows, Leads, leads_first, leads_more, leads_both, leads_last}
+use Rattle.filing_gen.proofs.Emitted.{leave_emitted, grows, Completes, leads_first, leads_more, leads_both, leads_last}
 use Rattle.filing_gen.proofs.Emitted.{turn, no_turn, To, Anywhere}
 
 pub flow-over : (args : List Argument) (n : ℕ) (longer : Bool) → longer ≡ has_tag (codes "over") args → longer ≡ true
@@ -78,7 +78,7 @@ pub record Asked (old now : Output) (lowercase : List (Vec ℕ Global)) (rest : 
     → Flow) (whole : Flow) (Ends : List ℕ → Type 0) : Type 0 where
   pub seen : List (List ℕ)
   pub asked : AreAsked lowercase seen
-  pub leads : Leads old now (flow_of (apart_from seen (each_once rest))) whole Ends
+  pub leads : Completes old now (flow_of (apart_from seen (each_once rest))) whole Ends
 
 -- after the first name
 pub asked_first : (o : Output) (one : List (Vec ℕ Global)) (n : List ℕ) (ns : List (List ℕ)) (flow_of : List (List ℕ) → Flow) (Ends : List ℕ → Type 0)
@@ -86,7 +86,7 @@ pub asked_first : (o : Output) (one : List (Vec ℕ Global)) (n : List ℕ) (ns 
 asked_first o one n ns flow_of Ends names = record {
   seen = n ∷ [];
   asked = λ m. names m ∙ sym (or_nothing (same_word n m));
-  leads = subst (λ (l : List (List ℕ)). Leads o o (flow_of l) (flow_of (others_once n ns)) Ends)
+  leads = subst (λ (l : List (List ℕ)). Completes o o (flow_of l) (flow_of (others_once n ns)) Ends)
       (sym (others_apart n ns)) (leads_first o (flow_of (others_once n ns)) Ends);
 }
 
@@ -112,18 +112,18 @@ module _ (old now : Output) (before after : List (Vec ℕ Global)) (xs : List (L
     seen = x ∷ h.seen;
     asked = asked_more;
     leads =
-        subst (λ (l : List (List ℕ)). Leads old now (flow_of l) whole Ends) (rest_is true e) h.leads;
+        subst (λ (l : List (List ℕ)). Completes old now (flow_of l) whole Ends) (rest_is true e) h.leads;
   }
 
   -- a new name, and its code
   pub asked_now : has_name before name ≡ false → (new : Output)
-      → (Leads old now (flow_of (name ∷ apart_from (x ∷ h.seen) (each_once (drop (i + 1) xs)))) whole Ends
-      → Leads old new (flow_of (apart_from (x ∷ h.seen) (each_once (drop (i + 1) xs)))) whole Ends)
+      → (Completes old now (flow_of (name ∷ apart_from (x ∷ h.seen) (each_once (drop (i + 1) xs)))) whole Ends
+      → Completes old new (flow_of (apart_from (x ∷ h.seen) (each_once (drop (i + 1) xs)))) whole Ends)
       → Asked old new after (drop (i + 1) xs) flow_of whole Ends
   asked_now e new go = record {
     seen = x ∷ h.seen;
     asked = asked_more;
-    leads = go (subst (λ (l : List (List ℕ)). Leads old now (flow_of l) whole Ends) (rest_is false e
+    leads = go (subst (λ (l : List (List ℕ)). Completes old now (flow_of l) whole Ends) (rest_is false e
         ∙ ap (λ n. n ∷ apart_from (x ∷ h.seen) (each_once (drop (i + 1) xs))) (sym named)) h.leads);
   }
 
@@ -146,14 +146,14 @@ asked_last old now lowercase xs i flow_of whole Ends none le h ends there =
 pub name_leads : (old now new : Output) (n : List ℕ) (ns : List (List ℕ)) (whole : Flow)
     → ((ends : List ℕ) → end_at ends 0 ≡ no_place
     → Emits now new (sequence (action (HasField n)) (leave_if false 0)) ends)
-    → Leads old now (names_flow (n ∷ ns)) whole Unknown → Leads old new (names_flow ns) whole Unknown
+    → Completes old now (names_flow (n ∷ ns)) whole Unknown → Completes old new (names_flow ns) whole Unknown
 name_leads old now new n ns whole e h =
     leads_both old now new (action (HasField n)) (leave_if false 0) (names_flow ns) (names_flow (n ∷ ns)) whole Unknown
     (no_place ∷ []) refl h refl e
 
 pub value_leads : (old now mid new : Output) (n : List ℕ) (ns : List (List ℕ)) (whole : Flow)
     → ((ends : List ℕ) → Emits now mid (action (ValuesOf n)) ends) → Puts mid new Join
-    → Leads old now (values_flow (n ∷ ns)) whole Anywhere → Leads old new (values_flow ns) whole Anywhere
+    → Completes old now (values_flow (n ∷ ns)) whole Anywhere → Completes old new (values_flow ns) whole Anywhere
 value_leads old now mid new n ns whole e j h =
     let one = leads_more old now mid (action (ValuesOf n)) (sequence (action JoinTwo) (values_flow ns))
     (values_flow (n ∷ ns)) whole Anywhere [] tt h refl (λ ends there. e ends) in
@@ -161,20 +161,20 @@ value_leads old now mid new n ns whole e j h =
     [] tt one refl (λ ends there. action_emitted mid new Join JoinTwo j refl ends)
 
 pub keys_turn : (old now new : Output) (xs : List (List ℕ)) (i : ℕ) (x : List ℕ) → i < length xs → x ≡ get_or xs i x
-    → (whole : Flow) (key : List ℕ) → key ≡ x → (m : ℕ) → Leads old now (keys_flow m (drop i xs)) whole Unknown
+    → (whole : Flow) (key : List ℕ) → key ≡ x → (m : ℕ) → Completes old now (keys_flow m (drop i xs)) whole Unknown
     → ((ends : List ℕ) → end_at ends 0 ≡ no_place
     → Emits now new (sequence (action (MatchKey m key)) (leave_if true 0)) ends)
-    → Leads old new (keys_flow m (drop (i + 1) xs)) whole Unknown
+    → Completes old new (keys_flow m (drop (i + 1) xs)) whole Unknown
 keys_turn old now new xs i x lt is whole key named m h e =
     leads_both old now new (action (MatchKey m x)) (leave_if true 0) (keys_flow m (drop (i + 1) xs)) _ whole Unknown
     (no_place ∷ []) refl h (ap (λ (ys : List (List ℕ)). keys_flow m ys) (turn xs i x is lt))
     (λ ends there. subst (λ (n : List ℕ). Emits now new (sequence (action (MatchKey m n)) (leave_if true 0)) ends) named (e ends there))
 
 pub tests_turn : (old now mid new : Output) (xs : List Test) (i : ℕ) (x : Test) → i < length xs → x ≡ get_or xs i x → (whole : Flow) (b : Bool)
-    → Leads old now (row_flow b (map test_of (drop i xs))) whole Unknown
+    → Completes old now (row_flow b (map test_of (drop i xs))) whole Unknown
     → ((ends : List ℕ) → Emits now mid (test_flow (test_in (test_of x))) ends)
     → ((ends : List ℕ) → end_at ends 0 ≡ no_place → Emits mid new (leave_if b 0) ends)
-    → Leads old new (row_flow b (map test_of (drop (i + 1) xs))) whole Unknown
+    → Completes old new (row_flow b (map test_of (drop (i + 1) xs))) whole Unknown
 tests_turn old now mid new xs i x lt is whole b h a j =
     let rest = row_flow b (map test_of (drop (i + 1) xs)) in
     let one = leads_more old now mid (test_flow (test_in (test_of x))) (sequence (leave_if b 0) rest) _ whole Unknown

@@ -16,7 +16,7 @@ use Rattle.filing_flow.specs.Structure.{Flow, action, Negate, Push}
 use Rattle.filing_gen.specs.BlockCode.{test_flow, tests_flow}
 use Rattle.filing_gen.specs.Ends.{no_place}
 use Rattle.filing_gen.specs.Adds.{Emits}
-use Rattle.filing_gen.proofs.Emitted.{Leads, leads_first, leads_last, no_turn, emits_sequence, action_emitted, grows}
+use Rattle.filing_gen.proofs.Emitted.{Completes, leads_first, leads_last, no_turn, emits_sequence, action_emitted, grows}
 use Rattle.filing_gen.proofs.EmittedTests.{Unknown, emits_same, word_flow, row_flow, flow-listed, tests_turn, one_emitted, flow-one}
 use Rattle.filing_gen.proofs.Types.{tests_typed}
 use Rattle.filing_gen.proofs.emit_tests.+emission.Goals as goal
@@ -59,7 +59,7 @@ emit_tests-loop-test-init t c =
     let e : whole ≡ row_flow c.args.stop (map test_of items) =
     rw (c.in-Listed.is, inner_of-Listed c.in-Listed.list)
     (flow-listed c.args.stop (test_of list.first) (map test_of list.others.items)) in
-    let before = subst (λ (a : Flow). Leads c.args.out.now c.args.out.now a whole Unknown) e (leads_first c.args.out.now whole Unknown) in
+    let before = subst (λ (a : Flow). Completes c.args.out.now c.args.out.now a whole Unknown) e (leads_first c.args.out.now whole Unknown) in
     let first = λ (ends : List ℕ).
     subst (λ (l : TestList).
     Emits c.args.out.now c.emit_test-in-Listed.new.out (test_flow (test_in (test_of (out-TestList l).first))) ends)
