@@ -8,7 +8,7 @@ use Rattle.filing_verify.specs.Flow.{first_place}
 use Rattle.sieve_meaning.specs.Case.{Facts}
 use Rattle.filing_table.specs.Machine.{Run, At, with_named, enter}
 use Rattle.filing_flow.specs.Structure.{Flow, block, size}
-use Rattle.filing_flow.specs.Effect.{Filing, Exit, FallsThrough, Leaves, EndsRun, Stuck, call_exit, and_then, effect}
+use Rattle.filing_flow.specs.Effect.{FlowState, Exit, FallsThrough, Leaves, EndsRun, Stuck, call_exit, and_then, effect}
 use Rattle.filing_flow.specs.Procedures.{called_by, RunsAsItsProcedures}
 use Rattle.filing_flow.specs.Whole.{nothing_done}
 use Rattle.filing_flow.proofs.Follow.{on, Comes, then, by_one, stepped, Arrives, arrives_later, CallsRun, flow_runs}
@@ -25,7 +25,7 @@ module _ (p : Program) (c : Facts) where
   goes_back calls (EndsRun k f) next end ends y at a = a
   goes_back calls Stuck next end ends y at a = tt
 
-  enters : (calls : List ℕ) (b first pc : ℕ) (f : Filing) → slice_get p.code pc ≡ Some (Call b)
+  enters : (calls : List ℕ) (b first pc : ℕ) (f : FlowState) → slice_get p.code pc ≡ Some (Call b)
       → first_place p b ≡ Some first → Comes p c (At (on calls f pc [])) (At (on ((pc + 1) ∷ calls) f first []))
   enters calls b first pc f at is = by_one p c (stepped p c calls f pc [] (Call b) at
       ∙ ap (λ (x : Option ℕ). with_named x (enter (on calls f pc []))) is)
@@ -33,7 +33,7 @@ module _ (p : Program) (c : Facts) where
   module _ (count : ℕ) where
     -- the code of one procedure, where its calls run
     procedure_runs : (a : Flow) (later : List Flow) (from place : ℕ) → RestOf p count from place (a ∷ later)
-        → (calls : List ℕ) → CallsRun p c calls (called_by c (suc from) later) → (f : Filing)
+        → (calls : List ℕ) → CallsRun p c calls (called_by c (suc from) later) → (f : FlowState)
         → Arrives p c calls (effect (called_by c (suc from) later) c (block a) f []) (place + size a) [] (At (on calls f place []))
     procedure_runs a later from place rest calls run f =
         flow_runs p c calls (called_by c (suc from) later) run (record {

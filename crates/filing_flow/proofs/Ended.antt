@@ -7,7 +7,7 @@ use Rattle.filing_table.specs.Machine.{State, Run, At, step, start, after_steps}
 use Rattle.filing_table.specs.Ends.{HasOutcome}
 use Rattle.filing_table.proofs.Once.{first_end}
 use Rattle.filing_flow.specs.Structure.{size, without_procedures}
-use Rattle.filing_flow.specs.Effect.{Filing, Exit, no_calls, effect}
+use Rattle.filing_flow.specs.Effect.{FlowState, Exit, no_calls, effect}
 use Rattle.filing_flow.specs.Whole.{whole, nothing_done, outcome_from, RunsAsItsCode}
 use Rattle.filing_flow.proofs.Follow.{steps, on, OverAt, Arrives, flow_runs}
 
@@ -21,7 +21,7 @@ unfolding steps
 after_is p c zero = refl
 after_is p c (suc n) = ap (step p c) (after_is p c n) ∙ sym (steps_last p c n (At start))
 
-pub outcome_at_end : (p : Program) (c : Facts) (fault : Option RunFault) (f : Filing)
+pub outcome_at_end : (p : Program) (c : Facts) (fault : Option RunFault) (f : FlowState)
     → OverAt p c (At (on [] nothing_done 0 [])) fault f → (n : ℕ) × HasOutcome p c n (outcome_from fault f)
 outcome_at_end p c fault f over =
     let s : State = on over.calls f over.pc over.stack in

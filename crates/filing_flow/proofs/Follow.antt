@@ -20,7 +20,7 @@ use Rattle.filing_flow.specs.Structure.{PushNumber, IsLess, IsMarked, SetMark, F
 use Rattle.filing_flow.specs.Structure.{Fail, CallTo, Flow, nothing, action, sequence, block, leave, leave_if, size}
 use Rattle.filing_flow.specs.Structure.{Bounds, IsSoundAction, IsSound}
 use Rattle.filing_flow.specs.Code.{places_in, IsWritten, Stands, end_at, jump_when}
-use Rattle.filing_flow.specs.Effect.{Filing, Exit, FallsThrough, Leaves, EndsRun, Stuck, with_stack, file_exit}
+use Rattle.filing_flow.specs.Effect.{FlowState, Exit, FallsThrough, Leaves, EndsRun, Stuck, with_stack, file_exit}
 use Rattle.filing_flow.specs.Effect.{CallEffects, call_exit, action_effect, and_then, caught, jump_exit, effect}
 
 unfoldable pub steps : Program → Facts → ℕ → Run → Run
@@ -28,7 +28,7 @@ steps p c zero x = x
 steps p c (suc n) x = steps p c n (step p c x)
 
 -- at a place, with these places to return to
-abbrev pub on : List ℕ → Filing → ℕ → List Entry → State
+abbrev pub on : List ℕ → FlowState → ℕ → List Entry → State
 on calls f pc es = record { place = pc; stack = es; filed = f.filed; kept = f.kept; cancelled = f.cancelled; marks = f.marks; calls = calls }
 
 module _ (p : Program) (c : Facts) where
@@ -52,7 +52,7 @@ module _ (p : Program) (c : Facts) where
   unfolding steps
   by_one e = record { count = 1; leads = e }
 
-  pub record OverAt (x : Run) (e : Option RunFault) (f : Filing) : Type 0 where
+  pub record OverAt (x : Run) (e : Option RunFault) (f : FlowState) : Type 0 where
     pub pc : ℕ
     pub stack : List Entry
     pub calls : List ℕ
@@ -72,8 +72,8 @@ module _ (p : Program) (c : Facts) (calls : List ℕ) where
   arrives_later (EndsRun e f) end ends x y a b = record { pc = b.pc; stack = b.stack; calls = b.calls; comes = then p c a b.comes }
   arrives_later Stuck end ends x y a b = tt
 
-  arrives_both : (o : Exit) (go : Filing → List Entry → Exit) (mid end : ℕ) (ends : List ℕ) (x : Run)
-      → Arrives o mid ends x → ((f : Filing) (es : List Entry) → Arrives (go f es) end ends (At (on calls f mid es)))
+  arrives_both : (o : Exit) (go : FlowState → List Entry → Exit) (mid end : ℕ) (ends : List ℕ) (x : Run)
+      → Arrives o mid ends x → ((f : FlowState) (es : List Entry) → Arrives (go f es) end ends (At (on calls f mid es)))
       → Arrives (and_then o go) end ends x
   arrives_both (FallsThrough f es) go mid end ends x a b = arrives_later (go f es) end ends x (At (on calls f mid es)) a (b f es)
   arrives_both (Leaves n f es) go mid end ends x a b = a
@@ -87,7 +87,7 @@ module _ (p : Program) (c : Facts) (calls : List ℕ) where
   arrives_caught (EndsRun e f) end ends x a = a
   arrives_caught Stuck end ends x a = tt
 
-  pub stepped : (f : Filing) (pc : ℕ) (es : List Entry) (o : Operation) → slice_get p.code pc ≡ Some o
+  pub stepped : (f : FlowState) (pc : ℕ) (es : List Entry) (o : Operation) → slice_get p.code pc ≡ Some o
       → step p c (At (on calls f pc es)) ≡ on_stack p c o (on calls f pc es) es
   stepped f pc es o h = ap (λ (x : Option Operation). at_place p c x (on calls f pc es)) h
 
@@ -104,7 +104,7 @@ module _ (p : Program) (c : Facts) (calls : List ℕ) where
   arrives_one (EndsRun k f) next ends x y e g = record { pc = g.0; stack = g.1; calls = calls; comes = by_one p c (e ∙ g.2) }
   arrives_one Stuck next ends x y e g = tt
 
-  stacked : (f : Filing) (pc : ℕ) (es fs : List Entry) → Gives (with_stack f fs) (pc + 1) (table.with_stack (on calls f pc es) fs)
+  stacked : (f : FlowState) (pc : ℕ) (es fs : List Entry) → Gives (with_stack f fs) (pc + 1) (table.with_stack (on calls f pc es) fs)
   stacked f pc es fs =
       elim (nat_lt 32 (length fs)) as (λ t.
       Gives (cond t Stuck (FallsThrough f fs)) (pc + 1) (cond t Trap (At (on calls f (pc + 1) fs)))) [
@@ -118,7 +118,7 @@ module _ (p : Program) (c : Facts) (calls : List ℕ) where
   lt_is : (a b : ℕ) → a < b → nat_lt a b ≡ true
   lt_is a b l = grind (arith)
 
-  filed : (f : Filing) (pc : ℕ) (es : List Entry) (a : ℕ) (path : List ℕ)
+  filed : (f : FlowState) (pc : ℕ) (es : List Entry) (a : ℕ) (path : List ℕ)
       → Gives (file_exit c f es a path) (pc + 1) (table.file c (on calls f pc es) a path)
   filed f pc es a path =
       elim (c.is_open path) as (λ t.
@@ -134,7 +134,7 @@ module _ (p : Program) (c : Facts) (calls : List ℕ) where
         | false ↦ (pc, es, refl)
       ]
 
-  stuck : (f : Filing) (pc : ℕ) (x : Run) → Gives Stuck pc x
+  stuck : (f : FlowState) (pc : ℕ) (x : Run) → Gives Stuck pc x
   stuck f pc x = tt
 
   named : {A : Type 0} (o : Exit) (next : ℕ) (x : Option A) (y : A) (go : A → Run) → x ≡ Some y → Gives o next (go y) → Gives o next (with_named x go)
@@ -146,7 +146,7 @@ module _ (p : Program) (c : Facts) (calls : List ℕ) where
   IsStep x = Unit {0}
 
   action_gives : (called : CallEffects) (bounds : Bounds) → bounds.slots ≡ p.slots
-      → (x : Action) (f : Filing) (pc : ℕ) (es : List Entry) (o : Operation) → IsStep x → IsSoundAction bounds x
+      → (x : Action) (f : FlowState) (pc : ℕ) (es : List Entry) (o : Operation) → IsStep x → IsSoundAction bounds x
       → IsWritten (places_in p.texts p.numbers) x o
       → Gives (action_effect called c x f es) (pc + 1) (on_stack p c o (on calls f pc es) es)
   action_gives called bounds slots (Push true) f pc es o is_step ok w = rw w (stacked f pc es (T true ∷ es))
@@ -186,7 +186,7 @@ module _ (p : Program) (c : Facts) (calls : List ℕ) where
       (pc, es, rw w (rw (le_is 2 (number_of fault) ok, fault_of_number fault) refl))
   action_gives called bounds slots (CallTo b) f pc es o is_step ok w = absurd is_step
 
-  leaves_if : (t : Bool) (n : ℕ) (ends : List ℕ) (pc : ℕ) (f : Filing) (es : List Entry)
+  leaves_if : (t : Bool) (n : ℕ) (ends : List ℕ) (pc : ℕ) (f : FlowState) (es : List Entry)
       → slice_get p.code pc ≡ Some (jump_when t (end_at ends n))
       → Arrives (jump_exit t n f es) (pc + 1) ends (At (on calls f pc es))
   leaves_if true n ends pc f (T true ∷ es) h = by_one p c (stepped f pc (T true ∷ es) (JumpIf (end_at ends n)) h)
@@ -198,11 +198,11 @@ module _ (p : Program) (c : Facts) (calls : List ℕ) where
 
   -- From a call the run comes to where the call's effect says.
   abbrev pub CallsRun : CallEffects → Type 0
-  CallsRun called = (b : ℕ) (f : Filing) (pc : ℕ) (ends : List ℕ) → slice_get p.code pc ≡ Some (Call b)
+  CallsRun called = (b : ℕ) (f : FlowState) (pc : ℕ) (ends : List ℕ) → slice_get p.code pc ≡ Some (Call b)
       → Arrives (call_exit (called b f)) (pc + 1) ends (At (on calls f pc []))
 
   module _ (called : CallEffects) (calls_run : CallsRun called) (bounds : Bounds) (slots : bounds.slots ≡ p.slots) where
-    action_runs : (x : Action) (ends : List ℕ) (pc : ℕ) (f : Filing) (es : List Entry) (o : Operation)
+    action_runs : (x : Action) (ends : List ℕ) (pc : ℕ) (f : FlowState) (es : List Entry) (o : Operation)
         → IsSoundAction bounds x → slice_get p.code pc ≡ Some o → IsWritten (places_in p.texts p.numbers) x o
         → Arrives (action_effect called c x f es) (pc + 1) ends (At (on calls f pc es))
     action_runs (CallTo b) ends pc f [] o ok at w = calls_run b f pc ends (at ∙ ap Some w)
@@ -212,7 +212,7 @@ module _ (p : Program) (c : Facts) (calls : List ℕ) where
         (action_gives called bounds slots x f pc es o tt ok w)
 
     -- From its first place the run comes to where the code's effect says.
-    pub flow_runs : (a : Flow) (ends : List ℕ) (pc : ℕ) (f : Filing) (es : List Entry) → IsSound bounds a
+    pub flow_runs : (a : Flow) (ends : List ℕ) (pc : ℕ) (f : FlowState) (es : List Entry) → IsSound bounds a
         → Stands (places_in p.texts p.numbers) p.code a ends pc
         → Arrives (effect called c a f es) (pc + size a) ends (At (on calls f pc es))
     flow_runs nothing ends pc f es ok h = let e : pc ≡ pc + 0 = omega arith in

@@ -10,7 +10,7 @@ use Rattle.filing_table.specs.Machine.{Entry, T, L, N, comparison_holds, values_
 use Rattle.filing_flow.specs.Structure.{Action, Push, Negate, ValuesOf, JoinTwo, MatchKey, Drop, HasField, PushSize, PushNumber, IsLess, IsMarked, SetMark, FileInto, SetKept, SetCancelled, End, Fail, CallTo, Flow, nothing, action, sequence, block, leave, leave_if}
 
 -- the state of a run: that of the table machine without its place and its stack
-pub record Filing : Type 0 where
+pub record FlowState : Type 0 where
   -- the set of the paths that were filed
   pub filed : Paths
   pub kept : Bool
@@ -21,27 +21,27 @@ pub record Filing : Type 0 where
 -- how code is left
 pub data Exit : Type 0 where
   -- it comes to its end, with this stack
-  FallsThrough : Filing → List Entry → Exit
+  FallsThrough : FlowState → List Entry → Exit
   -- it jumps to the end of the block around that has this number
-  Leaves : ℕ → Filing → List Entry → Exit
+  Leaves : ℕ → FlowState → List Entry → Exit
   -- the run ends, with or without a fault
-  EndsRun : Option RunFault → Filing → Exit
+  EndsRun : Option RunFault → FlowState → Exit
   -- an operand is missing, or the stack is deeper than 32
   Stuck : Exit
 
-abbrev pub with_stack : Filing → List Entry → Exit
+abbrev pub with_stack : FlowState → List Entry → Exit
 with_stack f es = if nat_lt 32 (length es) then Stuck else FallsThrough f es
 
 -- files under a path where it is open, and ends with a fault where it is not; 0 cancels the implicit keep, and 1 is a
 -- copy (RFC 3894, section 3)
-abbrev pub file_exit : Facts → Filing → List Entry → ℕ → List ℕ → Exit
+abbrev pub file_exit : Facts → FlowState → List Entry → ℕ → List ℕ → Exit
 file_exit c f es a path = if c.is_open path
     then FallsThrough (record f { filed = insert_path path f.filed; cancelled = f.cancelled || nat_eq a 0 }) es
     else EndsRun (Some ClassNotOpen) f
 
 -- what a call of the procedure with a number does to a state, on the empty stack
 abbrev pub CallEffects : Type 0
-CallEffects = ℕ → Filing → Exit
+CallEffects = ℕ → FlowState → Exit
 
 -- where there are no procedures
 abbrev pub no_calls : CallEffects
@@ -53,7 +53,7 @@ call_exit (FallsThrough f []) = FallsThrough f []
 call_exit (EndsRun e f) = EndsRun e f
 call_exit _ = Stuck
 
-abbrev pub action_effect : CallEffects → Facts → Action → Filing → List Entry → Exit
+abbrev pub action_effect : CallEffects → Facts → Action → FlowState → List Entry → Exit
 action_effect called c (Push b) f es = with_stack f (T b ∷ es)
 action_effect called c Negate f (T b ∷ es) = with_stack f (T (not b) ∷ es)
 action_effect called c Negate f _ = Stuck
@@ -79,7 +79,7 @@ action_effect called c (Fail fault) f es = EndsRun (Some fault) f
 action_effect called c (CallTo b) f [] = call_exit (called b f)
 action_effect called c (CallTo b) f _ = Stuck
 
-abbrev pub and_then : Exit → (Filing → List Entry → Exit) → Exit
+abbrev pub and_then : Exit → (FlowState → List Entry → Exit) → Exit
 and_then (FallsThrough f es) go = go f es
 and_then (Leaves n f es) go = Leaves n f es
 and_then (EndsRun e f) go = EndsRun e f
@@ -94,14 +94,14 @@ caught (EndsRun e f) = EndsRun e f
 caught Stuck = Stuck
 
 -- pops the truth value on the top, and jumps where it is this one
-abbrev pub jump_exit : Bool → ℕ → Filing → List Entry → Exit
+abbrev pub jump_exit : Bool → ℕ → FlowState → List Entry → Exit
 jump_exit true n f (T true ∷ es) = Leaves n f es
 jump_exit true n f (T false ∷ es) = FallsThrough f es
 jump_exit false n f (T true ∷ es) = FallsThrough f es
 jump_exit false n f (T false ∷ es) = Leaves n f es
 jump_exit _ n f _ = Stuck
 
-abbrev pub effect : CallEffects → Facts → Flow → Filing → List Entry → Exit
+abbrev pub effect : CallEffects → Facts → Flow → FlowState → List Entry → Exit
 effect called c nothing f es = FallsThrough f es
 effect called c (action o) f es = action_effect called c o f es
 effect called c (sequence a b) f es = and_then (effect called c a f es) (effect called c b)

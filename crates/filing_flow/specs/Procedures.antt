@@ -10,7 +10,7 @@ use Rattle.sieve_meaning.specs.Case.{Facts}
 use Rattle.filing_table.specs.Ends.{HasOutcome}
 use Rattle.filing_flow.specs.Structure.{Action, CallTo, End, Flow, nothing, action, sequence, block, leave, leave_if, size, IsSound}
 use Rattle.filing_flow.specs.Code.{Operands, places_in, Stands}
-use Rattle.filing_flow.specs.Effect.{Filing, Stuck, EndsRun, CallEffects, effect}
+use Rattle.filing_flow.specs.Effect.{FlowState, Stuck, EndsRun, CallEffects, effect}
 use Rattle.filing_flow.specs.Types.{HasType}
 use Rattle.filing_flow.specs.Whole.{nothing_done, outcome_from}
 
@@ -90,7 +90,7 @@ first_call = sequence (action (CallTo 0)) (action End)
 -- A program of sound procedures runs on the table machine as the call of the first one, and then the end of the run.
 -- Where that code ends the run, the run of the program ends. The fault and the outcome are the same.
 abbrev pub RunsAsItsProcedures : Type 0
-RunsAsItsProcedures = (p : Program) (c : Facts) (procedures : List Flow) (fault : Option RunFault) (f : Filing) →
+RunsAsItsProcedures = (p : Program) (c : Facts) (procedures : List Flow) (fault : Option RunFault) (f : FlowState) →
     AreProceduresOf p procedures → AreSound p.slots (length procedures) 0 procedures →
     effect (called_by c 0 procedures) c first_call nothing_done [] ≡ EndsRun fault f → (n : ℕ) ×
     HasOutcome p c n (outcome_from fault f)

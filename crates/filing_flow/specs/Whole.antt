@@ -9,7 +9,7 @@ use Rattle.sieve_meaning.specs.Outcome.{outcome_at}
 use Rattle.filing_table.specs.Ends.{HasOutcome}
 use Rattle.filing_flow.specs.Structure.{Flow, sequence, block, action, End, size, without_procedures, IsSound}
 use Rattle.filing_flow.specs.Code.{places_in, Stands}
-use Rattle.filing_flow.specs.Effect.{Filing, EndsRun, no_calls, effect}
+use Rattle.filing_flow.specs.Effect.{FlowState, EndsRun, no_calls, effect}
 use Rattle.filing_flow.specs.Types.{HasType}
 
 -- the code in one block, and after it the end of the run, to which a jump out of the code goes
@@ -23,17 +23,17 @@ pub record IsCodeOf (p : Program) (a : Flow) : Type 0 where
   pub long : length p.code ≡ size (whole a)
 
 -- before a run: nothing is filed, and no flag and no slot is set
-abbrev pub nothing_done : Filing
+abbrev pub nothing_done : FlowState
 nothing_done = record { filed = []; kept = false; cancelled = false; marks = replicate 64 false }
 
 -- the outcome of a run that ends in this state, with this fault or with none
-abbrev pub outcome_from : Option RunFault → Filing → Outcome
+abbrev pub outcome_from : Option RunFault → FlowState → Outcome
 outcome_from fault f = outcome_at fault f.filed f.kept f.cancelled
 
 -- A program of sound code runs on the table machine as its code runs in blocks: where the code ends the run, the run of
 -- the program ends, with the same fault and the same outcome.
 abbrev pub RunsAsItsCode : Type 0
-RunsAsItsCode = (p : Program) (c : Facts) (a : Flow) (fault : Option RunFault) (f : Filing) → IsCodeOf p a →
+RunsAsItsCode = (p : Program) (c : Facts) (a : Flow) (fault : Option RunFault) (f : FlowState) → IsCodeOf p a →
     IsSound (without_procedures p.slots) a → effect no_calls c (whole a) nothing_done [] ≡ EndsRun fault f → (n : ℕ) ×
     HasOutcome p c n (outcome_from fault f)
 

@@ -77,7 +77,7 @@ module _ (called : CallEffects) (c : Facts) (lib : Library) (slot : Slots) (coun
   CallMeans a q =
       (chain : List ScriptName) → SameFor lib (suc q.left) q.script q.chain chain
       → ((s : ScriptName) → is_among main s ≡ true → is_among chain s ≡ true)
-      → (n : ℕ) (f : Filing) (g : code.Filing) → AreAlike (MarksEntries lib slot main chain) f g
+      → (n : ℕ) (f : Filing) (g : code.FlowState) → AreAlike (MarksEntries lib slot main chain) f g
       → Alike (MarksEntries lib slot main chain) n
       (ending_of_include (run c (inclusion_within c lib q.left chain) q.script f)) (effect called c a g [])
 
@@ -93,7 +93,7 @@ module _ (called : CallEffects) (c : Facts) (lib : Library) (slot : Slots) (coun
     -- the call of an include that enters a script
     call_means : (left : ℕ) → p.left ≡ suc left → (i : Include) → IsIn i (includes_of p.script) → (x : Commands)
         → lib.find (script_named i) ≡ Some x → is_among p.chain (script_named i) ≡ false
-        → (n : ℕ) (f : Filing) (g : code.Filing) → AreAlike (MarksEntries lib slot main (script_named i ∷ chain)) f g
+        → (n : ℕ) (f : Filing) (g : code.FlowState) → AreAlike (MarksEntries lib slot main (script_named i ∷ chain)) f g
         → Alike (MarksEntries lib slot main (script_named i ∷ chain)) n
         (ending_of_include (run c (inclusion_within c lib left (script_named i ∷ chain)) x f))
         (effect called c (call_flow own (number_of lib later (record {
@@ -131,7 +131,7 @@ module _ (called : CallEffects) (c : Facts) (lib : Library) (slot : Slots) (coun
         Does left y (Some found.number)) script (subst (λ (m : ℕ). Does m q.script (Some found.number)) lefts here))
 
     by_left : (left : ℕ) → p.left ≡ left → (i : Include) → IsIn i (includes_of p.script)
-        → (n : ℕ) (f : Filing) (g : code.Filing) → AreAlike (MarksEntries lib slot main chain) f g
+        → (n : ℕ) (f : Filing) (g : code.FlowState) → AreAlike (MarksEntries lib slot main chain) f g
         → Alike (MarksEntries lib slot main chain) n (inclusion_within c lib left chain i f)
         (effect called c (including_flow lib slot main p.chain
         (call_entry lib slot own later left p.chain (script_named i)) i) g [])
@@ -152,7 +152,7 @@ module _ (called : CallEffects) (c : Facts) (lib : Library) (slot : Slots) (coun
         (including_alike called c lib slot count has main chain within (λ script f.
         ending_of_include (run c (inclusion_within c lib left (s ∷ chain)) script (with_entry s f))) enter i
         (λ x at out n f g r.
-        let now : code.Filing = record g { marks = slice_set g.marks (slot s) true } in
+        let now : code.FlowState = record g { marks = slice_set g.marks (slot s) true } in
         let free : is_among p.chain s ≡ false = at_include lib p.left p.script x i p.chain chain there at same ∙ out in
         let h = call_means left is i there x at free n (with_entry s f) now (entered_related called c lib slot count has main chain s x at f g r) in
         record {
@@ -169,7 +169,7 @@ module _ (called : CallEffects) (c : Facts) (lib : Library) (slot : Slots) (coun
     calls_agree i there n f g r = by_left p.left refl i there n f g r
 
     -- the code of the procedure
-    pub procedure_means : (f : Filing) (g : code.Filing) → AreAlike (MarksEntries lib slot main chain) f g
+    pub procedure_means : (f : Filing) (g : code.FlowState) → AreAlike (MarksEntries lib slot main chain) f g
         → Alike (MarksEntries lib slot main chain) 0 (run c (inclusion_within c lib p.left chain) p.script f)
         (effect called c (script_flow (calling_flow lib slot main own later p) p.script) g [])
     procedure_means f g r =

@@ -43,7 +43,7 @@ fault_of (Returns f) = None
 fault_of (Stops f) = None
 fault_of (Faults fault f) = Some fault
 
-end_means : (c : Facts) (e : Ending) (g : code.Filing)
+end_means : (c : Facts) (e : Ending) (g : code.FlowState)
     → code.and_then (caught (exit_of 0 e g)) (effect no_calls c (action End)) ≡ EndsRun (fault_of e) g
 end_means c (GoesOn f) g = refl
 end_means c (Returns f) g = refl
@@ -56,7 +56,8 @@ outcome_is (Returns f) = refl
 outcome_is (Stops f) = refl
 outcome_is (Faults fault f) = refl
 
-pub same_outcome : (marking : Marking) (e : Ending) (g : code.Filing) → AreAlike marking (filing_at e) g → outcome_from (fault_of e) g ≡ outcome_of e
+pub same_outcome : (marking : Marking) (e : Ending) (g : code.FlowState) → AreAlike marking (filing_at e) g
+    → outcome_from (fault_of e) g ≡ outcome_of e
 same_outcome marking e g r = rw (r.filed, r.kept, r.cancelled) (outcome_is e)
 
 abbrev pub main_flow : Library → Slots → Option (List ℕ) → Commands → Flow

@@ -40,7 +40,7 @@ ended_alike marking n (Stops f) x h = record { filing = h.filing; related = h.re
 ended_alike marking n (Faults fault f) x h = record { filing = h.filing; related = h.related; exit = ap caught h.exit }
 
 module _ (called : CallEffects) (c : Facts) (lib : Library) (slot : Slots) (count : ℕ) (has : HasSlots lib slot count) (main : List ScriptName) where
-  pub shrunk : (chain : List ScriptName) (s : ScriptName) (f : Filing) (g : code.Filing)
+  pub shrunk : (chain : List ScriptName) (s : ScriptName) (f : Filing) (g : code.FlowState)
       → AreAlike (MarksEntries lib slot main (s ∷ chain)) f g → AreAlike (MarksEntries lib slot main chain) f g
   shrunk chain s f g r = record {
     filed = r.filed;
@@ -75,7 +75,7 @@ module _ (called : CallEffects) (c : Facts) (lib : Library) (slot : Slots) (coun
   missing_after s x at chain entered marks m t none false e = m.missing t none
 
   pub entered_related : (chain : List ScriptName) (s : ScriptName) (x : Commands) → lib.find s ≡ Some x
-      → (f : Filing) (g : code.Filing) → AreAlike (MarksEntries lib slot main chain) f g
+      → (f : Filing) (g : code.FlowState) → AreAlike (MarksEntries lib slot main chain) f g
       → AreAlike (MarksEntries lib slot main (s ∷ chain)) (with_entry s f) (record g { marks = slice_set g.marks (slot s) true })
   entered_related chain s x at f g r = record {
     filed = r.filed;
@@ -92,11 +92,11 @@ module _ (called : CallEffects) (c : Facts) (lib : Library) (slot : Slots) (coun
   -- what entering a script does, and its code
   abbrev pub Enters : List ScriptName → ScriptName → (Commands → Filing → Ending) → (Commands → Flow) → Type 0
   Enters chain s enter a = (x : Commands) → lib.find s ≡ Some x → is_among chain s ≡ false
-      → (n : ℕ) (f : Filing) (g : code.Filing) → AreAlike (MarksEntries lib slot main chain) f g
+      → (n : ℕ) (f : Filing) (g : code.FlowState) → AreAlike (MarksEntries lib slot main chain) f g
       → Alike (MarksEntries lib slot main chain) n (enter x f) (effect called c (a x) g [])
 
   once_alike : (chain : List ScriptName) (s : ScriptName) (x : Commands) (once : Bool) (a : Flow) (go : Filing
-      → Ending) (n : ℕ) (f : Filing) (g : code.Filing) → AreAlike (MarksEntries lib slot main chain) f g
+      → Ending) (n : ℕ) (f : Filing) (g : code.FlowState) → AreAlike (MarksEntries lib slot main chain) f g
       → lib.find s ≡ Some x → is_among main s ≡ false
       → ((n : ℕ) → Alike (MarksEntries lib slot main chain) n (go f) (effect called c a g []))
       → Alike (MarksEntries lib slot main chain) n (unless_entered (once && is_among f.entered s) go f)
@@ -117,7 +117,7 @@ module _ (called : CallEffects) (c : Facts) (lib : Library) (slot : Slots) (coun
   module _ (chain : List ScriptName) (within : (s : ScriptName) → is_among main s ≡ true
       → is_among chain s ≡ true) (enter : Commands → Filing → Ending) (a : Commands
       → Flow) (i : Include) (k : Enters chain (script_named i) enter a) where
-    none_judged : (n : ℕ) (p optional : Bool) (go : Commands → Filing → Ending) (f : Filing) (g : code.Filing)
+    none_judged : (n : ℕ) (p optional : Bool) (go : Commands → Filing → Ending) (f : Filing) (g : code.FlowState)
         → AreAlike (MarksEntries lib slot main chain) f g
         → Alike (MarksEntries lib slot main chain) n (unless_entered p (unless_missing None optional go) f)
         (effect called c (cond (p || optional) nothing (action (Fail ScriptMissing))) g [])
@@ -125,7 +125,7 @@ module _ (called : CallEffects) (c : Facts) (lib : Library) (slot : Slots) (coun
     none_judged n false true go f g r = record { filing = g; related = r; exit = refl }
     none_judged n false false go f g r = record { filing = g; related = r; exit = refl }
 
-    active_judged : (n : ℕ) (x : Commands) (once : Bool) (f : Filing) (g : code.Filing) → AreAlike (MarksEntries lib slot main chain) f g
+    active_judged : (n : ℕ) (x : Commands) (once : Bool) (f : Filing) (g : code.FlowState) → AreAlike (MarksEntries lib slot main chain) f g
         → Alike (MarksEntries lib slot main chain) n
         (unless_entered (once && true) (unless_missing (Some x) i.optional (λ script.
         unless_active true (enter script))) f)
@@ -134,7 +134,7 @@ module _ (called : CallEffects) (c : Facts) (lib : Library) (slot : Slots) (coun
     active_judged n x false f g r = record { filing = g; related = r; exit = refl }
 
     judged : (o : Option Commands) → lib.find (script_named i) ≡ o → (b : Bool) → is_among chain (script_named i) ≡ b
-        → (n : ℕ) (f : Filing) (g : code.Filing) → AreAlike (MarksEntries lib slot main chain) f g
+        → (n : ℕ) (f : Filing) (g : code.FlowState) → AreAlike (MarksEntries lib slot main chain) f g
         → Alike (MarksEntries lib slot main chain) n (unless_entered (i.once && is_among f.entered (script_named i))
         (unless_missing o i.optional (λ script. unless_active b (enter script))) f)
         (effect called c (found_flow o (is_passed main i) (λ script.
@@ -158,7 +158,7 @@ module _ (called : CallEffects) (c : Facts) (lib : Library) (slot : Slots) (coun
         once_alike chain (script_named i) x i.once (a x) (unless_missing (Some x) i.optional (λ script.
         unless_active false (enter script))) n f g r at out (λ m. k x at e m f g r)
 
-    pub including_alike : (n : ℕ) (f : Filing) (g : code.Filing) → AreAlike (MarksEntries lib slot main chain) f g
+    pub including_alike : (n : ℕ) (f : Filing) (g : code.FlowState) → AreAlike (MarksEntries lib slot main chain) f g
         → Alike (MarksEntries lib slot main chain) n (inclusion lib chain enter i f)
         (effect called c (including_flow lib slot main chain a i) g [])
     including_alike n f g r = judged (lib.find (script_named i)) refl (is_among chain (script_named i)) refl n f g r
@@ -180,7 +180,7 @@ module _ (called : CallEffects) (c : Facts) (lib : Library) (slot : Slots) (coun
       (sequence (action (SetMark (slot (script_named i))))
       (flow (included_flow lib slot main left (script_named i ∷ chain)) 0 script))) i
       (λ x at out n f g r.
-      let now : code.Filing = record g { marks = slice_set g.marks (slot (script_named i)) true } in
+      let now : code.FlowState = record g { marks = slice_set g.marks (slot (script_named i)) true } in
       let h = flow_means called c (MarksEntries lib slot main (script_named i ∷ chain))
       (included_flow lib slot main left (script_named i ∷ chain)) (inclusion_within c lib left (script_named i
       ∷ chain)) inner 0 x (with_entry (script_named i) f) now (entered_related chain (script_named i) x at f g r) in

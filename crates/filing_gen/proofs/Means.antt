@@ -21,7 +21,7 @@ use Rattle.filing_gen.proofs.Truths.{test_means}
 
 module _ (called : CallEffects) (c : Facts) (marking : Marking) where
   then_means : (n : ℕ) (e : Ending) (x : Exit) (a : Flow) (go : Filing → Ending) → Alike marking n e x
-      → ((f : Filing) (s : code.Filing) → AreAlike marking f s → Alike marking n (go f) (effect called c a s []))
+      → ((f : Filing) (s : code.FlowState) → AreAlike marking f s → Alike marking n (go f) (effect called c a s []))
       → Alike marking n (and_then e go) (code.and_then x (effect called c a))
   then_means n (GoesOn f) x a go h k = let y = k f h.filing h.related in
       record {
@@ -47,10 +47,10 @@ module _ (called : CallEffects) (c : Facts) (marking : Marking) where
   caught_means n (Faults fault f) x h = record { filing = h.filing; related = h.related; exit = ap caught h.exit }
 
   -- from the block of a true test to the end of all branches
-  abbrev taken : (code.Filing → List Entry → Exit) → Exit → Exit
+  abbrev taken : (code.FlowState → List Entry → Exit) → Exit → Exit
   taken go x = caught (code.and_then (caught (code.and_then x (effect called c (leave 1)))) go)
 
-  taken_means : (n : ℕ) (e : Ending) (x : Exit) (go : code.Filing → List Entry → Exit) → Alike marking (suc (suc n)) e x
+  taken_means : (n : ℕ) (e : Ending) (x : Exit) (go : code.FlowState → List Entry → Exit) → Alike marking (suc (suc n)) e x
       → Alike marking n e (taken go x)
   taken_means n (GoesOn f) x go h = record { filing = h.filing; related = h.related; exit = ap (taken go) h.exit }
   taken_means n (Returns f) x go h = record { filing = h.filing; related = h.related; exit = ap (taken go) h.exit }
@@ -61,10 +61,10 @@ module _ (called : CallEffects) (c : Facts) (marking : Marking) where
   cancels true = refl
   cancels false = refl
 
-  file_means : (n : ℕ) (copy : Bool) (path : List ℕ) (f : Filing) (s : code.Filing) → AreAlike marking f s
+  file_means : (n : ℕ) (copy : Bool) (path : List ℕ) (f : Filing) (s : code.FlowState) → AreAlike marking f s
       → Alike marking n (filing c copy path f) (effect called c (action (FileInto (copy_number copy) path)) s [])
   file_means n copy path f s r =
-      let now : code.Filing = record s { filed = insert_path path s.filed; cancelled = s.cancelled || nat_eq (copy_number copy) 0 } in
+      let now : code.FlowState = record s { filed = insert_path path s.filed; cancelled = s.cancelled || nat_eq (copy_number copy) 0 } in
       elim (c.is_open path) as (λ b.
       Alike marking n (cond b (GoesOn (record f {
         filed = insert_path path f.filed;
@@ -88,12 +88,12 @@ module _ (called : CallEffects) (c : Facts) (marking : Marking) where
 
   -- the code of these includes does what they do
   abbrev pub AgreesAt : (Include → Flow) → Included → List Include → Type 0
-  AgreesAt g h is = (i : Include) → IsIn i is → (n : ℕ) (f : Filing) (s : code.Filing) → AreAlike marking f s
+  AgreesAt g h is = (i : Include) → IsIn i is → (n : ℕ) (f : Filing) (s : code.FlowState) → AreAlike marking f s
       → Alike marking n (h i f) (effect called c (g i) s [])
 
   module _ (g : Include → Flow) (h : Included) where
     mutual
-      pub means_at : (n : ℕ) (xs : Commands) → AgreesAt g h (includes_of xs) → (f : Filing) (s : code.Filing)
+      pub means_at : (n : ℕ) (xs : Commands) → AgreesAt g h (includes_of xs) → (f : Filing) (s : code.FlowState)
           → AreAlike marking f s → Alike marking n (run c h xs f) (effect called c (flow g n xs) s [])
       means_at n no_command agree f s r = record { filing = s; related = r; exit = refl }
       means_at n (command_then x xs) agree f s r =
@@ -101,7 +101,7 @@ module _ (called : CallEffects) (c : Facts) (marking : Marking) where
           (one_means n x (λ i is. agree i (in_front i (includes_in x) (includes_of xs) is)) f s r)
           (means_at n xs (λ i is. agree i (in_rest i (includes_in x) (includes_of xs) is)))
 
-      one_means : (n : ℕ) (x : Command) → AgreesAt g h (includes_in x) → (f : Filing) (s : code.Filing)
+      one_means : (n : ℕ) (x : Command) → AgreesAt g h (includes_in x) → (f : Filing) (s : code.FlowState)
           → AreAlike marking f s → Alike marking n (run_one c h x f) (effect called c (flow_one g n x) s [])
       one_means n require agree f s r = record { filing = s; related = r; exit = refl }
       one_means n keep agree f s r =
@@ -123,7 +123,7 @@ module _ (called : CallEffects) (c : Facts) (marking : Marking) where
       one_means n (branch bs) agree f s r = branches_means n bs agree f s r
       one_means n (include i) agree f s r = agree i (inl refl) n f s r
 
-      branches_means : (n : ℕ) (bs : Branches) → AgreesAt g h (branch_includes bs) → (f : Filing) (s : code.Filing)
+      branches_means : (n : ℕ) (bs : Branches) → AgreesAt g h (branch_includes bs) → (f : Filing) (s : code.FlowState)
           → AreAlike marking f s
           → Alike marking n (run_branches c h bs f) (caught (effect called c (branches_flow g (suc n) bs) s []))
       branches_means n no_branch agree f s r = record { filing = s; related = r; exit = refl }
@@ -144,6 +144,6 @@ module _ (called : CallEffects) (c : Facts) (marking : Marking) where
           ])
 
   module _ (g : Include → Flow) (h : Included) (agree : Agrees called c marking g h) where
-    pub flow_means : (n : ℕ) (xs : Commands) (f : Filing) (s : code.Filing) → AreAlike marking f s
+    pub flow_means : (n : ℕ) (xs : Commands) (f : Filing) (s : code.FlowState) → AreAlike marking f s
         → Alike marking n (run c h xs f) (effect called c (flow g n xs) s [])
     flow_means n xs f s r = means_at g h n xs (λ i is. agree i) f s r

@@ -39,7 +39,7 @@ returned_alike marking n (Stops f) x h = record { filing = h.filing; related = h
 returned_alike marking n (Faults fault f) x h = record { filing = h.filing; related = h.related; exit = ap call_exit h.exit }
 
 -- the first procedure ends the run as the main script does
-first_ends : (called : CallEffects) (c : Facts) (e : Ending) (g : code.Filing)
+first_ends : (called : CallEffects) (c : Facts) (e : Ending) (g : code.FlowState)
     → code.and_then (call_exit (caught (exit_of 0 e g))) (effect called c (action End)) ≡ EndsRun (fault_of e) g
 first_ends called c (GoesOn f) g = refl
 first_ends called c (Returns f) g = refl
@@ -61,12 +61,12 @@ module _ (c : Facts) (lib : Library) (slot : Slots) (count : ℕ) (has : HasSlot
     own_flow = script_flow (calling_flow lib slot main own later p) p.script
 
     -- a call of the procedure itself, and of those after it
-    calls_itself : (g : code.Filing) → calls_of own (p ∷ later) (own + zero) g ≡ caught (effect (calls_of (suc own) later) c own_flow g [])
+    calls_itself : (g : code.FlowState) → calls_of own (p ∷ later) (own + zero) g ≡ caught (effect (calls_of (suc own) later) c own_flow g [])
     calls_itself g =
         ap (λ (b : Bool). cond b (caught (effect (calls_of (suc own) later) c own_flow g []))
         (calls_of (suc own) later (own + zero) g)) (eq-eqb (own + zero) own (omega arith))
 
-    calls_later : (n : ℕ) (g : code.Filing) → calls_of own (p ∷ later) (own + suc n) g ≡ calls_of (suc own) later (suc own + n) g
+    calls_later : (n : ℕ) (g : code.FlowState) → calls_of own (p ∷ later) (own + suc n) g ≡ calls_of (suc own) later (suc own + n) g
     calls_later n g =
         ap (λ (b : Bool). cond b (caught (effect (calls_of (suc own) later) c own_flow g [])) (calls_of (suc own) later (own + suc n) g))
         (false_from_ne_true (nat_eq (own + suc n) own) (λ h. absurd (let same = eqb-true (own + suc n) own h in omega (arith, same))))
@@ -131,7 +131,7 @@ module _ (lib : Library) (slot : Slots) (count : ℕ) (has : HasSlots lib slot c
 
   -- The run of the procedures, from the first one on, ends as the main script does.
   pub record EndsAlike (c : Facts) : Type 0 where
-    pub filing : code.Filing
+    pub filing : code.FlowState
     pub ends : effect (called_by c 0 (shared_flows lib slot known_as main)) c first_call nothing_done []
         ≡ EndsRun (fault_of (meaning c lib known_as main)) filing
     pub outcome : outcome_from (fault_of (meaning c lib known_as main)) filing ≡ outcome_of (meaning c lib known_as main)

@@ -13,7 +13,7 @@ use Rattle.sieve_meaning.specs.Truth.{has_field, header_truth, truth, all_true, 
 use Rattle.sieve_meaning.specs.Program.{Test, always, negated, all_of, any_of, has_all, over, under, header, Tests, no_test, test_then}
 use Rattle.filing_table.specs.Machine.{Entry, T, L, comparison_holds, values_of}
 use Rattle.filing_flow.specs.Structure.{Push, Drop, Flow, action, sequence, leave}
-use Rattle.filing_flow.specs.Effect.{Filing, Exit, FallsThrough, Leaves, CallEffects, effect, caught}
+use Rattle.filing_flow.specs.Effect.{FlowState, Exit, FallsThrough, Leaves, CallEffects, effect, caught}
 use Rattle.filing_flow.specs.Effect as effects
 use Rattle.filing_gen.specs.Names.{each_once, others_once}
 use Rattle.filing_gen.proofs.Names.{some_once, every_once, same_named}
@@ -115,17 +115,17 @@ module _ (called : CallEffects) (c : Facts) where
 
   -- TESTS
 
-  abbrev exit_if : Bool → Filing → List Entry → Exit
+  abbrev exit_if : Bool → FlowState → List Entry → Exit
   exit_if b f es = cond b (Leaves 0 f es) (FallsThrough f es)
 
-  values_means : (ns : List (List ℕ)) (f : Filing) (xs : List (List ℕ))
+  values_means : (ns : List (List ℕ)) (f : FlowState) (xs : List (List ℕ))
       → effect called c (values_flow ns) f (L xs ∷ []) ≡ FallsThrough f (L (xs ++ flat_map (values_of c) ns) ∷ [])
   values_means [] f xs = ap (λ (ys : List (List ℕ)). FallsThrough f (L ys ∷ [])) (sym (append-nil xs))
   values_means (n ∷ ns) f xs = values_means ns f (xs ++ values_of c n)
       ∙ ap (λ (ys : List (List ℕ)).
       FallsThrough f (L ys ∷ [])) (append_assoc xs (values_of c n) (flat_map (values_of c) ns))
 
-  keys_means : (a : ℕ) (ks : List (List ℕ)) (f : Filing) (xs : List (List ℕ))
+  keys_means : (a : ℕ) (ks : List (List ℕ)) (f : FlowState) (xs : List (List ℕ))
       → effect called c (keys_flow a ks) f (L xs ∷ [])
       ≡ exit_if (list_any (λ k. list_any (comparison_holds a k) xs) ks) f (L xs ∷ [])
   keys_means a [] f xs = refl
@@ -137,19 +137,19 @@ module _ (called : CallEffects) (c : Facts) where
         | false ↦ keys_means a ks f xs
       ]
 
-  names_means : (ns : List (List ℕ)) (f : Filing) → effect called c (names_flow ns) f [] ≡ exit_if (not (list_all (has_field c) ns)) f []
+  names_means : (ns : List (List ℕ)) (f : FlowState) → effect called c (names_flow ns) f [] ≡ exit_if (not (list_all (has_field c) ns)) f []
   names_means [] f = refl
   names_means (n ∷ ns) f =
       elim (has_field c n) as (λ t.
       effects.and_then (effects.jump_exit false 0 f (T t ∷ [])) (effect called c (names_flow ns))
       ≡ exit_if (not (t && list_all (has_field c) ns)) f []) [ true ↦ names_means ns f | false ↦ refl ]
 
-  either_means : (past out b : Bool) (a : Flow) (f : Filing) → effect called c a f [] ≡ exit_if b f []
+  either_means : (past out b : Bool) (a : Flow) (f : FlowState) → effect called c a f [] ≡ exit_if b f []
       → effect called c (either past out a) f [] ≡ FallsThrough f (T (cond b out past) ∷ [])
   either_means past out true a f e = rw e refl
   either_means past out false a f e = rw e refl
 
-  header_ends : (f : Filing) (xs : List (List ℕ)) (b : Bool)
+  header_ends : (f : FlowState) (xs : List (List ℕ)) (b : Bool)
       → caught (effects.and_then
       (caught (effects.and_then (exit_if b f (L xs ∷ []))
       (effect called c (sequence (action Drop) (sequence (action (Push false)) (leave 1))))))
@@ -165,7 +165,7 @@ module _ (called : CallEffects) (c : Facts) where
   choose_not true = refl
   choose_not false = refl
 
-  only_header_means : (m : MatchType) (o : Comparator) (n : List ℕ) (ns : List (List ℕ)) (k : List ℕ) (ks : List (List ℕ)) (f : Filing)
+  only_header_means : (m : MatchType) (o : Comparator) (n : List ℕ) (ns : List (List ℕ)) (k : List ℕ) (ks : List (List ℕ)) (f : FlowState)
       → effect called c (header_flow (comparison m o) n ns k ks) f [] ≡ FallsThrough f (T (header_truth c m o (n ∷ ns) (k ∷ ks)) ∷ [])
   only_header_means m o n ns k ks f =
       let xs = values_of c n ++ flat_map (values_of c) ns in
@@ -176,7 +176,7 @@ module _ (called : CallEffects) (c : Facts) where
       rw (names, keys) (header_ends f xs found) ∙ ap (λ (b : Bool). FallsThrough f (T b ∷ [])) (header_is m o (n ∷ ns) (k ∷ ks))
 
   -- names that were given before make no difference
-  header_means : (m : MatchType) (o : Comparator) (n : List ℕ) (ns : List (List ℕ)) (k : List ℕ) (ks : List (List ℕ)) (f : Filing)
+  header_means : (m : MatchType) (o : Comparator) (n : List ℕ) (ns : List (List ℕ)) (k : List ℕ) (ks : List (List ℕ)) (f : FlowState)
       → effect called c (header_flow (comparison m o) n (others_once n ns) k ks) f [] ≡ FallsThrough f (T (header_truth c m o (n ∷ ns) (k ∷ ks)) ∷ [])
   header_means m o n ns k ks f =
       only_header_means m o n (others_once n ns) k ks f
@@ -191,7 +191,7 @@ module _ (called : CallEffects) (c : Facts) where
   all_once ns = every_once (has_field c) (λ a b same. any_same (is_named a) (is_named b) c.fields (λ f. same_named f a b same)) ns
 
   mutual
-    pub test_means : (t : Test) (f : Filing) → effect called c (test_flow t) f [] ≡ FallsThrough f (T (truth c t) ∷ [])
+    pub test_means : (t : Test) (f : FlowState) → effect called c (test_flow t) f [] ≡ FallsThrough f (T (truth c t) ∷ [])
     test_means (always b) f = refl
     test_means (negated t) f = rw (test_means t f) refl
     test_means (all_of ts) f = either_means true false (not (all_true c ts)) (tests_flow false ts) f (all_means ts f)
@@ -207,14 +207,14 @@ module _ (called : CallEffects) (c : Facts) where
     test_means (under n) f = refl
     test_means (header m o n ns k ks) f = header_means m o n ns k ks f
 
-    all_means : (ts : Tests) (f : Filing) → effect called c (tests_flow false ts) f [] ≡ exit_if (not (all_true c ts)) f []
+    all_means : (ts : Tests) (f : FlowState) → effect called c (tests_flow false ts) f [] ≡ exit_if (not (all_true c ts)) f []
     all_means no_test f = refl
     all_means (test_then t ts) f =
         rw (test_means t f) (elim (truth c t) as (λ b.
         effects.and_then (effects.jump_exit false 0 f (T b ∷ [])) (effect called c (tests_flow false ts))
         ≡ exit_if (not (b && all_true c ts)) f []) [ true ↦ all_means ts f | false ↦ refl ])
 
-    some_means : (ts : Tests) (f : Filing) → effect called c (tests_flow true ts) f [] ≡ exit_if (some_true c ts) f []
+    some_means : (ts : Tests) (f : FlowState) → effect called c (tests_flow true ts) f [] ≡ exit_if (some_true c ts) f []
     some_means no_test f = refl
     some_means (test_then t ts) f =
         rw (test_means t f) (elim (truth c t) as (λ b.
