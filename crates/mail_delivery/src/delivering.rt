@@ -32,7 +32,7 @@ pub enum Delivery {
     GivenUp(RunFault),
 }
 
-/// BeginsCapture a capture, and lets its run come to its end. Answers the ticket.
+/// Begins a capture, and lets its run come to its end. Answers the ticket.
 fn begin_and_run<A: Records>(
     desk: &mut Desk<A>,
     officer: &[u8],
