@@ -1,7 +1,8 @@
-//! The names and numbers that words of a command line are.
+//! The commands, names and numbers that words of a command line are.
 //!
-//! A session reads its lines by these, and so do the tools that write lines for a session: a name has 1 to 64 visible
-//! octets, and a number is decimal, without a leading zero. `specs/Words` defines the same.
+//! A session reads its lines by these, and so do the tools that write lines for a session: the first word is that of a
+//! command, a name has 1 to 64 visible octets, and a number is decimal, without a leading zero. `specs/Verbs` and
+//! `specs/Words` define the same.
 #![tactic(auto)]
 
 ghost use Rattle.std.specs.Prelude.{◌≡◌, ◌≤◌, Some, None, true, nat_le, if◌then◌else◌, IfSome};
@@ -9,7 +10,10 @@ ghost use Rattle.std.specs.Char.{is_ascii_digit};
 ghost use Rattle.std.specs.List.{list_all};
 ghost use Rattle.command_words.specs.Words.{are_digits as are_digits_of, digits_up_to, number_up_to, greatest_number, greatest_length, is_name_octet, is_name as is_name_of};
 
+mod verbs;
+
 use std::str;
+pub use verbs::{Verb, verb_of};
 
 /// How many octets a name has at most.
 const MAX_NAME: usize = 64;

@@ -6,10 +6,11 @@ use Rattle.sieve_meaning.specs.declared.run_fault.RunFault.TheVariants.{ClassNot
 use Rattle.filing_commands.specs.Answers.{begun, running, ended, captured, listed}
 use Rattle.filing_commands.specs.Office.{activate, destroy, due, hold, set_script}
 use Rattle.filing_commands.specs.Standing.{plain, begin, turn}
-use Rattle.filing_session.specs.LineRequests.{LineRequest, Alone, One, Unknown, BadWord, request_of, row, verb_of}
+use Rattle.filing_session.specs.LineRequests.{LineRequest, Alone, One, Unknown, BadWord, request_of, row}
 use Rattle.filing_session.specs.Dates.{day_of, day_octets}
 use Rattle.filing_session.specs.Replies.{reply_octets}
 use Rattle.command_words.specs.Words.{digits_up_to, number_up_to}
+use Rattle.command_words.specs.Verbs.{first_word, verb_of}
 use Rattle.filing_session.specs.Words.{next_as}
 
 -- days: 2023-11-14 is day 19675, and 2024-02-29 day 19782
@@ -48,7 +49,7 @@ leap_day_told = refl
 
 -- what lines ask, with all that this computes with
 asked : List ℕ → LineRequest
-unfolding request_of verb_of row next_as day_of number_up_to digits_up_to days_from_civil day_count days_of_years days_of_months
+unfolding request_of verb_of first_word row next_as day_of number_up_to digits_up_to days_from_civil day_count days_of_years days_of_months
 asked line = request_of line
 
 turn_asked : asked (codes "TURN 1 1000000") ≡ Alone (turn 1 1000000)

@@ -1,16 +1,16 @@
 -- What a command line asks: the table of the commands.
-use Rattle.std.specs.Prelude.{ℕ, List, [], ◌∷◌, if◌then◌else◌, Option, Some, None, codes, map}
-use Rattle.std.specs.Str.{bytes_eq}
+use Rattle.std.specs.Prelude.{ℕ, List, [], ◌∷◌, Option, Some, None}
 use Rattle.filing_commands.specs.Office.{add_class, set_plan, set_script, set_global, activate, deactivate, set_image, file, try_image, hold, release, due, destroy}
 use Rattle.filing_commands.specs.Standing.{Command, plain, begin, turn, finish}
 use Rattle.command_words.specs.Words.{words_of, number_up_to, greatest_number, greatest_length}
+use Rattle.command_words.specs.Verbs.{verb_of}
 use Rattle.filing_session.specs.Words.{greatest_count, name_of, next_as}
 use Rattle.filing_session.specs.Dates.{day_of}
 use Rattle.filing_session.specs.Commands.{command_of, one_command, two_command}
 use Rattle.filing_session.specs.declared.requests.Request.{Request}
 use Rattle.filing_session.specs.declared.requests.Request.TheVariants as ask
-use Rattle.filing_session.specs.declared.requests.Verb.{Verb}
-use Rattle.filing_session.specs.declared.requests.Verb.TheVariants as verb
+use Rattle.command_words.specs.declared.verbs.Verb.{Verb}
+use Rattle.command_words.specs.declared.verbs.Verb.TheVariants as verb
 
 -- what a line asks
 pub data LineRequest : Type 0 where
@@ -77,44 +77,28 @@ payloads command = size λ first. size λ second. done (Two first second command
 
 -- ---- the table
 
--- each command: its name, the words after it with the payloads that these announce, and what it is to the desk
-unfoldable pub row : Verb → List ℕ × Arguments
-row verb.Class = (codes "CLASS", path λ class. alone (plain (add_class class)))
-row verb.Plan = (codes "PLAN", payload λ text. plain (set_plan text))
-row verb.Script = (codes "SCRIPT", name λ officer. name λ script. payload λ text. plain (set_script officer script text))
-row verb.Global = (codes "GLOBAL", name λ script. payload λ text. plain (set_global script text))
-row verb.Active = (codes "ACTIVE", name λ officer. name λ script. alone (plain (activate officer script)))
-row verb.Inactive = (codes "INACTIVE", name λ officer. alone (plain (deactivate officer)))
-row verb.Image = (codes "IMAGE", name λ officer. payload λ image. plain (set_image officer image))
-row verb.File = (codes "FILE", payloads λ script message. plain (file script message))
-row verb.Try = (codes "TRY", payloads λ image message. plain (try_image image message))
-row verb.Begin = (codes "BEGIN", name λ officer. number λ moment. payload λ message. begin officer moment message)
-row verb.Turn = (codes "TURN", number λ ticket. count λ steps. alone (turn ticket steps))
-row verb.Finish = (codes "FINISH", number λ ticket. alone (finish ticket))
-row verb.Hold = (codes "HOLD", name λ hold_name. number λ n. alone (plain (hold hold_name n)))
-row verb.Release = (codes "RELEASE", name λ hold_name. number λ n. alone (plain (release hold_name n)))
-row verb.Due = (codes "DUE", day λ last. alone (plain (due last)))
-row verb.Destroy = (codes "DESTROY", number λ n. day λ last. alone (plain (destroy n last)))
-row verb.Quit = (codes "QUIT", done Quit)
-
-abbrev pub entry_of : Verb → List ℕ × Verb
-entry_of v = ((row v).0, v)
-
-abbrev pub verbs : List (List ℕ × Verb)
-verbs = map entry_of (verb.Class ∷ verb.Plan ∷ verb.Script ∷ verb.Global ∷ verb.Active ∷ verb.Inactive ∷ verb.Image
-    ∷ verb.File ∷ verb.Try ∷ verb.Begin ∷ verb.Turn ∷ verb.Finish ∷ verb.Hold ∷ verb.Release ∷ verb.Due ∷ verb.Destroy
-    ∷ verb.Quit ∷ [])
-
-abbrev pub verb_in : List (List ℕ × Verb) → (word : List ℕ) → Option Verb
-verb_in [] word = None
-verb_in (entry ∷ entries) word = if bytes_eq entry.0 word then Some entry.1 else verb_in entries word
-
--- the command of that name
-unfoldable pub verb_of : (word : List ℕ) → Option Verb
-verb_of word = verb_in verbs word
+-- each command: the words after its name with the payloads that these announce, and what it is to the desk
+unfoldable pub row : Verb → Arguments
+row verb.Class = path λ class. alone (plain (add_class class))
+row verb.Plan = payload λ text. plain (set_plan text)
+row verb.Script = name λ officer. name λ script. payload λ text. plain (set_script officer script text)
+row verb.Global = name λ script. payload λ text. plain (set_global script text)
+row verb.Active = name λ officer. name λ script. alone (plain (activate officer script))
+row verb.Inactive = name λ officer. alone (plain (deactivate officer))
+row verb.Image = name λ officer. payload λ image. plain (set_image officer image)
+row verb.File = payloads λ script message. plain (file script message)
+row verb.Try = payloads λ image message. plain (try_image image message)
+row verb.Begin = name λ officer. number λ moment. payload λ message. begin officer moment message
+row verb.Turn = number λ ticket. count λ steps. alone (turn ticket steps)
+row verb.Finish = number λ ticket. alone (finish ticket)
+row verb.Hold = name λ hold_name. number λ n. alone (plain (hold hold_name n))
+row verb.Release = name λ hold_name. number λ n. alone (plain (release hold_name n))
+row verb.Due = day λ last. alone (plain (due last))
+row verb.Destroy = number λ n. day λ last. alone (plain (destroy n last))
+row verb.Quit = done Quit
 
 abbrev pub request_by_verb : Option Verb → Arguments
-request_by_verb (Some v) words = (row v).1 words
+request_by_verb (Some v) words = row v words
 request_by_verb None words = Unknown
 
 -- the first word is the command's name

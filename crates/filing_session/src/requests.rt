@@ -1,12 +1,13 @@
 //! What a command line asks: the table of the commands.
 
-ghost use Rattle.std.specs.Prelude.{◌≡◌, map};
+ghost use Rattle.std.specs.Prelude.{◌≡◌};
 ghost use Rattle.filing_session.specs.LineRequests as spec;
 ghost use Rattle.filing_session.specs.WordsLeft.{words_left};
 
 use self::Request::{Alone, One, Two};
 use crate::day::Day;
 use crate::words::Words;
+use command_words::{Verb, verb_of};
 
 /// A command that has no payload.
 #[derive(Clone, Copy)]
@@ -73,74 +74,10 @@ pub enum Request<'a> {
     BadWord,
 }
 
-/// A command, by the first word of its line.
-#[derive(Clone, Copy)]
-pub enum Verb {
-    Class,
-    Plan,
-    Script,
-    Global,
-    Active,
-    Inactive,
-    Image,
-    File,
-    Try,
-    Begin,
-    Turn,
-    Finish,
-    Hold,
-    Release,
-    Due,
-    Destroy,
-    Quit,
-}
-
-/// The first word of each command.
-const VERBS: [(&[u8], Verb); 17] = [
-    (b"CLASS", Verb::Class),
-    (b"PLAN", Verb::Plan),
-    (b"SCRIPT", Verb::Script),
-    (b"GLOBAL", Verb::Global),
-    (b"ACTIVE", Verb::Active),
-    (b"INACTIVE", Verb::Inactive),
-    (b"IMAGE", Verb::Image),
-    (b"FILE", Verb::File),
-    (b"TRY", Verb::Try),
-    (b"BEGIN", Verb::Begin),
-    (b"TURN", Verb::Turn),
-    (b"FINISH", Verb::Finish),
-    (b"HOLD", Verb::Hold),
-    (b"RELEASE", Verb::Release),
-    (b"DUE", Verb::Due),
-    (b"DESTROY", Verb::Destroy),
-    (b"QUIT", Verb::Quit),
-];
-
-/// The verb that stands beside a word in a table.
-fn verb_in(mut table: &[(&[u8], Verb)], word: &[u8]) -> Option<Verb>
-    ensures { result ≡ spec.verb_in (map (λ row. (row.0.now, row.1)) table.entry.now) word.now }
-{
-    while let [row, rest @ ..] = table {
-        if row.0 == word {
-            return Some(row.1);
-        }
-        table = rest;
-    }
-    None
-}
-
-/// The verb that a word is.
-#[tactic(auto, unfolding(crate::specs::LineRequests::verb_of, crate::specs::LineRequests::row))]
-fn verb_of(word: &[u8]) -> Option<Verb>
-    ensures { result ≡ spec.verb_of word.now }
-{
-    verb_in(&VERBS, word)
-}
-
 /// Reads the words that a command has after its name. None where one of them is missing or wrong.
 #[tactic(auto, unfolding(crate::specs::LineRequests::row))]
 fn read_arguments<'a>(verb: Verb, words: &mut Words<'a>) -> Option<Request<'a>>
-    ensures { (spec.row verb).1 (words_left words.old)
+    ensures { spec.row verb (words_left words.old)
         ≡ spec.request_at_end result (words_left words.new) }
 {
     match verb {

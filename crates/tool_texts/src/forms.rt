@@ -3,10 +3,10 @@
 ghost use Rattle.std.specs.Prelude.{◌≡◌, map, IfOk};
 ghost use Rattle.std.specs.List.{slice_split};
 ghost use Rattle.command_words.specs.Words.{words_of};
-ghost use Rattle.tool_texts.specs.Forms.{has_form as has_form_of, slots_of, is_plain as is_plain_of, first_wrong as first_wrong_of, misfit as misfit_of, fault_of_words as fault_of_words_of, fault_of};
+ghost use Rattle.tool_texts.specs.Forms.{has_form as has_form_of, slots_after as slots_after_of, slots_of, first_wrong as first_wrong_of, misfit as misfit_of, fault_of_words as fault_of_words_of, fault_of};
 
 use crate::framing::words;
-use command_words::{is_name, read_length, read_number};
+use command_words::{Verb, is_name, read_length, read_number, verb_of};
 use std::alloc::{AllocError, Global};
 
 /// The greatest number of octets that a line has before its line feed.
@@ -70,50 +70,46 @@ impl Slot {
     }
 }
 
+/// The words after the first word of a command whose line octets follow. None for any other command.
+fn slots_after(verb: Verb) -> &'static [Slot]
+    ensures { result.now ≡ slots_after_of verb }
+{
+    match verb {
+        Verb::Plan => &[Slot::Length(Payload::Plan)],
+        Verb::Script => &[
+            Slot::Officer,
+            Slot::ScriptName,
+            Slot::Length(Payload::Script),
+        ],
+        Verb::Global => &[Slot::ScriptName, Slot::Length(Payload::Script)],
+        Verb::Image => &[Slot::Officer, Slot::Length(Payload::Image)],
+        Verb::File => &[
+            Slot::Length(Payload::Script),
+            Slot::Length(Payload::Message),
+        ],
+        Verb::Try => &[Slot::Length(Payload::Image), Slot::Length(Payload::Message)],
+        Verb::Begin => &[Slot::Officer, Slot::Moment, Slot::Length(Payload::Message)],
+        Verb::Class
+        | Verb::Active
+        | Verb::Inactive
+        | Verb::Turn
+        | Verb::Finish
+        | Verb::Hold
+        | Verb::Release
+        | Verb::Due
+        | Verb::Destroy
+        | Verb::Quit => &[],
+    }
+}
+
 /// The words after the name of a command whose line octets follow. None for any other name.
 pub fn slots(name: &[u8]) -> &'static [Slot]
     ensures { result.now ≡ slots_of name.now }
 {
-    if name == b"PLAN".as_slice() {
-        &[Slot::Length(Payload::Plan)]
-    } else if name == b"SCRIPT".as_slice() {
-        &[
-            Slot::Officer,
-            Slot::ScriptName,
-            Slot::Length(Payload::Script),
-        ]
-    } else if name == b"GLOBAL".as_slice() {
-        &[Slot::ScriptName, Slot::Length(Payload::Script)]
-    } else if name == b"IMAGE".as_slice() {
-        &[Slot::Officer, Slot::Length(Payload::Image)]
-    } else if name == b"FILE".as_slice() {
-        &[
-            Slot::Length(Payload::Script),
-            Slot::Length(Payload::Message),
-        ]
-    } else if name == b"TRY".as_slice() {
-        &[Slot::Length(Payload::Image), Slot::Length(Payload::Message)]
-    } else if name == b"BEGIN".as_slice() {
-        &[Slot::Officer, Slot::Moment, Slot::Length(Payload::Message)]
-    } else {
-        &[]
+    match verb_of(name) {
+        Some(verb) => slots_after(verb),
+        None => &[],
     }
-}
-
-/// Whether this is the name of a command whose line no octets follow.
-fn is_plain(name: &[u8]) -> bool
-    ensures { result ≡ is_plain_of name.now }
-{
-    name == b"CLASS".as_slice()
-        || name == b"ACTIVE".as_slice()
-        || name == b"INACTIVE".as_slice()
-        || name == b"TURN".as_slice()
-        || name == b"FINISH".as_slice()
-        || name == b"HOLD".as_slice()
-        || name == b"RELEASE".as_slice()
-        || name == b"DUE".as_slice()
-        || name == b"DESTROY".as_slice()
-        || name == b"QUIT".as_slice()
 }
 
 /// Why a session would not read what follows a line as it was meant.
@@ -170,10 +166,12 @@ fn fault_of_words(words: &[&[u8]]) -> Option<LineFault>
     let [name, rest @ ..] = words else {
         return Some(LineFault::UnknownCommand);
     };
-    match slots(*name) {
-        [] if is_plain(*name) => None,
-        [] => Some(LineFault::UnknownCommand),
-        slots => misfit(slots, rest),
+    match verb_of(*name) {
+        Some(verb) => match slots_after(verb) {
+            [] => None,
+            slots => misfit(slots, rest),
+        },
+        None => Some(LineFault::UnknownCommand),
     }
 }
 
