@@ -5,7 +5,8 @@ use Rattle.std.specs.Prelude.{IfErr, IsTrue}
 use Rattle.std.specs.Result.{IsErr, IsErrAnd}
 use Rattle.std.specs.declared.alloc.Global.{Global}
 use Rattle.std.proofs.lemmas.Bool.{false≢true}
-use Rattle.class_plan.specs.Plans.{Listing}
+use Rattle.std.specs.List.{list_all}
+use Rattle.class_plan.specs.Plans.{Listing, has}
 use Rattle.sieve_meaning.specs.Case.{Facts}
 use Rattle.filing_machine.specs.Runs.{IsOnRun}
 use Rattle.record_archive.specs.Archive.{Archive, capture, after_capture, capture_lines, has_room, AreClasses}
@@ -72,37 +73,31 @@ module _ {A I : Type 0} (is_clean : A → Type 0) (stood : A → Archive → Typ
       → Type 0 = λ x. MakesRecords is_clean stood old new body day classes (Err x) in subst P (sym same) h
   files_fault old new body day classes (Ok v) f is same h = absurd (false≢true is)
 
-  pub file_poor : (store : A) (body : List ℕ) (day : ℕ) (classes : List (List ℕ))
-      → MakesRecords is_clean stood store store body day classes (Err faults.NoMemory)
-  file_poor store body day classes = λ a stands are. (stands, λ clean. record { number = 99; told = refl; reason = inl (inl refl) })
-
   -- paths that are no classes of the archive's plan
-  pub no_classes : (store : A) (plan : Listing) (body : List ℕ) (day : ℕ) (asked classes : List (List ℕ)) (b : Bool)
-      (f : DeskFault) → ((a : Archive) → stood store a → plan ≡ a.plan) → asked ≡ classes → b ≡ false
-      → (IsTrue b ↔ AreClasses plan asked) → MakesRecords is_clean stood store store body day classes (Err f)
-  no_classes store plan body day asked classes b f kept same off is = λ a stands are.
-      let P : List (List ℕ) → Type 0 = λ qs. AreClasses plan qs in
-      let Q : Listing → Type 0 = λ p. AreClasses p classes in
-      let on : b ≡ true = is.1 (subst P (sym same) (subst Q (sym (kept a stands)) are)) in
-      absurd (false≢true (sym off ∙ on))
+  pub no_classes : (store : A) (plan : Listing) (body : List ℕ) (day : ℕ) (classes : List (List ℕ)) (b : Bool)
+      (f : DeskFault) → ((a : Archive) → stood store a → plan ≡ a.plan) → b ≡ false
+      → b ≡ list_all (has plan.rows) classes → MakesRecords is_clean stood store store body day classes (Err f)
+  no_classes store plan body day classes b f kept off is = λ a stands are.
+      let P : Listing → Type 0 = λ p. AreClasses p classes in
+      absurd (false≢true (sym off ∙ is ∙ subst P (sym (kept a stands)) are))
 
-  pub file_refused : {E : Type 0} (old new : A) (body said : List ℕ) (day on : ℕ) (classes asked : List (List ℕ))
-      (f : ArchiveFault E) → said ≡ body → on ≡ day → asked ≡ classes
-      → CarriesOut {E = E} is_clean stood may_leave keeps old new (λ a. capture a said on asked) (AreLines on asked) (Err f)
+  pub file_refused : {E : Type 0} (old new : A) (body said : List ℕ) (day on : ℕ) (classes : List (List ℕ))
+      (f : ArchiveFault E) → said ≡ body → on ≡ day
+      → CarriesOut {E = E} is_clean stood may_leave keeps old new (λ a. capture a said on classes) (AreLines on classes) (Err f)
       → MakesRecords is_clean stood old new body day classes (Err (archive_fault f))
-  file_refused old new body said day on classes asked f b d c call = λ a stands are.
+  file_refused old new body said day on classes f b d call = λ a stands are.
       let h = call.does a stands in
-      let same : capture a said on asked ≡ capture a body day classes = λ i. capture a (b i) (d i) (c i) in
+      let same : capture a said on classes ≡ capture a body day classes = λ i. capture a (b i) (d i) classes in
       (h.0, λ clean. reason a body day classes f (λ r is. sym same ∙ h.1 clean r is))
 
-  pub file_done : {E : Type 0} (old new : A) (body said : List ℕ) (day on : ℕ) (classes asked : List (List ℕ))
-      (lines : Vec Line Global) → said ≡ body → on ≡ day → asked ≡ classes
-      → CarriesOut {E = E} is_clean stood may_leave keeps old new (λ a. capture a said on asked) (AreLines on asked) (Ok lines)
+  pub file_done : {E : Type 0} (old new : A) (body said : List ℕ) (day on : ℕ) (classes : List (List ℕ))
+      (lines : Vec Line Global) → said ≡ body → on ≡ day
+      → CarriesOut {E = E} is_clean stood may_leave keeps old new (λ a. capture a said on classes) (AreLines on classes) (Ok lines)
       → MakesRecords is_clean stood old new body day classes (Ok lines)
-  file_done old new body said day on classes asked lines b d c call = λ clean a stands.
+  file_done old new body said day on classes lines b d call = λ clean a stands.
       let h = call.does clean a stands in
-      let same : capture a said on asked ≡ capture a body day classes = λ i. capture a (b i) (d i) (c i) in
-      let told_same : capture_lines a on asked ≡ capture_lines a day classes = λ i. capture_lines a (d i) (c i) in
+      let same : capture a said on classes ≡ capture a body day classes = λ i. capture a (b i) (d i) classes in
+      let told_same : capture_lines a on classes ≡ capture_lines a day classes = λ i. capture_lines a (d i) classes in
       (subst (Makes (stood new)) same h.0, h.1 ∙ told_same)
 
   -- nothing was asked of the archive
@@ -111,33 +106,33 @@ module _ {A I : Type 0} (is_clean : A → Type 0) (stood : A → Archive → Typ
   safe_same store body day classes (Err e) is = record { crash = λ clean a stands image may. inl may; kept = tt }
   safe_same store body day classes (Ok v) is = absurd (false≢true is)
 
-  safe_call : {E : Type 0} (old new : A) (body said : List ℕ) (day on : ℕ) (classes asked : List (List ℕ))
-      (asked_result : Result (Vec Line Global) (ArchiveFault E)) → said ≡ body → on ≡ day → asked ≡ classes
-      → CarriesOut {E = E} is_clean stood may_leave keeps old new (λ a. capture a said on asked) (AreLines on asked) asked_result
+  safe_call : {E : Type 0} (old new : A) (body said : List ℕ) (day on : ℕ) (classes : List (List ℕ))
+      (result : Result (Vec Line Global) (ArchiveFault E)) → said ≡ body → on ≡ day
+      → CarriesOut {E = E} is_clean stood may_leave keeps old new (λ a. capture a said on classes) (AreLines on classes) result
       → is_clean new → (a : Archive) → stood old a → (image : I) → may_leave new image
       → may_leave old image ⊎ KeepsMade keeps image (capture a body day classes)
-  safe_call old new body said day on classes asked asked_result b d c call clean a stands image may =
+  safe_call old new body said day on classes result b d call clean a stands image may =
       let P : Result Archive ArchiveRefusal → Type 0 = λ r. KeepsMade keeps image r in
-      let same : capture a said on asked ≡ capture a body day classes = λ i. capture a (b i) (d i) (c i) in
+      let same : capture a said on classes ≡ capture a body day classes = λ i. capture a (b i) (d i) classes in
       elim (call.crash clean a stands image may) [ inl before ↦ inl before | inr made ↦ inr (subst P same made) ]
 
-  pub safe_refused : {E : Type 0} (old new : A) (body said : List ℕ) (day on : ℕ) (classes asked : List (List ℕ))
-      (f : ArchiveFault E) (result : Result (Vec Line Global) DeskFault) → IsErr result → said ≡ body → on ≡ day → asked ≡ classes
-      → CarriesOut {E = E} is_clean stood may_leave keeps old new (λ a. capture a said on asked) (AreLines on asked) (Err f)
+  pub safe_refused : {E : Type 0} (old new : A) (body said : List ℕ) (day on : ℕ) (classes : List (List ℕ))
+      (f : ArchiveFault E) (result : Result (Vec Line Global) DeskFault) → IsErr result → said ≡ body → on ≡ day
+      → CarriesOut {E = E} is_clean stood may_leave keeps old new (λ a. capture a said on classes) (AreLines on classes) (Err f)
       → FilesSafely is_clean stood may_leave keeps old new body day classes result
-  safe_refused old new body said day on classes asked f (Err e) is b d c call =
-      record { crash = safe_call old new body said day on classes asked (Err f) b d c call; kept = tt }
-  safe_refused old new body said day on classes asked f (Ok v) is b d c call = absurd (false≢true is)
+  safe_refused old new body said day on classes f (Err e) is b d call =
+      record { crash = safe_call old new body said day on classes (Err f) b d call; kept = tt }
+  safe_refused old new body said day on classes f (Ok v) is b d call = absurd (false≢true is)
 
-  pub safe_done : {E : Type 0} (old new : A) (body said : List ℕ) (day on : ℕ) (classes asked : List (List ℕ))
-      (lines : Vec Line Global) → said ≡ body → on ≡ day → asked ≡ classes
-      → CarriesOut {E = E} is_clean stood may_leave keeps old new (λ a. capture a said on asked) (AreLines on asked) (Ok lines)
+  pub safe_done : {E : Type 0} (old new : A) (body said : List ℕ) (day on : ℕ) (classes : List (List ℕ))
+      (lines : Vec Line Global) → said ≡ body → on ≡ day
+      → CarriesOut {E = E} is_clean stood may_leave keeps old new (λ a. capture a said on classes) (AreLines on classes) (Ok lines)
       → FilesSafely is_clean stood may_leave keeps old new body day classes (Ok lines)
-  safe_done old new body said day on classes asked lines b d c call = record {
-    crash = safe_call old new body said day on classes asked (Ok lines) b d c call;
+  safe_done old new body said day on classes lines b d call = record {
+    crash = safe_call old new body said day on classes (Ok lines) b d call;
     kept = λ clean a stands image may.
         let P : Result Archive ArchiveRefusal → Type 0 = λ r. KeepsMade keeps image r in
-        let same : capture a said on asked ≡ capture a body day classes = λ i. capture a (b i) (d i) (c i) in
+        let same : capture a said on classes ≡ capture a body day classes = λ i. capture a (b i) (d i) classes in
         subst P same (call.kept clean a stands image may);
   }
 

@@ -5,7 +5,6 @@ use Rattle.std.specs.Prelude.{nat_lt, unsigned_abs, All}
 use Rattle.std.proofs.lemmas.Bool.{false≢true}
 use Rattle.std.specs.List.{AllByRecursion}
 use Rattle.std.specs.declared.alloc.Global.{Global}
-use Rattle.class_paths.specs.Paths.{IsIncreasing}
 use Rattle.class_plan.specs.Calendar.{number_of_day}
 use Rattle.class_plan.specs.Plans.{Listing}
 use Rattle.sieve_meaning.specs.declared.outcome.Outcome.{Outcome}
@@ -177,17 +176,17 @@ module _ {A I : Type 0} (is_clean : A → Type 0) (stood : A → Archive → Typ
   -- after nothing was filed, the desk represents the same state
   finish_stays : (are_classes : CapturesHaveClasses) → ((x : A) (a : Archive) → stood x a → IsArchive a)
       → (old new : Desk A) (t : ℕ) (x : FlightView) (o : Outcome) (f : DeskFault) → Finds old.flights t (Some x)
-      → IsIncreasing o.classes → All (IsOpenAtBegin x) o.classes
+      → All (IsOpenAtBegin x) o.classes
       → MakesRecords is_clean stood old.store new.store x.message (number_of_day x.day) o.classes (Err f)
       → new.officers ≡ old.officers → new.flights ≡ old.flights → new.last ≡ old.last → new.open_paths ≡ old.open_paths
       → (s : Standing) → StandsFor stood old s → StandsFor stood new s
       × (is_clean new.store → IsNotFiled s.office.archive x.message (number_of_day x.day) o.classes f)
-  finish_stays are_classes is_archive old new t x o f finds up each files eo ef el ep s stands =
+  finish_stays are_classes is_archive old new t x o f finds each files eo ef el ep s stands =
       let here = some_found (flight_of t s.flights) x (finds s.flights stands.flights) in
       let classes =
       are_classes x s.office.archive.plan o.classes (is_archive old.store s.office.archive stands.store).plan
       (has_open x here.0 s.office.archive.plan here.2 (found_classes s.office.archive.plan t s.flights here.0
-      stands.classes here.1)) each up in
+      stands.classes here.1)) each in
       let filed = files s.office.archive stands.store classes in
       let P : Option (List (List ℕ)) → Type 0 = λ y. AreOpenPaths y s.office.archive.plan in
       let Q : List FlightView → Type 0 = λ xs. AreHeld xs s.flights in
@@ -275,7 +274,7 @@ module _ {A I : Type 0} (is_clean : A → Type 0) (stood : A → Archive → Typ
   -- nothing is filed
   pub finish_refused : CapturesHaveClasses → ((x : A) (a : Archive) → stood x a → IsArchive a)
       → (old new : Desk A) (t : ℕ) (x : FlightView) (b : Bool) (o : Outcome) (f : DeskFault) (a : Answer)
-      → Finds old.flights t (Some x) → TellsEnd x b → b ≡ true → IsOutcome x o → IsIncreasing o.classes
+      → Finds old.flights t (Some x) → TellsEnd x b → b ≡ true → IsOutcome x o
       → All (IsOpenAtBegin x) o.classes
       → MakesRecords is_clean stood old.store new.store x.message (number_of_day x.day) o.classes (Err f) → IsArchiveFault f
       → FilesSafely is_clean stood may_leave keeps old.store new.store x.message (number_of_day x.day) o.classes (Err f)
@@ -283,17 +282,17 @@ module _ {A I : Type 0} (is_clean : A → Type 0) (stood : A → Archive → Typ
       → new.last ≡ old.last → new.open_paths ≡ old.open_paths → a ≡ refused_by f
       → Calls (IsClean is_clean) (StandsFor stood) (MayLeave may_leave) keeps old (finish t) a new
   unfolding Step
-  finish_refused are_classes is_archive old new t x b o f a finds tells e alone up each files fault safe falls eo ef el ep told = record {
+  finish_refused are_classes is_archive old new t x b o f a finds tells e alone each files fault safe falls eo ef el ep told = record {
     was_clean = falls;
     leads = λ sure s stands.
         let here = some_found (flight_of t s.flights) x (finds s.flights stands.flights) in
-        let stays = finish_stays are_classes is_archive old new t x o f finds up each files eo ef el ep s stands in
+        let stays = finish_stays are_classes is_archive old new t x o f finds each files eo ef el ep s stands in
         let from_archive : is_refused_outside (refused_by f) ≡ false → is_of_archive (finish t) a ≡ true = λ inside.
         ap (λ y. is_of_archive (finish t) y) told ∙ ap not inside in
         let R : Answer → Type 0 = λ y. FinishStep s t (flight_of t s.flights) y s in
         let step = not_filed_step s t x here.0 b o f here.1 here.2 tells e alone fault (λ inside. stays.1 (sure (from_archive inside))) in
         record { to = s; is_one = subst R (sym told) step; there = stays.0 };
-    unchanged = λ from_archive refused s stands. (finish_stays are_classes is_archive old new t x o f finds up each files eo ef el ep s stands).0;
+    unchanged = λ from_archive refused s stands. (finish_stays are_classes is_archive old new t x o f finds each files eo ef el ep s stands).0;
     crash = crashes_filed old new t x b o (Err f) finds tells e alone safe;
     kept = λ from_archive other. no_stay is_clean stood may_leave keeps old new (finish t) a (refused_so _ _ told) other;
   }

@@ -7,9 +7,8 @@ ghost use Rattle.filing_desk.specs.Filing.{MakesRecords, FilesSafely, IsArchiveF
 
 use class_paths::Paths;
 use filing_commands::DeskFault;
-use filing_flights::{Flight, path_vectors};
+use filing_flights::Flight;
 use record_archive::{ArchiveRefusal, Line, Records, are_classes};
-use std::alloc::Global;
 
 /// A record's number in 32 bits; no record has a greater one (80).
 pub(crate) fn record_number(number: u64) -> Result<u32, ArchiveRefusal>
@@ -24,7 +23,6 @@ pub(crate) fn record_number(number: u64) -> Result<u32, ArchiveRefusal>
 /// Makes the records of a capture in an archive, all or none. Refused with 87 (numbers used up), 89 or 99. A path that is
 /// no class of the plan gives 88; no capture of a desk that represents a state files into such a path.
 pub(crate) fn file_outcome<A: Records>(
-    alloc: Global,
     store: &mut A,
     flight: &Flight,
     classes: &Paths,
@@ -36,10 +34,9 @@ pub(crate) fn file_outcome<A: Records>(
     ensures fault { IfErr result IsArchiveFault }
     ensures was_clean { A.clean store.new → A.clean store.old }
 {
-    let classes = path_vectors(alloc, classes)?;
-    if !are_classes(store.plan(), classes.as_slice()) {
+    if !are_classes(store.plan(), classes) {
         return Err(DeskFault::Archive(ArchiveRefusal::NoArchive));
     }
-    let lines = store.capture(flight.message(), flight.day(), classes.as_slice())?;
+    let lines = store.capture(flight.message(), flight.day(), classes)?;
     Ok(lines)
 }

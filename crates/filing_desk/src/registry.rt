@@ -132,7 +132,7 @@ impl<A: Records> Registry for Desk<A> {
             return Err(DeskFault::NotEnded);
         }
         let outcome = flight.outcome()?;
-        let lines = file_outcome(self.alloc, &mut self.store, flight, &outcome.classes)?;
+        let lines = file_outcome(&mut self.store, flight, &outcome.classes)?;
         self.flights.remove(ticket);
         Ok(Capture {
             fault: outcome.fault,

@@ -1,6 +1,5 @@
 -- What captures and the flights that they hold have in common.
 use Rattle.std.specs.Prelude.{◌≡◌, ℕ, List, length, true, All}
-use Rattle.class_paths.specs.Paths.{IsIncreasing}
 use Rattle.class_plan.specs.Plans.{IsPlan, Listing, has, is_open_in}
 use Rattle.record_archive.specs.Archive.{AreClasses}
 use Rattle.filing_case.specs.Message.{is_among}
@@ -20,7 +19,7 @@ OpenPathsAreClasses = (p : Listing) (q : List ℕ) → is_open_in p q ≡ true �
 abbrev pub HasOpen : FlightView → Listing → Type 0
 HasOpen x p = (q : List ℕ) → is_among x.case.paths q ≡ true → has p.rows q ≡ true
 
--- the classes of a capture, in order, are classes of each plan that has all paths that were open at its beginning
+-- the classes of a capture are classes of each plan that has all paths that were open at its beginning
 abbrev pub CapturesHaveClasses : Type 0
 CapturesHaveClasses = (x : FlightView) (p : Listing) (classes : List (List ℕ)) → IsPlan p → HasOpen x p
-    → All (IsOpenAtBegin x) classes → IsIncreasing classes → AreClasses p classes
+    → All (IsOpenAtBegin x) classes → AreClasses p classes

@@ -6,13 +6,11 @@
 //! flights that are tied so. `laws` states what captures and their flights have in common.
 #![tactic(auto)]
 
-mod classes;
 mod flight;
 mod flights;
 mod laws;
 mod paths;
 
-pub use classes::path_vectors;
 pub use flight::Flight;
 pub use flights::Flights;
 pub use laws::captures_hold_flights;

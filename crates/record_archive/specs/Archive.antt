@@ -1,12 +1,9 @@
 -- An archive, and what each command makes of it.
-use Rattle.std.specs.Prelude.{◌≡◌, ◌≤◌, ◌<◌, ℕ, ◌+◌, ◌^◌, max, nat_le, ◌==◌, Bool, true, false, not, ◌&&◌, if◌then◌else◌, List, [], ◌∷◌, ◌++◌, map, filter, find, length, Option, Some, None, option_map, unwrap_or, Result, Ok, Err, All, ℤ, pos, negsuc, Vec}
+use Rattle.std.specs.Prelude.{◌≡◌, ◌≤◌, ◌<◌, ℕ, ◌+◌, ◌^◌, max, nat_le, ◌==◌, Bool, true, false, not, ◌&&◌, if◌then◌else◌, List, [], ◌∷◌, ◌++◌, map, filter, find, length, Option, Some, None, option_map, unwrap_or, Result, Ok, Err, All, ℤ, pos, negsuc}
 use Rattle.std.specs.Str.{bytes_eq}
-use Rattle.std.specs.List.{list_any}
+use Rattle.std.specs.List.{list_all, list_any}
 use Rattle.std.specs.declared.cmp.Ordering.{Ordering}
 use Rattle.std.specs.Ordering.{nat_cmp, int_cmp, ordering_then}
-use Rattle.std.specs.declared.alloc.Global.{Global}
-use Rattle.std.specs.List.Sorted.{IsStrictlySortedBy}
-use Rattle.std.specs.Cmp.Lexicographic.{slice_cmp}
 use Rattle.class_plan.specs.declared.faults.PlanFault.{PlanFault}
 use Rattle.class_plan.specs.declared.faults.PlanFault.TheVariants.{PathDropped}
 use Rattle.class_plan.specs.declared.schedules.Action.TheVariants.{Destroy}
@@ -130,14 +127,9 @@ abbrev pub has_room : Archive → List (List ℕ) → Bool
 has_room a [] = true
 has_room a (q ∷ qs) = nat_le (next_number a + length (q ∷ qs)) (2 ^ 32)
 
--- paths of classes of a plan, in byte order, each once
-pub record AreClasses (p : Listing) (paths : List (List ℕ)) : Type 0 where
-  pub classes : All (λ q. has p.rows q ≡ true) paths
-  pub in_order : IsStrictlySortedBy (slice_cmp nat_cmp) paths
-
--- the bytes of each path
-abbrev pub path_list : List (Vec ℕ Global) → List (List ℕ)
-path_list paths = map (λ p. p.items) paths
+-- each path is a class of a plan
+abbrev pub AreClasses : Listing → List (List ℕ) → Type 0
+AreClasses p paths = list_all (has p.rows) paths ≡ true
 
 abbrev pub capture : Archive → List ℕ → ℕ → List (List ℕ) → Result Archive ArchiveRefusal
 capture a body day paths = if has_room a paths then Ok (after_capture a body day paths) else Err refusal.Full

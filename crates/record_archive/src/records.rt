@@ -6,12 +6,13 @@ ghost use Rattle.class_plan.specs.Calendar.{number_of_day};
 ghost use Rattle.class_plan.specs.Dates.{IsCaptureDay};
 ghost use Rattle.class_plan.specs.Plans.{Listing};
 ghost use Rattle.record_archive.specs.Archive as archive;
-ghost use Rattle.record_archive.specs.Archive.{Archive, AreClasses, IsArchive, capture_lines, due_list_on, path_list};
+ghost use Rattle.record_archive.specs.Archive.{Archive, AreClasses, IsArchive, capture_lines, due_list_on};
 ghost use Rattle.record_archive.specs.Calls.{CarriesOut, Quietly, unchanged};
 ghost use Rattle.record_archive.specs.Lines.{line_view};
 
 use crate::fault::ArchiveFault;
 use crate::line::Line;
+use class_paths::Paths;
 use class_plan::{Date, Plan};
 
 /// An archive of records that is kept somewhere. The `Store` of `record_store` is one.
@@ -59,19 +60,19 @@ pub trait Records {
     /// Stores a message, and a record of it for each path. Answers a line for each record. Refused with 87 where the
     /// numbers of records are used up.
     ///
-    /// The caller gives a day of 1970 to 2199, and paths of classes in byte order, each once.
+    /// The caller gives a day of 1970 to 2199, and paths of classes of the plan.
     fn capture(
         &mut self,
         body: &[u8],
         day: Date,
-        paths: &[Vec<u8>],
+        paths: &Paths,
     ) -> Result<Vec<Line>, ArchiveFault<Self::Cause>>
         requires day { IsCaptureDay day }
-        requires paths { AreClasses (plan_of self.old) (path_list paths.now) }
+        requires paths { AreClasses (plan_of self.old) paths.now }
         ensures { CarriesOut clean stands may_leave keeps self.old self.new
-            (λ a. archive.capture a body.now (number_of_day day) (path_list paths.now))
+            (λ a. archive.capture a body.now (number_of_day day) paths.now)
             (λ a lines. map line_view lines.items ≡
-            capture_lines a (number_of_day day) (path_list paths.now)) result };
+            capture_lines a (number_of_day day) paths.now) result };
 
     /// Places a hold of that name on a record. Refused with 80 (no such record), 84 (destroyed) or 86 (that hold is
     /// there).

@@ -77,20 +77,18 @@ lines-push p n day (r ∷ qs) q =
     ∙ ap (λ k. lines_of p (n + 1) day qs ++ record { number = k; path = q; due = option_map pos (due_on p q day) }
     ∷ []) k)
 
-pub lines_next : {V W : Type 0} (f : V → List ℕ) (view : W
-    → Line) (p : Listing) (n day : ℕ) (vs : List V) (v : V) (i : ℕ) (ls : List W) (l : W) → i < length vs
-    → v ≡ get_or vs i v
-    → map view ls ≡ lines_of p n day (map f (take i vs))
-    → view l ≡ record { number = n + i; path = f v; due = option_map pos (due_on p (f v) day) }
-    → map view (ls ++ l ∷ []) ≡ lines_of p n day (map f (take (i + 1) vs))
-lines_next f view p n day vs v i ls l low is so_far new =
-    let count : length (map f (take i vs)) ≡ i = length-map (take i vs) f ∙ length-take-le i vs (omega arith) in
-    let next : map f (take (i + 1) vs) ≡ map f (take i vs) ++ f v ∷ [] = ap (map f) (take_more vs i v low)
-    ∙ map-append f (take i vs) _ ∙ ap (λ x. map f (take i vs) ++ f x ∷ []) (sym is) in
+pub lines_next : {W : Type 0} (view : W → Line) (p : Listing) (n day : ℕ) (qs : List (List ℕ)) (q : List ℕ) (i : ℕ)
+    (ls : List W) (l : W) → i < length qs → q ≡ get_or qs i q
+    → map view ls ≡ lines_of p n day (take i qs)
+    → view l ≡ record { number = n + i; path = q; due = option_map pos (due_on p q day) }
+    → map view (ls ++ l ∷ []) ≡ lines_of p n day (take (i + 1) qs)
+lines_next view p n day qs q i ls l low is so_far new =
+    let count : length (take i qs) ≡ i = length-take-le i qs (omega arith) in
+    let next : take (i + 1) qs ≡ take i qs ++ q ∷ [] = take_more qs i q low ∙ ap (λ x. take i qs ++ x ∷ []) (sym is) in
     map-append view ls (l ∷ []) ∙ (λ i. so_far i ++ new i ∷ [])
-    ∙ sym (ap (lines_of p n day) next ∙ lines-push p n day (map f (take i vs)) (f v)
-    ∙ ap (λ k. lines_of p n day (map f (take i vs))
-    ++ record { number = n + k; path = f v; due = option_map pos (due_on p (f v) day) } ∷ []) count)
+    ∙ sym (ap (lines_of p n day) next ∙ lines-push p n day (take i qs) q
+    ∙ ap (λ k. lines_of p n day (take i qs)
+    ++ record { number = n + k; path = q; due = option_map pos (due_on p q day) } ∷ []) count)
 
 due-append : (n : ℕ) (o : Option ℤ) (xs ys : List Due) → due_before n o (xs ++ ys) ≡ due_before n o xs ++ ys
 due-append n None xs ys = refl
@@ -136,32 +134,31 @@ below_all n m day (q ∷ qs) = (
 pub no_records : (n day : ℕ) (a : State) → Puts a a (IsPastRecords n) (with_records (records_of n n day []))
 no_records n day a = nothing_yet a (IsPastRecords n) (with_records []) (λ t h. ap (λ l. record t { records = l }) (sym (append-nil t.records)))
 
-pub records_next : {V : Type 0} (f : V → List ℕ) (old mid new : State) (n day : ℕ) (vs : List V) (v : V) (i : ℕ) → i < length vs → v ≡ get_or vs i v
-    → Puts old mid (IsPastRecords n) (with_records (records_of n n day (map f (take i vs))))
+pub records_next : (old mid new : State) (n day : ℕ) (qs : List (List ℕ)) (q : List ℕ) (i : ℕ) → i < length qs → q ≡ get_or qs i q
+    → Puts old mid (IsPastRecords n) (with_records (records_of n n day (take i qs)))
     → Puts mid new (IsPastRecords (n + i)) (with_record (record {
       number = n + i;
       message = n;
-      path = f v;
+      path = q;
       day =
           day;
       destroyed = false;
     }))
-    → Puts old new (IsPastRecords n) (with_records (records_of n n day (map f (take (i + 1) vs))))
-records_next f old mid new n day vs v i low is one two =
-    let so_far = map f (take i vs) in
-    let one_more : Record = record { number = n + i; message = n; path = f v; day = day; destroyed = false } in
-    let count : length so_far ≡ i = length-map (take i vs) f ∙ length-take-le i vs (omega arith) in
-    let next : map f (take (i + 1) vs) ≡ so_far ++ f v ∷ [] = ap (map f) (take_more vs i v low)
-    ∙ map-append f (take i vs) _ ∙ ap (λ x. map f (take i vs) ++ f x ∷ []) (sym is) in
-    let all : records_of n n day so_far ++ one_more ∷ [] ≡ records_of n n day (map f (take (i + 1) vs)) =
-    sym (ap (records_of n n day) next ∙ records-push n n day so_far (f v)
+    → Puts old new (IsPastRecords n) (with_records (records_of n n day (take (i + 1) qs)))
+records_next old mid new n day qs q i low is one two =
+    let so_far = take i qs in
+    let one_more : Record = record { number = n + i; message = n; path = q; day = day; destroyed = false } in
+    let count : length so_far ≡ i = length-take-le i qs (omega arith) in
+    let next : take (i + 1) qs ≡ so_far ++ q ∷ [] = take_more qs i q low ∙ ap (λ x. so_far ++ x ∷ []) (sym is) in
+    let all : records_of n n day so_far ++ one_more ∷ [] ≡ records_of n n day (take (i + 1) qs) =
+    sym (ap (records_of n n day) next ∙ records-push n n day so_far q
     ∙ ap (λ k. records_of n n day so_far
-    ++ record { number = n + k; message = n; path = f v; day = day; destroyed = false } ∷ []) count) in
+    ++ record { number = n + k; message = n; path = q; day = day; destroyed = false } ∷ []) count) in
     let past : (t : Tables) → IsPastRecords n t → IsPastRecords (n + i) (with_records (records_of n n day so_far) t) =
     λ t h. all-append (λ (r : Record). r.number < n + i) t.records (records_of n n day so_far)
     (all_weaker _ (λ (r : Record). r.number < n + i) (λ r k. omega (arith, k)) t.records h)
     (all_weaker _ (λ (r : Record). r.number < n + i) (λ r k. omega (arith, k.1, count)) _ (below_all n n day so_far)) in
-    puts_as old new (IsPastRecords n) (IsPastRecords n) _ (with_records (records_of n n day (map f (take (i + 1) vs)))) (λ t h. h)
+    puts_as old new (IsPastRecords n) (IsPastRecords n) _ (with_records (records_of n n day (take (i + 1) qs))) (λ t h. h)
     (λ t h. ap (λ l. record t { records = l }) (append_assoc t.records (records_of n n day so_far) (one_more ∷ []) ∙ ap (λ l. t.records ++ l) all))
     (puts_then old mid new (IsPastRecords n) (IsPastRecords (n + i)) (with_records (records_of n n day so_far)) (with_record one_more) past one two)
 

@@ -1,6 +1,9 @@
 -- The store after a capture.
-use Rattle.std.proofs.Common.{◌≡◌, ◌<◌, ◌≤◌, ◌+◌, ◌-◌, ◌^◌, ℕ, true, false, List, [], ◌∷◌, length, Result, Ok, refl}
-use Rattle.std.proofs.Common.{sym, ap, subst, subst₂, ◌∙◌, arith, IsTrue}
+use Rattle.std.proofs.Common.{◌≡◌, ◌<◌, ◌≤◌, ◌+◌, ◌-◌, ◌^◌, ℕ, Bool, true, false, ◌&&◌, List, [], ◌∷◌, length, Result, Ok, refl}
+use Rattle.std.proofs.Common.{sym, ap, subst, subst₂, ◌∙◌, arith, IsTrue, true≢false}
+use Rattle.std.specs.List.{AllByRecursion, list_all}
+use Rattle.std.proofs.lemmas.List.Elements.{All-from_recursion}
+use Rattle.class_plan.specs.Plans.{has}
 use Rattle.sqlite.specs.Store.{Ghosts}
 use Rattle.sqlite.specs.Tree.{Trees}
 use Rattle.sqlite.specs.Effect.{Database}
@@ -19,6 +22,17 @@ use Rattle.record_archive.specs.declared.fault.ArchiveRefusal.{ArchiveRefusal}
 use Rattle.record_store.specs.declared.store.Store.{Store}
 use Rattle.record_store.proofs.CommandLemmas.{stands_turned, leaves_turned}
 use Rattle.record_store.proofs.CaptureLemmas.{captured_is_archive, past_captured, stores_captured, count_captured, next_after, lines_are}
+
+both : (a b : Bool) → (a && b) ≡ true → (a ≡ true) × (b ≡ true)
+both true b h = (refl, h)
+both false b h = absurd (true≢false (sym h))
+
+each_listed : (is_listed : List ℕ → Bool) (qs : List (List ℕ)) → list_all is_listed qs ≡ true
+    → AllByRecursion (λ q. is_listed q ≡ true) qs
+each_listed is_listed [] h = tt
+each_listed is_listed (q ∷ qs) h =
+    let two = both (is_listed q) (list_all is_listed qs) h in
+    (two.0, each_listed is_listed qs two.1)
 
 -- what a caller gives for a capture
 pub record Given {S : Type 0} (store : Store S) (d n : ℕ) (ps : List (List ℕ)) (ds : List Due) : Type 0 where
@@ -61,7 +75,8 @@ archive_captured : {S : Type 0} (g : Ghosts S) (old : Store S) (a : Archive) →
 archive_captured g old a s body day n [] ds given = absurd (omega (arith, given.some))
 archive_captured g old a s body day n (q ∷ qs) ds given =
     let classes = subst (λ p. AreClasses p (q ∷ qs)) s.plan given.classes in
-    captured_is_archive a body day q qs s.archive given.day (room_is g old a s day n (q ∷ qs) ds given) classes.classes
+    captured_is_archive a body day q qs s.archive given.day (room_is g old a s day n (q ∷ qs) ds given)
+    (All-from_recursion (λ p. has a.plan.rows p ≡ true) (q ∷ qs) (each_listed (has a.plan.rows) (q ∷ qs) classes))
 
 past_allowed : {S : Type 0} (g : Ghosts S) (old : Store S) (a : Archive) → StandsFor g old a
     → (body : List ℕ) (day n : ℕ) (ps : List (List ℕ)) (ds : List Due) → Given old day n ps ds

@@ -8,7 +8,7 @@ use Rattle.jiff.specs.Words.{epoch_day}
 use Rattle.class_plan.specs.Plans.{Listing}
 use Rattle.class_plan.specs.Calendar.{due_on}
 use Rattle.record_archive.specs.Lists.{sort_by}
-use Rattle.record_archive.specs.Archive.{Record, Archive, Hold, has_number, path_list}
+use Rattle.record_archive.specs.Archive.{Record, Archive, Hold, has_number}
 use Rattle.record_tables.specs.Reads.{HoldEntry}
 use Rattle.record_tables.specs.declared.rows.RecordRow.{RecordRow}
 use Rattle.record_adoption.specs.Adoption.{sorted_holds}
@@ -63,6 +63,10 @@ abbrev pub entries_from : Archive → ℕ → List Entry
 entries_from a n = map (entry_of a) (records_from a n)
 
 -- an entry of the code as a plain one
+-- the octets of each name
+abbrev pub name_list : List (Vec ℕ Global) → List (List ℕ)
+name_list names = map (λ n. n.items) names
+
 abbrev pub entry_view : code.Entry → Entry
 entry_view e = record {
   number = e.number;
@@ -71,7 +75,7 @@ entry_view e = record {
   due = option_map epoch_day e.due;
   message = e.message;
   destroyed = e.destroyed;
-  holds = path_list e.holds.items;
+  holds = name_list e.holds.items;
 }
 
 -- ---- the records of a page beside their holds

@@ -7,7 +7,7 @@ ghost use Rattle.class_plan.specs.Dates.{IsCaptureDay};
 ghost use Rattle.class_plan.specs.Calendar.{number_of_day, due_on};
 ghost use Rattle.record_tables.specs.CodeRows.{due_of};
 ghost use Rattle.record_archive.specs.Archive as archive;
-ghost use Rattle.record_archive.specs.Archive.{Archive, path_list, AreClasses};
+ghost use Rattle.record_archive.specs.Archive.{Archive, AreClasses};
 ghost use Rattle.record_store.specs.Captures.{HasDueDay, lines_of, dues_of_lines, due_before, ObeysCapture};
 ghost use Rattle.record_archive.specs.Lines.{line_view};
 ghost use Rattle.record_archive.specs.Faults.{is_trouble};
@@ -16,6 +16,7 @@ ghost use Rattle.record_store.specs.Stores.{StandsFor, Leaves, Falls, ChangesBy,
 use crate::changes::Capture;
 use crate::fault::{BUSY, StoreFault, fault_of};
 use crate::store::Store;
+use class_paths::Paths;
 use class_plan::{Date, day_number};
 use record_adoption::number_of;
 use record_archive::{ArchiveRefusal, Line};
@@ -75,15 +76,15 @@ impl<S: Alter> Store<S> {
     }
 
     /// A line for each path, numbered upwards, with the due date by the plan.
-    fn new_lines(&self, first: u32, day: Date, paths: &[Vec<u8>]) -> Result<Vec<Line>, AllocError>
+    fn new_lines(&self, first: u32, day: Date, paths: &Paths) -> Result<Vec<Line>, AllocError>
         requires room { first + length paths.now ≤ 2 ^ 32 }
         requires day { IsCaptureDay day }
         ensures lines { IfOk result (λ v. map line_view v.items ≡
-            lines_of self.now.plan first (number_of_day day) (path_list paths.now)) }
+            lines_of self.now.plan first (number_of_day day) paths.now) }
         ensures days { IfOk result (λ v. All HasDueDay v.items) }
     {
         let mut lines = Vec::new(self.alloc);
-        for (i, path) in paths.iter().enumerate() {
+        for (i, path) in paths.as_slice().iter().enumerate() {
             let line = self.new_line(first + i as u32, path.as_slice(), day)?;
             lines.push(line)?;
         }
@@ -96,18 +97,18 @@ impl<S: Alter> Store<S> {
         first: u32,
         body: &[u8],
         day: u32,
-        paths: &[Vec<u8>],
+        paths: &Paths,
         dues: &[DueRow],
     ) -> Result<(), StoreFault>
         requires some { 0 < length paths.now }
         requires room { first + length paths.now ≤ 2 ^ 32 }
         requires first { first ≡ self.old.next }
-        requires classes { AreClasses self.old.plan (path_list paths.now) }
+        requires classes { AreClasses self.old.plan paths.now }
         requires day { day ≤ 84005 }
         requires dues { map due_of dues.now ≡
-            dues_of_lines (lines_of self.old.plan first day (path_list paths.now)) }
+            dues_of_lines (lines_of self.old.plan first day paths.now) }
         ensures ok { OnOk result (ChangesBy S.Store self.old self.new
-            (λ a. archive.after_capture a body.now day (path_list paths.now))) }
+            (λ a. archive.after_capture a body.now day paths.now)) }
         ensures err { OnErr result
             ((a : Archive) → StandsFor S.Store self.old a → StandsFor S.Store self.new a) }
         ensures trouble { IfErr result (λ f. is_trouble f ≡ true) }
@@ -115,13 +116,13 @@ impl<S: Alter> Store<S> {
         ensures cause { IsNeverOwn S.Store self.old self.new result }
         ensures open { IsOpenOnOk S.Store self.new result }
         ensures crash { LeavesChange S.Store self.old self.new
-            (λ a. archive.after_capture a body.now day (path_list paths.now)) }
+            (λ a. archive.after_capture a body.now day paths.now) }
     {
         if !self.conn.is_autocommit() {
             return Err(BUSY);
         }
-        let further = paths.len() as u64 - 1;
-        let Ok(()) = self.others.add(first, further) else {
+        let count = paths.as_slice().len() as u64;
+        let Ok(()) = self.others.add(first, count - 1) else {
             return Err(StoreFault::NoMemory);
         };
         let change = Capture {
@@ -133,11 +134,11 @@ impl<S: Alter> Store<S> {
         };
         match transact(&mut self.conn, change) {
             Ok(()) => {
-                self.next += paths.len() as u64;
+                self.next += count;
                 Ok(())
             }
             Err(error) => {
-                self.others.take(first, further);
+                self.others.take(first, count - 1);
                 Err(fault_of(error))
             }
         }
@@ -150,28 +151,29 @@ impl<S: Alter> Store<S> {
     /// Refused with 87 where a number would pass 4,294,967,295, with 89 (`sqlite`) or with 99 (no memory). A refusal
     /// changes nothing.
     ///
-    /// The caller gives a day of 1970 to 2199, and paths of classes in byte order, each once.
+    /// The caller gives a day of 1970 to 2199, and paths of classes of the plan.
     pub fn capture(
         &mut self,
         body: &[u8],
         day: Date,
-        paths: &[Vec<u8>],
+        paths: &Paths,
     ) -> Result<Vec<Line>, StoreFault>
         requires day { IsCaptureDay day }
-        requires paths { AreClasses self.old.plan (path_list paths.now) }
+        requires paths { AreClasses self.old.plan paths.now }
         ensures obeys { ObeysCapture S.Store self.old self.new result
-            body.now (number_of_day day) (path_list paths.now) }
+            body.now (number_of_day day) paths.now }
         ensures falls { Falls S.Store self.old self.new }
         ensures cause { IsNeverOwn S.Store self.old self.new result }
         ensures open { IsOpenOnOk S.Store self.new result }
         ensures crash { Leaves S.Store self.old self.new
-            (λ a. archive.capture a body.now (number_of_day day) (path_list paths.now)) }
+            (λ a. archive.capture a body.now (number_of_day day) paths.now) }
     {
-        if paths.is_empty() {
+        let count = paths.as_slice().len() as u64;
+        if count == 0 {
             self.ensure_open()?;
             return Ok(Vec::new(self.alloc));
         }
-        if self.next > NUMBERS || paths.len() as u64 > NUMBERS - self.next {
+        if self.next > NUMBERS || count > NUMBERS - self.next {
             return Err(StoreFault::Refused(ArchiveRefusal::Full));
         }
         let first = self.next as u32;

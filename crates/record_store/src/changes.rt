@@ -3,10 +3,11 @@
 ghost use Rattle.std.specs.Prelude.{◌≡◌, ◌+◌, ◌≤◌, ◌^◌, length, map};
 ghost use Rattle.record_tables.specs.Changes.{Turns, Always, IsPastRecords, with_hold, without_hold};
 ghost use Rattle.record_tables.specs.CodeRows.{due_of};
-ghost use Rattle.record_archive.specs.Archive.{records_of, path_list};
+ghost use Rattle.record_archive.specs.Archive.{records_of};
 ghost use Rattle.record_store.specs.Captures.{AreAfter, with_records, with_more_dues, IsCaptured};
 ghost use Rattle.record_tables.specs.Steps.{PutsOnOk, CommitsNothing, KeepsIn};
 
+use class_paths::Paths;
 use record_tables::rows::DueRow;
 use record_tables::transact::Change;
 use record_tables::writes::{delete_hold, insert_due, insert_hold, insert_message, insert_record};
@@ -53,16 +54,16 @@ fn insert_records<S: Alter>(
     tx: &mut Transaction<'_, S>,
     first: u32,
     day: u32,
-    paths: &[Vec<u8>],
+    paths: &Paths,
 ) -> Result<(), Error>
     requires { first + length paths.now ≤ 2 ^ 32 }
     ensures same_reference { tx.new.conn.ghost_name ≡ tx.old.conn.ghost_name }
     ensures ok { PutsOnOk S.Store tx.old.conn.now tx.new.conn.now result (IsPastRecords first)
-        (with_records (records_of first first day (path_list paths.now))) }
+        (with_records (records_of first first day paths.now)) }
     ensures err { KeepsIn S.Store tx.old.conn.now tx.new.conn.now result }
     ensures survives { CommitsNothing S.Store tx.old.conn.now tx.new.conn.now }
 {
-    for (i, path) in paths.iter().enumerate() {
+    for (i, path) in paths.as_slice().iter().enumerate() {
         insert_record(tx, first + i as u32, first, path.as_slice(), day)?;
     }
     Ok(())
@@ -87,14 +88,14 @@ pub(crate) struct Capture<'a> {
     pub(crate) first: u32,
     pub(crate) body: &'a [u8],
     pub(crate) day: u32,
-    pub(crate) paths: &'a [Vec<u8>],
+    pub(crate) paths: &'a Paths,
     pub(crate) dues: &'a [DueRow],
 }
 
 impl Change for Capture<'_> {
     ghost may_be_made = { λ c db. c.first + length c.paths.now ≤ 2 ^ 32 };
 
-    ghost makes = { λ c. IsCaptured c.first c.body.now c.day (path_list c.paths.now)
+    ghost makes = { λ c. IsCaptured c.first c.body.now c.day c.paths.now
         (map due_of c.dues.now) };
 
     fn make<S: Alter>(self, tx: &mut Transaction<'_, S>) -> Result<(), Error> {

@@ -2,12 +2,12 @@
 
 ghost use Rattle.std.specs.Prelude.{◌≡◌, ◌-◌, ◌^◌, min, false, true, map, take, filter, IfOk, IfErr};
 ghost use Rattle.std.specs.List.{AllByRecursion, list_any};
-ghost use Rattle.record_archive.specs.Archive.{Archive, path_list};
+ghost use Rattle.record_archive.specs.Archive.{Archive};
 ghost use Rattle.record_archive.specs.Faults.{is_trouble};
 ghost use Rattle.record_reads.specs.Pages.{is_between};
 ghost use Rattle.record_tables.specs.CodeRows.{record_of, hold_entry_of};
 ghost use Rattle.record_adoption.specs.Adoption.{sorted_holds};
-ghost use Rattle.record_store.specs.Entries.{entry_view, listed, names_at_front, listed_beside, records_from, entries_from, AreHoldsOf, IsPage, IsListableRecord, is_counted};
+ghost use Rattle.record_store.specs.Entries.{entry_view, name_list, listed, names_at_front, listed_beside, records_from, entries_from, AreHoldsOf, IsPage, IsListableRecord, is_counted};
 ghost use Rattle.record_store.specs.Faults.{is_own};
 ghost use Rattle.record_store.specs.Stores.{StandsFor, Tells, LeavesAll, Falls, IsOpenOnOk, IsNeverOwn};
 
@@ -55,7 +55,7 @@ fn is_any_held(held: &Counts, rows: &[RecordRow]) -> bool
 /// The names of those holds at the front that are on the record of a number.
 fn names_at_front(alloc: Global, holds: &[HoldRow], number: u32) -> Result<Vec<Vec<u8>>, AllocError>
     ensures { IfOk result
-        (λ v. path_list v.items ≡ names_at_front number (map hold_entry_of holds.now)) }
+        (λ v. name_list v.items ≡ names_at_front number (map hold_entry_of holds.now)) }
 {
     let mut names = Vec::new(alloc);
     for hold in holds {
@@ -71,7 +71,7 @@ fn names_at_front(alloc: Global, holds: &[HoldRow], number: u32) -> Result<Vec<V
 /// The entry of a record by a plan, with the names of its holds.
 fn entry_of(plan: &Plan, row: RecordRow, holds: Vec<Vec<u8>>) -> Result<Entry, StoreFault>
     ensures entry { IfOk result
-        (λ e. entry_view e ≡ listed plan.now (record_of row) (path_list holds.items)) }
+        (λ e. entry_view e ≡ listed plan.now (record_of row) (name_list holds.items)) }
     ensures trouble { IfErr result (λ f. is_trouble f ≡ true) }
     ensures lost { IfErr result (λ f. IsListableRecord (record_of row) → is_own f ≡ false) }
 {

@@ -7,6 +7,7 @@ ghost use Rattle.record_store.specs.Stores.{Fate, FateKeeps, MayMeet, StandsFor}
 
 use crate::fault::{Cause, StoreFault};
 use crate::store::Store;
+use class_paths::Paths;
 use class_plan::{Date, Plan};
 use record_archive::{Line, Records};
 use sqlite::Alter;
@@ -44,12 +45,7 @@ impl<S: Alter> Records for Store<S> {
         done
     }
 
-    fn capture(
-        &mut self,
-        body: &[u8],
-        day: Date,
-        paths: &[Vec<u8>],
-    ) -> Result<Vec<Line>, StoreFault> {
+    fn capture(&mut self, body: &[u8], day: Date, paths: &Paths) -> Result<Vec<Line>, StoreFault> {
         self.ensure_open()?;
         let lines = self.capture(body, day, paths);
         let _idle = self.is_idle();

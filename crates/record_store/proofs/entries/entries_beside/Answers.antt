@@ -2,8 +2,7 @@ use Rattle.std.proofs.Common.{◌≡◌, ◌++◌, ◌∙◌, map, drop, sym, ap
 use Rattle.std.specs.List.{AllByRecursion}
 use Rattle.std.proofs.lemmas.List.{length-map, take_rest}
 use Rattle.record_tables.specs.CodeRows.{record_of, hold_entry_of}
-use Rattle.record_archive.specs.Archive.{path_list}
-use Rattle.record_store.specs.Entries.{entry_view, names_at_front, listed_beside, IsListableRecord}
+use Rattle.record_store.specs.Entries.{entry_view, name_list, names_at_front, listed_beside, IsListableRecord}
 use Rattle.record_store.proofs.Causes.{passed_own}
 use Rattle.record_store.proofs.EntryLoops.{entry_next, still_low}
 use Rattle.record_store.proofs.entries.entries_beside.Goals as goal
@@ -26,7 +25,7 @@ loop-row-preserved c =
     let holds = c.args.holds.now in
     let at = c.loop-row.at in
     let whole = listed_beside p (map hold_entry_of holds) (map record_of c.args.rows.items) in
-    let names = path_list c.in_ok-names.names.items in
+    let names = name_list c.in_ok-names.names.items in
     let are : names ≡ names_at_front c.in-Some.row.number (map hold_entry_of (drop at holds)) =
     c.in_ok-names.ensures ∙ ap (λ l. names_at_front c.in-Some.row.number (map hold_entry_of l)) (take_rest holds at) in
     let count : c.len-at.result ≡ length names =

@@ -33,7 +33,7 @@ returns-in_err-lines g c =
     g.A.Records.keeps c.captures_hold_flights.ensures.classes
     g.met.A.Records.is_archive c.args.self.now _ c.args.ticket c.in-Some.flight.now c.is_ended.result
     c.in_ok-outcome.outcome c.in_err-lines.field-0.0 _ c.in-Some.ensures c.is_ended.ensures.flight on outcome.alone
-    outcome.in_order outcome.classes c.in_err-lines.ensures.files c.in_err-lines.ensures.fault
+    outcome.classes c.in_err-lines.ensures.files c.in_err-lines.ensures.fault
     c.in_err-lines.ensures.safe
     c.file_outcome.ensures.was_clean refl refl refl refl (capture_fault _ _ result.0 result.1)
 

@@ -1,8 +1,7 @@
 use Rattle.std.proofs.Common.{arith, subst, ap, ◌≡◌, ◌∙◌, ◌≤◌, ◌+◌, ◌^◌, length, map, Ok}
-use Rattle.std.proofs.lemmas.List.{length-map}
 use Rattle.class_plan.specs.Calendar.{number_of_day}
 use Rattle.record_archive.specs.Archive as archive
-use Rattle.record_archive.specs.Archive.{Archive, after_capture, next_number, path_list}
+use Rattle.record_archive.specs.Archive.{Archive, after_capture, next_number}
 use Rattle.record_store.specs.Captures.{lines_of}
 use Rattle.record_archive.specs.Lines.{line_view}
 use Rattle.record_store.specs.Stores.{StandsFor, Leaves, LeavesMade}
@@ -14,21 +13,19 @@ use Rattle.record_store.proofs.store.Store.capture.Goals as goal
 
 pub returns-clause-obeys : goal.returns-clause-obeys
 returns-clause-obeys g c = λ (a : Archive) s.
-    let ps = path_list c.args.paths.now in
-    let long = length-map c.args.paths.now (λ p. p.items) in
+    let ps = c.args.paths.now in
     let day = number_of_day c.args.day in
-    let room : next_number a + length ps ≤ 2 ^ 32 = omega (arith, long, s.next) in
+    let room : next_number a + length ps ≤ 2 ^ 32 = omega (arith, s.next) in
     obeys_captured g.S.Store c.place_capture.new.self a c.args.body.now day ps (map line_view c.in_ok-lines.lines.items) room
     (subst (λ k. StandsFor g.S.Store c.place_capture.new.self (after_capture a c.args.body.now k ps))
     c.capture_number.ensures.number (c.in_ok-place_capture.ensures.ok a s))
     (c.in_ok-lines.ensures.lines ∙ (λ i. lines_of (s.plan i) (s.next i) day ps))
 
 left : (g : Over) (c : After-place_capture g) → Leaves g.S.Store c.args.self.now c.place_capture.new.self
-    (λ a. archive.capture a c.args.body.now (number_of_day c.args.day) (path_list c.args.paths.now))
+    (λ a. archive.capture a c.args.body.now (number_of_day c.args.day) c.args.paths.now)
 left g c =
-    let ps = path_list c.args.paths.now in
-    let long = length-map c.args.paths.now (λ p. p.items) in
-    leaves_command g.S.Store c.args.self.now c.place_capture.new.self c.args.body.now (number_of_day c.args.day) ps (omega (arith, long))
+    let ps = c.args.paths.now in
+    leaves_command g.S.Store c.args.self.now c.place_capture.new.self c.args.body.now (number_of_day c.args.day) ps (omega arith)
     (subst (λ k. LeavesMade g.S.Store c.args.self.now c.place_capture.new.self (λ a.
     Ok (after_capture a c.args.body.now k ps)) (λ a. after_capture a c.args.body.now k ps))
     c.capture_number.ensures.number c.place_capture.ensures.crash)
@@ -41,16 +38,15 @@ returns-in_err-place_capture-clause-crash g c = left g (goal.at.returns-in_err-p
 
 -- where there is no path
 
-pub returns-then-is_empty-clause-obeys : goal.returns-then-is_empty-clause-obeys
-returns-then-is_empty-clause-obeys g c = λ (a : Archive) s.
-    let ps = path_list c.args.paths.now in
-    let long = length-map c.args.paths.now (λ p. p.items) in
+pub returns-then-count-clause-obeys : goal.returns-then-count-clause-obeys
+returns-then-count-clause-obeys g c = λ (a : Archive) s.
+    let ps = c.args.paths.now in
     let none : length ps ≡ 0 = grind arith in
     obeys_nowhere g.S.Store c.ensure_open.new.self a c.args.body.now (number_of_day c.args.day) ps _ none
     (ap (map line_view) c.new.ensures.items) (c.ensure_open.ensures.stands a s)
 
-pub returns-then-is_empty-clause-crash : goal.returns-then-is_empty-clause-crash
-returns-then-is_empty-clause-crash g c = leaves_nothing g.S.Store c.args.self.now c.ensure_open.new.self _ c.ensure_open.ensures.crash
+pub returns-then-count-clause-crash : goal.returns-then-count-clause-crash
+returns-then-count-clause-crash g c = leaves_nothing g.S.Store c.args.self.now c.ensure_open.new.self _ c.ensure_open.ensures.crash
 
 pub returns-in_err-ensure_open-clause-crash : goal.returns-in_err-ensure_open-clause-crash
 returns-in_err-ensure_open-clause-crash g c = leaves_nothing g.S.Store c.args.self.now c.ensure_open.new.self _ c.ensure_open.ensures.crash

@@ -10,7 +10,7 @@ pub loop-i-preserved : goal.loop-i-preserved
 loop-i-preserved g c =
     let was = c.loop-i.invariant in
     record {
-      lines = rw c.in_ok-push.ensures.items (lines_next (λ p. p.items) line_view c.args.self.now.plan c.args.first
+      lines = rw c.in_ok-push.ensures.items (lines_next line_view c.args.self.now.plan c.args.first
           (number_of_day c.args.day) c.args.paths.now c.index-paths-i.result c.loop-i.i c.loop-i.lines.items
           c.in_ok-line.line c.loop-i-test.true c.index-paths-i.is was.lines (subst (λ k. line_view c.in_ok-line.line
           ≡ record {

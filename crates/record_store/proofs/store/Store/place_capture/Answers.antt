@@ -1,8 +1,7 @@
 use Rattle.record_adoption.specs.Counts.{count_at, only_at}
 use Rattle.std.proofs.Common.{◌+◌, ◌-◌, length, arith, refl, sym, ap, ◌∙◌, map}
-use Rattle.std.proofs.lemmas.List.{length-map}
 use Rattle.record_tables.specs.CodeRows.{due_of}
-use Rattle.record_archive.specs.Archive.{Archive, after_capture, path_list}
+use Rattle.record_archive.specs.Archive.{Archive, after_capture}
 use Rattle.record_store.specs.Stores.{LeavesChange}
 use Rattle.record_store.proofs.CaptureStands.{Given, stands_captured, leaves_captured}
 use Rattle.record_store.proofs.Causes.{never_busy}
@@ -11,12 +10,11 @@ use Rattle.record_store.proofs.store.Store.place_capture.Given.{Over}
 use Rattle.record_store.proofs.store.Store.place_capture.Goals.{After-transact}
 use Rattle.record_store.proofs.store.Store.place_capture.Goals as goal
 
-given : (g : Over) (c : After-transact g) → Given c.args.self.now c.args.day c.args.first (path_list c.args.paths.now) (map due_of c.args.dues.now)
+given : (g : Over) (c : After-transact g) → Given c.args.self.now c.args.day c.args.first c.args.paths.now (map due_of c.args.dues.now)
 given g c =
-    let long = length-map c.args.paths.now (λ p. p.items) in
     record {
-      some = omega (arith, c.requires.some, long);
-      room = omega (arith, c.requires.room, long);
+      some = c.requires.some;
+      room = c.requires.room;
       first = c.requires.first;
       classes = c.requires.classes;
       day = c.requires.day;
@@ -24,20 +22,17 @@ given g c =
     }
 
 left : (g : Over) (c : After-transact g) → LeavesChange g.S.Store c.args.self.now (record c.args.self.now { conn = c.transact.new.conn })
-    (λ a. after_capture a c.args.body.now c.args.day (path_list c.args.paths.now))
+    (λ a. after_capture a c.args.body.now c.args.day c.args.paths.now)
 left g c = λ (a : Archive) s.
     leaves_captured g.S.Store c.args.self.now c.transact.new.conn a s c.args.body.now c.args.day c.args.first
-    (path_list c.args.paths.now) (map due_of c.args.dues.now) (given g c) c.transact.ensures.live c.transact.ensures.crash
+    c.args.paths.now (map due_of c.args.dues.now) (given g c) c.transact.ensures.live c.transact.ensures.crash
 
 pub returns-in-Ok-transact-clause-ok : goal.returns-in-Ok-transact-clause-ok
 returns-in-Ok-transact-clause-ok g c = λ (a : Archive) s.
-    let long = length-map c.args.paths.now (λ p. p.items) in
-    stands_captured g.S.Store c.args.self.now _ a s c.args.body.now c.args.day c.args.first (path_list c.args.paths.now)
+    stands_captured g.S.Store c.args.self.now _ a s c.args.body.now c.args.day c.args.first c.args.paths.now
     (map due_of c.args.dues.now) (given g (goal.at.returns-in-Ok-transact-clause-ok g c).After-transact)
-    c.transact.ensures.idle refl (ap (λ k. k + length c.args.paths.now) (sym c.requires.first)
-    ∙ ap (λ k. c.args.first + k) (sym long)) (λ m. refl)
-    (λ m. c.in-Ok.ensures.ok m
-    ∙ ap (λ k. count_at c.args.self.now.others m + only_at c.args.first (k - 1) m) (sym long))
+    c.transact.ensures.idle refl (ap (λ k. k + length c.args.paths.now) (sym c.requires.first)) (λ m. refl)
+    (λ m. c.in-Ok.ensures.ok m)
     (fell g.S.Store c.args.self.now.conn c.transact.new.conn _ c.transact.ensures.crash)
     c.transact.ensures.was_open c.in-Ok-transact.ensures.ok
 
