@@ -1,6 +1,7 @@
 -- Records as they are listed.
 use Rattle.std.specs.Prelude.{◌≡◌, ◌≤◌, ℕ, ◌==◌, nat_le, nat_lt, ℤ, pos, Bool, if◌then◌else◌, List, [], ◌∷◌, map, filter, take}
-use Rattle.std.specs.Prelude.{drop, length, Option, None, option_map}
+use Rattle.std.specs.Prelude.{drop, length, Option, None, option_map, Vec}
+use Rattle.std.specs.declared.alloc.Global.{Global}
 use Rattle.std.specs.List.{list_any}
 use Rattle.std.specs.Ordering.{nat_cmp}
 use Rattle.std.specs.Cmp.Lexicographic.{slice_cmp}
@@ -62,11 +63,11 @@ records_from a n = filter (λ (r : Record). nat_le n r.number) a.records
 abbrev pub entries_from : Archive → ℕ → List Entry
 entries_from a n = map (entry_of a) (records_from a n)
 
--- an entry of the code as a plain one
 -- the octets of each name
 abbrev pub name_list : List (Vec ℕ Global) → List (List ℕ)
 name_list names = map (λ n. n.items) names
 
+-- an entry of the code as a plain one
 abbrev pub entry_view : code.Entry → Entry
 entry_view e = record {
   number = e.number;
