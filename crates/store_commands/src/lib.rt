@@ -1,337 +1,339 @@
 //! The command line of `mailfile-store`: its subcommands, each with its words and an example.
 #![tactic(auto)]
 
-use clap::{Arg, ArgAction, Command};
+use clap::Command;
+use command_lines::{FLAG, Form, OPTION, PLACE, Program, Subcommand, Word, command_of};
 use std::alloc::{AllocError, Global};
 
-/// A word that must be given.
-fn word<'a>(alloc: Global, id: &'a str, name: &'a str) -> Arg<'a> {
-    Arg::new(alloc, id)
-        .value_name(name)
-        .required(true)
-        .action(ArgAction::Set)
-}
-
-/// An option with a value.
-fn option<'a>(alloc: Global, id: &'a str, name: &'a str, help: &'a str) -> Arg<'a> {
-    Arg::new(alloc, id)
-        .long(id)
-        .value_name(name)
-        .action(ArgAction::Set)
-        .help(help)
-}
-
-/// An option without a value.
-fn flag<'a>(alloc: Global, id: &'a str, help: &'a str) -> Arg<'a> {
-    Arg::new(alloc, id)
-        .long(id)
-        .action(ArgAction::SetTrue)
-        .help(help)
-}
-
-/// A subcommand over a store.
-fn over_store<'a>(
-    alloc: Global,
-    name: &'a str,
-    about: &'a str,
-    example: &'a str,
-) -> Result<Command<'a>, AllocError> {
-    let store = option(alloc, "store", "FILE", "The file of the store").required(true);
-    Command::new(alloc, name)
-        .about(about)
-        .after_help(example)
-        .arg(store)
-}
-
-fn create<'a>(alloc: Global) -> Result<Command<'a>, AllocError> {
-    over_store(
-        alloc,
-        "create",
-        "Makes a new store with a plan, in a file that only its owner may read and write",
-        "Example: mailfile-store create --store records.db --plan plan.toml",
-    )?
-    .arg(option(alloc, "plan", "PLAN", "The file of the plan").required(true))
-}
-
-fn plan<'a>(alloc: Global) -> Result<Command<'a>, AllocError> {
-    over_store(
-        alloc,
-        "plan",
-        "Prints the plan of a store as the text of a plan file, or replaces it",
-        "Example: mailfile-store plan --store records.db > plan.toml",
-    )?
-    .arg(option(
-        alloc,
-        "set",
-        "PLAN",
-        "The file of the plan that replaces it",
-    ))?
-    .arg(flag(alloc, "yes", "Replaces it without asking"))
-}
-
-/// Adds what says how mail is filed.
-fn with_filing<'a>(alloc: Global, command: Command<'a>) -> Result<Command<'a>, AllocError> {
-    let rules = option(
-        alloc,
-        "rules",
-        "FOLDER",
-        "The folder of the rules: OFFICER/main.sieve, and global/NAME.sieve for all officers",
-    );
-    let unfiled = flag(
-        alloc,
-        "unfiled-on-fault",
-        "Captures mail in unfiled where the officer or a script is missing, or a script or a run is at fault",
-    );
-    command
-        .arg(rules.required(true))?
-        .arg(unfiled)?
-        .arg(word(alloc, "officer", "OFFICER"))
-}
-
-fn deliver<'a>(alloc: Global) -> Result<Command<'a>, AllocError> {
-    let command = over_store(
-        alloc,
-        "deliver",
-        "Captures the message on standard input, and prints its records",
-        "Example: mailfile-store deliver --store records.db --rules rules ann < mail.eml",
-    )?
-    .arg(option(
-        alloc,
-        "at",
-        "SECONDS",
-        "The moment of the capture, in seconds since 1970; now if none is given",
-    ))?;
-    with_filing(alloc, command)
-}
-
-fn intake<'a>(alloc: Global) -> Result<Command<'a>, AllocError> {
-    let command = over_store(
-        alloc,
-        "intake",
-        "Captures each message in MAILDIR/new, and moves it to MAILDIR/cur once its records are in the file",
-        "Example: mailfile-store intake --store records.db --rules rules ann Maildir",
-    )?;
-    with_filing(alloc, command)?.arg(word(alloc, "maildir", "MAILDIR"))
-}
-
-/// Adds what chooses records.
-fn with_choice<'a>(alloc: Global, command: Command<'a>) -> Result<Command<'a>, AllocError> {
-    command
-        .arg(option(
-            alloc,
-            "class",
-            "PATH",
-            "Records of this class and of those below it",
-        ))?
-        .arg(option(
-            alloc,
-            "due",
-            "YYYY-MM-DD",
-            "Records that are due by this day, which is not later than today",
-        ))?
-        .arg(flag(alloc, "held", "Records that a hold keeps"))?
-        .arg(flag(alloc, "live", "Records that are not destroyed"))?
-        .arg(option(
-            alloc,
-            "from",
-            "N",
-            "Records with this number or a greater one",
-        ))
-}
-
-fn list<'a>(alloc: Global) -> Result<Command<'a>, AllocError> {
-    let command = over_store(
-        alloc,
-        "list",
-        "Prints a line for each record: number, class, day, due date or never, holds, and whether it is destroyed",
-        "Example: mailfile-store list --store records.db --class finance --live",
-    )?;
-    with_choice(alloc, command)?
-        .arg(flag(alloc, "csv", "Prints rows of CSV, with a header"))?
-        .arg(flag(alloc, "json", "Prints an array of JSON objects").conflicts_with("csv")?)
-}
-
-fn show<'a>(alloc: Global) -> Result<Command<'a>, AllocError> {
-    over_store(
-        alloc,
-        "show",
-        "Prints the message of a record, octet by octet",
-        "Example: mailfile-store show --store records.db 1 > mail.eml",
-    )?
-    .arg(flag(
-        alloc,
-        "fields",
-        "Prints the fields of its header, as the archive reads them",
-    ))?
-    .arg(word(alloc, "number", "NUMBER"))
-}
-
-fn export<'a>(alloc: Global) -> Result<Command<'a>, AllocError> {
-    let command = over_store(
-        alloc,
-        "export",
-        "Writes the messages of records to a folder, with manifest.csv and SHA256SUMS; replaces nothing",
-        "Example: mailfile-store export --store records.db --class finance for-court",
-    )?;
-    with_choice(alloc, command)?.arg(word(alloc, "folder", "FOLDER"))
-}
-
-fn copy<'a>(alloc: Global) -> Result<Command<'a>, AllocError> {
-    over_store(
-        alloc,
-        "copy",
-        "Makes a new store with the same archive, without the octets of what was destroyed",
-        "Example: mailfile-store copy --store records.db backup.db",
-    )?
-    .arg(word(alloc, "new", "NEW"))
-}
-
-fn check<'a>(alloc: Global) -> Result<Command<'a>, AllocError> {
-    over_store(
-        alloc,
-        "check",
-        "Judges a whole store, and says what it holds",
-        "Example: mailfile-store check --store records.db",
-    )
-}
+const STORE: Word = Word {
+    name: "store",
+    value: "FILE",
+    is_required: true,
+    help: Some("The file of the store"),
+    ..OPTION
+};
 
 /// The numbers of records.
-fn numbers<'a>(alloc: Global) -> Arg<'a> {
-    Arg::new(alloc, "numbers")
-        .value_name("NUMBER")
-        .action(ArgAction::Append)
-        .num_args(1..)
-}
+const NUMBERS: Word = Word {
+    name: "numbers",
+    form: Form::Places,
+    value: "NUMBER",
+    ..PLACE
+};
 
-/// Adds the name of a hold and the numbers of records.
-fn with_numbers<'a>(alloc: Global, command: Command<'a>) -> Result<Command<'a>, AllocError> {
-    command
-        .arg(word(alloc, "name", "NAME"))?
-        .arg(numbers(alloc).required(true))
-}
+const NUMBER: Word = Word {
+    name: "number",
+    value: "NUMBER",
+    ..PLACE
+};
 
-fn hold<'a>(alloc: Global) -> Result<Command<'a>, AllocError> {
-    let command = over_store(
-        alloc,
-        "hold",
-        "Keeps records from destruction by a hold of that name",
-        "Example: mailfile-store hold --store records.db audit 1 2 3",
-    )?;
-    with_numbers(alloc, command)
-}
+const OFFICER: Word = Word {
+    name: "officer",
+    value: "OFFICER",
+    ..PLACE
+};
 
-fn release<'a>(alloc: Global) -> Result<Command<'a>, AllocError> {
-    let command = over_store(
-        alloc,
-        "release",
-        "Ends the hold of that name on records",
-        "Example: mailfile-store release --store records.db audit 1 2 3",
-    )?;
-    with_numbers(alloc, command)
-}
+const CREATE: Subcommand = Subcommand {
+    name: "create",
+    about: "Makes a new store with a plan, in a file that only its owner may read and write",
+    example: "Example: mailfile-store create --store records.db --plan plan.toml",
+    words: &[
+        STORE,
+        Word {
+            name: "plan",
+            value: "PLAN",
+            is_required: true,
+            help: Some("The file of the plan"),
+            ..OPTION
+        },
+    ],
+};
 
-fn dispose<'a>(alloc: Global) -> Result<Command<'a>, AllocError> {
-    over_store(
-        alloc,
-        "dispose",
-        "Lists the records that are due and may be destroyed, all or those of some numbers; with --yes destroys them, and prints a certificate for each",
-        "Example: mailfile-store dispose --store records.db --yes >> certificates.txt",
-    )?
-    .arg(option(
-        alloc,
-        "day",
-        "YYYY-MM-DD",
-        "The day by which records are due, which is not later than today; today if none is given",
-    ))?
-    .arg(flag(alloc, "yes", "Destroys the records"))?
-    .arg(numbers(alloc))
-}
+const PLAN: Subcommand = Subcommand {
+    name: "plan",
+    about: "Prints the plan of a store as the text of a plan file, or replaces it",
+    example: "Example: mailfile-store plan --store records.db > plan.toml",
+    words: &[
+        STORE,
+        Word {
+            name: "set",
+            value: "PLAN",
+            help: Some("The file of the plan that replaces it"),
+            ..OPTION
+        },
+        Word {
+            name: "yes",
+            help: Some("Replaces it without asking"),
+            ..FLAG
+        },
+    ],
+};
 
-fn report<'a>(alloc: Global) -> Result<Command<'a>, AllocError> {
-    over_store(
-        alloc,
-        "report",
-        "Prints a page of HTML: classes with their counts, what is due when, holds, and what is due by a day, for signature",
-        "Example: mailfile-store report --store records.db --day 2026-12-31 > report.html",
-    )?
-    .arg(option(
-        alloc,
-        "day",
-        "YYYY-MM-DD",
-        "The day by which records are due, which may be later than today; today if none is given",
-    ))
-}
+/// The rules by which mail is filed.
+const RULES: Word = Word {
+    name: "rules",
+    value: "FOLDER",
+    is_required: true,
+    help: Some(
+        "The folder of the rules: OFFICER/main.sieve, and global/NAME.sieve for all officers",
+    ),
+    ..OPTION
+};
 
-fn why<'a>(alloc: Global) -> Result<Command<'a>, AllocError> {
-    let command = over_store(
-        alloc,
-        "why",
-        "Says why a record is in its class, and whether the rules of today file its message there again",
-        "Example: mailfile-store why --store records.db --rules rules ann 1",
-    )?;
-    let rules = option(
-        alloc,
-        "rules",
-        "FOLDER",
-        "The folder of the rules, as of deliver",
-    );
-    let formerly = option(
-        alloc,
-        "formerly",
-        "FOLDER",
-        "The folder of the rules as they were: shows the first test or command that differs",
-    );
-    command
-        .arg(rules.required(true))?
-        .arg(formerly)?
-        .arg(word(alloc, "officer", "OFFICER"))?
-        .arg(word(alloc, "number", "NUMBER"))
-}
+const UNFILED_ON_FAULT: Word = Word {
+    name: "unfiled-on-fault",
+    help: Some(
+        "Captures mail in unfiled where the officer or a script is missing, or a script or a run is at fault",
+    ),
+    ..FLAG
+};
 
-/// Adds a subcommand, where there was memory to make it.
-fn with<'a>(
-    command: Command<'a>,
-    made: Result<Command<'a>, AllocError>,
-) -> Result<Command<'a>, AllocError> {
-    let subcommand = made?;
-    command.subcommand(subcommand)
-}
+const DELIVER: Subcommand = Subcommand {
+    name: "deliver",
+    about: "Captures the message on standard input, and prints its records",
+    example: "Example: mailfile-store deliver --store records.db --rules rules ann < mail.eml",
+    words: &[
+        STORE,
+        Word {
+            name: "at",
+            value: "SECONDS",
+            help: Some("The moment of the capture, in seconds since 1970; now if none is given"),
+            ..OPTION
+        },
+        RULES,
+        UNFILED_ON_FAULT,
+        OFFICER,
+    ],
+};
 
-/// Adds the subcommands that make an archive and change it.
-fn with_changes<'a>(alloc: Global, command: Command<'a>) -> Result<Command<'a>, AllocError> {
-    let command = with(command, create(alloc))?;
-    let command = with(command, plan(alloc))?;
-    let command = with(command, deliver(alloc))?;
-    with(command, intake(alloc))
-}
+const INTAKE: Subcommand = Subcommand {
+    name: "intake",
+    about: "Captures each message in MAILDIR/new, and moves it to MAILDIR/cur once its records are in the file",
+    example: "Example: mailfile-store intake --store records.db --rules rules ann Maildir",
+    words: &[
+        STORE,
+        RULES,
+        UNFILED_ON_FAULT,
+        OFFICER,
+        Word {
+            name: "maildir",
+            value: "MAILDIR",
+            ..PLACE
+        },
+    ],
+};
 
-/// Adds the subcommands that read an archive.
-fn with_readings<'a>(alloc: Global, command: Command<'a>) -> Result<Command<'a>, AllocError> {
-    let command = with(command, list(alloc))?;
-    let command = with(command, show(alloc))?;
-    let command = with(command, export(alloc))?;
-    let command = with(command, copy(alloc))?;
-    let command = with(command, check(alloc))?;
-    with(command, why(alloc))
-}
+const CLASS: Word = Word {
+    name: "class",
+    value: "PATH",
+    help: Some("Records of this class and of those below it"),
+    ..OPTION
+};
 
-/// Adds the subcommands on holds, destruction and reports.
-fn with_disposal<'a>(alloc: Global, command: Command<'a>) -> Result<Command<'a>, AllocError> {
-    let command = with(command, hold(alloc))?;
-    let command = with(command, release(alloc))?;
-    let command = with(command, dispose(alloc))?;
-    with(command, report(alloc))
-}
+const DUE: Word = Word {
+    name: "due",
+    value: "YYYY-MM-DD",
+    help: Some("Records that are due by this day, which is not later than today"),
+    ..OPTION
+};
+
+const HELD: Word = Word {
+    name: "held",
+    help: Some("Records that a hold keeps"),
+    ..FLAG
+};
+
+const LIVE: Word = Word {
+    name: "live",
+    help: Some("Records that are not destroyed"),
+    ..FLAG
+};
+
+const FROM: Word = Word {
+    name: "from",
+    value: "N",
+    help: Some("Records with this number or a greater one"),
+    ..OPTION
+};
+
+const LIST: Subcommand = Subcommand {
+    name: "list",
+    about: "Prints a line for each record: number, class, day, due date or never, holds, and whether it is destroyed",
+    example: "Example: mailfile-store list --store records.db --class finance --live",
+    words: &[
+        STORE,
+        CLASS,
+        DUE,
+        HELD,
+        LIVE,
+        FROM,
+        Word {
+            name: "csv",
+            help: Some("Prints rows of CSV, with a header"),
+            ..FLAG
+        },
+        Word {
+            name: "json",
+            help: Some("Prints an array of JSON objects"),
+            conflict: Some("csv"),
+            ..FLAG
+        },
+    ],
+};
+
+const SHOW: Subcommand = Subcommand {
+    name: "show",
+    about: "Prints the message of a record, octet by octet",
+    example: "Example: mailfile-store show --store records.db 1 > mail.eml",
+    words: &[
+        STORE,
+        Word {
+            name: "fields",
+            help: Some("Prints the fields of its header, as the archive reads them"),
+            ..FLAG
+        },
+        NUMBER,
+    ],
+};
+
+const EXPORT: Subcommand = Subcommand {
+    name: "export",
+    about: "Writes the messages of records to a folder, with manifest.csv and SHA256SUMS; replaces nothing",
+    example: "Example: mailfile-store export --store records.db --class finance for-court",
+    words: &[
+        STORE,
+        CLASS,
+        DUE,
+        HELD,
+        LIVE,
+        FROM,
+        Word {
+            name: "folder",
+            value: "FOLDER",
+            ..PLACE
+        },
+    ],
+};
+
+const COPY: Subcommand = Subcommand {
+    name: "copy",
+    about: "Makes a new store with the same archive, without the octets of what was destroyed",
+    example: "Example: mailfile-store copy --store records.db backup.db",
+    words: &[
+        STORE,
+        Word {
+            name: "new",
+            value: "NEW",
+            ..PLACE
+        },
+    ],
+};
+
+const CHECK: Subcommand = Subcommand {
+    name: "check",
+    about: "Judges a whole store, and says what it holds",
+    example: "Example: mailfile-store check --store records.db",
+    words: &[STORE],
+};
+
+const WHY: Subcommand = Subcommand {
+    name: "why",
+    about: "Says why a record is in its class, and whether the rules of today file its message there again",
+    example: "Example: mailfile-store why --store records.db --rules rules ann 1",
+    words: &[
+        STORE,
+        Word {
+            help: Some("The folder of the rules, as of deliver"),
+            ..RULES
+        },
+        Word {
+            name: "formerly",
+            value: "FOLDER",
+            help: Some(
+                "The folder of the rules as they were: shows the first test or command that differs",
+            ),
+            ..OPTION
+        },
+        OFFICER,
+        NUMBER,
+    ],
+};
+
+/// The name of a hold.
+const NAME: Word = Word {
+    name: "name",
+    value: "NAME",
+    ..PLACE
+};
+
+const HOLD: Subcommand = Subcommand {
+    name: "hold",
+    about: "Keeps records from destruction by a hold of that name",
+    example: "Example: mailfile-store hold --store records.db audit 1 2 3",
+    words: &[STORE, NAME, NUMBERS],
+};
+
+const RELEASE: Subcommand = Subcommand {
+    name: "release",
+    about: "Ends the hold of that name on records",
+    example: "Example: mailfile-store release --store records.db audit 1 2 3",
+    words: &[STORE, NAME, NUMBERS],
+};
+
+const DISPOSE: Subcommand = Subcommand {
+    name: "dispose",
+    about: "Lists the records that are due and may be destroyed, all or those of some numbers; with --yes destroys them, and prints a certificate for each",
+    example: "Example: mailfile-store dispose --store records.db --yes >> certificates.txt",
+    words: &[
+        STORE,
+        Word {
+            name: "day",
+            value: "YYYY-MM-DD",
+            help: Some(
+                "The day by which records are due, which is not later than today; today if none is given",
+            ),
+            ..OPTION
+        },
+        Word {
+            name: "yes",
+            help: Some("Destroys the records"),
+            ..FLAG
+        },
+        Word {
+            is_required: false,
+            ..NUMBERS
+        },
+    ],
+};
+
+const REPORT: Subcommand = Subcommand {
+    name: "report",
+    about: "Prints a page of HTML: classes with their counts, what is due when, holds, and what is due by a day, for signature",
+    example: "Example: mailfile-store report --store records.db --day 2026-12-31 > report.html",
+    words: &[
+        STORE,
+        Word {
+            name: "day",
+            value: "YYYY-MM-DD",
+            help: Some(
+                "The day by which records are due, which may be later than today; today if none is given",
+            ),
+            ..OPTION
+        },
+    ],
+};
+
+const PROGRAM: Program = Program {
+    name: "mailfile-store",
+    version: "0.1.0",
+    about: "Runs an archive of e-mail in a file: captures, lists, shows, exports, holds and destroys records",
+    subcommands: &[
+        CREATE, PLAN, DELIVER, INTAKE, LIST, SHOW, EXPORT, COPY, CHECK, WHY, HOLD, RELEASE,
+        DISPOSE, REPORT,
+    ],
+};
 
 /// The whole command line, with all subcommands. The only error is out of memory.
 pub fn command<'a>(alloc: Global) -> Result<Command<'a>, AllocError> {
-    let command = Command::new(alloc, "mailfile-store")
-        .version("0.1.0")
-        .about(
-            "Runs an archive of e-mail in a file: captures, lists, shows, exports, holds and destroys records",
-        )
-        .subcommand_required(true);
-    let command = with_changes(alloc, command)?;
-    let command = with_readings(alloc, command)?;
-    with_disposal(alloc, command)
+    command_of(alloc, &PROGRAM)
 }
