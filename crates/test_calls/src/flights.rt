@@ -2,6 +2,7 @@
 
 use crate::told::word;
 use anyhow::{Result, bail};
+use class_paths::Paths;
 use class_plan::{Date, Plan};
 use filing_commands::{Payload, Registry};
 use filing_desk::Desk;
@@ -48,7 +49,7 @@ impl Records for PlanAlone {
         &mut self,
         _body: &[u8],
         _day: Date,
-        _paths: &[Vec<u8>],
+        _paths: &Paths,
     ) -> Result<Vec<Line>, ArchiveFault<()>> {
         Err(REFUSED)
     }

@@ -2,6 +2,7 @@
 //! ours, and others, which are refused with 88.
 
 use crate::pages::page;
+use class_paths::Paths;
 use class_plan::{Plan, date_of, day_number, day_of};
 use record_store::{ArchiveRefusal, Line, Store, StoreFault, are_classes};
 use record_tables::alone::is_alone;
@@ -178,18 +179,18 @@ fn captured(
     body: &[u8],
     is_tax: bool,
 ) -> Result<Result<Vec<Line>, StoreFault>, Fail> {
-    let mut paths = Vec::new(alloc);
+    let mut paths = Paths::new(alloc);
     if is_tax {
-        paths.push(Vec::from_slice(alloc, b"tax")?)?;
+        paths.insert(alloc, b"tax")?;
     }
-    paths.push(Vec::from_slice(alloc, b"unfiled")?)?;
+    paths.insert(alloc, b"unfiled")?;
     let Some(day) = day_of(1_700_000_000) else {
         return Err(Fail::from("no day"));
     };
-    if !are_classes(store.plan(), paths.as_slice()) {
+    if !are_classes(store.plan(), &paths) {
         return Err(Fail::from("no classes"));
     }
-    Ok(store.capture(body, day, paths.as_slice()))
+    Ok(store.capture(body, day, &paths))
 }
 
 /// Checks the answers of a store that was moved over from version 1.
