@@ -13,47 +13,47 @@ use Rattle.script_places.specs.Heads.{test_names, inner_names, row_names, comman
 use Rattle.run_report.specs.declared.nodes.Node.{Node}
 use Rattle.run_report.specs.declared.nodes.Thing.{Thing}
 use Rattle.run_report.specs.declared.nodes.Thing.TheVariants as things
-use Rattle.run_report.specs.Nodes.{test_name, command_name, thing_name, node_names, Part, command_part, test_part, part_of, Entry, node_entry}
+use Rattle.run_report.specs.Nodes.{test_name, command_name, thing_name, node_names, Part, command_part, test_part, part_of, PartWithEnd, node_entry}
 use Rattle.run_report.specs.Nodes.{node_entries, with_inside, followed_by, test_entries}
 use Rattle.run_report.specs.Nodes.{inner_entries, row_entries, command_entries, ending_entries, commands_entries}
 
 -- ---- the end of a node
 
-set_after : (before inside : List Entry) (e f : Entry) (n : ℕ) → n ≡ length before
+set_after : (before inside : List PartWithEnd) (e f : PartWithEnd) (n : ℕ) → n ≡ length before
     → set (before ++ e ∷ inside) n f ≡ before ++ f ∷ inside
 set_after [] inside e f n is = ap (λ (k : ℕ). set (e ∷ inside) k f) is
 set_after (b ∷ before) inside e f zero is = absurd (omega (arith, is))
-set_after (b ∷ before) inside e f (suc n) is = ap (λ (es : List Entry). b ∷ es) (set_after before inside e f n (omega (arith, is)))
+set_after (b ∷ before) inside e f (suc n) is = ap (λ (es : List PartWithEnd). b ∷ es) (set_after before inside e f n (omega (arith, is)))
 
-get_after : (before inside : List Entry) (e d : Entry) (n : ℕ) → n ≡ length before → get_or (before ++ e ∷ inside) n d ≡ e
+get_after : (before inside : List PartWithEnd) (e d : PartWithEnd) (n : ℕ) → n ≡ length before → get_or (before ++ e ∷ inside) n d ≡ e
 get_after [] inside e d n is = ap (λ (k : ℕ). get_or (e ∷ inside) k d) is
 get_after (b ∷ before) inside e d zero is = absurd (omega (arith, is))
 get_after (b ∷ before) inside e d (suc n) is = get_after before inside e d n (omega (arith, is))
 
-length_after : (before inside : List Entry) (e : Entry) → length (before ++ e ∷ inside) ≡ length before + 1 + length inside
+length_after : (before inside : List PartWithEnd) (e : PartWithEnd) → length (before ++ e ∷ inside) ≡ length before + 1 + length inside
 length_after before inside e = omega (arith, length-append before (e ∷ inside))
 
 -- the node at a number, with the end of the list as its end
-pub end_set : (ns : List Node) (number : ℕ) (old new : Node) (before inside : List Entry) (part : Part) (n : ℕ)
+pub end_set : (ns : List Node) (number : ℕ) (old new : Node) (before inside : List PartWithEnd) (part : Part) (n : ℕ)
     → number < length ns → old ≡ get_or ns number old → new.thing ≡ old.thing → new.end ≡ length ns
     → node_entries ns ≡ before ++ (part, n) ∷ inside → number ≡ length before
     → node_entries (set ns number new) ≡ before ++ with_inside part number inside
 end_set ns number old new before inside part n within read thing end is at =
     let there : node_entry old ≡ (part, n) =
     ap node_entry read ∙ sym (get_or-map node_entry ns number old (node_entry old) within)
-    ∙ ap (λ (es : List Entry). get_or es number (node_entry old)) is ∙ get_after before inside (part, n) (node_entry old) number at in
-    let same : part_of new.thing ≡ part = ap part_of thing ∙ ap (λ (e : Entry). e.0) there in
+    ∙ ap (λ (es : List PartWithEnd). get_or es number (node_entry old)) is ∙ get_after before inside (part, n) (node_entry old) number at in
+    let same : part_of new.thing ≡ part = ap part_of thing ∙ ap (λ (e : PartWithEnd). e.0) there in
     let long : new.end ≡ number + 1 + length inside =
     end ∙ sym (length-map ns node_entry) ∙ ap length is ∙ length_after before inside (part, n)
     ∙ ap (λ (k : ℕ). k + 1 + length inside) (sym at) in
     let entry : node_entry new ≡ (part, number + 1 + length inside) = λ i. (same i, long i) in
     map-set node_entry ns number new
-    ∙ ap (λ (es : List Entry). set es number (node_entry new)) is
+    ∙ ap (λ (es : List PartWithEnd). set es number (node_entry new)) is
     ∙ set_after before inside (part, n) (node_entry new) number at
-    ∙ ap (λ (e : Entry). before ++ e ∷ inside) entry
+    ∙ ap (λ (e : PartWithEnd). before ++ e ∷ inside) entry
 
 -- too few nodes for this to be so
-pub end_past : (ns : List Node) (number : ℕ) (before inside : List Entry) (e : Entry) → length ns ≤ number
+pub end_past : (ns : List Node) (number : ℕ) (before inside : List PartWithEnd) (e : PartWithEnd) → length ns ≤ number
     → node_entries ns ≡ before ++ e ∷ inside → number ≡ length before → ⊥
 end_past ns number before inside e past is at =
     omega (arith, past, at, sym (length-map ns node_entry) ∙ ap length is ∙ length_after before inside e)
@@ -80,10 +80,10 @@ plus_none : (k : ℕ) → k + 1 + 0 ≡ k + 1
 plus_none k = omega arith
 
 -- a node, and then those that are inside
-pub entered_then : (n0 n1 n2 n3 : List Node) (part : Part) (number : ℕ) (next : ℕ → List Entry) (all : List Entry)
+pub entered_then : (n0 n1 n2 n3 : List Node) (part : Part) (number : ℕ) (next : ℕ → List PartWithEnd) (all : List PartWithEnd)
     → number ≡ length n0 → node_entries n1 ≡ node_entries n0 ++ (part, length n0) ∷ []
     → node_entries n2 ≡ node_entries n1 ++ next (length n1)
-    → ((before inside : List Entry) (p : Part) (k : ℕ) → node_entries n2 ≡ before ++ (p, k) ∷ inside → number ≡ length before
+    → ((before inside : List PartWithEnd) (p : Part) (k : ℕ) → node_entries n2 ≡ before ++ (p, k) ∷ inside → number ≡ length before
     → node_entries n3 ≡ before ++ with_inside p number inside)
     → all ≡ with_inside part (length n0) (next (length n0 + 1))
     → node_entries n3 ≡ node_entries n0 ++ all
@@ -91,16 +91,16 @@ entered_then n0 n1 n2 n3 part number next all at first then last whole =
     let long : length n1 ≡ length n0 + 1 =
     sym (length-map n1 node_entry) ∙ ap length first ∙ length_after (node_entries n0) [] (part, length n0)
     ∙ ap (λ (k : ℕ). k + 1 + 0) (length-map n0 node_entry) ∙ plus_none (length n0) in
-    let inside : List Entry = next (length n0 + 1) in
+    let inside : List PartWithEnd = next (length n0 + 1) in
     let there : node_entries n2 ≡ node_entries n0 ++ (part, length n0) ∷ inside =
-    then ∙ ap (λ (k : ℕ). node_entries n1 ++ next k) long ∙ ap (λ (es : List Entry). es ++ inside) first
+    then ∙ ap (λ (k : ℕ). node_entries n1 ++ next k) long ∙ ap (λ (es : List PartWithEnd). es ++ inside) first
     ∙ append_assoc (node_entries n0) ((part, length n0) ∷ []) inside in
     last (node_entries n0) inside part (length n0) there (at ∙ sym (length-map n0 node_entry))
     ∙ ap (λ (k : ℕ). node_entries n0 ++ with_inside part k inside) at
-    ∙ ap (λ (es : List Entry). node_entries n0 ++ es) (sym whole)
+    ∙ ap (λ (es : List PartWithEnd). node_entries n0 ++ es) (sym whole)
 
 -- some nodes, and then others
-pub followed : (n0 n1 n2 : List Node) (first : List Entry) (next : ℕ → List Entry) → node_entries n1 ≡ node_entries n0 ++ first
+pub followed : (n0 n1 n2 : List Node) (first : List PartWithEnd) (next : ℕ → List PartWithEnd) → node_entries n1 ≡ node_entries n0 ++ first
     → node_entries n2 ≡ node_entries n1 ++ next (length n1)
     → node_entries n2 ≡ node_entries n0 ++ followed_by (length n0) first next
 followed n0 n1 n2 first next one then =
@@ -108,18 +108,18 @@ followed n0 n1 n2 first next one then =
     sym (length-map n1 node_entry) ∙ ap length one ∙ length-append (node_entries n0) first
     ∙ ap (λ (k : ℕ). k + length first) (length-map n0 node_entry) in
     then ∙ ap (λ (k : ℕ). node_entries n1 ++ next k) long
-    ∙ ap (λ (es : List Entry). es ++ next (length n0 + length first)) one
+    ∙ ap (λ (es : List PartWithEnd). es ++ next (length n0 + length first)) one
     ∙ append_assoc (node_entries n0) first (next (length n0 + length first))
 
 -- the next one of a row
-pub followed_more : (n0 n1 : List Node) (all first : List Entry) (next : ℕ → List Entry) → node_entries n1 ≡ node_entries n0 ++ first
+pub followed_more : (n0 n1 : List Node) (all first : List PartWithEnd) (next : ℕ → List PartWithEnd) → node_entries n1 ≡ node_entries n0 ++ first
     → node_entries n0 ++ followed_by (length n0) first next ≡ all → node_entries n1 ++ next (length n1) ≡ all
 followed_more n0 n1 all first next one before =
     let long : length n1 ≡ length n0 + length first =
     sym (length-map n1 node_entry) ∙ ap length one ∙ length-append (node_entries n0) first
     ∙ ap (λ (k : ℕ). k + length first) (length-map n0 node_entry) in
     ap (λ (k : ℕ). node_entries n1 ++ next k) long
-    ∙ ap (λ (es : List Entry). es ++ next (length n0 + length first)) one
+    ∙ ap (λ (es : List PartWithEnd). es ++ next (length n0 + length first)) one
     ∙ append_assoc (node_entries n0) first (next (length n0 + length first))
     ∙ before
 
@@ -141,11 +141,11 @@ abbrev part_name : Part → List ℕ
 part_name (command_part c) = command_name c
 part_name (test_part t) = test_name t
 
-abbrev entry_names : List Entry → List (List ℕ)
-entry_names es = map (λ (e : Entry). part_name e.0) es
+abbrev entry_names : List PartWithEnd → List (List ℕ)
+entry_names es = map (λ (e : PartWithEnd). part_name e.0) es
 
-names-append : (es fs : List Entry) → entry_names (es ++ fs) ≡ entry_names es ++ entry_names fs
-names-append es fs = map-append (λ (e : Entry). part_name e.0) es fs
+names-append : (es fs : List PartWithEnd) → entry_names (es ++ fs) ≡ entry_names es ++ entry_names fs
+names-append es fs = map-append (λ (e : PartWithEnd). part_name e.0) es fs
 
 thing_part : (t : Thing) → thing_name t ≡ part_name (part_of t)
 thing_part (things.Command c) = refl

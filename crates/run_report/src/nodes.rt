@@ -4,7 +4,7 @@
 ghost use Rattle.std.specs.Prelude.{◌≡◌, ℕ, ◌<◌, List, ◌++◌, ◌∷◌, [], length, map, OnOk, IfOk};
 ghost use Rattle.sieve_syntax.specs.View.{test_of, inner_of, command_of, ending_of, commands_of, tree_of};
 ghost use Rattle.script_places.specs.Heads.{commands_names};
-ghost use Rattle.run_report.specs.Nodes.{node_names, node_entries, Part, Entry, part_of, with_inside, test_entries, inner_entries, command_entries, ending_entries, commands_entries};
+ghost use Rattle.run_report.specs.Nodes.{node_names, node_entries, Part, PartWithEnd, part_of, with_inside, test_entries, inner_entries, command_entries, ending_entries, commands_entries};
 
 use sieve_syntax::{Command, Ending, Script, Test, Tests};
 use std::alloc::{AllocError, Global};
@@ -37,7 +37,7 @@ fn begin<'a>(nodes: &mut Vec<Node<'a>>, thing: Thing<'a>) -> Result<usize, Alloc
 
 /// Sets the end of a node to the end of the list.
 fn end(nodes: &mut Vec<Node<'_>>, number: usize)
-    ensures { (before inside : List Entry) (part : Part) (n : ℕ)
+    ensures { (before inside : List PartWithEnd) (part : Part) (n : ℕ)
         → node_entries nodes.old.items ≡ before ++ (part, n) ∷ inside
         → number ≡ length before
         → node_entries nodes.new.items ≡ before ++ with_inside part number inside }

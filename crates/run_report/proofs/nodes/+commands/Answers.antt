@@ -2,7 +2,7 @@ use Rattle.std.proofs.Common.{ℕ, List, length}
 use Rattle.sieve_syntax.specs.Tree.{InnerTests, EndingTree}
 use Rattle.sieve_syntax.specs.View.{inner_of, command_of, ending_of}
 use Rattle.sieve_syntax.specs.declared.tree.Ending.TheViews.{out-Command}
-use Rattle.run_report.specs.Nodes.{Entry, command_part, followed_by, inner_entries, ending_entries}
+use Rattle.run_report.specs.Nodes.{PartWithEnd, command_part, followed_by, inner_entries, ending_entries}
 use Rattle.run_report.proofs.NodeLemmas.{entered_then, followed, command_entries-fields}
 use Rattle.run_report.proofs.nodes.+commands.Goals as goal
 
@@ -11,7 +11,7 @@ add_command-returns t c =
     let command = c.args.command.now in
     let inner : InnerTests = inner_of (out-Command command).tests in
     let finish : EndingTree = ending_of (out-Command command).ending in
-    let next : ℕ → List Entry = λ m. followed_by m (inner_entries inner m) (ending_entries finish) in
+    let next : ℕ → List PartWithEnd = λ m. followed_by m (inner_entries inner m) (ending_entries finish) in
     let n0 = c.args.nodes.now.items in
     let n1 = c.begin.new.nodes.items in
     let n2 = c.add_tests.new.nodes.items in
