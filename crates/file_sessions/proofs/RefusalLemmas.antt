@@ -18,7 +18,7 @@ use Rattle.sqlite.specs.declared.error.Error.{Error}
 use Rattle.sqlite.specs.declared.file.Leftover.{Leftover}
 use Rattle.record_archive.specs.Archive.{Archive}
 use Rattle.store_files.specs.Files.{FindsAt, system_file}
-use Rattle.file_sessions.specs.Refusals.{HasCause, IsRefusedBySystem}
+use Rattle.file_sessions.specs.Refusals.{RefusalHasCause, IsRefusedBySystem}
 use Rattle.file_sessions.specs.declared.session.NoSession.TheVariants.{Unopened}
 
 -- the files recover to a database, or none has been made yet
@@ -41,7 +41,7 @@ module _ {S : Type 0} {g : calls.Ghosts Host} (first : start.Ghosts S) (history 
   pub has_cause : (e : Error) (left : Option (Leftover (Modelled Host S g first) (system_file first))) → (left ≡ None → IsRefusedBySystem e)
       → IfSome left (λ left. (files : Files (Modelled Host S g first)) × IsFresh true files.log × IsFresh false files.db
       × (IsCleanLeft left → FailsToOpenFiles files left e × LeavesFiles files left))
-      → (a : Archive) → FindsAt (image_at first) a → HasCause (Unopened e left)
+      → (a : Archive) → FindsAt (image_at first) a → RefusalHasCause (Unopened e left)
   has_cause e None unopened cause a found = unopened refl
   has_cause e (Some left) unopened cause a found = λ clean.
       let Wanted : Image → Type 0 = λ image. ((db : Trees) × HoldsDatabase image db) ⊎ IsNothing image in

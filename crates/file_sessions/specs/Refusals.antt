@@ -24,7 +24,7 @@ module _ {D : Type 0} {g : Ghosts D} where
       ⊎ ((0 < faults_left left) ⊎ ((e ≡ SqliteFailure DiskFull) × IsFullLeft left))
 
   -- One of these is the cause, or the database refused (89), or there was no memory (99).
-  abbrev pub HasCause : NoSession D g → Type 0
-  HasCause (Unopened e None) = IsRefusedBySystem e
-  HasCause (Unopened e (Some left)) = IsCleanLeft left → StopsOpening left e
-  HasCause (Unadopted fault files) = AreClean g files.log files.db → is_trouble fault ≡ true
+  abbrev pub RefusalHasCause : NoSession D g → Type 0
+  RefusalHasCause (Unopened e None) = IsRefusedBySystem e
+  RefusalHasCause (Unopened e (Some left)) = IsCleanLeft left → StopsOpening left e
+  RefusalHasCause (Unadopted fault files) = AreClean g files.log files.db → is_trouble fault ≡ true

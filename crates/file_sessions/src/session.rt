@@ -14,9 +14,9 @@ ghost use Rattle.filing_session.specs.Session.{session_in};
 ghost use Rattle.record_store.specs.Layouts.{HasArchiveTablesOrNone};
 ghost use Rattle.record_store.specs.Stores as stores;
 ghost use Rattle.filing_desk.specs.Standing.{StandsFor};
-ghost use Rattle.store_files.specs.Closing.{HasCause as EndsFor, HaveCounted, HoldsLeft, LeavesBy};
+ghost use Rattle.store_files.specs.Closing.{HasCause, HaveCounted, HoldsLeft, LeavesBy};
 ghost use Rattle.store_files.specs.Files.{FindsAt, HoldsTables, KeepsAt, KeepsFiles, system_file};
-ghost use Rattle.file_sessions.specs.Refusals.{HasCause};
+ghost use Rattle.file_sessions.specs.Refusals.{RefusalHasCause};
 ghost use Rattle.file_sessions.specs.Sessions.{IsDone, IsTold, LeadsTo, LeavesSome};
 ghost use Rattle.file_sessions.specs.Unserved.{HoldsStill, KeepsUnserved};
 
@@ -61,7 +61,7 @@ fn close_desk<D: Disk + Drop>(desk: Desk<Store<FileStore<D>>>) -> (Files<D>, Clo
         → LeavesBy result.1 (HoldsLeft (file_state desk.store.conn) image) }
     ensures cause { AreClean D.Disk result.0.log result.0.db
         → IsTrue (file_state desk.store.conn).is_open
-        → EndsFor D.Disk (file_state desk.store.conn).faults result.0 result.1 }
+        → HasCause D.Disk (file_state desk.store.conn).faults result.0 result.1 }
     ensures counts { HaveCounted D.Disk (file_state desk.store.conn).faults result.0 }
 {
     close(desk.into_store().into_connection())
@@ -93,7 +93,7 @@ pub fn serve_connection<D: Disk + Drop, In: Source, Out: Sink>(
         (In.left source.old) (Out.written sink.old) (Out.written sink.new))) }
     ensures shut { IfOk result (λ it. AreClean D.Disk it.files.log it.files.db
         → HasCleanDisk (file_state conn) × ((a : Archive)
-        → Finds (file_state conn).now a → EndsFor D.Disk 0 it.files it.closing)) }
+        → Finds (file_state conn).now a → HasCause D.Disk 0 it.files it.closing)) }
     ensures layout { OnOk result (HasArchiveTablesOrNone (file_state conn).now.schema) }
     ensures refused { IfErr result (λ e. AreClean D.Disk e.1.log e.1.db
         → HasCleanDisk (file_state conn) × ((a : Archive)
@@ -151,11 +151,11 @@ pub fn serve_file<S: Start, In: Source, Out: Sink>(
         (In.left source.old) (Out.written sink.old) (Out.written sink.new)) }
     ensures shut { IfOk result (λ it. AreClean (system_file S.Start) it.files.log it.files.db
         → (a : Archive) → FindsAt (image_at S.Start) a
-        → EndsFor (system_file S.Start) 0 it.files it.closing) }
+        → HasCause (system_file S.Start) 0 it.files it.closing) }
     ensures layout { IfOk result (λ it. AreClean (system_file S.Start) it.files.log it.files.db
         → HoldsTables HasArchiveTablesOrNone (image_at S.Start)) }
     ensures refused { IfErr result (λ e. (a : Archive) → FindsAt (image_at S.Start) a → IsArchive a
-        → HasCause e) }
+        → RefusalHasCause e) }
     ensures kept { IfErr result (λ e. (a : Archive) → FindsAt (image_at S.Start) a
         → KeepsUnserved (image_at S.Start) a e) }
 {
