@@ -7,18 +7,18 @@ use Rattle.filing_session.specs.Session.{Item, Call, UnknownCommand, WrongWord}
 use Rattle.filing_session.specs.Session as session
 use Rattle.filing_session.specs.Laws.{RunsLead}
 use Rattle.promises.specs.Lines.{LineSession, IsSession, answers_in, commands_in}
-use Rattle.promises.specs.Runs.{Run}
+use Rattle.promises.specs.Runs.{Steps}
 
 -- lines that are no commands change nothing
 pub commands_run : (s new : Standing) (items : List Item) (answers : List Answer) → session.Run Step s items answers new
-    → Run s (commands_in items) (answers_in items answers) new
+    → Steps s (commands_in items) (answers_in items answers) new
 commands_run s new [] [] h = h
 commands_run s new (Call c ∷ items) (a ∷ answers) h = (h.0, h.1, commands_run h.0 new items answers h.2)
 commands_run s new (UnknownCommand ∷ items) (a ∷ answers) h =
-    let P : Standing → Type 0 = λ x. Run x (commands_in items) (answers_in items answers) new in
+    let P : Standing → Type 0 = λ x. Steps x (commands_in items) (answers_in items answers) new in
     subst P h.1.1 (commands_run h.0 new items answers h.2)
 commands_run s new (WrongWord ∷ items) (a ∷ answers) h =
-    let P : Standing → Type 0 = λ x. Run x (commands_in items) (answers_in items answers) new in
+    let P : Standing → Type 0 = λ x. Steps x (commands_in items) (answers_in items answers) new in
     subst P h.1.1 (commands_run h.0 new items answers h.2)
 commands_run s new [] (a ∷ answers) h = absurd h
 commands_run s new (i ∷ items) [] h = absurd h

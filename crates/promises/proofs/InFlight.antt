@@ -10,7 +10,7 @@ use Rattle.filing_commands.specs.Answers.{Answer, begun}
 use Rattle.filing_commands.specs.Limits.{last_ticket, most_in_flight}
 use Rattle.filing_commands.specs.Standing.{Command, Flight, Standing, IsPinned, flight_of, grant, without, opening}
 use Rattle.promises.specs.Beginnings.{tickets_given, AreNumbersUpTo}
-use Rattle.promises.specs.Runs.{IsReachedState, Run}
+use Rattle.promises.specs.Runs.{IsReachedState, Steps}
 use Rattle.promises.specs.Turns.{HasEnded}
 use Rattle.promises.proofs.Changes.{Change, step_change}
 use Rattle.promises.proofs.CitedLaws.{LengthsAreOne, RunsEnd}
@@ -75,7 +75,7 @@ change_within s c a new (inr (inr (inr h))) k =
       last = rw h.last (omega (arith, room.1));
     }
 
-run_within : (s : Standing) (cs : List Command) (answers : List Answer) (new : Standing) → Run s cs answers new
+run_within : (s : Standing) (cs : List Command) (answers : List Answer) (new : Standing) → Steps s cs answers new
     → IsWithinLimits s → IsWithinLimits new
 run_within s [] [] new h k = subst IsWithinLimits (sym h) k
 run_within s (c ∷ cs) (a ∷ answers) new h k = run_within h.0 cs answers new h.2 (change_within s c a h.0 (step_change s c a h.0 h.1) k)
@@ -125,7 +125,7 @@ change_given s c a mid answers last (inr (inr (inr h))) k =
     let same : mid.last ≡ h.flight.ticket = h.last ∙ sym h.next in
     next_ticket a h.flight.ticket h.flight.pinned.budget s.last last answers h.answer h.next (rw same at k)
 
-given_in_order : (s : Standing) (cs : List Command) (answers : List Answer) (new : Standing) → Run s cs answers new
+given_in_order : (s : Standing) (cs : List Command) (answers : List Answer) (new : Standing) → Steps s cs answers new
     → AreNumbersUpTo s.last (tickets_given answers) new.last
 given_in_order s [] [] new h = ap (λ (x : Standing). x.last) h
 given_in_order s (c ∷ cs) (a ∷ answers) new h =
@@ -134,5 +134,5 @@ given_in_order s [] (a ∷ answers) new h = absurd h
 given_in_order s (c ∷ cs) [] new h = absurd h
 
 pub tickets_in_order : (archive : Archive) (cs : List Command) (answers : List Answer) (s : Standing)
-    → Run (opening archive) cs answers s → AreNumbersUpTo 0 (tickets_given answers) s.last
+    → Steps (opening archive) cs answers s → AreNumbersUpTo 0 (tickets_given answers) s.last
 tickets_in_order archive cs answers s h = given_in_order (opening archive) cs answers s h

@@ -11,7 +11,7 @@ use Rattle.filing_commands.specs.Office.{with_archive}
 use Rattle.filing_commands.specs.Pinning.{BeginState, IsAlone, GivesOutcome, Choice, nothing, script, image_of, case_in}
 use Rattle.filing_commands.specs.Standing.{Command, plain, begin, turn, finish, Standing, Files, is_refusal}
 use Rattle.promises.specs.Alike.{AreAlike, AllAlike}
-use Rattle.promises.specs.Runs.{Run}
+use Rattle.promises.specs.Runs.{Steps}
 use Rattle.promises.specs.Serial.{Serial, SerialStep, SerialBegin, SerialFinish, SerialRun, stood_of, without_ticket}
 use Rattle.promises.specs.Serial.{is_struck, kept_commands, kept_answers, forget}
 use Rattle.promises.proofs.CitedLaws.{OutcomesAreOne, ProgramsAreOne, TextsAreOne}
@@ -154,7 +154,7 @@ module _ (texts : TextsAreOne) (one_start : ProgramsAreOne) (one_outcome : Outco
   run_once s (c ∷ cs) (a ∷ answers) [] x y h k = absurd k
 
   pub equal_sessions : (s t : Standing) (cs ds : List Command) (answers others : List Answer) (x y : Standing)
-      → forget s ≡ forget t → Run s cs answers x → Run t ds others y
+      → forget s ≡ forget t → Steps s cs answers x → Steps t ds others y
       → kept_commands cs answers ≡ kept_commands ds others → AllAlike (kept_answers cs answers) (kept_answers ds others)
       × (forget x ≡ forget y)
   equal_sessions s t cs ds answers others x y same h k e =

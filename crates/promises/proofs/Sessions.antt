@@ -18,7 +18,7 @@ use Rattle.filing_commands.specs.Pinning.{BeginState, Choice, nothing, script, i
 use Rattle.filing_commands.specs.Standing.{Command, plain, begin, turn, finish, Flight, Standing, Step, BeginStep}
 use Rattle.filing_commands.specs.Standing.{TurnStep, FinishStep, FinishWhole, Files, flight_of, grant, without}
 use Rattle.filing_commands.specs.Standing.{with_turns, after_finish, begin_refusal, begin_state}
-use Rattle.promises.specs.Runs.{Run}
+use Rattle.promises.specs.Runs.{Steps}
 use Rattle.promises.specs.Serial.{Serial, SerialStep, SerialRun, Ticket, next_ticket, ticket_of, stood_of}
 use Rattle.promises.specs.Serial.{without_ticket, is_passing, is_struck, kept_commands, kept_answers, forget}
 
@@ -198,7 +198,7 @@ joined true s mid new c a cs answers e f rest =
     rw e (subst P f rest)
 joined false s mid new c a cs answers e f rest = rw e (mid, e, f, rest)
 
-pub sessions : (s : Standing) (cs : List Command) (answers : List Answer) (new : Standing) → Run s cs answers new
+pub sessions : (s : Standing) (cs : List Command) (answers : List Answer) (new : Standing) → Steps s cs answers new
     → SerialRun (forget s) (kept_commands cs answers) (kept_answers cs answers) (forget new)
 sessions s [] [] new h = ap forget h
 sessions s (c ∷ cs) (a ∷ answers) new h =

@@ -7,7 +7,7 @@ use Rattle.record_archive.specs.Archive.{Archive}
 use Rattle.filing_commands.specs.Answers.{Answer, begun}
 use Rattle.filing_commands.specs.Standing.{Command, begin, Flight, Standing, Step, flight_of, grant, without, opening, begin_state}
 use Rattle.promises.specs.Beginnings.{HasBegun}
-use Rattle.promises.specs.Runs.{Run}
+use Rattle.promises.specs.Runs.{Steps}
 use Rattle.promises.specs.Turns.{Grants, AllGrant}
 use Rattle.promises.proofs.Changes.{Change, Stays, GrantsOne, GivesOneUp, BeginsOne, step_change}
 use Rattle.promises.proofs.TicketLemmas.{AreTickets, granted_more, of_grant, of_grant_other, of_without}
@@ -251,7 +251,7 @@ begun_later s mid c a cs answers f step h = record {
 }
 
 run_source : (s : Standing) (cs : List Command) (answers : List Answer) (new : Standing) (t : ℕ) (f : Flight)
-    → AreInOrder s → Run s cs answers new → flight_of t new.flights ≡ Some f → RunSource s cs answers t f
+    → AreInOrder s → Steps s cs answers new → flight_of t new.flights ≡ Some f → RunSource s cs answers t f
 run_source s [] [] new t f k h e = inl (record {
   old = f;
   there = ap (λ (x : Standing). flight_of t x.flights) (sym h) ∙ e;
@@ -281,7 +281,7 @@ run_source s (c ∷ cs) [] new t f k h e = absurd h
 -- ---- sessions that begin with an archive
 
 opening_source : (archive : Archive) (cs : List Command) (answers : List Answer) (s : Standing) (t : ℕ) (f : Flight)
-    → Run (opening archive) cs answers s → flight_of t s.flights ≡ Some f → IsBegunIn (opening archive) cs answers t f
+    → Steps (opening archive) cs answers s → flight_of t s.flights ≡ Some f → IsBegunIn (opening archive) cs answers t f
 opening_source archive cs answers s t f h e = go (run_source (opening archive) cs answers s t f (omega arith) h e)
   where
     go : RunSource (opening archive) cs answers t f → IsBegunIn (opening archive) cs answers t f
@@ -289,10 +289,10 @@ opening_source archive cs answers s t f h e = go (run_source (opening archive) c
     go (inr x) = x
 
 pub granted_in_all : (archive : Archive) (cs : List Command) (answers : List Answer) (s : Standing) (t : ℕ) (f : Flight)
-    → Run (opening archive) cs answers s → flight_of t s.flights ≡ Some f → AllGrant t cs answers f.granted
+    → Steps (opening archive) cs answers s → flight_of t s.flights ≡ Some f → AllGrant t cs answers f.granted
 granted_in_all archive cs answers s t f h e = (opening_source archive cs answers s t f h e).grants
 
 pub stood_at_beginning : (archive : Archive) (cs : List Command) (answers : List Answer) (s : Standing) (t : ℕ)
-    (f : Flight) → Run (opening archive) cs answers s → flight_of t s.flights ≡ Some f
+    (f : Flight) → Steps (opening archive) cs answers s → flight_of t s.flights ≡ Some f
     → HasBegun (opening archive) cs answers f
 stood_at_beginning archive cs answers s t f h e = (opening_source archive cs answers s t f h e).begun_in

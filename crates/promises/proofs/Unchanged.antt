@@ -8,7 +8,7 @@ use Rattle.filing_commands.specs.Office.{Office, PlainCommand, OfficeStep, with_
 use Rattle.filing_commands.specs.Pinning.{BeginState}
 use Rattle.filing_commands.specs.Standing.{Command, plain, begin, turn, finish, Flight, Standing, Step, TurnStep}
 use Rattle.filing_commands.specs.Standing.{FinishStep, FinishWhole, flight_of, opening, turn_answer, without}
-use Rattle.promises.specs.Runs.{IsReachedState, Run}
+use Rattle.promises.specs.Runs.{IsReachedState, Steps}
 use Rattle.promises.specs.RefusedCalls.{KeepsSteps}
 use Rattle.promises.proofs.Sources.{AreInOrder, step_in_order}
 use Rattle.promises.proofs.TicketLemmas.{none_above, of_without}
@@ -69,7 +69,7 @@ steps_kept s (finish t) at new h = inl (finish_unchanged s t (flight_of t s.flig
 
 -- ---- tickets that are given up
 
-run_in_order : (s : Standing) (cs : List Command) (answers : List Answer) (new : Standing) → Run s cs answers new → AreInOrder s → AreInOrder new
+run_in_order : (s : Standing) (cs : List Command) (answers : List Answer) (new : Standing) → Steps s cs answers new → AreInOrder s → AreInOrder new
 run_in_order s [] [] new h k = let P : Standing → Type 0 = AreInOrder in subst P (sym h) k
 run_in_order s (c ∷ cs) (a ∷ answers) new h k = run_in_order h.0 cs answers new h.2 (step_in_order s c a h.0 h.1 k).0
 run_in_order s [] (a ∷ answers) new h k = absurd h

@@ -3,7 +3,7 @@ use Rattle.std.specs.Prelude.{◌≡◌, ℕ, ◌+◌, ◌<◌, ◌≤◌, List,
 use Rattle.filing_commands.specs.Answers.{Answer, done, dry_run, begun, running, ended, captured, listed, refused}
 use Rattle.filing_commands.specs.Limits.{greatest_message, last_moment, last_ticket, most_in_flight}
 use Rattle.filing_commands.specs.Standing.{Command, begin, Flight, Standing, Step, begin_state}
-use Rattle.promises.specs.Runs.{Run}
+use Rattle.promises.specs.Runs.{Steps}
 
 -- One of the commands, with these answers, was a BEGIN that gave the ticket and answered the budget of what is pinned.
 -- What stood then, in the state that the commands before it left, still holds for the capture.
@@ -18,7 +18,7 @@ pub record HasBegun (old : Standing) (commands : List Command) (answers : List A
   pub begins : commands ≡ earlier ++ begin officer moment message ∷ later
   pub told : answers ≡ earlier_answers ++ begun f.ticket f.pinned.budget ∷ later_answers
   pub state : Standing
-  pub run : Run old earlier earlier_answers state
+  pub run : Steps old earlier earlier_answers state
   pub at_begin : f.at_begin ≡ begin_state state.office officer moment message
 
 -- a BEGIN in a state, its answer, and the state that it leaves

@@ -5,7 +5,7 @@ ghost use Rattle.filing_commands.specs.Answers.{Answer};
 ghost use Rattle.filing_commands.specs.Standing.{Standing, Step};
 ghost use Rattle.filing_session.specs.Session.{Item, Run};
 ghost use Rattle.promises.specs.Lines.{AreServedAlike, EqualLinesLeft, IsSession, LeaveTheSame, LineSession, ReplyAlike, ServedSession, answers_in, commands_in};
-ghost use Rattle.promises.specs.Runs.{Run as Steps};
+ghost use Rattle.promises.specs.Runs.{Steps};
 ghost use Rattle.promises.specs.Serial.{SameButTurns};
 
 use filing_commands::Registry;
