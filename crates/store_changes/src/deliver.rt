@@ -1,6 +1,6 @@
 //! `deliver`: one message from standard input.
 
-use crate::rules::Filing;
+use crate::rules::FilingRules;
 use clap::ArgMatches;
 use filing_commands::{Capture, DeskFault, MAX_MESSAGE_OCTETS, Payload};
 use mail_delivery::{Delivery, deliver};
@@ -104,7 +104,7 @@ fn moment_asked(rt: &HostRuntime, asked: &ArgMatches<'_>) -> Result<u64, Failure
 fn deliver_to<A: Records>(
     rt: &HostRuntime,
     archive: A,
-    filing: &Filing<'_>,
+    filing: &FilingRules<'_>,
     moment: u64,
     message: Payload,
 ) -> (A, Result<Delivery, Failure>) {
@@ -134,7 +134,7 @@ fn given_up(rt: &HostRuntime, fault: RunFault) -> Failure {
 pub struct DeliverTask<'a> {
     moment: u64,
     message: Payload,
-    filing: Filing<'a>,
+    filing: FilingRules<'a>,
 }
 
 impl<'a> DeliverTask<'a> {
@@ -144,7 +144,7 @@ impl<'a> DeliverTask<'a> {
     pub fn read(rt: &HostRuntime, asked: &ArgMatches<'a>) -> Result<DeliverTask<'a>, Failure> {
         let moment = moment_asked(rt, asked)?;
         let message = read_message(rt)?;
-        let filing = Filing::read(rt, asked)?;
+        let filing = FilingRules::read(rt, asked)?;
         Ok(DeliverTask {
             moment,
             message,

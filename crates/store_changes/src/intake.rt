@@ -1,7 +1,7 @@
 //! `intake`: the new messages of a Maildir.
 
 use crate::deliver::{desk_failure, given_up_words, report_capture};
-use crate::rules::Filing;
+use crate::rules::FilingRules;
 use clap::ArgMatches;
 use filing_commands::{Capture, MAX_MESSAGE_OCTETS, Payload};
 use filing_desk::Desk;
@@ -54,7 +54,7 @@ impl Tally {
 #[derive(Drop)]
 pub struct IntakeTask<'a> {
     maildir: &'a str,
-    filing: Filing<'a>,
+    filing: FilingRules<'a>,
 }
 
 /// Names a message that stays, with the reason.
@@ -299,7 +299,7 @@ impl<'a> IntakeTask<'a> {
         judge_maildir(rt, maildir)?;
         Ok(IntakeTask {
             maildir,
-            filing: Filing::read(rt, asked)?,
+            filing: FilingRules::read(rt, asked)?,
         })
     }
 }

@@ -9,7 +9,7 @@ use store_console::{Failure, Status, tell};
 
 /// How mail is filed.
 #[derive(Drop)]
-pub struct Filing<'a> {
+pub struct FilingRules<'a> {
     pub officer: &'a str,
     pub on_fault: OnFault,
     /// None where the rules are at fault, and mail may go to `unfiled` then.
@@ -31,9 +31,9 @@ fn excuse(rt: &HostRuntime, fault: &RulesFault, on_fault: OnFault) -> Result<(),
     }
 }
 
-impl<'a> Filing<'a> {
+impl<'a> FilingRules<'a> {
     /// How the command line says that mail is to be filed.
-    pub fn read(rt: &HostRuntime, asked: &ArgMatches<'a>) -> Result<Filing<'a>, Failure> {
+    pub fn read(rt: &HostRuntime, asked: &ArgMatches<'a>) -> Result<FilingRules<'a>, Failure> {
         let folder = asked.get_str("rules").unwrap_or("");
         let officer = asked.get_str("officer").unwrap_or("");
         let on_fault = if asked.get_flag("unfiled-on-fault") {
@@ -48,7 +48,7 @@ impl<'a> Filing<'a> {
                 None
             }
         };
-        Ok(Filing {
+        Ok(FilingRules {
             officer,
             on_fault,
             rules,
