@@ -12,7 +12,7 @@ use Rattle.class_plan.specs.Dates.{IsLater}
 use Rattle.class_plan.specs.Plans.{Listing}
 use Rattle.record_archive.specs.Archive.{Record}
 use Rattle.record_tables.specs.Reads.{HoldEntry}
-use Rattle.record_store.specs.Entries.{Entry, listed, due_if_live, names_at_front, listed_beside}
+use Rattle.record_store.specs.Entries.{RecordEntry, listed, due_if_live, names_at_front, listed_beside}
 
 -- ---- the names at the front
 
@@ -72,7 +72,7 @@ drop_again {X = X} (suc i) zero [] = ap (λ n. drop {A = X} n []) (let e : suc i
 drop_again {X = X} (suc i) (suc k) [] = ap (λ n. drop {A = X} n []) (let e : suc (i + suc k) ≡ suc i + suc k = omega arith in e)
 drop_again (suc i) k (x ∷ xs) = drop_again i k xs ∙ ap (λ n. drop n (x ∷ xs)) (let e : suc (i + k) ≡ suc i + k = omega arith in e)
 
-module _ {V W H : Type 0} (f : H → HoldEntry) (g : V → Record) (view : W → Entry) (p : Listing) (hs : List H) (whole : List Entry) where
+module _ {V W H : Type 0} (f : H → HoldEntry) (g : V → Record) (view : W → RecordEntry) (p : Listing) (hs : List H) (whole : List RecordEntry) where
   -- the entries so far, and those of the records and holds that are left, are all of them
   abbrev pub EntriesSoFar : ℕ → List W → List V → Type 0
   EntriesSoFar at ws rest = map view ws ++ listed_beside p (map f (drop at hs)) (map g rest) ≡ whole

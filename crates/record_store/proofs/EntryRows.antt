@@ -7,7 +7,7 @@ use Rattle.class_plan.specs.declared.schedules.Schedule.TheVariants.{Permanent, 
 use Rattle.class_plan.specs.Plans.{open_row}
 use Rattle.jiff_core.specs.Calendar.{days_from_civil, day_count, days_of_years, days_of_months}
 use Rattle.record_archive.specs.Archive.{Record, Archive}
-use Rattle.record_store.specs.Entries.{Entry, entries_from}
+use Rattle.record_store.specs.Entries.{RecordEntry, entries_from}
 
 -- captured on 2023-11-14, day 19675
 abbrev kept : ℕ → Record
@@ -26,7 +26,7 @@ some_archive = record {
 }
 
 -- 2024-11-14 is day 20041
-abbrev second : Entry
+abbrev second : RecordEntry
 second = record {
   number = 2;
   path = codes "tax";
@@ -38,7 +38,7 @@ second = record {
       codes "a" ∷ codes "b" ∷ [];
 }
 
-abbrev third : Entry
+abbrev third : RecordEntry
 third = record { number = 3; path = unfiled; day = pos 19675; due = None; message = 2; destroyed = false; holds = codes "case" ∷ [] }
 
 -- a destroyed record has no due day

@@ -15,11 +15,11 @@ use Rattle.record_tables.specs.declared.rows.RecordRow.{RecordRow}
 use Rattle.record_adoption.specs.Adoption.{sorted_holds}
 use Rattle.record_adoption.specs.Counts.{count_at}
 use Rattle.record_adoption.specs.declared.counts.Counts.{Counts}
-use Rattle.record_store.specs.declared.entries.Entry as code
+use Rattle.record_store.specs.declared.entries.RecordEntry as code
 
 -- a record with all that is kept of it but the message's octets: the day of its capture and its due day are counted
 -- from 1970-01-01, and the names of its holds are in byte order
-pub record Entry : Type 0 where
+pub record RecordEntry : Type 0 where
   pub number : ℕ
   pub path : List ℕ
   pub day : ℤ
@@ -33,7 +33,7 @@ abbrev pub due_if_live : Listing → Record → Option ℕ
 due_if_live p r = if r.destroyed then None else due_on p r.path r.day
 
 -- a record by a plan, with the names of its holds
-abbrev pub listed : Listing → Record → List (List ℕ) → Entry
+abbrev pub listed : Listing → Record → List (List ℕ) → RecordEntry
 listed p r names = record {
   number = r.number;
   path = r.path;
@@ -52,7 +52,7 @@ IsListableRecord r = r.day ≤ 84005
 abbrev pub hold_names : Archive → ℕ → List (List ℕ)
 hold_names a n = sort_by (slice_cmp nat_cmp) (map (λ (h : Hold). h.name) (filter (λ (h : Hold). h.number == n) a.holds))
 
-abbrev pub entry_of : Archive → Record → Entry
+abbrev pub entry_of : Archive → Record → RecordEntry
 entry_of a r = listed a.plan r (hold_names a r.number)
 
 -- the records whose numbers are not below one, in their order
@@ -60,7 +60,7 @@ abbrev pub records_from : Archive → ℕ → List Record
 records_from a n = filter (λ (r : Record). nat_le n r.number) a.records
 
 -- THE LIST OF RECORDS from a number on, in the order of their numbers
-abbrev pub entries_from : Archive → ℕ → List Entry
+abbrev pub entries_from : Archive → ℕ → List RecordEntry
 entries_from a n = map (entry_of a) (records_from a n)
 
 -- the octets of each name
@@ -68,7 +68,7 @@ abbrev pub name_list : List (Vec ℕ Global) → List (List ℕ)
 name_list names = map (λ n. n.items) names
 
 -- an entry of the code as a plain one
-abbrev pub entry_view : code.Entry → Entry
+abbrev pub entry_view : code.RecordEntry → RecordEntry
 entry_view e = record {
   number = e.number;
   path = e.path.items;
@@ -104,6 +104,6 @@ names_at_front n [] = []
 names_at_front n (h ∷ hs) = if h.number == n then h.name ∷ names_at_front n hs else []
 
 -- each record with the names of those holds that come next and are on it
-abbrev pub listed_beside : Listing → List HoldEntry → List Record → List Entry
+abbrev pub listed_beside : Listing → List HoldEntry → List Record → List RecordEntry
 listed_beside p hs [] = []
 listed_beside p hs (r ∷ rs) = listed p r (names_at_front r.number hs) ∷ listed_beside p (drop (length (names_at_front r.number hs)) hs) rs

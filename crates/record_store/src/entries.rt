@@ -22,7 +22,7 @@ use std::alloc::{AllocError, Global};
 
 /// A record as it is listed: all that is kept of it but the octets of its message.
 #[derive(Drop)]
-pub struct Entry {
+pub struct RecordEntry {
     pub number: u32,
     /// The path of its class.
     pub path: Vec<u8>,
@@ -69,7 +69,7 @@ fn names_at_front(alloc: Global, holds: &[HoldRow], number: u32) -> Result<Vec<V
 }
 
 /// The entry of a record by a plan, with the names of its holds.
-fn entry_of(plan: &Plan, row: RecordRow, holds: Vec<Vec<u8>>) -> Result<Entry, StoreFault>
+fn entry_of(plan: &Plan, row: RecordRow, holds: Vec<Vec<u8>>) -> Result<RecordEntry, StoreFault>
     ensures entry { IfOk result
         (λ e. entry_view e ≡ listed plan.now (record_of row) (name_list holds.items)) }
     ensures trouble { IfErr result (λ f. is_trouble f ≡ true) }
@@ -86,7 +86,7 @@ fn entry_of(plan: &Plan, row: RecordRow, holds: Vec<Vec<u8>>) -> Result<Entry, S
     } else {
         plan.due_of(row.path.as_slice(), day)
     };
-    Ok(Entry {
+    Ok(RecordEntry {
         number: row.number,
         path: row.path,
         day,
@@ -103,7 +103,7 @@ fn entries_beside(
     plan: &Plan,
     rows: Vec<RecordRow>,
     holds: &[HoldRow],
-) -> Result<Vec<Entry>, StoreFault>
+) -> Result<Vec<RecordEntry>, StoreFault>
     ensures entries { IfOk result (λ v. map entry_view v.items ≡
         listed_beside plan.now (map hold_entry_of holds.now) (map record_of rows.items)) }
     ensures trouble { IfErr result (λ f. is_trouble f ≡ true) }
@@ -177,7 +177,7 @@ impl<S: Alter> Store<S> {
     ///
     /// A page takes the time of its own records. One with a held record also takes that of all holds, so a walk over
     /// all records is best made in pages of some thousands. The only refusals are 89 (`sqlite`) and 99 (no memory).
-    pub fn entries(&mut self, from: u32, most: usize) -> Result<Vec<Entry>, StoreFault>
+    pub fn entries(&mut self, from: u32, most: usize) -> Result<Vec<RecordEntry>, StoreFault>
         ensures tells { Tells S.Store self.old self.new result
             (λ a entries. map entry_view entries.items ≡ take most (entries_from a from))
             (λ a f. ⊥) }

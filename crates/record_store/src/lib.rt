@@ -15,7 +15,7 @@ mod records;
 mod revisions;
 mod store;
 
-pub use entries::Entry;
+pub use entries::RecordEntry;
 pub use fault::{Cause, StoreFault};
 pub use record_adoption::Counts;
 pub use record_archive::{ArchiveRefusal, Line, are_classes};

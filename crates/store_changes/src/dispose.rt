@@ -2,7 +2,7 @@
 
 use clap::ArgMatches;
 use class_plan::{Action, Date, Plan, Schedule};
-use record_store::{Entry, Line, Store, StoreFault};
+use record_store::{Line, RecordEntry, Store, StoreFault};
 use sqlite::Alter;
 use std::alloc::{AllocError, Global};
 use store_console::{Failure, Status, Task, Walk, day_asked, now, read_number, tell, write_text};
@@ -113,7 +113,7 @@ enum Search {
 }
 
 /// Looks for another live record of a message among some records, which are all of its records or the first of these.
-fn search_in(page: &[Entry], message: u32, number: u32) -> Search {
+fn search_in(page: &[RecordEntry], message: u32, number: u32) -> Search {
     for entry in page {
         if entry.message != message {
             return Search::Ended;

@@ -4,7 +4,7 @@ use crate::dispose::destroys;
 use crate::plan_file::read_plan;
 use clap::ArgMatches;
 use class_plan::{Date, Plan, day_number};
-use record_store::{Entry, Store};
+use record_store::{RecordEntry, Store};
 use sqlite::Alter;
 use store_console::{Failure, Status, Task, Walk, agrees, is_by, today, write_text};
 use store_texts::{due_by, plan_of_text, plan_text};
@@ -20,7 +20,7 @@ struct DueToday {
 
 impl DueToday {
     /// Adds a live record.
-    fn add(&mut self, entry: &Entry, plan: &Plan, today: Date) {
+    fn add(&mut self, entry: &RecordEntry, plan: &Plan, today: Date) {
         let path = entry.path.as_slice();
         if is_by(due_by(plan, path, entry.day), today) {
             self.all = self.all.saturating_add(1);
@@ -51,7 +51,7 @@ fn is_same_day(one: Option<Date>, other: Option<Date>) -> bool {
 
 impl Changes {
     /// Adds a live record.
-    fn add(&mut self, entry: &Entry, old: &Plan, new: &Plan, today: Date) {
+    fn add(&mut self, entry: &RecordEntry, old: &Plan, new: &Plan, today: Date) {
         if !is_same_day(due_by(new, entry.path.as_slice(), entry.day), entry.due) {
             self.moved = self.moved.saturating_add(1);
         }

@@ -1,7 +1,7 @@
 //! What is done with an archive, wherever that is kept.
 
 use crate::failure::{Failure, Status};
-use record_store::{Entry, Store};
+use record_store::{RecordEntry, Store};
 use sqlite::Alter;
 
 /// How many records a walk reads at a time.
@@ -56,7 +56,7 @@ impl Walk {
         &mut self,
         rt: &HostRuntime,
         archive: &mut Store<S>,
-    ) -> Result<Vec<Entry>, Failure> {
+    ) -> Result<Vec<RecordEntry>, Failure> {
         let Some(from) = self.from else {
             return Ok(Vec::new(rt.alloc()));
         };

@@ -2,7 +2,7 @@
 
 use clap::ArgMatches;
 use class_plan::{Date, Plan};
-use record_store::Entry;
+use record_store::RecordEntry;
 use store_console::{Failure, Status, day_asked, is_by, read_number};
 
 /// Which records a list or an export has: those that meet each condition that is given.
@@ -66,7 +66,7 @@ impl Choice {
     }
 
     /// Whether a record is one of these.
-    pub fn has(&self, entry: &Entry) -> bool {
+    pub fn has(&self, entry: &RecordEntry) -> bool {
         let in_class = match &self.class {
             Some(class) => is_within(entry.path.as_slice(), class.as_str()),
             None => true,

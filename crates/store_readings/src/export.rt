@@ -3,7 +3,7 @@
 use crate::choice::Choice;
 use crate::list::row_of;
 use clap::ArgMatches;
-use record_store::{Entry, Store};
+use record_store::{RecordEntry, Store};
 use sqlite::Alter;
 use std::alloc::{AllocError, Global};
 use std::fs::{self, File, OpenOptions};
@@ -102,7 +102,7 @@ fn write_new<S: Alter>(
     rt: &HostRuntime,
     archive: &mut Store<S>,
     export: &mut ExportFiles<'_>,
-    entry: &Entry,
+    entry: &RecordEntry,
 ) -> Result<(), Failure> {
     if export
         .last
@@ -121,7 +121,11 @@ fn write_new<S: Alter>(
 }
 
 /// The row of a record, with the message that was written last.
-fn row_beside(alloc: Global, entry: &Entry, last: &Option<Written>) -> Result<Vec<u8>, AllocError> {
+fn row_beside(
+    alloc: Global,
+    entry: &RecordEntry,
+    last: &Option<Written>,
+) -> Result<Vec<u8>, AllocError> {
     let row = row_of(entry);
     match last {
         Some(last) => {
@@ -141,7 +145,7 @@ fn export_record<S: Alter>(
     rt: &HostRuntime,
     archive: &mut Store<S>,
     export: &mut ExportFiles<'_>,
-    entry: &Entry,
+    entry: &RecordEntry,
 ) -> Result<(), Failure> {
     let row = if entry.destroyed {
         manifest_row(rt.alloc(), &row_of(entry), None)?

@@ -1,7 +1,7 @@
 //! `check`: what an archive holds.
 
 use class_plan::Date;
-use record_store::{Entry, Store};
+use record_store::{RecordEntry, Store};
 use sqlite::Alter;
 use store_console::{Failure, Task, Walk, is_by, today, write_text};
 
@@ -27,7 +27,7 @@ impl Contents {
         &mut self,
         rt: &HostRuntime,
         archive: &mut Store<S>,
-        entry: &Entry,
+        entry: &RecordEntry,
         today: Date,
     ) -> Result<(), Failure> {
         self.records = self.records.saturating_add(1);
@@ -50,7 +50,7 @@ impl Contents {
         &mut self,
         rt: &HostRuntime,
         archive: &mut Store<S>,
-        entry: &Entry,
+        entry: &RecordEntry,
     ) -> Result<(), Failure> {
         if self.messages > 0 && self.message == entry.message {
             return Ok(());

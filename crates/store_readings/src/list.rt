@@ -2,7 +2,7 @@
 
 use crate::choice::Choice;
 use clap::ArgMatches;
-use record_store::{Entry, Store};
+use record_store::{RecordEntry, Store};
 use sqlite::Alter;
 use std::alloc::{AllocError, Global};
 use store_console::{Failure, Task, Walk, write, write_text};
@@ -17,7 +17,7 @@ enum Form {
 }
 
 /// A record as it is listed.
-pub fn row_of(entry: &Entry) -> Row<'_> {
+pub fn row_of(entry: &RecordEntry) -> Row<'_> {
     Row {
         number: entry.number,
         path: entry.path.as_slice(),
@@ -32,7 +32,7 @@ pub fn row_of(entry: &Entry) -> Row<'_> {
 fn push_record(
     alloc: Global,
     text: &mut Vec<u8>,
-    entry: &Entry,
+    entry: &RecordEntry,
     form: Form,
     is_first: bool,
 ) -> Result<(), AllocError> {
@@ -54,7 +54,7 @@ fn push_record(
 /// Writes the chosen records of a page. Answers whether there is still none before the next.
 fn write_page(
     rt: &HostRuntime,
-    page: &[Entry],
+    page: &[RecordEntry],
     choice: &Choice,
     form: Form,
     is_first: bool,

@@ -2,7 +2,7 @@
 
 use clap::ArgMatches;
 use class_plan::{Date, Plan};
-use record_store::{Entry, Store};
+use record_store::{RecordEntry, Store};
 use report_page::{Heading, Page, Record, Report, ReportFault};
 use sqlite::Alter;
 use store_console::{Failure, Status, Task, Walk, future_day_asked, now, today, write_text};
@@ -20,7 +20,7 @@ fn report_failure(rt: &HostRuntime, fault: ReportFault) -> Failure {
 }
 
 /// A record as a report reads it.
-fn record_of(entry: &Entry) -> Record<'_> {
+fn record_of(entry: &RecordEntry) -> Record<'_> {
     Record {
         number: entry.number,
         path: entry.path.as_slice(),
@@ -36,7 +36,7 @@ fn add_page(
     rt: &HostRuntime,
     plan: &Plan,
     report: &mut Report,
-    page: &[Entry],
+    page: &[RecordEntry],
 ) -> Result<(), Failure> {
     for entry in page {
         if let Err(fault) = report.add(plan, &record_of(entry)) {

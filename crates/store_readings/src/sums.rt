@@ -1,7 +1,7 @@
 //! How much an archive keeps, and whether two archives are the same.
 
 use class_plan::day_number;
-use record_store::{Entry, Store};
+use record_store::{RecordEntry, Store};
 use sha2::{Digest, Sha256};
 use sqlite::Alter;
 use store_console::{Failure, Task, Walk};
@@ -44,7 +44,7 @@ impl Summing {
     }
 
     /// Adds a record with its holds.
-    fn add_record(&mut self, entry: &Entry) {
+    fn add_record(&mut self, entry: &RecordEntry) {
         self.records = self.records.saturating_add(1);
         self.add_number(i64::from(entry.number));
         self.add_number(i64::from(entry.message));
@@ -63,7 +63,7 @@ impl Summing {
         &mut self,
         rt: &HostRuntime,
         archive: &mut Store<S>,
-        entry: &Entry,
+        entry: &RecordEntry,
     ) -> Result<(), Failure> {
         if entry.destroyed || (self.messages > 0 && self.message == entry.message) {
             return Ok(());

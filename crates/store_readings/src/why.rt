@@ -4,7 +4,7 @@ use crate::list::row_of;
 use clap::ArgMatches;
 use class_plan::{Date, Plan, day_number};
 use filing_commands::Payload;
-use record_store::{Entry, Store};
+use record_store::{RecordEntry, Store};
 use rules_folder::{Script, read_rules};
 use run_inquiry::{
     Answer, Form, Inquiry, InquiryFault, ScriptFile, Scripts, answer_to, first_parting,
@@ -21,7 +21,7 @@ const DAY: u64 = 86_400;
 /// A record as it was captured, with the plan of today.
 #[derive(Drop)]
 pub struct Captured {
-    entry: Entry,
+    entry: RecordEntry,
     /// None where it is destroyed.
     message: Option<Vec<u8>>,
     plan: Plan,
@@ -109,7 +109,7 @@ fn read_record<S: Alter>(
     archive: &mut Store<S>,
     word: &str,
     number: u32,
-) -> Result<(Entry, Option<Vec<u8>>), Failure> {
+) -> Result<(RecordEntry, Option<Vec<u8>>), Failure> {
     let alloc = rt.alloc();
     let mut page = match archive.entries(number, 1) {
         Ok(page) => page,
@@ -185,7 +185,7 @@ fn write_outcome(rt: &HostRuntime, words: &str, outcome: &Outcome) -> Result<(),
 }
 
 /// Writes whether the rules of today file a message in the class of its record again.
-fn write_verdict(rt: &HostRuntime, entry: &Entry, answer: &Answer) -> Result<(), Failure> {
+fn write_verdict(rt: &HostRuntime, entry: &RecordEntry, answer: &Answer) -> Result<(), Failure> {
     let alloc = rt.alloc();
     let class = entry.path.as_slice().escape_ascii();
     let words = if is_filed_in(&answer.outcome, entry.path.as_slice()) {
@@ -223,12 +223,12 @@ fn answer_by_rules(
 }
 
 /// Writes a record as it is listed.
-fn write_entry(rt: &HostRuntime, entry: &Entry) -> Result<(), Failure> {
+fn write_entry(rt: &HostRuntime, entry: &RecordEntry) -> Result<(), Failure> {
     write_text(rt, listed_line(rt.alloc(), &row_of(entry))?.as_str())
 }
 
 /// Writes a record, what becomes of its message by the rules of today, and whether they file it there again.
-fn write_answer(rt: &HostRuntime, entry: &Entry, answer: &Answer) -> Result<(), Failure> {
+fn write_answer(rt: &HostRuntime, entry: &RecordEntry, answer: &Answer) -> Result<(), Failure> {
     write_entry(rt, entry)?;
     write_text(rt, "\n")?;
     write_text(rt, answer.text.as_str())?;

@@ -2,7 +2,7 @@
 
 use crate::adoption::{adopted, first};
 use class_plan::day_number;
-use record_store::{Entry, Store};
+use record_store::{RecordEntry, Store};
 use sqlite::MemStore;
 use std::alloc::Global;
 use std::fmt::Write;
@@ -21,7 +21,7 @@ fn words(bytes: &[u8]) -> Result<&str, Fail> {
 }
 
 /// Adds an entry as text: number, class, capture day, due day if it has one, message, state and holds.
-fn put_entry(text: &mut String, entry: &Entry) -> Result<(), Fail> {
+fn put_entry(text: &mut String, entry: &RecordEntry) -> Result<(), Fail> {
     let number = entry.number;
     let path = words(entry.path.as_slice())?;
     let day = day_number(entry.day);
