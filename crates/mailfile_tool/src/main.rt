@@ -20,9 +20,9 @@ mod warnings;
 mod why;
 
 use clap::{ArgMatches, Error};
-use command_line::{command, words};
+use command_line::{PROGRAM, words};
+use command_lines::read_words;
 use failure::Failure;
-use std::alloc::Global;
 use std::process::ExitCode;
 
 /// The status where a script or an image is refused.
@@ -76,15 +76,9 @@ fn tell_failure(rt: &HostRuntime, failure: &Failure) -> ExitCode {
     }
 }
 
-/// Parses the words of the command line.
-fn read_matches<'a>(alloc: Global, words: &'a [String]) -> Result<ArgMatches<'a>, Error> {
-    let command = command(alloc)?;
-    command.try_get_matches_from(words)
-}
-
 /// Executes the words of the command line.
 fn serve_words(rt: &HostRuntime, words: &[String]) -> ExitCode {
-    let matches = match read_matches(rt.alloc(), words) {
+    let matches = match read_words(rt.alloc(), &PROGRAM, words) {
         Ok(matches) => matches,
         Err(error) => return tell_clap(rt, &error),
     };
