@@ -83,8 +83,9 @@ impl<S: Alter> Store<S> {
             lines_of self.now.plan first (number_of_day day) paths.now) }
         ensures days { IfOk result (λ v. All HasDueDay v.items) }
     {
+        let paths = paths.as_slice();
         let mut lines = Vec::new(self.alloc);
-        for (i, path) in paths.as_slice().iter().enumerate() {
+        for (i, path) in paths.iter().enumerate() {
             let line = self.new_line(first + i as u32, path.as_slice(), day)?;
             lines.push(line)?;
         }
@@ -168,11 +169,11 @@ impl<S: Alter> Store<S> {
         ensures crash { Leaves S.Store self.old self.new
             (λ a. archive.capture a body.now (number_of_day day) paths.now) }
     {
-        let count = paths.as_slice().len() as u64;
-        if count == 0 {
+        if paths.as_slice().is_empty() {
             self.ensure_open()?;
             return Ok(Vec::new(self.alloc));
         }
+        let count = paths.as_slice().len() as u64;
         if self.next > NUMBERS || count > NUMBERS - self.next {
             return Err(StoreFault::Refused(ArchiveRefusal::Full));
         }

@@ -63,7 +63,8 @@ fn insert_records<S: Alter>(
     ensures err { KeepsIn S.Store tx.old.conn.now tx.new.conn.now result }
     ensures survives { CommitsNothing S.Store tx.old.conn.now tx.new.conn.now }
 {
-    for (i, path) in paths.as_slice().iter().enumerate() {
+    let paths = paths.as_slice();
+    for (i, path) in paths.iter().enumerate() {
         insert_record(tx, first + i as u32, first, path.as_slice(), day)?;
     }
     Ok(())

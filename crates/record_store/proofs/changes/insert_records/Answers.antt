@@ -21,7 +21,7 @@ loop-i-preserved g c =
       puts = λ clean inside.
           let one = was.puts (omega (arith, c.insert_record.ensures.survives.clean)) inside in
           let two = c.in_ok-insert_record.ensures.ok clean (one.mode ∙ inside) in
-          records_next old mid new c.args.first c.args.day c.args.paths.now c.index-paths-i.result
-          c.loop-i.i c.loop-i-test.true c.index-paths-i.is one (rw c.as_slice.ensures.value at two);
+          records_next old mid new c.args.first c.args.day c.as_slice-paths.result.now c.index-paths-i.result
+          c.loop-i.i c.loop-i-test.true c.index-paths-i.is one (rw c.as_slice.ensures at two);
       survives = search rules;
     }

@@ -14,6 +14,6 @@ invariant-loop-i g l =
       same_reference : l.tx.conn.ghost_name ≡ l.fn.tx.conn.ghost_name;
       puts : HasCleanDisk now → IsTrue old.in_transaction
           → Puts old now (IsPastRecords l.first)
-          (with_records (records_of l.first l.first l.day (take l.i l.fn.paths.now)));
+          (with_records (records_of l.first l.first l.day (take l.i l.paths)));
       survives : Survives old now (λ _. ⊥);
     }

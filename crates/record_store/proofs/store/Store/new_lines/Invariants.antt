@@ -7,6 +7,6 @@ use Rattle.record_store.proofs.store.Store.new_lines.Given as goal
 
 abbrev pub invariant-loop-i : goal.invariant-loop-i
 invariant-loop-i g l = record {
-  lines : map line_view l.lines.items ≡ lines_of l.self.plan l.first (number_of_day l.day) (take l.i l.fn.paths.now);
+  lines : map line_view l.lines.items ≡ lines_of l.self.plan l.first (number_of_day l.day) (take l.i l.paths);
   days : All HasDueDay l.lines.items;
 }

@@ -1,5 +1,5 @@
 use Rattle.record_adoption.specs.Counts.{count_at, only_at}
-use Rattle.std.proofs.Common.{◌+◌, ◌-◌, length, arith, refl, sym, ap, ◌∙◌, map}
+use Rattle.std.proofs.Common.{◌≡◌, ◌+◌, ◌-◌, length, arith, refl, sym, ap, ◌∙◌, map}
 use Rattle.record_tables.specs.CodeRows.{due_of}
 use Rattle.record_archive.specs.Archive.{Archive, after_capture}
 use Rattle.record_store.specs.Stores.{LeavesChange}
@@ -29,10 +29,13 @@ left g c = λ (a : Archive) s.
 
 pub returns-in-Ok-transact-clause-ok : goal.returns-in-Ok-transact-clause-ok
 returns-in-Ok-transact-clause-ok g c = λ (a : Archive) s.
+    let long : length c.as_slice.result.now ≡ length c.args.paths.now = ap length c.as_slice.ensures in
     stands_captured g.S.Store c.args.self.now _ a s c.args.body.now c.args.day c.args.first c.args.paths.now
     (map due_of c.args.dues.now) (given g (goal.at.returns-in-Ok-transact-clause-ok g c).After-transact)
-    c.transact.ensures.idle refl (ap (λ k. k + length c.args.paths.now) (sym c.requires.first)) (λ m. refl)
-    (λ m. c.in-Ok.ensures.ok m)
+    c.transact.ensures.idle refl (ap (λ k. k + length c.as_slice.result.now) (sym c.requires.first)
+    ∙ ap (λ k. c.args.first + k) long) (λ m. refl)
+    (λ m. c.in-Ok.ensures.ok m
+    ∙ ap (λ k. count_at c.args.self.now.others m + only_at c.args.first (k - 1) m) long)
     (fell g.S.Store c.args.self.now.conn c.transact.new.conn _ c.transact.ensures.crash)
     c.transact.ensures.was_open c.in-Ok-transact.ensures.ok
 
