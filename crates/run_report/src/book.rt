@@ -38,7 +38,7 @@ pub struct Book<'a> {
 }
 
 /// A command or a test, by its page and its number there.
-#[derive(Clone, Copy, PartialEq, Eq)]
+#[derive(Clone, Copy)]
 pub struct Mark {
     pub page: usize,
     pub number: usize,

@@ -9,13 +9,14 @@ use crate::narrator::{Row, Told};
 use crate::nodes::{Node, Thing};
 use crate::report::{Digest, Report};
 use crate::room::Room;
-use crate::schedules::{due_date, schedule_words, stated_by, stated_words};
+use crate::schedules::{StatedBy, due_date, push_stated, schedule_words, stated_by};
 use crate::verdict::{Reason, reason_of};
-use crate::way::told_words;
+use crate::way::push_told;
 use crate::words::words_at;
 use class_plan::{Date, Schedule, day_of};
 use plain_evaluator::BorrowedField;
-use serde_json::{Map, Number, Value, put};
+use serde_json::{Map, Number, Value, push, put};
+use sieve_meaning::RunFault;
 use std::alloc::{AllocError, Global};
 use tool_texts::{escaped, fault_text};
 
@@ -42,6 +43,11 @@ impl Members {
         self.value(key, Value::String(text))
     }
 
+    fn words(&mut self, key: &str, words: &str) -> Result<(), AllocError> {
+        let text = String::from_str(self.alloc, words)?;
+        self.text(key, text)
+    }
+
     fn octets(&mut self, key: &str, octets: &[u8]) -> Result<(), AllocError> {
         let text = escaped(self.alloc, octets)?;
         self.text(key, text)
@@ -49,6 +55,18 @@ impl Members {
 
     fn count(&mut self, key: &str, count: usize) -> Result<(), AllocError> {
         self.value(key, Value::Number(Number::from(count)))
+    }
+
+    /// Adds a date as text, or null.
+    fn date(&mut self, key: &str, date: Option<Date>) -> Result<(), AllocError> {
+        let value = date_data(self.alloc, date)?;
+        self.value(key, value)
+    }
+
+    /// Adds what a mark is of, or null.
+    fn mark(&mut self, key: &str, book: &Book<'_>, mark: Option<Mark>) -> Result<(), AllocError> {
+        let value = mark_if(self.alloc, book, mark)?;
+        self.value(key, value)
     }
 
     fn into_value(self) -> Value {
@@ -86,9 +104,31 @@ fn mark_if(alloc: Global, book: &Book<'_>, mark: Option<Mark>) -> Result<Value, 
 fn lines_data(alloc: Global, lines: Vec<String>) -> Result<Value, AllocError> {
     let mut values = Vec::new(alloc);
     for line in lines {
-        values.push(Value::String(line))?;
+        push(&mut values, Value::String(line))?;
     }
     Ok(Value::Array(values))
+}
+
+/// The includes that a faulty command was run by.
+fn includes_data(alloc: Global, report: &Report<'_, '_, '_>) -> Result<Value, AllocError> {
+    let mut includes = Vec::new(alloc);
+    for mark in report.narration.by_way_of.as_slice() {
+        push(&mut includes, mark_data(alloc, report.book, *mark)?)?;
+    }
+    Ok(Value::Array(includes))
+}
+
+/// Adds the number and the text of a fault, and the command that it is of.
+fn add_fault(
+    members: &mut Members,
+    report: &Report<'_, '_, '_>,
+    fault: RunFault,
+) -> Result<(), AllocError> {
+    members.count("number", usize::from(fault.number()))?;
+    members.words("text", fault_text(fault.number()).unwrap_or(""))?;
+    members.mark("by", report.book, report.narration.culprit)?;
+    let includes = includes_data(members.alloc, report)?;
+    members.value("run_by", includes)
 }
 
 /// The fault of a run, or null.
@@ -97,16 +137,7 @@ fn fault_data(alloc: Global, report: &Report<'_, '_, '_>) -> Result<Value, Alloc
         return Ok(Value::Null);
     };
     let mut members = Members::new(alloc);
-    members.count("number", usize::from(fault.number()))?;
-    let words = fault_text(fault.number()).unwrap_or("");
-    members.text("text", String::from_str(alloc, words)?)?;
-    let by = mark_if(alloc, report.book, report.narration.culprit)?;
-    members.value("by", by)?;
-    let mut includes = Vec::new(alloc);
-    for mark in report.narration.by_way_of.as_slice() {
-        includes.push(mark_data(alloc, report.book, *mark)?)?;
-    }
-    members.value("run_by", Value::Array(includes))?;
+    add_fault(&mut members, report, fault)?;
     Ok(members.into_value())
 }
 
@@ -118,6 +149,51 @@ fn date_data(alloc: Global, date: Option<Date>) -> Result<Value, AllocError> {
     }
 }
 
+/// The word for the reason of a class, and the command that it names.
+fn reason_word(report: &Report<'_, '_, '_>, path: &[u8]) -> (&'static str, Option<Mark>) {
+    match reason_of(report.narration, report.outcome.fault.is_some(), path) {
+        Reason::Filed(mark) => ("filed", Some(mark)),
+        Reason::Kept(mark) => ("kept", Some(mark)),
+        Reason::KeptImplicitly => ("implicit keep", None),
+        Reason::Faulted => ("fault", report.narration.culprit),
+    }
+}
+
+/// Adds a class and its reason.
+fn add_reason(
+    members: &mut Members,
+    report: &Report<'_, '_, '_>,
+    path: &[u8],
+) -> Result<(), AllocError> {
+    let (word, mark) = reason_word(report, path);
+    members.octets("class", path)?;
+    members.words("reason", word)?;
+    members.mark("by", report.book, mark)
+}
+
+/// Where a schedule comes from, in words.
+fn stated_words(alloc: Global, stated: StatedBy<'_>) -> Result<String, AllocError> {
+    let mut text = String::new(alloc);
+    push_stated(alloc, &mut text, stated)?;
+    Ok(text)
+}
+
+/// Adds the schedule of a class, where that comes from, and when a record of the moment is due; nothing where it has none.
+fn add_schedule(
+    members: &mut Members,
+    report: &Report<'_, '_, '_>,
+    classes: &[(&[u8], bool, Option<Schedule>)],
+    path: &[u8],
+) -> Result<(), AllocError> {
+    let Some(schedule) = schedule_words(members.alloc, report.plan, path)? else {
+        return Ok(());
+    };
+    members.text("schedule", schedule)?;
+    let stated = stated_words(members.alloc, stated_by(classes, path))?;
+    members.text("stated", stated)?;
+    members.date("due", due_date(report.plan, path, report.moment))
+}
+
 fn class_data(
     alloc: Global,
     report: &Report<'_, '_, '_>,
@@ -125,61 +201,94 @@ fn class_data(
     path: &[u8],
 ) -> Result<Value, AllocError> {
     let mut members = Members::new(alloc);
-    members.octets("class", path)?;
-    let reason = reason_of(report.narration, report.outcome.fault.is_some(), path);
-    let (word, mark) = match reason {
-        Reason::Filed(mark) => ("filed", Some(mark)),
-        Reason::Kept(mark) => ("kept", Some(mark)),
-        Reason::KeptImplicitly => ("implicit keep", None),
-        Reason::Faulted => ("fault", report.narration.culprit),
-    };
-    members.text("reason", String::from_str(alloc, word)?)?;
-    let by = mark_if(alloc, report.book, mark)?;
-    members.value("by", by)?;
-    if let Some(schedule) = schedule_words(alloc, report.plan, path)? {
-        members.text("schedule", schedule)?;
-        let stated = stated_words(alloc, stated_by(classes, path))?;
-        members.text("stated", stated)?;
-        let due = date_data(alloc, due_date(report.plan, path, report.moment))?;
-        members.value("due", due)?;
-    }
+    add_reason(&mut members, report, path)?;
+    add_schedule(&mut members, report, classes, path)?;
     Ok(members.into_value())
 }
 
-fn classes_data(alloc: Global, report: &Report<'_, '_, '_>) -> Result<Value, AllocError> {
-    let classes = report.plan.classes(alloc)?;
+/// The classes of an outcome, given all classes of the plan in order.
+fn outcome_data(
+    alloc: Global,
+    report: &Report<'_, '_, '_>,
+    classes: &[(&[u8], bool, Option<Schedule>)],
+) -> Result<Value, AllocError> {
     let mut values = Vec::new(alloc);
     for path in report.outcome.classes.as_slice() {
-        values.push(class_data(alloc, report, classes.as_slice(), path.as_slice())?)?;
+        push(
+            &mut values,
+            class_data(alloc, report, classes, path.as_slice())?,
+        )?;
     }
     Ok(Value::Array(values))
 }
 
-fn field_data(alloc: Global, place: usize, field: &BorrowedField<'_>) -> Result<Value, AllocError> {
-    let mut members = Members::new(alloc);
+fn classes_data(alloc: Global, report: &Report<'_, '_, '_>) -> Result<Value, AllocError> {
+    let classes = report.plan.classes(alloc)?;
+    outcome_data(alloc, report, classes.as_slice())
+}
+
+/// Adds a field of a message, with its number from 1.
+fn add_field(
+    members: &mut Members,
+    place: usize,
+    field: &BorrowedField<'_>,
+) -> Result<(), AllocError> {
     members.count("number", place.saturating_add(1))?;
     members.octets("name", field.name)?;
-    members.octets("value", field.value.as_slice())?;
+    members.octets("value", field.value.as_slice())
+}
+
+fn field_data(alloc: Global, place: usize, field: &BorrowedField<'_>) -> Result<Value, AllocError> {
+    let mut members = Members::new(alloc);
+    add_field(&mut members, place, field)?;
     Ok(members.into_value())
 }
 
-/// The size of the message in octets, its fields, and the parts of its header that are no fields.
-fn message_data(alloc: Global, report: &Report<'_, '_, '_>) -> Result<Value, AllocError> {
-    let mut members = Members::new(alloc);
-    members.value("size", Value::Number(Number::from(report.case.size)))?;
-    let mut fields = Vec::new(alloc);
-    for (place, field) in report.case.fields.iter().enumerate() {
-        fields.push(field_data(alloc, place, field)?)?;
+fn fields_data(alloc: Global, fields: &[BorrowedField<'_>]) -> Result<Value, AllocError> {
+    let mut values = Vec::new(alloc);
+    for (place, field) in fields.iter().enumerate() {
+        push(&mut values, field_data(alloc, place, field)?)?;
     }
-    members.value("fields", Value::Array(fields))?;
-    let mut parts = Vec::new(alloc);
-    for part in passed_over(alloc, report.message)?.as_slice() {
+    Ok(Value::Array(values))
+}
+
+/// The parts of a header that are no fields, but for those without octets.
+fn parts_data(alloc: Global, parts: &[&[u8]]) -> Result<Value, AllocError> {
+    let mut values = Vec::new(alloc);
+    for part in parts {
         if !part.is_empty() {
-            parts.push(Value::String(escaped(alloc, part)?))?;
+            push(&mut values, Value::String(escaped(alloc, part)?))?;
         }
     }
-    members.value("passed_over", Value::Array(parts))?;
+    Ok(Value::Array(values))
+}
+
+/// Adds the size of the message in octets, its fields, and the parts of its header that are no fields.
+fn add_message(members: &mut Members, report: &Report<'_, '_, '_>) -> Result<(), AllocError> {
+    let alloc = members.alloc;
+    members.value("size", Value::Number(Number::from(report.case.size)))?;
+    members.value("fields", fields_data(alloc, report.case.fields.as_slice())?)?;
+    let parts = passed_over(alloc, report.message)?;
+    members.value("passed_over", parts_data(alloc, parts.as_slice())?)
+}
+
+fn message_data(alloc: Global, report: &Report<'_, '_, '_>) -> Result<Value, AllocError> {
+    let mut members = Members::new(alloc);
+    add_message(&mut members, report)?;
     Ok(members.into_value())
+}
+
+/// What a command or a test came to, in words.
+fn told_words(
+    alloc: Global,
+    book: &Book<'_>,
+    node: Node<'_>,
+    told: Told,
+    next: Option<&Row>,
+) -> Result<String, AllocError> {
+    let mut text = String::new(alloc);
+    push_told(alloc, &mut text, book, node, told, next)?;
+    Ok(text)
 }
 
 /// Adds what a command or a test came to: a test's answer and what it was decided by, or a command's words.
@@ -198,8 +307,23 @@ fn add_told(
         return members.value("by", lines_data(alloc, lines)?);
     }
     let words = told_words(alloc, report.book, node, row.told, next)?;
-    let told = words.as_str().strip_prefix(": ").unwrap_or("");
-    members.text("told", String::from_str(alloc, told)?)
+    members.words("told", words.as_str().strip_prefix(": ").unwrap_or(""))
+}
+
+/// Adds what a row says.
+fn add_row(
+    members: &mut Members,
+    report: &Report<'_, '_, '_>,
+    row: Row,
+    next: Option<&Row>,
+    room: &mut Room,
+) -> Result<(), AllocError> {
+    add_mark(members, report.book, row.mark)?;
+    members.count("depth", row.depth)?;
+    match report.book.node(row.mark) {
+        Some(node) => add_told(members, report, node, row, next, room),
+        None => Ok(()),
+    }
 }
 
 fn row_data(
@@ -210,11 +334,7 @@ fn row_data(
     room: &mut Room,
 ) -> Result<Value, AllocError> {
     let mut members = Members::new(alloc);
-    add_mark(&mut members, report.book, row.mark)?;
-    members.count("depth", row.depth)?;
-    if let Some(node) = report.book.node(row.mark) {
-        add_told(&mut members, report, node, row, next, room)?;
-    }
+    add_row(&mut members, report, row, next, room)?;
     Ok(members.into_value())
 }
 
@@ -224,24 +344,41 @@ fn way_data(alloc: Global, report: &Report<'_, '_, '_>) -> Result<Value, AllocEr
     let mut values = Vec::new(alloc);
     for (index, row) in rows.iter().enumerate() {
         let next = rows.get(index.saturating_add(1));
-        values.push(row_data(alloc, report, *row, next, &mut room)?)?;
+        push(&mut values, row_data(alloc, report, *row, next, &mut room)?)?;
     }
     Ok(Value::Array(values))
 }
 
+/// Adds a digest and the path of its file.
+fn add_digest(members: &mut Members, digest: &Digest) -> Result<(), AllocError> {
+    members.octets("sha256", digest.sha256.as_bytes())?;
+    members.octets("file", digest.path.as_bytes())
+}
+
 fn digest_data(alloc: Global, digest: &Digest) -> Result<Value, AllocError> {
     let mut members = Members::new(alloc);
-    members.octets("sha256", digest.sha256.as_bytes())?;
-    members.octets("file", digest.path.as_bytes())?;
+    add_digest(&mut members, digest)?;
     Ok(members.into_value())
 }
 
 fn digests_data(alloc: Global, digests: &[Digest]) -> Result<Value, AllocError> {
     let mut values = Vec::new(alloc);
     for digest in digests {
-        values.push(digest_data(alloc, digest)?)?;
+        push(&mut values, digest_data(alloc, digest)?)?;
     }
     Ok(Value::Array(values))
+}
+
+/// Adds the parts of a report.
+fn add_report(members: &mut Members, report: &Report<'_, '_, '_>) -> Result<(), AllocError> {
+    let alloc = members.alloc;
+    members.date("day", day_of(report.moment))?;
+    members.value("fault", fault_data(alloc, report)?)?;
+    members.value("classes", classes_data(alloc, report)?)?;
+    members.mark("canceller", report.book, report.narration.canceller)?;
+    members.value("message", message_data(alloc, report)?)?;
+    members.value("way", way_data(alloc, report)?)?;
+    members.value("files", digests_data(alloc, report.digests)?)
 }
 
 /// The report as one line of JSON, with the members `day`, `fault`, `classes`, `canceller`, `message`, `way` and
@@ -250,13 +387,6 @@ pub fn report_json(alloc: Global, report: &Report<'_, '_, '_>) -> Result<String,
     requires { IsOfMessage report.now }
 {
     let mut members = Members::new(alloc);
-    members.value("day", date_data(alloc, day_of(report.moment))?)?;
-    members.value("fault", fault_data(alloc, report)?)?;
-    members.value("classes", classes_data(alloc, report)?)?;
-    let canceller = mark_if(alloc, report.book, report.narration.canceller)?;
-    members.value("canceller", canceller)?;
-    members.value("message", message_data(alloc, report)?)?;
-    members.value("way", way_data(alloc, report)?)?;
-    members.value("files", digests_data(alloc, report.digests)?)?;
+    add_report(&mut members, report)?;
     members.into_value().to_string(alloc)
 }

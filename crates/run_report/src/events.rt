@@ -3,8 +3,8 @@
 use crate::book::{Book, Mark};
 use crate::narrator::{Narration, Told};
 use crate::nodes::{Node, Thing};
-use crate::way::told_words;
-use crate::words::{mark_text, words_of};
+use crate::way::push_told;
+use crate::words::{push_mark, push_words};
 use plain_evaluator::{Act, Inclusion};
 use sieve_meaning::{TestWord, test_word};
 use std::alloc::{AllocError, Global};
@@ -31,19 +31,45 @@ fn is_event(node: Node<'_>, told: Told) -> bool {
     }
 }
 
-/// What an event came to, without the path of a script.
-fn outcome_words(
+/// Adds what an event came to, without the path of a script.
+fn push_outcome(
+    alloc: Global,
+    text: &mut String,
+    book: &Book<'_>,
+    node: Node<'_>,
+    told: Told,
+) -> Result<(), AllocError> {
+    match told {
+        Told::Included(Inclusion::Enters) | Told::EnteredAgain => text.push_str(": runs it"),
+        _ => push_told(alloc, text, book, node, told, None),
+    }
+}
+
+/// The words of an event and what it came to.
+fn event_words(
     alloc: Global,
     book: &Book<'_>,
     node: Node<'_>,
     told: Told,
 ) -> Result<String, AllocError> {
-    match told {
-        Told::Included(Inclusion::Enters) | Told::EnteredAgain => {
-            String::from_str(alloc, ": runs it")
-        }
-        _ => told_words(alloc, book, node, told, None),
-    }
+    let mut text = String::new(alloc);
+    push_words(alloc, &mut text, node.thing)?;
+    push_outcome(alloc, &mut text, book, node, told)?;
+    Ok(text)
+}
+
+/// The same after the script, line and column.
+fn event_line(
+    alloc: Global,
+    book: &Book<'_>,
+    mark: Mark,
+    node: Node<'_>,
+    told: Told,
+) -> Result<String, AllocError> {
+    let mut text = String::new(alloc);
+    push_mark(alloc, &mut text, book, mark)?;
+    push_outcome(alloc, &mut text, book, node, told)?;
+    Ok(text)
 }
 
 fn event_of(
@@ -53,13 +79,9 @@ fn event_of(
     node: Node<'_>,
     told: Told,
 ) -> Result<Event, AllocError> {
-    let outcome = outcome_words(alloc, book, node, told)?;
-    let own = words_of(alloc, node.thing)?;
-    let placed = mark_text(alloc, book, mark)?;
-    Ok(Event {
-        words: format!(in alloc; "{own}{outcome}")?,
-        line: format!(in alloc; "{placed}{outcome}")?,
-    })
+    let words = event_words(alloc, book, node, told)?;
+    let line = event_line(alloc, book, mark, node, told)?;
+    Ok(Event { words, line })
 }
 
 /// The events of a run, in its order: each leaf of a test that was evaluated, with its answer, and each command that

@@ -1,11 +1,10 @@
 //! The message as it was read.
 
-use crate::details::field_text;
+use crate::details::push_field;
 use crate::report::Report;
-use crate::way::push_line;
+use crate::words::push_quoted;
 use mail_head::first_field;
 use std::alloc::{AllocError, Global};
-use tool_texts::quoted;
 
 /// The octets of a header after its last field, up to the first line without octets.
 fn header_rest(text: &[u8]) -> &[u8] {
@@ -39,9 +38,18 @@ pub fn passed_over(alloc: Global, message: &[u8]) -> Result<Vec<&[u8]>, AllocErr
 fn push_passed_over(alloc: Global, text: &mut String, part: &[u8]) -> Result<(), AllocError> {
     for line in part.split(|octet| *octet == b'\n') {
         if !line.is_empty() {
-            let line = quoted(alloc, line.strip_suffix(b"\r").unwrap_or(line))?;
-            push_line(text, 1, format!(in alloc; "no field: {line}")?.as_str())?;
+            text.push_str("  no field: ")?;
+            push_quoted(alloc, text, line.strip_suffix(b"\r").unwrap_or(line))?;
+            text.push('\n')?;
         }
+    }
+    Ok(())
+}
+
+/// Adds the lines of a header that are no fields.
+fn push_parts(alloc: Global, text: &mut String, message: &[u8]) -> Result<(), AllocError> {
+    for part in passed_over(alloc, message)?.as_slice() {
+        push_passed_over(alloc, text, part)?;
     }
     Ok(())
 }
@@ -54,16 +62,11 @@ pub fn push_fields(
     report: &Report<'_, '_, '_>,
 ) -> Result<(), AllocError> {
     let size = report.case.size;
-    push_line(
-        text,
-        0,
-        format!(in alloc; "message of {size} octets")?.as_str(),
-    )?;
+    write!(text, "message of {size} octets\n")?;
     for place in 0..report.case.fields.len() {
-        push_line(text, 1, field_text(alloc, report.case, place)?.as_str())?;
+        text.push_str("  ")?;
+        push_field(alloc, text, report.case, place)?;
+        text.push('\n')?;
     }
-    for part in passed_over(alloc, report.message)?.as_slice() {
-        push_passed_over(alloc, text, part)?;
-    }
-    Ok(())
+    push_parts(alloc, text, report.message)
 }

@@ -7,12 +7,12 @@ use crate::fields::push_fields;
 use crate::narrator::Narration;
 use crate::verdict::push_verdict;
 use crate::way::{push_line, push_way};
+use crate::words::push_named;
 use class_paths::Paths;
 use class_plan::Plan;
 use plain_evaluator::BorrowedCase;
 use sieve_meaning::Outcome;
 use std::alloc::{AllocError, Global};
-use tool_texts::named;
 
 /// A file that a run was about, by the SHA-256 of its octets in hexadecimal digits.
 #[derive(Drop)]
@@ -38,11 +38,30 @@ pub struct Report<'r, 'a, 'm> {
 /// Adds the digests, in the form that `sha256sum` writes and checks.
 fn push_digests(alloc: Global, text: &mut String, digests: &[Digest]) -> Result<(), AllocError> {
     for digest in digests {
-        let sha256 = digest.sha256.as_str();
-        let path = named(alloc, digest.path.as_bytes())?;
-        push_line(text, 0, format!(in alloc; "{sha256}  {path}")?.as_str())?;
+        text.push_str(digest.sha256.as_str())?;
+        text.push_str("  ")?;
+        push_named(alloc, text, digest.path.as_bytes())?;
+        text.push('\n')?;
     }
     Ok(())
+}
+
+/// Adds the parts of a report, each with an empty line after it.
+fn push_report(
+    alloc: Global,
+    text: &mut String,
+    report: &Report<'_, '_, '_>,
+) -> Result<(), AllocError> {
+    push_verdict(alloc, text, report)?;
+    push_line(text, 0, "")?;
+    push_fields(alloc, text, report)?;
+    if !report.narration.rows.is_empty() {
+        push_line(text, 0, "")?;
+        push_way(alloc, text, report)?;
+    }
+    push_line(text, 0, "")?;
+    push_digests(alloc, text, report.digests)?;
+    push_line(text, 0, "")
 }
 
 /// The report in lines: the verdict, the message as it was read, the way of the run by the source, and the digests. The
@@ -51,15 +70,6 @@ pub fn report_text(alloc: Global, report: &Report<'_, '_, '_>) -> Result<String,
     requires { IsOfMessage report.now }
 {
     let mut text = String::new(alloc);
-    push_verdict(alloc, &mut text, report)?;
-    push_line(&mut text, 0, "")?;
-    push_fields(alloc, &mut text, report)?;
-    if !report.narration.rows.is_empty() {
-        push_line(&mut text, 0, "")?;
-        push_way(alloc, &mut text, report)?;
-    }
-    push_line(&mut text, 0, "")?;
-    push_digests(alloc, &mut text, report.digests)?;
-    push_line(&mut text, 0, "")?;
+    push_report(alloc, &mut text, report)?;
     Ok(text)
 }

@@ -1,9 +1,9 @@
 //! The schedule of a class, and where it comes from.
 
+use crate::words::push_named;
 use class_plan::{Date, Plan, Schedule, day_of, schedule_text};
 use std::alloc::{AllocError, Global};
 use std::str;
-use tool_texts::named;
 
 /// Which class of a plan states the schedule of a class.
 #[derive(Clone, Copy)]
@@ -34,14 +34,18 @@ pub fn stated_by<'p>(classes: &[(&[u8], bool, Option<Schedule>)], path: &'p [u8]
     StatedBy::Root
 }
 
-/// Where a schedule comes from, in words.
-pub fn stated_words(alloc: Global, stated: StatedBy<'_>) -> Result<String, AllocError> {
+/// Adds where a schedule comes from.
+pub fn push_stated(
+    alloc: Global,
+    text: &mut String,
+    stated: StatedBy<'_>,
+) -> Result<(), AllocError> {
     match stated {
-        StatedBy::Itself => String::from_str(alloc, "its own"),
-        StatedBy::Root => String::from_str(alloc, "the root's"),
+        StatedBy::Itself => text.push_str("its own"),
+        StatedBy::Root => text.push_str("the root's"),
         StatedBy::Ancestor(path) => {
-            let path = named(alloc, path)?;
-            format!(in alloc; "that of {path}")
+            text.push_str("that of ")?;
+            push_named(alloc, text, path)
         }
     }
 }
@@ -65,15 +69,15 @@ pub fn due_date(plan: &Plan, path: &[u8], moment: u64) -> Option<Date> {
     plan.due_of(path, day_of(moment)?)
 }
 
-/// When a record of a moment falls due in a class, in words.
-pub fn due_words(
-    alloc: Global,
+/// Adds when a record of a moment falls due in a class.
+pub fn push_due(
+    text: &mut String,
     plan: &Plan,
     path: &[u8],
     moment: u64,
-) -> Result<String, AllocError> {
+) -> Result<(), AllocError> {
     match (day_of(moment), due_date(plan, path, moment)) {
-        (Some(day), Some(due)) => format!(in alloc; "from {day} due {due}"),
-        _ => String::from_str(alloc, "due never"),
+        (Some(day), Some(due)) => write!(text, "from {day} due {due}"),
+        _ => text.push_str("due never"),
     }
 }

@@ -3,12 +3,12 @@
 use crate::book::Mark;
 use crate::narrator::Narration;
 use crate::report::Report;
-use crate::schedules::{due_words, schedule_words, stated_by, stated_words};
+use crate::schedules::{StatedBy, push_due, push_stated, schedule_words, stated_by};
 use crate::way::push_line;
-use crate::words::mark_text;
+use crate::words::{push_mark, push_named};
 use class_plan::Schedule;
 use std::alloc::{AllocError, Global};
-use tool_texts::{fault_text, named};
+use tool_texts::fault_text;
 
 /// Why a message is in a class.
 #[derive(Clone, Copy)]
@@ -35,41 +35,100 @@ pub fn reason_of(narration: &Narration, has_fault: bool, path: &[u8]) -> Reason 
     }
 }
 
-/// A reason in words.
-fn reason_words(
+/// Adds a reason.
+fn push_reason(
     alloc: Global,
+    text: &mut String,
     report: &Report<'_, '_, '_>,
     reason: Reason,
-) -> Result<String, AllocError> {
+) -> Result<(), AllocError> {
     match reason {
         Reason::Filed(mark) => {
-            let told = mark_text(alloc, report.book, mark)?;
-            format!(in alloc; "filed by {told}")
+            text.push_str("filed by ")?;
+            push_mark(alloc, text, report.book, mark)
         }
         Reason::Kept(mark) => {
-            let told = mark_text(alloc, report.book, mark)?;
-            format!(in alloc; "kept by {told}")
+            text.push_str("kept by ")?;
+            push_mark(alloc, text, report.book, mark)
         }
-        Reason::KeptImplicitly => {
-            String::from_str(alloc, "the implicit keep, which no command cancelled")
-        }
-        Reason::Faulted => String::from_str(alloc, "as the run ended with a fault"),
+        Reason::KeptImplicitly => text.push_str("the implicit keep, which no command cancelled"),
+        Reason::Faulted => text.push_str("as the run ended with a fault"),
     }
 }
 
-/// The schedule of a class in words, with its origin and the date on which a record of the moment is due.
-fn disposal_words(
+/// Adds a schedule and where it comes from.
+fn push_schedule(
     alloc: Global,
+    text: &mut String,
+    schedule: &str,
+    stated: StatedBy<'_>,
+) -> Result<(), AllocError> {
+    text.push_str("schedule ")?;
+    text.push_str(schedule)?;
+    text.push_str(", ")?;
+    push_stated(alloc, text, stated)?;
+    text.push_str("; ")
+}
+
+/// Adds the schedule of a class, with its origin and the date on which a record of the moment is due.
+fn push_disposal(
+    alloc: Global,
+    text: &mut String,
     report: &Report<'_, '_, '_>,
     classes: &[(&[u8], bool, Option<Schedule>)],
     path: &[u8],
-) -> Result<String, AllocError> {
+) -> Result<(), AllocError> {
     let Some(schedule) = schedule_words(alloc, report.plan, path)? else {
-        return String::from_str(alloc, "no schedule");
+        return text.push_str("no schedule");
     };
-    let stated = stated_words(alloc, stated_by(classes, path))?;
-    let due = due_words(alloc, report.plan, path, report.moment)?;
-    format!(in alloc; "schedule {schedule}, {stated}; {due}")
+    push_schedule(alloc, text, schedule.as_str(), stated_by(classes, path))?;
+    push_due(text, report.plan, path, report.moment)
+}
+
+/// Adds a class with its reason, and on the next line its schedule.
+fn push_class(
+    alloc: Global,
+    text: &mut String,
+    report: &Report<'_, '_, '_>,
+    classes: &[(&[u8], bool, Option<Schedule>)],
+    path: &[u8],
+) -> Result<(), AllocError> {
+    let reason = reason_of(report.narration, report.outcome.fault.is_some(), path);
+    push_named(alloc, text, path)?;
+    text.push_str(": ")?;
+    push_reason(alloc, text, report, reason)?;
+    text.push_str("\n  ")?;
+    push_disposal(alloc, text, report, classes, path)?;
+    text.push('\n')
+}
+
+/// Adds the classes of the outcome, or that there is none.
+fn push_classes(
+    alloc: Global,
+    text: &mut String,
+    report: &Report<'_, '_, '_>,
+) -> Result<(), AllocError> {
+    let paths = report.outcome.classes.as_slice();
+    if paths.is_empty() {
+        return push_line(text, 0, "discarded: no command filed or kept the message");
+    }
+    let classes = report.plan.classes(alloc)?;
+    for path in paths {
+        push_class(alloc, text, report, classes.as_slice(), path.as_slice())?;
+    }
+    Ok(())
+}
+
+/// Adds the command that a fault is of, where a script was run.
+fn push_culprit(
+    alloc: Global,
+    text: &mut String,
+    report: &Report<'_, '_, '_>,
+) -> Result<(), AllocError> {
+    match report.narration.culprit {
+        Some(culprit) => push_mark(alloc, text, report.book, culprit),
+        None => text.push_str("the script was not run"),
+    }
 }
 
 /// Adds a fault, with the command that it is of and the includes that this was run by.
@@ -82,18 +141,13 @@ fn push_fault(
         return Ok(());
     };
     let number = fault.number();
-    let told = match report.narration.culprit {
-        Some(culprit) => mark_text(alloc, report.book, culprit)?,
-        None => String::from_str(alloc, "the script was not run")?,
-    };
-    push_line(
-        text,
-        0,
-        format!(in alloc; "fault {number}: {told}")?.as_str(),
-    )?;
+    write!(text, "fault {number}: ")?;
+    push_culprit(alloc, text, report)?;
+    text.push('\n')?;
     for mark in report.narration.by_way_of.as_slice() {
-        let told = mark_text(alloc, report.book, *mark)?;
-        push_line(text, 1, format!(in alloc; "run by {told}")?.as_str())?;
+        text.push_str("  run by ")?;
+        push_mark(alloc, text, report.book, *mark)?;
+        text.push('\n')?;
     }
     push_line(text, 1, fault_text(number).unwrap_or(""))
 }
@@ -106,12 +160,9 @@ fn push_canceller(
 ) -> Result<(), AllocError> {
     match report.narration.canceller {
         Some(mark) if report.outcome.fault.is_none() => {
-            let told = mark_text(alloc, report.book, mark)?;
-            push_line(
-                text,
-                0,
-                format!(in alloc; "the implicit keep: cancelled by {told}")?.as_str(),
-            )
+            text.push_str("the implicit keep: cancelled by ")?;
+            push_mark(alloc, text, report.book, mark)?;
+            text.push('\n')
         }
         _ => Ok(()),
     }
@@ -124,19 +175,6 @@ pub fn push_verdict(
     report: &Report<'_, '_, '_>,
 ) -> Result<(), AllocError> {
     push_fault(alloc, text, report)?;
-    let has_fault = report.outcome.fault.is_some();
-    let classes = report.plan.classes(alloc)?;
-    if report.outcome.classes.as_slice().is_empty() {
-        push_line(text, 0, "discarded: no command filed or kept the message")?;
-    }
-    for path in report.outcome.classes.as_slice() {
-        let path = path.as_slice();
-        let reason = reason_of(report.narration, has_fault, path);
-        let shown = named(alloc, path)?;
-        let reason = reason_words(alloc, report, reason)?;
-        let disposal = disposal_words(alloc, report, classes.as_slice(), path)?;
-        push_line(text, 0, format!(in alloc; "{shown}: {reason}")?.as_str())?;
-        push_line(text, 1, disposal.as_str())?;
-    }
+    push_classes(alloc, text, report)?;
     push_canceller(alloc, text, report)
 }

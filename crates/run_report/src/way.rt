@@ -6,20 +6,20 @@ use crate::narrator::{Row, Told};
 use crate::nodes::{Node, Thing};
 use crate::report::Report;
 use crate::room::Room;
-use crate::words::{label_of, place_text, words_of};
+use crate::words::{push_label, push_place, push_words};
 use plain_evaluator::{Act, Inclusion};
 use sieve_meaning::reading::include;
 use sieve_meaning::{CommandWord, RunFault, command_word};
 use sieve_syntax::Command;
 use std::alloc::{AllocError, Global};
 
-/// The fault of a command, after its words.
-fn fault_words(alloc: Global, fault: RunFault) -> Result<String, AllocError> {
+/// Adds the fault of a command, after its words.
+fn push_fault(text: &mut String, fault: RunFault) -> Result<(), AllocError> {
     let number = fault.number();
-    format!(in alloc; ": fault {number}")
+    write!(text, ": fault {number}")
 }
 
-fn act_words(alloc: Global, act: Act) -> Result<String, AllocError> {
+fn push_act(text: &mut String, act: Act) -> Result<(), AllocError> {
     let words = match act {
         Act::Nothing => "",
         Act::Passes => ": not tried, as a branch before it was taken",
@@ -29,37 +29,39 @@ fn act_words(alloc: Global, act: Act) -> Result<String, AllocError> {
         Act::Discards => ": cancels the implicit keep",
         Act::Files => ": files, and cancels the implicit keep",
         Act::Copies => ": files a copy",
-        Act::Refuses => return fault_words(alloc, RunFault::ClassNotOpen),
+        Act::Refuses => return push_fault(text, RunFault::ClassNotOpen),
     };
-    String::from_str(alloc, words)
+    text.push_str(words)
 }
 
-/// The name of the script that an include entered.
-fn included_label(alloc: Global, book: &Book<'_>, command: &Command) -> Result<String, AllocError> {
-    let script = include(command.arguments.as_slice()).script;
-    label_of(alloc, book, book.page_named(&script))
-}
-
-fn inclusion_words(
+/// Adds that an include runs a script, by its name.
+fn push_runs(
     alloc: Global,
+    text: &mut String,
+    book: &Book<'_>,
+    command: &Command,
+) -> Result<(), AllocError> {
+    let script = include(command.arguments.as_slice()).script;
+    text.push_str(": runs ")?;
+    push_label(alloc, text, book, book.page_named(&script))
+}
+
+fn push_inclusion(
+    alloc: Global,
+    text: &mut String,
     book: &Book<'_>,
     command: &Command,
     inclusion: Inclusion,
-) -> Result<String, AllocError> {
+) -> Result<(), AllocError> {
     match inclusion {
-        Inclusion::Enters => {
-            let label = included_label(alloc, book, command)?;
-            format!(in alloc; ": runs {label}")
-        }
-        Inclusion::EnteredBefore => {
-            String::from_str(alloc, ": nothing, as the script was entered before")
-        }
+        Inclusion::Enters => push_runs(alloc, text, book, command),
+        Inclusion::EnteredBefore => text.push_str(": nothing, as the script was entered before"),
         Inclusion::Missing if include(command.arguments.as_slice()).is_optional => {
-            String::from_str(alloc, ": nothing, as there is no such script")
+            text.push_str(": nothing, as there is no such script")
         }
-        Inclusion::Missing => fault_words(alloc, RunFault::ScriptMissing),
-        Inclusion::Active => fault_words(alloc, RunFault::RecursiveInclude),
-        Inclusion::TooDeep => fault_words(alloc, RunFault::NestingTooDeep),
+        Inclusion::Missing => push_fault(text, RunFault::ScriptMissing),
+        Inclusion::Active => push_fault(text, RunFault::RecursiveInclude),
+        Inclusion::TooDeep => push_fault(text, RunFault::NestingTooDeep),
     }
 }
 
@@ -75,48 +77,62 @@ fn branch_words(command: &Command, next: Option<&Row>) -> &'static str {
     }
 }
 
-fn command_words(
+fn push_command(
     alloc: Global,
+    text: &mut String,
     book: &Book<'_>,
     command: &Command,
     told: Told,
     next: Option<&Row>,
-) -> Result<String, AllocError> {
+) -> Result<(), AllocError> {
     match told {
-        Told::Did(act) => act_words(alloc, act),
-        Told::Included(inclusion) => inclusion_words(alloc, book, command, inclusion),
+        Told::Did(act) => push_act(text, act),
+        Told::Included(inclusion) => push_inclusion(alloc, text, book, command, inclusion),
         Told::EnteredAgain => {
-            let label = included_label(alloc, book, command)?;
-            format!(in alloc; ": runs {label} again, as above")
+            push_runs(alloc, text, book, command)?;
+            text.push_str(" again, as above")
         }
-        Told::Reached | Told::Answered(_) => {
-            String::from_str(alloc, branch_words(command, next))
-        }
+        Told::Reached | Told::Answered(_) => text.push_str(branch_words(command, next)),
     }
 }
 
-/// What a command or a test came to, in words that follow its own.
-pub fn told_words(
+/// Adds what a command or a test came to, in words that follow its own.
+pub fn push_told(
     alloc: Global,
+    text: &mut String,
     book: &Book<'_>,
     node: Node<'_>,
     told: Told,
     next: Option<&Row>,
-) -> Result<String, AllocError> {
+) -> Result<(), AllocError> {
     match (node.thing, told) {
-        (Thing::Command(command), _) => command_words(alloc, book, command, told, next),
-        (Thing::Test(_), Told::Answered(answer)) => format!(in alloc; ": {answer}"),
-        (Thing::Test(_), _) => Ok(String::new(alloc)),
+        (Thing::Command(command), _) => push_command(alloc, text, book, command, told, next),
+        (Thing::Test(_), Told::Answered(answer)) => write!(text, ": {answer}"),
+        (Thing::Test(_), _) => Ok(()),
     }
 }
 
-/// Adds a line after a number of indentations of two columns.
-pub fn push_line(text: &mut String, depth: usize, line: &str) -> Result<(), AllocError> {
+/// Adds a number of indentations of two columns.
+pub fn push_indent(text: &mut String, depth: usize) -> Result<(), AllocError> {
     for _ in 0..depth {
         text.push_str("  ")?;
     }
+    Ok(())
+}
+
+/// Adds a line after a number of indentations.
+pub fn push_line(text: &mut String, depth: usize, line: &str) -> Result<(), AllocError> {
+    push_indent(text, depth)?;
     text.push_str(line)?;
     text.push('\n')
+}
+
+/// Adds lines after a number of indentations.
+fn push_lines(text: &mut String, depth: usize, lines: &[String]) -> Result<(), AllocError> {
+    for line in lines {
+        push_line(text, depth, line.as_str())?;
+    }
+    Ok(())
 }
 
 /// Adds what a row says.
@@ -132,15 +148,15 @@ fn push_row(
         return Ok(());
     };
     let depth = row.depth.saturating_add(1);
-    let place = place_text(alloc, report.book, row.mark)?;
-    let words = words_of(alloc, node.thing)?;
-    let told = told_words(alloc, report.book, node, row.told, next)?;
-    let line = format!(in alloc; "{place} {words}{told}")?;
-    push_line(text, depth, line.as_str())?;
+    push_indent(text, depth)?;
+    push_place(text, report.book, row.mark)?;
+    text.push(' ')?;
+    push_words(alloc, text, node.thing)?;
+    push_told(alloc, text, report.book, node, row.told, next)?;
+    text.push('\n')?;
     if let (Thing::Test(test), Told::Answered(answer)) = (node.thing, row.told) {
-        for line in detail_lines(alloc, report.case, test, answer, room)?.as_slice() {
-            push_line(text, depth.saturating_add(1), line.as_str())?;
-        }
+        let lines = detail_lines(alloc, report.case, test, answer, room)?;
+        return push_lines(text, depth.saturating_add(1), lines.as_slice());
     }
     Ok(())
 }
@@ -151,7 +167,8 @@ pub fn push_way(
     text: &mut String,
     report: &Report<'_, '_, '_>,
 ) -> Result<(), AllocError> {
-    push_line(text, 0, label_of(alloc, report.book, 0)?.as_str())?;
+    push_label(alloc, text, report.book, 0)?;
+    text.push('\n')?;
     let mut room = Room::new();
     let rows = report.narration.rows.as_slice();
     for (index, row) in rows.iter().enumerate() {
