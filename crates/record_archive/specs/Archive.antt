@@ -12,22 +12,10 @@ use Rattle.class_plan.specs.declared.schedules.Schedule.TheVariants.{After}
 use Rattle.class_plan.specs.Changes.{addition}
 use Rattle.class_plan.specs.Plans.{Listing, IsPlan, first_plan, has, keeps, schedule_at}
 use Rattle.class_plan.specs.Calendar.{due_on}
+pub use Rattle.archive_items.specs.Items.{Message, Record}
 use Rattle.record_archive.specs.Lists.{sort_by, IsAscending}
 use Rattle.record_archive.specs.declared.fault.ArchiveRefusal.{ArchiveRefusal}
 use Rattle.record_archive.specs.declared.fault.ArchiveRefusal.TheVariants as refusal
-
--- a stored message
-pub record Message : Type 0 where
-  pub number : ℕ
-  pub body : List ℕ
-
--- a record of a message in the class of a path, captured on a day, which is counted from 1970-01-01
-pub record Record : Type 0 where
-  pub number : ℕ
-  pub message : ℕ
-  pub path : List ℕ
-  pub day : ℕ
-  pub destroyed : Bool
 
 -- a hold, by its name, of a record
 pub record Hold : Type 0 where
