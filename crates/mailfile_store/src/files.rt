@@ -1,11 +1,12 @@
 //! Archives in files, which are opened, closed and made here alone.
 
+use archive_files::{Closing, close};
 use class_plan::Plan;
 use sqlite::Unknown;
 use std::alloc::Global;
 use std::fs;
 use store_console::{Failure, Status};
-use store_files::{Closing, NoStore, close, create_archive, open_archive};
+use store_files::{NoStore, create_archive, open_archive};
 use store_subcommands::{Archives, Closed, LastTask};
 
 /// The failure of a store that cannot be had.

@@ -13,12 +13,12 @@ ghost use Rattle.record_tables.specs.Tables.{IsFree};
 ghost use Rattle.record_archive.specs.Archive.{Archive, empty_archive};
 ghost use Rattle.record_store.specs.Layouts.{HasArchiveTables};
 ghost use Rattle.record_store.specs.Stores.{StandsFor};
-ghost use Rattle.store_files.specs.Files.{FindsAt, HoldsTables, KeepsNew, KeepsTogether, system_file};
+ghost use Rattle.archive_files.specs.Files.{FindsAt, HoldsTables, KeepsNew, KeepsTogether, system_file};
 
-use crate::closing::leave;
 use crate::fault::NoStore;
 use crate::opening::{close_store, open_store};
 use crate::places::{has_log, look_at, make_file, remove_files};
+use archive_files::leave;
 use class_plan::Plan;
 use record_store::Store;
 use sqlite::{Alter, Connection, FileFrom, FileStore, Files, Start};

@@ -11,12 +11,12 @@ ghost use Rattle.record_archive.specs.Archive.{Archive};
 ghost use Rattle.record_adoption.specs.Adoption.{Finds};
 ghost use Rattle.record_store.specs.Layouts.{HasArchiveTables};
 ghost use Rattle.record_store.specs.Stores.{StandsFor};
-ghost use Rattle.store_files.specs.Closing.{HasCause, HoldsLeft, LeavesBy};
-ghost use Rattle.store_files.specs.Files.{FindsAt, HoldsTables, KeepsFiles};
+ghost use Rattle.archive_files.specs.Closing.{HasCause, HoldsLeft, LeavesBy};
+ghost use Rattle.archive_files.specs.Files.{FindsAt, HoldsTables, KeepsFiles};
 
-use crate::closing::{Closing, close, leave};
 use crate::fault::NoStore;
 use crate::places::has_log;
+use archive_files::{Closing, close, leave};
 use record_store::Store;
 use record_tables::layout::{Layout, layout_of};
 use sqlite::{Alter, Connection, FileFrom, FileStore, Files, Start};

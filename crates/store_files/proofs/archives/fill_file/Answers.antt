@@ -1,5 +1,5 @@
 use Rattle.sqlite.specs.WalFiles.{image_at}
-use Rattle.store_files.proofs.OpeningLemmas.{free_opened}
+use Rattle.archive_files.proofs.OpeningLemmas.{free_opened}
 use Rattle.store_files.proofs.archives.fill_file.Goals as goal
 
 pub returns-in-Ok-lay_files : goal.returns-in-Ok-lay_files

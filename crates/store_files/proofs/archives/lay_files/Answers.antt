@@ -1,5 +1,5 @@
 use Rattle.record_archive.specs.Archive.{empty_archive}
-use Rattle.store_files.proofs.ArchiveLemmas.{keeps_both}
+use Rattle.archive_files.proofs.ArchiveLemmas.{keeps_both}
 use Rattle.store_files.proofs.archives.lay_files.Goals as goal
 
 pub returns-then-keeps_archive : goal.returns-then-keeps_archive

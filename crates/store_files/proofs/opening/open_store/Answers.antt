@@ -1,6 +1,6 @@
 use Rattle.sqlite.specs.WalFiles.{image_at}
 use Rattle.record_store.specs.Layouts.{HasArchiveTables}
-use Rattle.store_files.proofs.OpeningLemmas.{finds_opened, holds_tables}
+use Rattle.archive_files.proofs.OpeningLemmas.{finds_opened, holds_tables}
 use Rattle.store_files.proofs.opening.open_store.Goals as goal
 
 pub returns-in-Ok-adopt_found-clause-stands : goal.returns-in-Ok-adopt_found-clause-stands

@@ -10,9 +10,9 @@ use Rattle.sqlite.specs.Recovery.{Image}
 use Rattle.sqlite.specs.Effect.{IsDatabase}
 use Rattle.sqlite.specs.Files.{HoldsDatabase}
 use Rattle.sqlite.specs.State.{State}
-use Rattle.store_files.specs.declared.closing.Closing.{Closing}
-use Rattle.store_files.specs.declared.closing.Closing.TheVariants.{Copied, Logged, Shut, Cut}
-use Rattle.store_files.specs.declared.closing.Hindrance.TheVariants.{NoMemory}
+use Rattle.archive_files.specs.declared.closing.Closing.{Closing}
+use Rattle.archive_files.specs.declared.closing.Closing.TheVariants.{Copied, Logged, Shut, Cut}
+use Rattle.archive_files.specs.declared.closing.Hindrance.TheVariants.{NoMemory}
 
 -- The connection was open, and its database is the one that the files recover to.
 pub record HoldsNow (s : State) (image : Image) : Type 0 where

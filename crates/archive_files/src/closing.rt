@@ -10,7 +10,7 @@ ghost use Rattle.sqlite_disk.specs.Disk.{MoreFaults};
 ghost use Rattle.sqlite_store.specs.FileStore.{view, faults, log_frames, HasSpilled};
 ghost use Rattle.sqlite_store.specs.Calls.{IsQuietCall};
 ghost use Rattle.sqlite_trees.specs.View.{IsClean};
-ghost use Rattle.store_files.specs.Closing.{HasCause, HaveCounted, HoldsBy, HoldsLeft, HoldsNow, IsLeftOpen, LeavesBy};
+ghost use Rattle.archive_files.specs.Closing.{HasCause, HaveCounted, HoldsBy, HoldsLeft, HoldsNow, IsLeftOpen, LeavesBy};
 
 use sqlite::{Connection, FileStore, Files};
 use sqlite_disk::Disk;

@@ -9,11 +9,11 @@ use Rattle.sqlite.specs.Closing.{HoldsAlone}
 use Rattle.sqlite.specs.Held.{AreDatabases}
 use Rattle.sqlite.specs.Files.{file_state}
 use Rattle.sqlite.proofs.Theorems.{copied}
-use Rattle.store_files.specs.Closing.{HoldsLeft, HoldsNow, IsLeftOpen}
-use Rattle.store_files.specs.declared.closing.Closing.{Closing}
-use Rattle.store_files.specs.declared.closing.Closing.TheVariants.{Copied}
-use Rattle.store_files.proofs.ClosingLemmas.{by_cause, by_closing, by_leaving, holds_now, left_now, left_some}
-use Rattle.store_files.proofs.closing.close.Goals as goal
+use Rattle.archive_files.specs.Closing.{HoldsLeft, HoldsNow, IsLeftOpen}
+use Rattle.archive_files.specs.declared.closing.Closing.{Closing}
+use Rattle.archive_files.specs.declared.closing.Closing.TheVariants.{Copied}
+use Rattle.archive_files.proofs.ClosingLemmas.{by_cause, by_closing, by_leaving, holds_now, left_now, left_some}
+use Rattle.archive_files.proofs.closing.close.Goals as goal
 
 told_so : (closing : Closing) → closing ≡ Copied → IsLeftOpen closing
 told_so closing is = subst IsLeftOpen (sym is) tt

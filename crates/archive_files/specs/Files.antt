@@ -18,8 +18,8 @@ use Rattle.sqlite.specs.Files.{HoldsDatabase, IsNothing}
 use Rattle.record_archive.specs.Archive.{Archive, IsArchive, empty_archive}
 use Rattle.record_adoption.specs.Adoption.{Finds}
 use Rattle.record_adoption.specs.Keeping.{StoresArchive}
-use Rattle.store_files.specs.Closing.{HoldsBy}
-use Rattle.store_files.specs.declared.closing.Closing.{Closing}
+use Rattle.archive_files.specs.Closing.{HoldsBy}
+use Rattle.archive_files.specs.declared.closing.Closing.{Closing}
 
 -- the files recover to a sound database, which has the archive in this way
 pub record Holds (Has : Database → Archive → Type 0) (image : Image) (a : Archive) : Type 0 where

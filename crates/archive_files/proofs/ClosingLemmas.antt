@@ -16,10 +16,10 @@ use Rattle.sqlite.specs.State.{IsLive}
 use Rattle.sqlite.specs.Held.{Held, AreDatabases}
 use Rattle.sqlite.specs.Files.{HoldsDatabase, file_state}
 use Rattle.sqlite.proofs.Theorems.{opens_again}
-use Rattle.store_files.specs.Closing.{HasCause, HaveCounted, HoldsBy, HoldsLeft, HoldsNow, IsLeftOpen, LeavesBy}
-use Rattle.store_files.specs.declared.closing.Closing.{Closing}
-use Rattle.store_files.specs.declared.closing.Closing.TheVariants.{Copied, Logged, Shut, Cut}
-use Rattle.store_files.specs.declared.closing.Hindrance.TheVariants.{NoMemory, Fault}
+use Rattle.archive_files.specs.Closing.{HasCause, HaveCounted, HoldsBy, HoldsLeft, HoldsNow, IsLeftOpen, LeavesBy}
+use Rattle.archive_files.specs.declared.closing.Closing.{Closing}
+use Rattle.archive_files.specs.declared.closing.Closing.TheVariants.{Copied, Logged, Shut, Cut}
+use Rattle.archive_files.specs.declared.closing.Hindrance.TheVariants.{NoMemory, Fault}
 
 pub by_closing : (closing : Closing) (Holds : Image → Type 0) (image : Image) → (IsLeftOpen closing → Holds image)
     → (closing ≡ Copied → Holds (record image { log = [] })) → HoldsBy closing Holds image

@@ -23,8 +23,8 @@ use Rattle.record_archive.specs.Archive.{Archive}
 use Rattle.record_tables.specs.Tables.{IsFree}
 use Rattle.record_tables.proofs.Standing.{nothing_is_free}
 use Rattle.record_adoption.specs.Adoption.{Finds}
-use Rattle.store_files.specs.Files.{FindsAt, HoldsTables, KeepsAt}
-use Rattle.store_files.proofs.BlankLemmas.{not_blank}
+use Rattle.archive_files.specs.Files.{FindsAt, HoldsTables, KeepsAt}
+use Rattle.archive_files.proofs.BlankLemmas.{not_blank}
 
 -- trees are those of one schema
 sound_once : (s t : Schema) (db : Trees) → IsSound s db → IsSound t db → s ≡ t

@@ -5,8 +5,8 @@ use Rattle.sqlite_pool.proofs.StateLemmas.{clean_is, may_leave_is}
 use Rattle.sqlite_trees.specs.View.{IsClean}
 use Rattle.sqlite_trees.proofs.Doubt.{no_doubt}
 use Rattle.sqlite_store.specs.FileStore.{view}
-use Rattle.store_files.proofs.ClosingLemmas.{left_now, left_some}
-use Rattle.store_files.proofs.closing.leave.Goals as goal
+use Rattle.archive_files.proofs.ClosingLemmas.{left_now, left_some}
+use Rattle.archive_files.proofs.closing.leave.Goals as goal
 
 pub returns-clause-clean : goal.returns-clause-clean
 returns-clause-clean g c honest =

@@ -1,4 +1,4 @@
--- What the files keep of the archive that a store over them represents.
+-- What the files keep of the archive that the database of a connection stores.
 use Rattle.std.proofs.Common.{◌≡◌, false, IsTrue, sym, subst}
 use Rattle.sqlite_disk.specs.declared.Disk.{Ghosts}
 use Rattle.sqlite_disk.specs.declared.Files.{Files}
@@ -6,31 +6,30 @@ use Rattle.sqlite_store.specs.declared.store.FileStore.{FileStore}
 use Rattle.sqlite.specs.Recovery.{Image}
 use Rattle.sqlite.specs.State.{HasCleanDisk}
 use Rattle.sqlite.specs.Held.{Held}
-use Rattle.sqlite.specs.Tree.{Trees}
-use Rattle.sqlite.specs.Files.{HoldsDatabase, over_files, file_state}
-use Rattle.record_archive.specs.Archive.{Archive}
+use Rattle.sqlite.specs.Files.{file_state}
+use Rattle.record_archive.specs.Archive.{Archive, IsArchive}
 use Rattle.record_adoption.specs.Keeping.{StoresArchive}
-use Rattle.record_store.specs.Stores.{StandsFor, TreesKeep}
-use Rattle.record_store.specs.declared.store.Store.{Store}
-use Rattle.store_files.specs.Closing.{HoldsBy, HoldsNow, IsLeftOpen}
-use Rattle.store_files.specs.Files.{KeepsAt, KeepsFiles, KeepsTogether}
-use Rattle.store_files.specs.declared.closing.Closing.{Closing}
-use Rattle.store_files.specs.declared.closing.Closing.TheVariants.{Copied, Logged, Shut, Cut}
+use Rattle.archive_files.specs.Closing.{HoldsBy, HoldsNow, IsLeftOpen}
+use Rattle.archive_files.specs.Files.{KeepsAt, KeepsFiles, KeepsTogether}
+use Rattle.archive_files.specs.declared.closing.Closing.{Closing}
+use Rattle.archive_files.specs.declared.closing.Closing.TheVariants.{Copied, Logged, Shut, Cut}
 
-module _ {D : Type 0} {g : Ghosts D} (store : Store (FileStore D g)) (conn : Held (FileStore D g)) (same : conn ≡ store.conn) (a : Archive)
-    (stands : StandsFor over_files store a) where
-  pub is_idle : conn.in_transaction ≡ false
-  is_idle = let Idle : Held (FileStore D g) → Type 0 = λ h. h.in_transaction ≡ false in subst Idle (sym same) stands.idle
+-- a connection that is known by another name
+module _ {D : Type 0} {g : Ghosts D} (kept conn : Held (FileStore D g)) (same : conn ≡ kept) where
+  pub idle_alike : kept.in_transaction ≡ false → conn.in_transaction ≡ false
+  idle_alike idle = let Idle : Held (FileStore D g) → Type 0 = λ h. h.in_transaction ≡ false in subst Idle (sym same) idle
 
-  pub keeps_now : HasCleanDisk (file_state conn) → (image : Image) → HoldsNow (file_state conn) image → KeepsAt a image
-  keeps_now clean image now =
+  pub keeps_now : (a : Archive) → IsArchive a
+      → (HasCleanDisk (file_state kept) → IsTrue (file_state kept).is_open → StoresArchive (file_state kept).now a)
+      → HasCleanDisk (file_state conn) → (image : Image) → HoldsNow (file_state conn) image → KeepsAt a image
+  keeps_now a archive rows clean image now =
       let Rows : Held (FileStore D g) → Type 0 = λ h. HasCleanDisk (file_state h) → IsTrue (file_state h).is_open
       → StoresArchive (file_state h).now a in
       record {
         db = (file_state conn).now;
         sound = now.sound;
         held = now.held;
-        has = (subst Rows (sym same) stands.rows clean now.was_open, stands.archive);
+        has = (subst Rows (sym same) rows clean now.was_open, archive);
       }
 
 -- what holds of an image holds where it is claimed
@@ -48,12 +47,3 @@ keeps_both g Copied files a left keeps image may = (keeps image may).0
 keeps_both g (Logged why) files a left keeps image may = keeps image may
 keeps_both g Shut files a left keeps image may = absurd left
 keeps_both g Cut files a left keeps image may = absurd left
-
--- files that hold trees which keep an archive
-pub keeps_left : (image : Image) (trees : Trees) (a : Archive) → HoldsDatabase image trees → TreesKeep trees a → KeepsAt a image
-keeps_left image trees a held kept = record {
-  db = kept.db;
-  sound = kept.sound;
-  held = ∣ subst (HoldsDatabase image) kept.same held ∣₁;
-  has = (kept.stored, kept.archive);
-}

@@ -1,0 +1,8 @@
+//! The two files of an archive, a database and its log: which archive they hold, and how a connection to them ends.
+//!
+//! The module `Files` of `specs/` says which archive files hold, and `Closing` what they hold of a connection's database.
+#![tactic(auto)]
+
+mod closing;
+
+pub use closing::{Closing, Hindrance, close, leave};
