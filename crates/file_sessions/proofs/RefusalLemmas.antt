@@ -17,7 +17,7 @@ use Rattle.sqlite.specs.Tree.{Trees}
 use Rattle.sqlite.specs.declared.error.Error.{Error}
 use Rattle.sqlite.specs.declared.file.Leftover.{Leftover}
 use Rattle.record_archive.specs.Archive.{Archive}
-use Rattle.store_files.specs.Files.{FindsAt, system_file}
+use Rattle.archive_files.specs.Files.{FindsAt, system_file}
 use Rattle.file_sessions.specs.Refusals.{RefusalHasCause, IsRefusedBySystem}
 use Rattle.file_sessions.specs.declared.session.NoSession.TheVariants.{Unopened}
 

@@ -1,11 +1,18 @@
 -- What a session at a desk leads to.
-use Rattle.std.proofs.Common.{ℕ, zero, IsTrue, sym, ◌∙◌, arith, List, Result, Ok, Err, inl, inr, refl}
+use Rattle.std.proofs.Common.{◌≡◌, ℕ, false, zero, IsTrue, sym, subst, ◌∙◌, arith, List, Result, Ok, Err, inl, inr, refl}
 use Rattle.std.specs.Prelude.{OnOk, IsErrOf}
 use Rattle.std.proofs.lemmas.Bool.{false≢true}
 use Rattle.sqlite.specs.Store.{Ghosts}
 use Rattle.sqlite.specs.Tree.{Trees}
-use Rattle.sqlite.specs.Held.{state}
-use Rattle.record_store.specs.Stores.{Fate, Left, ShutAfter, FateKeeps, MayMeet, TreesKeep}
+use Rattle.sqlite.specs.Held.{Held, state}
+use Rattle.sqlite.specs.State.{HasCleanDisk}
+use Rattle.sqlite.specs.Recovery.{Image}
+use Rattle.sqlite.specs.Files.{HoldsDatabase, file_state, over_files}
+use Rattle.sqlite.specs.WalFiles.{outcomes}
+use Rattle.sqlite_disk.specs.declared.Disk.{Ghosts as DiskGhosts}
+use Rattle.sqlite_disk.specs.declared.Files.{Files}
+use Rattle.sqlite_store.specs.declared.store.FileStore.{FileStore}
+use Rattle.record_store.specs.Stores.{Fate, Left, ShutAfter, FateKeeps, MayMeet, StandsFor, TreesKeep}
 use Rattle.record_store.specs.declared.store.Store.{Store}
 use Rattle.record_archive.specs.Archive.{Archive}
 use Rattle.filing_commands.specs.Answers.{Answer}
@@ -17,7 +24,12 @@ use Rattle.filing_session.specs.Laws.{Refines}
 use Rattle.filing_session.specs.Session.{Item, Session, Run, IsServed, IsAnswered, IsCut, IsCutInAnswer, IsCutInEnding}
 use Rattle.filing_session.specs.declared.session.ServeFault.{ServeFault}
 use Rattle.filing_session.specs.declared.session.ServeFault.TheVariants.{Read, Write}
-use Rattle.file_sessions.specs.Sessions.{IsTold}
+use Rattle.record_adoption.specs.Keeping.{StoresArchive}
+use Rattle.archive_files.specs.Closing.{HoldsBy, HoldsNow}
+use Rattle.archive_files.specs.Files.{KeepsAt, KeepsFiles}
+use Rattle.archive_files.specs.declared.closing.Closing.{Closing}
+use Rattle.archive_files.proofs.ArchiveLemmas.{holds_alike, keeps_now}
+use Rattle.file_sessions.specs.Sessions.{IsTold, Represents}
 
 module _ {D I : Type 0} (clean : D → Type 0) (stands : D → Standing → Type 0) (may_leave : D → I → Type 0)
     (keeps : I → Archive → Type 0) where
@@ -146,3 +158,32 @@ met_first g store a on leaves (ShutAfter n) may = elim may.1 [
   | inl closed ↦ absurd (false≢true (sym closed ∙ on))
   | inr more ↦ omega (arith, more)
 ]
+
+-- files that hold trees which keep an archive
+pub keeps_left : (image : Image) (trees : Trees) (a : Archive) → HoldsDatabase image trees → TreesKeep trees a → KeepsAt a image
+keeps_left image trees a held kept = record {
+  db = kept.db;
+  sound = kept.sound;
+  held = ∣ subst (HoldsDatabase image) kept.same held ∣₁;
+  has = (kept.stored, kept.archive);
+}
+
+-- what a store represents, its connection does
+pub represents : {S : Type 0} (g : Ghosts S) (store : Store S) (conn : Held S) → conn ≡ store.conn → (a : Archive)
+    → StandsFor g store a → Represents g conn a
+represents {S} g store conn same a stands =
+    let Idle : Held S → Type 0 = λ h. h.in_transaction ≡ false in
+    let Rows : Held S → Type 0 = λ h. HasCleanDisk (state g h) → IsTrue (state g h).is_open → StoresArchive (state g h).now a in
+    record {
+      idle = subst Idle (sym same) stands.idle;
+      archive = stands.archive;
+      rows = subst Rows (sym same) stands.rows;
+    }
+
+-- what a connection represents, its files keep however they are closed
+pub keeps_closed : {D : Type 0} (g : DiskGhosts D) (conn : Held (FileStore D g)) (a : Archive) (closing : Closing) (files : Files D)
+    → Represents over_files conn a → HasCleanDisk (file_state conn)
+    → (conn.in_transaction ≡ false → (image : Image) → outcomes g files.log files.db image → HoldsBy closing (HoldsNow (file_state conn)) image)
+    → KeepsFiles g closing files a
+keeps_closed g conn a closing files is clean holds image may =
+    holds_alike closing (HoldsNow (file_state conn)) (KeepsAt a) (keeps_now conn conn refl a is.archive is.rows clean) image (holds is.idle image may)

@@ -41,9 +41,9 @@ use Rattle.record_tables.specs.Tables.{no_schema}
 use Rattle.record_tables.specs.Steps.{CommitsNothing}
 use Rattle.record_archive.specs.Archive.{Archive, empty_archive}
 use Rattle.record_adoption.specs.Adoption.{Finds, LeavesArchive}
-use Rattle.store_files.specs.Closing.{HoldsLeft}
-use Rattle.store_files.specs.Files.{FindsAt, system_file}
-use Rattle.store_files.proofs.OpeningLemmas.{holds_something}
+use Rattle.archive_files.specs.Closing.{HoldsLeft}
+use Rattle.archive_files.specs.Files.{FindsAt, system_file}
+use Rattle.archive_files.proofs.OpeningLemmas.{holds_something}
 use Rattle.file_sessions.specs.Unserved.{FindsStill, HoldsStill, KeepsUnserved}
 use Rattle.file_sessions.specs.declared.session.NoSession.TheVariants.{Unopened}
 use Rattle.file_sessions.proofs.RefusalLemmas.{image_first}

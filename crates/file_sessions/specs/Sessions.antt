@@ -1,17 +1,23 @@
 -- What a session over a store leads to.
-use Rattle.std.specs.Prelude.{ℕ, List, Result, Ok, Err}
+use Rattle.std.specs.Prelude.{◌≡◌, ◌<◌, ℕ, false, List, Result, Ok, Err, IsTrue}
 use Rattle.sqlite_disk.specs.declared.Disk.{Ghosts}
 use Rattle.sqlite.specs.Recovery.{Image}
+use Rattle.sqlite.specs.Tree.{Trees}
+use Rattle.sqlite.specs.State.{HasCleanDisk}
+use Rattle.sqlite.specs.Store.{Ghosts as StoreGhosts}
+use Rattle.sqlite.specs.Held.{Held, state}
 use Rattle.sqlite.specs.WalFiles.{outcomes}
-use Rattle.record_archive.specs.Archive.{Archive}
+use Rattle.record_archive.specs.Archive.{Archive, IsArchive}
+use Rattle.record_adoption.specs.Keeping.{StoresArchive}
+use Rattle.record_store.specs.Stores.{TreesKeep}
 use Rattle.filing_commands.specs.Standing.{Standing, Step, opening}
 use Rattle.filing_session.specs.Crashes.{IsLeftOf}
 use Rattle.filing_session.specs.Done.{HasDone, Hears, Says}
 use Rattle.filing_session.specs.Session.{Session, IsServed, IsAnswered, IsCut, session_in}
 use Rattle.filing_session.specs.declared.session.ServeFault.{ServeFault}
 use Rattle.filing_session.specs.declared.session.ServeFault.TheVariants.{Read, Write}
-use Rattle.store_files.specs.Closing.{LeavesBy}
-use Rattle.store_files.specs.Files.{KeepsAt, KeepsFiles}
+use Rattle.archive_files.specs.Closing.{LeavesBy}
+use Rattle.archive_files.specs.Files.{KeepsAt, KeepsFiles}
 use Rattle.file_sessions.specs.declared.session.EndedSession.{EndedSession}
 
 -- These octets were written by a session that ended in this way, and this is the state after it. Where it ended well,
@@ -29,6 +35,28 @@ abbrev pub IsDone : (hears says : Type 0) → Result (Unit {0}) ServeFault → (
     Standing → Type 0
 IsDone hears says result left old written s new = HasDone Step (λ items. hears → Hears result (session_in left) items)
     (λ answers. says → Says result old answers written) s new
+
+-- no transaction is open, and while the disk is clean and no fault has shut the connection, its database stores the archive
+pub record Represents {S : Type 0} (g : StoreGhosts S) (conn : Held S) (a : Archive) : Type 0 where
+  pub idle : conn.in_transaction ≡ false
+  pub archive : IsArchive a
+  pub rows : HasCleanDisk (state g conn) → IsTrue (state g conn).is_open → StoresArchive (state g conn).now a
+
+-- from an archive, the session leads in this way to a state whose archive the connection stores
+pub record EndsAt {S : Type 0} (g : StoreGhosts S) (conn : Held S) (a : Archive) (Reaches : Standing → Standing → Type 0) : Type 0 where
+  pub to : Standing
+  pub reached : Reaches (opening a) to
+  pub stored : Represents g conn to.office.archive
+
+-- From an archive, commands were done. Whatever a crash may leave of the database keeps the archive after the first of them, by
+-- the answers that were given to them, or after one more, which a fault may have cut short. The connection is shut only where
+-- the disk has failed.
+pub record EndsBySome {S : Type 0} (g : StoreGhosts S) (conn : Held S) (a : Archive) (hears says : Type 0)
+    (ended : Result (Unit {0}) ServeFault) (left old written : List ℕ) : Type 0 where
+  pub to : Standing
+  pub reached : IsDone hears says ended left old written (opening a) to
+  pub kept : (trees : Trees) → (state g conn).may_leave trees → IsLeftOf TreesKeep trees (opening a) reached.items reached.answers
+  pub shut : (state g conn).is_open ≡ false → 0 < (state g conn).faults
 
 -- from an archive, the session leads in this way to a state whose archive the files keep
 pub record LeadsTo {D : Type 0} (g : Ghosts D) (ended : EndedSession D) (a : Archive)

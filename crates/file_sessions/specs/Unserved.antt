@@ -15,7 +15,7 @@ use Rattle.sqlite.specs.declared.file.Leftover.{Leftover}
 use Rattle.sqlite.specs.declared.file.Leftover.TheVariants as left
 use Rattle.record_archive.specs.Archive.{Archive}
 use Rattle.record_adoption.specs.Keeping.{StoresArchive}
-use Rattle.store_files.specs.Files.{FindsAt}
+use Rattle.archive_files.specs.Files.{FindsAt}
 use Rattle.file_sessions.specs.declared.session.NoSession.{NoSession}
 use Rattle.file_sessions.specs.declared.session.NoSession.TheVariants.{Unadopted, Unopened}
 

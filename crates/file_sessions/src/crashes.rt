@@ -9,14 +9,14 @@ ghost use Rattle.filing_commands.specs.Standing.{Standing};
 ghost use Rattle.sqlite.specs.State.{HasCleanDisk};
 ghost use Rattle.record_store.specs.Stores as stores;
 ghost use Rattle.filing_desk.specs.Standing.{StandsFor};
-ghost use Rattle.store_files.specs.Closing.{HoldsLeft};
-ghost use Rattle.store_files.specs.Files.{KeepsAt};
+ghost use Rattle.archive_files.specs.Closing.{HoldsLeft};
+ghost use Rattle.archive_files.specs.Files.{KeepsAt};
 
+use archive_files::leave;
 use filing_desk::Desk;
 use record_store::Store;
 use sqlite::{FileStore, Files};
 use sqlite_disk::Disk;
-use store_files::leave;
 
 /// Gives the files under a desk back as they are, with no read and no write, as a crash does. Between two commands, and
 /// before the first and after the last, whatever it leaves of the files recovers to the archive as it is then, while no

@@ -12,11 +12,9 @@ ghost use Rattle.filing_desk.specs.declared.desk.Desk.{Desk as OverStore};
 ghost use Rattle.sqlite_trees.specs.declared.memory.MemStore.{MemStore as InMemory};
 ghost use Rattle.file_sessions.specs.Sessions.{IsDone, IsTold};
 
-use crate::opening::open_desk;
-use filing_desk::Desk;
-use filing_session::{ServeFault, Sink, Source, serve, sessions_refine_states};
-use record_store::Store;
-use sqlite::{Connection, MemStore};
+use crate::serving::serve_over;
+use filing_session::{ServeFault, Sink, Source};
+use sqlite::Connection;
 use std::alloc::Global;
 
 /// A desk over a store in memory is always clean, since no disk is under it. So what is said of clean desks holds of
@@ -39,13 +37,12 @@ pub fn serve_in_memory<In: Source, Out: Sink>(
         (In.left source.old) (Out.written sink.old) (Out.written sink.new)
         (opening empty_archive) to) }
 {
-    sessions_refine_states::<Desk<Store<MemStore>>>();
     let conn = match Connection::open_in_memory(alloc) {
         Ok(conn) => conn,
         Err(_) => return None,
     };
-    match open_desk(alloc, conn) {
-        Ok(mut desk) => Some(serve(alloc, source, sink, &mut desk)),
+    match serve_over(alloc, conn, source, sink) {
+        Ok((session, _)) => Some(session),
         Err(_) => None,
     }
 }

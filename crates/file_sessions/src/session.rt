@@ -14,20 +14,19 @@ ghost use Rattle.filing_session.specs.Session.{session_in};
 ghost use Rattle.record_store.specs.Layouts.{HasArchiveTablesOrNone};
 ghost use Rattle.record_store.specs.Stores as stores;
 ghost use Rattle.filing_desk.specs.Standing.{StandsFor};
-ghost use Rattle.store_files.specs.Closing.{HasCause, HaveCounted, HoldsLeft, LeavesBy};
-ghost use Rattle.store_files.specs.Files.{FindsAt, HoldsTables, KeepsAt, KeepsFiles, system_file};
+ghost use Rattle.archive_files.specs.Closing.{HasCause, HaveCounted, HoldsLeft, LeavesBy};
+ghost use Rattle.archive_files.specs.Files.{FindsAt, HoldsTables, KeepsAt, KeepsFiles, system_file};
 ghost use Rattle.file_sessions.specs.Refusals.{RefusalHasCause};
 ghost use Rattle.file_sessions.specs.Sessions.{IsDone, IsTold, LeadsTo, LeavesSome};
 ghost use Rattle.file_sessions.specs.Unserved.{HoldsStill, KeepsUnserved};
 
-use crate::opening::open_desk;
-use filing_desk::Desk;
-use filing_session::{ServeFault, Sink, Source, serve, sessions_refine_states};
-use record_store::{Store, StoreFault};
+use crate::serving::serve_over;
+use archive_files::{Closing, close, leave};
+use filing_session::{ServeFault, Sink, Source};
+use record_store::StoreFault;
 use sqlite::{Connection, Error, FileFrom, FileStore, Files, Leftover, Start};
 use sqlite_disk::Disk;
 use std::alloc::Global;
-use store_files::{Closing, close, leave};
 
 /// A session over files that has ended.
 #[derive(Drop)]
@@ -47,24 +46,6 @@ pub enum NoSession<D: Disk> {
     Unopened(Error, Option<Leftover<D>>),
     /// Their database was not taken for an archive: 88 where it is none, 89 (`sqlite`) or 99 (no memory).
     Unadopted(StoreFault, Files<D>),
-}
-
-/// Ends a desk, and closes the files under its store.
-fn close_desk<D: Disk + Drop>(desk: Desk<Store<FileStore<D>>>) -> (Files<D>, Closing)
-    ensures clean { AreClean D.Disk result.0.log result.0.db
-        → HasCleanDisk (file_state desk.store.conn) }
-    ensures keeps { AreClean D.Disk result.0.log result.0.db → (s : Standing)
-        → StandsFor (stores.StandsFor over_files) desk s
-        → KeepsFiles D.Disk result.1 result.0 s.office.archive }
-    ensures leaves { AreClean D.Disk result.0.log result.0.db → (image : Image)
-        → outcomes D.Disk result.0.log result.0.db image
-        → LeavesBy result.1 (HoldsLeft (file_state desk.store.conn) image) }
-    ensures cause { AreClean D.Disk result.0.log result.0.db
-        → IsTrue (file_state desk.store.conn).is_open
-        → HasCause D.Disk (file_state desk.store.conn).faults result.0 result.1 }
-    ensures counts { HaveCounted D.Disk (file_state desk.store.conn).faults result.0 }
-{
-    close(desk.into_store().into_connection())
 }
 
 /// Serves a session at the desk over a connection to files, and closes them.
@@ -102,18 +83,17 @@ pub fn serve_connection<D: Disk + Drop, In: Source, Out: Sink>(
         → Finds (file_state conn).now a → (image : Image)
         → outcomes D.Disk e.1.log e.1.db image → HoldsStill (file_state conn) a image) }
 {
-    sessions_refine_states::<Desk<Store<FileStore<D>>>>();
-    let mut desk = match open_desk(alloc, conn) {
-        Ok(desk) => desk,
-        Err((fault, conn)) => return Err((fault, leave(conn))),
-    };
-    let session = serve(alloc, source, sink, &mut desk);
-    let (files, closing) = close_desk(desk);
-    Ok(EndedSession {
-        session,
-        closing,
-        files,
-    })
+    match serve_over(alloc, conn, source, sink) {
+        Ok((session, conn)) => {
+            let (files, closing) = close(conn);
+            Ok(EndedSession {
+                session,
+                closing,
+                files,
+            })
+        }
+        Err((fault, conn)) => Err((fault, leave(conn))),
+    }
 }
 
 /// Serves a session over the store in the file at a path, and closes the file. Where the file is new, its pages end in

@@ -4,8 +4,8 @@ use Rattle.sqlite.specs.Held.{Held}
 use Rattle.sqlite.specs.Files.{file_state}
 use Rattle.sqlite_store.specs.declared.store.FileStore.{FileStore}
 use Rattle.record_store.specs.declared.store.Store.{Store}
-use Rattle.store_files.specs.Closing.{HoldsLeft}
-use Rattle.store_files.proofs.ArchiveLemmas.{is_idle, keeps_now}
+use Rattle.archive_files.specs.Closing.{HoldsLeft}
+use Rattle.archive_files.proofs.ArchiveLemmas.{idle_alike, keeps_now}
 use Rattle.file_sessions.proofs.crashes.crash.Goals as goal
 
 pub returns-clause-clean : goal.returns-clause-clean
@@ -18,12 +18,13 @@ pub returns-clause-keeps : goal.returns-clause-keeps
 returns-clause-keeps g c honest on s there image may =
     let OpenConn : Held (FileStore g.row.D.Denot g.D.Disk) → Type 0 = λ h. IsTrue (file_state h).is_open in
     let OpenStore : Store (FileStore g.row.D.Denot g.D.Disk) → Type 0 = λ s. IsTrue (file_state s.conn).is_open in
-    let store = c.into_store.result in
+    let kept = c.into_store.result.conn in
+    let conn = c.into_connection.result in
     let same = c.into_connection.ensures in
     let stands = c.into_store.ensures.stands s there in
     let still = subst OpenConn (sym same) (subst OpenStore (sym c.into_store.ensures.store) on) in
-    keeps_now store c.into_connection.result same s.office.archive stands (c.leave.ensures.clean honest) image
-    (c.leave.ensures.holds honest (is_idle store c.into_connection.result same s.office.archive stands) still image may)
+    keeps_now kept conn same s.office.archive stands.archive stands.rows (c.leave.ensures.clean honest) image
+    (c.leave.ensures.holds honest (idle_alike kept conn same stands.idle) still image may)
 
 pub returns-clause-leaves : goal.returns-clause-leaves
 returns-clause-leaves g c honest image may =

@@ -1,7 +1,7 @@
 use Rattle.std.proofs.Common.{refl, inl}
 use Rattle.sqlite.specs.WalFiles.{image_at}
 use Rattle.record_store.specs.Layouts.{HasArchiveTablesOrNone}
-use Rattle.store_files.proofs.OpeningLemmas.{finds_opened, holds_tables}
+use Rattle.archive_files.proofs.OpeningLemmas.{finds_opened, holds_tables}
 use Rattle.file_sessions.proofs.RefusalLemmas.{has_cause}
 use Rattle.file_sessions.proofs.UnservedLemmas.{finds_still, keeps_left}
 use Rattle.file_sessions.proofs.session.serve_file.Goals as goal

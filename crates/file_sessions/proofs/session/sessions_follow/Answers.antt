@@ -1,4 +1,4 @@
-use Rattle.store_files.proofs.OpeningLemmas.{finds_kept}
+use Rattle.archive_files.proofs.OpeningLemmas.{finds_kept}
 use Rattle.file_sessions.proofs.session.sessions_follow.Goals as goal
 
 pub returns : goal.returns

@@ -1,10 +1,14 @@
-//! The command line.
+//! The words of the command line.
 
 use clap::{Arg, ArgAction, Command, Error};
 use std::alloc::{AllocError, Global};
 use std::env;
 use std::io::ErrorKind;
+use std::process::ExitCode;
 use std::rt::Env;
+
+/// The status where the command line is refused.
+const STATUS_USAGE: u8 = 2;
 
 /// Why a command line leads to no session.
 #[derive(Drop)]
@@ -63,4 +67,17 @@ pub fn read_command_line<R: Env + Alloc<A = Global>>(rt: &R) -> Result<CommandLi
         None => None,
     };
     Ok(CommandLine { store })
+}
+
+/// Ends without a session: prints what `clap` reports, which for `--help` is no fault.
+pub fn end_without_session(rt: &HostRuntime, fault: LineFault) -> ExitCode {
+    let LineFault::Message(error) = fault else {
+        return ExitCode::from(STATUS_USAGE);
+    };
+    let _ = error.print(rt);
+    if error.use_stderr() {
+        ExitCode::from(STATUS_USAGE)
+    } else {
+        ExitCode::SUCCESS
+    }
 }
