@@ -1,19 +1,16 @@
 //! The command line.
 
-use crate::failure::Failure;
 use command_lines::{FLAG, Form, OPTION, PLACE, Program, Subcommand, Word};
 use std::env;
 use std::io::ErrorKind;
+use tool_console::Failure;
 
 /// The words of the command line, the program's name first. A word that is not UTF-8 is a failure.
 pub fn words(rt: &HostRuntime) -> Result<Vec<String>, Failure> {
     match env::args(rt) {
         Ok(words) => Ok(words.collect(rt.alloc())?),
         Err(error) if error.kind() == ErrorKind::OutOfMemory => Err(Failure::NoMemory),
-        Err(_) => {
-            let text = String::from_str(rt.alloc(), "a word of the command line is not UTF-8")?;
-            Err(Failure::Message(text))
-        }
+        Err(_) => Err(Failure::told(rt.alloc(), "a word of the command line is not UTF-8")),
     }
 }
 

@@ -2,54 +2,21 @@
 //! check scripts, show images as text, and say why a message is filed where it is.
 #![tactic(auto)]
 
-mod check;
-mod circles;
-mod classes;
 mod command_line;
-mod compile;
-mod dump;
-mod explain;
-mod failure;
-mod files;
-mod frame;
-mod libraries;
-mod plans;
-mod questions;
-mod steps;
-mod warnings;
-mod why;
+mod subcommands;
 
-use clap::{ArgMatches, Error};
+use clap::Error;
 use command_line::{PROGRAM, words};
 use command_lines::read_words;
-use failure::Failure;
 use std::process::ExitCode;
+use subcommands::do_subcommand;
+use tool_console::{Failure, Verdict, tell};
 
 /// The status where a script or an image is refused.
 const STATUS_REFUSED: u8 = 1;
 
 /// The status where something could not be done: a bad command line, a file that cannot be read or written, no memory.
 const STATUS_FAILURE: u8 = 2;
-
-/// Whether all that was judged is good, or something was refused.
-#[derive(Clone, Copy)]
-pub enum Verdict {
-    Good,
-    Refused,
-}
-
-/// Runs the subcommand of the command line.
-fn do_subcommand(rt: &HostRuntime, matches: &ArgMatches<'_>) -> Result<Verdict, Failure> {
-    match matches.subcommand() {
-        Some(("explain", asked)) => explain::explain(rt, asked),
-        Some(("check", asked)) => check::check_files(rt, asked),
-        Some(("compile", asked)) => compile::compile_script(rt, asked),
-        Some(("dump", asked)) => dump::dump_image(rt, asked),
-        Some(("frame", asked)) => frame::frame(rt, asked),
-        Some(("why", asked)) => why::tell_why(rt, asked),
-        _ => Ok(Verdict::Good),
-    }
-}
 
 /// Prints what `clap` reports, which for `--help` is no fault.
 fn tell_clap(rt: &HostRuntime, error: &Error) -> ExitCode {
@@ -64,16 +31,11 @@ fn tell_clap(rt: &HostRuntime, error: &Error) -> ExitCode {
 /// Reports why something was not done; nothing is reported where the reader of the output has gone.
 fn tell_failure(rt: &HostRuntime, failure: &Failure) -> ExitCode {
     match failure {
-        Failure::Closed => ExitCode::SUCCESS,
-        Failure::NoMemory => {
-            let _ = eprintln!(rt; "mailfile-tool: out of memory");
-            ExitCode::from(STATUS_FAILURE)
-        }
-        Failure::Message(text) => {
-            let _ = eprintln!(rt; "mailfile-tool: {text}");
-            ExitCode::from(STATUS_FAILURE)
-        }
+        Failure::Closed => return ExitCode::SUCCESS,
+        Failure::NoMemory => tell(rt, "out of memory"),
+        Failure::Message(text) => tell(rt, text.as_str()),
     }
+    ExitCode::from(STATUS_FAILURE)
 }
 
 /// Executes the words of the command line.

@@ -1,9 +1,19 @@
-//! Files and the standard streams.
+//! Files, folders and standard input.
 
-use crate::failure::{Failure, FileFault};
-use std::alloc::Global;
+use crate::failure::Failure;
+use std::alloc::{AllocError, Global};
 use std::fs::{self, File};
-use std::io::{self, ErrorKind, Read, Write};
+use std::io::{BufRead, Read};
+use thiserror::Error;
+
+/// What is wrong with a file.
+#[derive(Clone, Copy, Debug, Error)]
+enum FileFault {
+    #[error("longer than {0} octets")]
+    TooLong(u64),
+    #[error("changed while it was read")]
+    Changed,
+}
 
 /// Opens a file for reading. A failure names its path.
 pub fn open(rt: &HostRuntime, path: &str) -> Result<File, Failure> {
@@ -23,7 +33,7 @@ fn told_length(alloc: Global, file: &File, path: &str) -> Result<Option<u64>, Fa
 }
 
 /// The octets of a file, which must be as many as the file reported before it was read. A file that reports more than
-/// `limit` octets is not read, and no file is read further than one octet past that limit.
+/// `limit` octets is not read, and no file is read further than one octet past that limit. A failure names its path.
 pub fn read_file(rt: &HostRuntime, path: &str, limit: u64) -> Result<Vec<u8>, Failure> {
     let alloc = rt.alloc();
     let file = open(rt, path)?;
@@ -62,36 +72,9 @@ pub fn read_input(rt: &HostRuntime, limit: u64) -> Result<Vec<u8>, Failure> {
     Ok(octets)
 }
 
-/// Whether there is a file at a path.
-pub fn is_there(rt: &HostRuntime, path: &str) -> bool {
-    fs::metadata(rt, path).is_ok()
-}
-
-/// Writes octets to standard output.
-pub fn write(rt: &HostRuntime, octets: &[u8]) -> Result<(), Failure> {
-    match rt.stdout().write_all(octets) {
-        Ok(()) => Ok(()),
-        Err(error) if error.kind() == ErrorKind::BrokenPipe => Err(Failure::Closed),
-        Err(error) => Err(Failure::at(rt.alloc(), "standard output", &error)),
-    }
-}
-
-/// Writes a line to standard output, with its LF.
-pub fn write_line(rt: &HostRuntime, mut line: String) -> Result<(), Failure> {
-    line.push('\n')?;
-    write(rt, line.as_bytes())
-}
-
-/// Writes a file in place of what is there.
-pub fn write_file(rt: &HostRuntime, path: &str, octets: &[u8]) -> Result<(), Failure> {
-    match fs::write(rt, path, octets) {
-        Ok(()) => Ok(()),
-        Err(error) => Err(Failure::at(rt.alloc(), path, &error)),
-    }
-}
-
-/// Reads the next line of a reader, with its LF, in place of what is there; false at the end.
-pub fn read_line<R: io::BufRead>(
+/// Reads the next line of a reader, with its LF, in place of what is there; false at the end. The last line may have no
+/// LF.
+pub fn read_line<R: BufRead>(
     alloc: Global,
     reader: &mut R,
     line: &mut Vec<u8>,
@@ -103,11 +86,46 @@ pub fn read_line<R: io::BufRead>(
     }
 }
 
-/// Copies `count` octets from a reader to standard output, or fewer where its input ends before.
-pub fn copy<R: io::Read>(rt: &HostRuntime, reader: &mut R, count: u64) -> Result<(), Failure> {
-    match io::copy(&mut reader.by_ref().take(count), &mut rt.stdout()) {
-        Ok(_) => Ok(()),
-        Err(error) if error.kind() == ErrorKind::BrokenPipe => Err(Failure::Closed),
-        Err(error) => Err(Failure::at(rt.alloc(), "standard input or output", &error)),
+/// Whether there is a file at a path.
+pub fn is_there(rt: &HostRuntime, path: &str) -> bool {
+    fs::metadata(rt, path).is_ok()
+}
+
+/// Adds a path that has an ending.
+fn add_path(
+    alloc: Global,
+    paths: &mut Vec<String>,
+    path: &str,
+    ending: &str,
+) -> Result<(), AllocError> {
+    if path.ends_with(ending) {
+        paths.push(String::from_str(alloc, path)?)?;
+    }
+    Ok(())
+}
+
+/// The paths in a folder that have an ending, in byte order. A failure names the path of the folder.
+pub fn paths_in(rt: &HostRuntime, folder: &str, ending: &str) -> Result<Vec<String>, Failure> {
+    let alloc = rt.alloc();
+    let entries = match fs::read_dir(rt, folder) {
+        Ok(entries) => entries,
+        Err(error) => return Err(Failure::at(alloc, folder, &error)),
+    };
+    let mut paths = Vec::new(alloc);
+    for entry in entries {
+        match entry {
+            Ok(entry) => add_path(alloc, &mut paths, entry.path().to_string_lossy(), ending)?,
+            Err(error) => return Err(Failure::at(alloc, folder, &error)),
+        }
+    }
+    paths.sort()?;
+    Ok(paths)
+}
+
+/// Writes a file in place of what is there. A failure names its path.
+pub fn write_file(rt: &HostRuntime, path: &str, octets: &[u8]) -> Result<(), Failure> {
+    match fs::write(rt, path, octets) {
+        Ok(()) => Ok(()),
+        Err(error) => Err(Failure::at(rt.alloc(), path, &error)),
     }
 }

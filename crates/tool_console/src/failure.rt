@@ -2,25 +2,16 @@
 
 use std::alloc::{AllocError, AllocFailed, Global};
 use std::fmt::Display;
-use thiserror::Error;
 
 /// Why something is not done.
 #[derive(Drop)]
 pub enum Failure {
-    /// The reader of the output has gone.
+    /// The reader of the output has gone, which is not reported.
     Closed,
+    /// Reported as out of memory.
     NoMemory,
     /// Reported in these words.
     Message(String),
-}
-
-/// What is wrong with a file.
-#[derive(Clone, Copy, Debug, Error)]
-pub enum FileFault {
-    #[error("longer than {0} octets")]
-    TooLong(u64),
-    #[error("changed while it was read")]
-    Changed,
 }
 
 impl Failure {
@@ -32,9 +23,9 @@ impl Failure {
         }
     }
 
-    /// A failure at a file or a stream, reported with its path and the reason.
-    pub fn at<T: Display>(alloc: Global, path: &str, reason: &T) -> Failure {
-        match format!(in alloc; "{path}: {reason}") {
+    /// A failure at a file, a stream or a line, reported with its name and the reason.
+    pub fn at<T: Display>(alloc: Global, name: &str, reason: &T) -> Failure {
+        match format!(in alloc; "{name}: {reason}") {
             Ok(text) => Failure::Message(text),
             Err(_) => Failure::NoMemory,
         }

@@ -1,0 +1,54 @@
+//! Scripts and plans, judged as they are named.
+
+use run_inquiry::script_name;
+use script_checks::{Folders, Surroundings, check_plan, check_script, read_plan};
+use tool_console::{Failure, Verdict};
+
+/// What the path of a plan's file ends with.
+const PLAN_ENDING: &str = ".toml";
+
+/// Judges a script or a plan.
+fn check_file(
+    rt: &HostRuntime,
+    path: &str,
+    around: &Surroundings<'_>,
+    told: &mut Vec<String>,
+) -> Result<Verdict, Failure> {
+    if path.ends_with(PLAN_ENDING) {
+        check_plan(rt, path, around.plan)
+    } else {
+        check_script(rt, path, script_name(path), around, told)
+    }
+}
+
+/// Judges scripts and plans, one after the other.
+fn check_each(
+    rt: &HostRuntime,
+    paths: &[&str],
+    around: &Surroundings<'_>,
+) -> Result<Verdict, Failure> {
+    let mut told = Vec::new(rt.alloc());
+    let mut verdict = Verdict::Good;
+    for path in paths {
+        if let Verdict::Refused = check_file(rt, *path, around, &mut told)? {
+            verdict = Verdict::Refused;
+        }
+    }
+    Ok(verdict)
+}
+
+/// Judges the scripts and plans of files, one after the other; a plan's path ends with `.toml`. The path of the present
+/// plan may be given, and the folders of scripts that can be included. The verdict is `Refused` where one of the files,
+/// or the present plan, is refused. A warning changes no verdict.
+pub fn check_files(
+    rt: &HostRuntime,
+    paths: &[&str],
+    plan: Option<&str>,
+    folders: Folders<'_>,
+) -> Result<Verdict, Failure> {
+    let Some(present) = read_plan(rt, plan)? else {
+        return Ok(Verdict::Refused);
+    };
+    let plan = plan.map(|_| &present.plan);
+    check_each(rt, paths, &Surroundings { plan, folders })
+}
