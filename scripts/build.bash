@@ -157,13 +157,33 @@ await_builder() {
     return "$status"
 }
 
-# The libraries below a program, those with the longest path to it first. The length of a path is that of its crates' sources.
+# How long a library takes to prove, as far as its text tells: the octets of its code, and 8,000 for each library of the kit that it
+# names and one more, since what these say is loaded before its first function is proved.
+weight_of() {
+    local octets kit
+    octets=$(find "$root/crates/$1/src" -type f -exec cat {} + 2> /dev/null | wc -c)
+    kit=$(awk -v name="$1" '
+        { sub(/#.*/, "") }
+        /:/ {
+            crate = $1
+            sub(/:$/, "", crate)
+            ours[crate] = 1
+            if (crate == name) needs = substr($0, index($0, ":") + 1)
+        }
+        END {
+            for (i = split(needs, words); i > 0; i--) count += !(words[i] in ours)
+            print count + 0
+        }
+    ' "$root/crates.txt")
+    echo $((octets + 8000 * (kit + 1)))
+}
+
+# The libraries below a program, those with the longest path to it first. The length of a path is the weight of its crates.
 longest_first() {
     local name other
     local -A way=()
     for name in $(crates_below "$1" | tac); do
-        way[$name]=${way[$name]:-0}
-        way[$name]=$((way[$name] + $(find "$root/crates/$name/src" "$root/crates/$name/proofs" -type f -exec cat {} + 2> /dev/null | wc -c)))
+        way[$name]=$((${way[$name]:-0} + $(weight_of "$name")))
         for other in $(crates_below "$name"); do
             ((${way[$other]:-0} >= way[$name])) || [[ $other == "$name" ]] || way[$other]=${way[$name]}
         done
@@ -179,7 +199,8 @@ is_ready() {
     done
 }
 
-# Starts building the remaining libraries that can be built now, with the provers that are idle.
+# Starts building the remaining libraries that can be built now, with the provers that are idle. Each gets one, and the first, which
+# the program waits for longest, gets those that are left over, up to four.
 start_builders() {
     local name jobs ready=()
     for name in "${left[@]}"; do
@@ -189,11 +210,11 @@ start_builders() {
     done
     while ((idle > 0 && ${#ready[@]} > 0)); do
         name=${ready[0]}
-        jobs=$((idle / ${#ready[@]}))
+        ready=("${ready[@]:1}")
+        jobs=$((idle - ${#ready[@]}))
         jobs=$((jobs < 1 ? 1 : jobs < 4 ? jobs : 4))
         idle=$((idle - jobs))
         share[$name]=$jobs
-        ready=("${ready[@]:1}")
         start_builder "$name" "$jobs"
     done
     ready=()
@@ -249,7 +270,7 @@ build() {
     trap 'end_by 143' TERM
     lock_crates "$name"
     make_lanes || give_up "there is no folder to build in"
-    echo "$self: ${reason:+$reason; }proving and building $total crates, which from nothing may take 40 minutes (provers at once: $provers)" >&2
+    echo "$self: ${reason:+$reason; }proving and building $total crates, which from nothing may take 25 minutes (provers at once: $provers)" >&2
     if ! { build_libraries "$name" "$provers" "$total" && unlock_crates && build_program "$name"; }; then
         tail -n 40 -- "$folder/out/build.log" >&2
         if grep -q killed "$folder/out/build.log"; then

@@ -227,7 +227,10 @@ find_program() {
 # Answers --help or --version of a program that is not built; otherwise does nothing.
 answer_unbuilt() {
     case $#${2-} in
-        2--version | 2-V) sed -n "s/.*\.version(\"\([^\"]*\)\").*/$self \1/p" "$root/crates/$1/src"/*.rt ;;
+        2--version | 2-V)
+            source_folders "$1" | sed "s|^|$root/|" | xargs -d '\n' grep -r -h -o -E 'version(: |\()"[^"]*"' |
+                sed "s/.*\"\(.*\)\"/$self \1/"
+            ;;
         2--help | 2-h)
             echo "$self is not built: $reason."
             echo "Any other start proves and builds it first; then --help lists its options."
