@@ -270,7 +270,7 @@ build() {
     trap 'end_by 143' TERM
     lock_crates "$name"
     make_lanes || give_up "there is no folder to build in"
-    echo "$self: ${reason:+$reason; }proving and building $total crates, which from nothing may take 25 minutes (provers at once: $provers)" >&2
+    echo "$self: ${reason:+$reason; }proving and building $total crates, which from nothing may take half an hour (provers at once: $provers)" >&2
     if ! { build_libraries "$name" "$provers" "$total" && unlock_crates && build_program "$name"; }; then
         tail -n 40 -- "$folder/out/build.log" >&2
         if grep -q killed "$folder/out/build.log"; then
