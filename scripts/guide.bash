@@ -1,4 +1,4 @@
-# shellcheck shell=bash
+#!/usr/bin/env bash
 # Plays docs/GUIDE.md: types what is there after each `$`, in one shell that begins at the top of the repository, with an empty home.
 # The output must be what the page shows below. A last line `...` means any further output. ./test sources this file; run by itself, it
 # plays the page.
@@ -62,9 +62,8 @@ if [[ ${BASH_SOURCE[0]} == "$0" ]]; then
     cd -- "$root" || exit 125
     work=$(mktemp -d) || exit 125
     trap 'rm -rf -- "$work"' EXIT
-    reported() {
-        echo "$1: $(grep -c -E "$4" "$3") of $2 as shown"
-        ! grep -q -E "$5" "$3"
-    }
+    # shellcheck source=scripts/counts.bash
+    . scripts/counts.bash || exit 125
     guide
+    finish
 fi

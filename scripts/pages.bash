@@ -1,4 +1,4 @@
-# shellcheck shell=bash
+#!/usr/bin/env bash
 # shellcheck disable=SC2016,SC2317 # backticks are those of the pages, and count calls its checks by their names
 # Checks what the pages name: other pages and their sections, files, the functions that the way of a capture leads through, and the
 # crates with their levels. ./test sources this file; run by itself, it checks the pages.

@@ -1,4 +1,4 @@
-# shellcheck shell=bash
+#!/usr/bin/env bash
 # Plays sessions: what `mailfile` answers to NAME.session has to be the octets of NAME.expected. A folder has parts 1.session,
 # 2.session and so on, which are played in this order over one store in a file that is new at first. ./test sources this file, which
 # sets `program`; run by itself, it plays the files and folders that it is given.

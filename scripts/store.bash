@@ -1,4 +1,4 @@
-# shellcheck shell=bash
+#!/usr/bin/env bash
 # shellcheck disable=SC2317,SC2015 # count calls its checks by their names, and `|| shows_run` only reports
 # Tests ./mailfile-store: what it answers, with which status it ends, and what it leaves. The expectations are written by hand, or come
 # from other programs: coreutils, and python3 where it is installed. ./test sources this file; run by itself, it plays these tests and
@@ -572,9 +572,8 @@ if [[ ${BASH_SOURCE[0]} == "$0" ]]; then
     cd -- "$(dirname -- "$(readlink -f -- "$0")")/.." || exit 125
     work=$(mktemp -d) || exit 125
     trap 'rm -rf -- "$work"' EXIT
-    failed=0
-    count() { "${@:2}" || { echo "failed: $1"; failed=$((failed + 1)); }; }
-    group() { echo "$1: $failed failed"; }
+    # shellcheck source=scripts/counts.bash
+    . scripts/counts.bash || exit 125
     root=$PWD self=store
     # shellcheck source=scripts/build.bash
     . scripts/build.bash || exit 125
@@ -589,5 +588,5 @@ if [[ ${BASH_SOURCE[0]} == "$0" ]]; then
     disposals
     store_files
     copies_tests
-    exit $((failed > 0))
+    finish
 fi

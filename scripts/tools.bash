@@ -1,4 +1,4 @@
-# shellcheck shell=bash
+#!/usr/bin/env bash
 # shellcheck disable=SC2317 # count calls its checks by their names
 # Tests ./mailfile-tool by the table examples/tools/cases. ./test sources this file; run by itself, it plays the table.
 
@@ -161,9 +161,8 @@ if [[ ${BASH_SOURCE[0]} == "$0" ]]; then
     cd -- "$(dirname -- "$(readlink -f -- "$0")")/.." || exit 125
     work=$(mktemp -d) || exit 125
     trap 'rm -rf -- "$work"' EXIT
-    failed=0
-    count() { "${@:2}" || { echo "failed: $1"; failed=$((failed + 1)); }; }
-    group() { echo "$1: $failed failed"; }
+    # shellcheck source=scripts/counts.bash
+    . scripts/counts.bash || exit 125
     tools
-    exit $((failed > 0))
+    finish
 fi
