@@ -160,21 +160,12 @@ await_builder() {
 # How long a library takes to prove, as far as its text tells: the octets of its code, and 8,000 for each library of the kit that it
 # names and one more, since what these say is loaded before its first function is proved.
 weight_of() {
-    local octets kit
+    local octets word words kit=0
     octets=$(find "$root/crates/$1/src" -type f -exec cat {} + 2> /dev/null | wc -c)
-    kit=$(awk -v name="$1" '
-        { sub(/#.*/, "") }
-        /:/ {
-            crate = $1
-            sub(/:$/, "", crate)
-            ours[crate] = 1
-            if (crate == name) needs = substr($0, index($0, ":") + 1)
-        }
-        END {
-            for (i = split(needs, words); i > 0; i--) count += !(words[i] in ours)
-            print count + 0
-        }
-    ' "$root/crates.txt")
+    read -r -a words < <(sed -n "s/#.*//; s/^$1 *://p" "$root/crates.txt")
+    for word in "${words[@]}"; do
+        [[ -d $root/crates/$word ]] || kit=$((kit + 1))
+    done
     echo $((octets + 8000 * (kit + 1)))
 }
 
