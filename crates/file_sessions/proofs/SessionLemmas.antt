@@ -10,14 +10,13 @@ use Rattle.sqlite.specs.Recovery.{Image}
 use Rattle.sqlite.specs.Files.{HoldsDatabase, file_state, over_files}
 use Rattle.sqlite.specs.WalFiles.{outcomes}
 use Rattle.sqlite_disk.specs.declared.Disk.{Ghosts as DiskGhosts}
-use Rattle.sqlite_disk.specs.declared.Files.{Files}
 use Rattle.sqlite_store.specs.declared.store.FileStore.{FileStore}
 use Rattle.record_store.specs.Stores.{Fate, Left, ShutAfter, FateKeeps, MayMeet, StandsFor, TreesKeep}
 use Rattle.record_store.specs.declared.store.Store.{Store}
 use Rattle.record_archive.specs.Archive.{Archive}
 use Rattle.filing_commands.specs.Answers.{Answer}
 use Rattle.filing_commands.specs.Calls.{Calls, Leads}
-use Rattle.filing_commands.specs.Standing.{Standing, Step}
+use Rattle.filing_commands.specs.Standing.{Standing, Step, opening}
 use Rattle.filing_session.specs.Done.{HasDone}
 use Rattle.filing_session.specs.Crashes.{IsLeftOf, RunsLeave}
 use Rattle.filing_session.specs.Laws.{Refines}
@@ -26,10 +25,10 @@ use Rattle.filing_session.specs.declared.session.ServeFault.{ServeFault}
 use Rattle.filing_session.specs.declared.session.ServeFault.TheVariants.{Read, Write}
 use Rattle.record_adoption.specs.Keeping.{StoresArchive}
 use Rattle.archive_files.specs.Closing.{HoldsBy, HoldsNow}
-use Rattle.archive_files.specs.Files.{KeepsAt, KeepsFiles}
-use Rattle.archive_files.specs.declared.closing.Closing.{Closing}
+use Rattle.archive_files.specs.Files.{KeepsAt}
 use Rattle.archive_files.proofs.ArchiveLemmas.{holds_alike, keeps_now}
-use Rattle.file_sessions.specs.Sessions.{IsTold, Represents}
+use Rattle.file_sessions.specs.Sessions.{EndsAt, IsTold, LeadsTo, Represents}
+use Rattle.file_sessions.specs.declared.session.EndedSession.{EndedSession}
 
 module _ {D I : Type 0} (clean : D → Type 0) (stands : D → Standing → Type 0) (may_leave : D → I → Type 0)
     (keeps : I → Archive → Type 0) where
@@ -180,10 +179,34 @@ represents {S} g store conn same a stands =
       rows = subst Rows (sym same) stands.rows;
     }
 
--- what a connection represents, its files keep however they are closed
-pub keeps_closed : {D : Type 0} (g : DiskGhosts D) (conn : Held (FileStore D g)) (a : Archive) (closing : Closing) (files : Files D)
-    → Represents over_files conn a → HasCleanDisk (file_state conn)
-    → (conn.in_transaction ≡ false → (image : Image) → outcomes g files.log files.db image → HoldsBy closing (HoldsNow (file_state conn)) image)
-    → KeepsFiles g closing files a
-keeps_closed g conn a closing files is clean holds image may =
-    holds_alike closing (HoldsNow (file_state conn)) (KeepsAt a) (keeps_now conn conn refl a is.archive is.rows clean) image (holds is.idle image may)
+-- a disk that is clean under a connection is clean under it by another name
+pub clean_alike : {S : Type 0} (g : Ghosts S) (conn other : Held S) → conn ≡ other → HasCleanDisk (state g conn)
+    → HasCleanDisk (state g other)
+clean_alike {S} g conn other same = let Clean : Held S → Type 0 = λ h. HasCleanDisk (state g h) in subst Clean same
+
+-- a session that leads to a desk ends at the connection of its store
+pub ends_at : {S D : Type 0} (g : Ghosts S) (stands : D → Standing → Type 0) (desk : D) (store : Store S) (conn : Held S)
+    → conn ≡ store.conn → ((s : Standing) → stands desk s → StandsFor g store s.office.archive) → (a : Archive)
+    (Reaches : Standing → Standing → Type 0) → Leads stands desk (Reaches (opening a)) → EndsAt g conn a Reaches
+ends_at g stands desk store conn same of_store a Reaches led = record {
+  to = led.to;
+  reached = led.is_one;
+  stored = represents g store conn same led.to.office.archive (of_store led.to led.there);
+}
+
+-- an image that holds the database of a connection keeps the archive that the connection represents
+pub keeps_open : {D : Type 0} {g : DiskGhosts D} (conn : Held (FileStore D g)) (a : Archive) → Represents over_files conn a
+    → HasCleanDisk (file_state conn) → (image : Image) → HoldsNow (file_state conn) image → KeepsAt a image
+keeps_open conn a is = keeps_now conn conn refl a is.archive is.rows
+
+-- a session that ends at a connection leads to its files, however they are closed
+pub leads_to : {D : Type 0} (g : DiskGhosts D) (conn : Held (FileStore D g)) (a : Archive) (Reaches : Standing → Standing → Type 0)
+    (ended : EndedSession D) → EndsAt over_files conn a Reaches → HasCleanDisk (file_state conn)
+    → (conn.in_transaction ≡ false → (image : Image) → outcomes g ended.files.log ended.files.db image
+    → HoldsBy ended.closing (HoldsNow (file_state conn)) image) → LeadsTo g ended a Reaches
+leads_to g conn a Reaches ended ends clean holds = record {
+  to = ends.to;
+  reached = ends.reached;
+  kept = λ image may. holds_alike ended.closing (HoldsNow (file_state conn)) (KeepsAt ends.to.office.archive)
+      (keeps_open conn ends.to.office.archive ends.stored clean) image (holds ends.stored.idle image may);
+}

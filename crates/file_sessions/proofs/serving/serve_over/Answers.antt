@@ -9,13 +9,12 @@ use Rattle.filing_commands.specs.Standing.{opening}
 use Rattle.filing_session.specs.Crashes.{IsLeftOf}
 use Rattle.filing_desk.specs.declared.desk.Desk.{Desk}
 use Rattle.filing_desk.specs.Standing.{StandsFor}
-use Rattle.file_sessions.proofs.SessionLemmas.{desk_told, done_refines, leaves_refines, left_in, met_first, represents, told_refines}
+use Rattle.file_sessions.proofs.SessionLemmas.{clean_alike, desk_told, done_refines, ends_at, leaves_refines, left_in, met_first, told_refines}
 use Rattle.file_sessions.proofs.serving.serve_over.Goals as goal
 
 pub returns-clause-served : goal.returns-clause-served
 returns-clause-served g c clean heard said =
     let IsClean : Desk (Store g.row.S.Denot) → Type 0 = λ desk. HasCleanDisk (state g.S.Store desk.store.conn) in
-    let CleanConn : Held g.row.S.Denot → Type 0 = λ h. HasCleanDisk (state g.S.Store h) in
     let same = c.into_connection.ensures ∙ ap (λ (s : Store g.row.S.Denot). s.conn) c.into_store.ensures.store in
     let serve = c.serve-session in
     let law = c.sessions_refine_states.ensures in
@@ -24,45 +23,33 @@ returns-clause-served g c clean heard said =
     (serve.ensures.ok heard said) (serve.ensures.unheard heard said) (serve.ensures.unsaid heard said) in
     let led = told_refines IsClean (StandsFor (stores.StandsFor g.S.Store))
     (λ desk. MayMeet g.S.Store desk.store) FateKeeps law.served law.answered law.cut_in_answer law.cut_in_ending
-    serve.result _ _ _ _ _ told (subst CleanConn same clean) in (
+    serve.result _ _ _ _ _ told (clean_alike g.S.Store _ _ same clean) in (
       c.in-Ok.ensures.clean led.0,
       λ a found.
-          let l = led.1 (opening a) (c.in-Ok.ensures.stands led.0 a found) in
-          let there = c.into_store.ensures.stands l.to l.there in
-          record {
-            to = l.to;
-            reached = l.is_one;
-            stored = represents g.S.Store c.into_store.result _ c.into_connection.ensures l.to.office.archive there;
-          },
+          ends_at g.S.Store (StandsFor (stores.StandsFor g.S.Store)) _ c.into_store.result _ c.into_connection.ensures c.into_store.ensures.stands
+          a _ (led.1 (opening a) (c.in-Ok.ensures.stands led.0 a found)),
     )
 
 pub returns-clause-done : goal.returns-clause-done
 returns-clause-done g c clean =
     let IsClean : Desk (Store g.row.S.Denot) → Type 0 = λ desk. HasCleanDisk (state g.S.Store desk.store.conn) in
-    let CleanConn : Held g.row.S.Denot → Type 0 = λ h. HasCleanDisk (state g.S.Store h) in
     let same = c.into_connection.ensures ∙ ap (λ (s : Store g.row.S.Denot). s.conn) c.into_store.ensures.store in
     let led = done_refines IsClean (StandsFor (stores.StandsFor g.S.Store))
     (λ desk. MayMeet g.S.Store desk.store) FateKeeps c.sessions_refine_states.ensures.done _ _ _ _
-    c.serve-session.ensures.done (subst CleanConn same clean) in (
+    c.serve-session.ensures.done (clean_alike g.S.Store _ _ same clean) in (
       c.in-Ok.ensures.clean led.0,
       λ a found.
-          let l = led.1 (opening a) (c.in-Ok.ensures.stands led.0 a found) in
-          let there = c.into_store.ensures.stands l.to l.there in
-          record {
-            to = l.to;
-            reached = l.is_one;
-            stored = represents g.S.Store c.into_store.result _ c.into_connection.ensures l.to.office.archive there;
-          },
+          ends_at g.S.Store (StandsFor (stores.StandsFor g.S.Store)) _ c.into_store.result _ c.into_connection.ensures c.into_store.ensures.stands
+          a _ (led.1 (opening a) (c.in-Ok.ensures.stands led.0 a found)),
     )
 
 pub returns-clause-left : goal.returns-clause-left
 returns-clause-left g c clean =
     let IsClean : Desk (Store g.row.S.Denot) → Type 0 = λ desk. HasCleanDisk (state g.S.Store desk.store.conn) in
-    let CleanConn : Held g.row.S.Denot → Type 0 = λ h. HasCleanDisk (state g.S.Store h) in
     let same = c.into_connection.ensures ∙ ap (λ (s : Store g.row.S.Denot). s.conn) c.into_store.ensures.store in
     let serve = c.serve-session in
     let law = c.sessions_refine_states.ensures in
-    let sure = subst CleanConn same clean in
+    let sure = clean_alike g.S.Store _ _ same clean in
     let led = done_refines IsClean (StandsFor (stores.StandsFor g.S.Store))
     (λ desk. MayMeet g.S.Store desk.store) FateKeeps law.done _ _ _ _ serve.ensures.done sure in (
       c.in-Ok.ensures.clean led.0,

@@ -6,7 +6,7 @@ use Rattle.filing_commands.specs.Standing.{opening}
 use Rattle.record_store.specs.Stores.{TreesKeep}
 use Rattle.archive_files.specs.Files.{KeepsAt}
 use Rattle.archive_files.proofs.ClosingLemmas.{by_count, by_fault, leaves_map}
-use Rattle.file_sessions.proofs.SessionLemmas.{keeps_closed, keeps_left, left_in}
+use Rattle.file_sessions.proofs.SessionLemmas.{keeps_left, leads_to, left_in}
 use Rattle.file_sessions.proofs.UnservedLemmas.{holds_still}
 use Rattle.file_sessions.proofs.session.serve_connection.Goals as goal
 
@@ -14,31 +14,15 @@ pub returns-in-Ok-clause-served : goal.returns-in-Ok-clause-served
 returns-in-Ok-clause-served g c honest heard said =
     let ended = c.close-files in
     let clean = ended.ensures.clean honest in
-    let it = c.in-Ok.ensures.served clean heard said in (
-      it.0,
-      λ a found.
-          let e = it.1 a found in
-          record {
-            to = e.to;
-            reached = e.reached;
-            kept = keeps_closed g.D.Disk c.in-Ok.conn e.to.office.archive ended.result.1 ended.result.0 e.stored clean (ended.ensures.holds honest);
-          },
-    )
+    let it = c.in-Ok.ensures.served clean heard said in
+    (it.0, λ a found. leads_to g.D.Disk c.in-Ok.conn a _ _ (it.1 a found) clean (ended.ensures.holds honest))
 
 pub returns-in-Ok-clause-done : goal.returns-in-Ok-clause-done
 returns-in-Ok-clause-done g c honest =
     let ended = c.close-files in
     let clean = ended.ensures.clean honest in
-    let it = c.in-Ok.ensures.done clean in (
-      it.0,
-      λ a found.
-          let e = it.1 a found in
-          record {
-            to = e.to;
-            reached = e.reached;
-            kept = keeps_closed g.D.Disk c.in-Ok.conn e.to.office.archive ended.result.1 ended.result.0 e.stored clean (ended.ensures.holds honest);
-          },
-    )
+    let it = c.in-Ok.ensures.done clean in
+    (it.0, λ a found. leads_to g.D.Disk c.in-Ok.conn a _ _ (it.1 a found) clean (ended.ensures.holds honest))
 
 pub returns-in-Ok-clause-left : goal.returns-in-Ok-clause-left
 returns-in-Ok-clause-left g c honest =
