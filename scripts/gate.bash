@@ -113,7 +113,7 @@ promised_edits() {
 # a screen.
 lines_fit() {
     LC_ALL=C.UTF-8 grep -r -n -E --include='*.rt' '^.{101}' crates/*/src > "$work/said"
-    ! grep -v -E '^[^:]*:[0-9]+: *(//|ghost use|use |#\[)|"|^crates/report_page/src/style.rt:' "$work/said"
+    ! grep -v -E '^[^:]*:[0-9]+: *(//|ghost use|use |#\[)|"|^crates/cli_page/src/style.rt:' "$work/said"
 }
 
 # Whether each line of a proof has at most 150 characters; one with a text of SQL in quotation marks may have more.

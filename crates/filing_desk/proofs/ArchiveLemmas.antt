@@ -8,8 +8,8 @@ use Rattle.record_archive.specs.declared.fault.ArchiveFault.{ArchiveFault}
 use Rattle.record_archive.specs.declared.fault.ArchiveFault.TheVariants.{Refused, Database, NoMemory}
 use Rattle.record_archive.specs.declared.fault.ArchiveRefusal.{ArchiveRefusal}
 use Rattle.record_archive.specs.declared.fault.ArchiveRefusal.TheVariants as archive
-use Rattle.filing_commands.specs.Answers.{refused}
-use Rattle.filing_commands.specs.Faults.{refused_by, archive_fault, refusal_fault, plan_fault, has_place}
+use Rattle.desk_commands.specs.Answers.{refused}
+use Rattle.desk_commands.specs.Faults.{refused_by, archive_fault, refusal_fault, plan_fault, has_place}
 use Rattle.filing_desk.specs.Filing.{IsArchiveFault}
 
 plan_told : (f : PlanFault) → refused_by (plan_fault f) ≡ refused (plan.number_of f) None

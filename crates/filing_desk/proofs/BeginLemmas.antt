@@ -9,25 +9,25 @@ use Rattle.std.proofs.lemmas.Bool.{false≢true}
 use Rattle.jiff.specs.Words.{epoch_day}
 use Rattle.jiff_core.specs.declared.civil.date.Date.{Date}
 use Rattle.class_plan.specs.Plans.{Listing, is_open_in}
-use Rattle.filing_case.specs.Message.{is_among}
+use Rattle.mail_case.specs.Message.{is_among}
 use Rattle.filing_image.specs.Program.{Program}
 use Rattle.record_archive.specs.Archive.{Archive}
-use Rattle.filing_commands.specs.Answers.{Answer, begun, refused}
-use Rattle.filing_commands.specs.Calls.{Calls}
-use Rattle.filing_commands.specs.Faults.{refusal_of, refused_by}
-use Rattle.filing_commands.specs.Limits.{greatest_message, last_moment, last_ticket, most_in_flight}
-use Rattle.filing_commands.specs.Office.{Office}
-use Rattle.filing_commands.specs.Pinning.{Pins, PinsChoice, choice_by}
-use Rattle.filing_commands.specs.Scripts.{library, meanings_of}
-use Rattle.filing_commands.specs.Standing.{Standing, Flight, Step, BeginStep, begin, begin_refusal, begin_state}
-use Rattle.filing_commands.specs.CallAnswers.{answer_of_ticket}
-use Rattle.filing_commands.specs.declared.fault.DeskFault.{DeskFault}
-use Rattle.filing_commands.specs.declared.fault.DeskFault.TheVariants.{NoMemory}
-use Rattle.filing_flights.specs.Begun.{HoldsBegun}
-use Rattle.filing_flights.specs.Flights.{Adds, AreHeld}
-use Rattle.filing_flights.specs.FlightViews.{FlightView, Holds}
-use Rattle.filing_flights.specs.Laws.{AreAsMany, OpenPathsAreClasses}
-use Rattle.filing_officers.specs.Register.{PinsFor, officer_at}
+use Rattle.desk_commands.specs.Answers.{Answer, begun, refused}
+use Rattle.desk_commands.specs.Calls.{Calls}
+use Rattle.desk_commands.specs.Faults.{refusal_of, refused_by}
+use Rattle.desk_commands.specs.Limits.{greatest_message, last_moment, last_ticket, most_in_flight}
+use Rattle.desk_commands.specs.Office.{Office}
+use Rattle.desk_commands.specs.Pinning.{Pins, PinsChoice, choice_by}
+use Rattle.desk_commands.specs.Scripts.{library, meanings_of}
+use Rattle.desk_commands.specs.Standing.{Standing, Flight, Step, BeginStep, begin, begin_refusal, begin_state}
+use Rattle.desk_commands.specs.CallAnswers.{answer_of_ticket}
+use Rattle.desk_commands.specs.declared.fault.DeskFault.{DeskFault}
+use Rattle.desk_commands.specs.declared.fault.DeskFault.TheVariants.{NoMemory}
+use Rattle.desk_flights.specs.Begun.{HoldsBegun}
+use Rattle.desk_flights.specs.Flights.{Adds, AreHeld}
+use Rattle.desk_flights.specs.FlightViews.{FlightView, Holds}
+use Rattle.desk_flights.specs.Laws.{AreAsMany, OpenPathsAreClasses}
+use Rattle.desk_officers.specs.Register.{PinsFor, officer_at}
 use Rattle.filing_desk.specs.Beginning.{IsNewFlight, IsNumbered, KeepsAll, against_begin}
 use Rattle.filing_desk.specs.Standing.{AreOpenPaths, HasPathsOf, IsClean, MayLeave, StandsFor}
 use Rattle.filing_desk.specs.declared.desk.Desk.{Desk}

@@ -9,12 +9,12 @@ use Rattle.record_archive.specs.Calls.{CarriesOut, KeepsMade, unchanged}
 use Rattle.record_archive.specs.Faults.{WhereRefused}
 use Rattle.record_archive.specs.declared.fault.ArchiveFault.{ArchiveFault}
 use Rattle.record_archive.specs.declared.fault.ArchiveFault.TheVariants.{Refused, Database, NoMemory}
-use Rattle.filing_commands.specs.Answers.{Answer, listed}
-use Rattle.filing_commands.specs.ArchiveAnswers.{is_refused_outside}
-use Rattle.filing_commands.specs.Calls.{Calls}
-use Rattle.filing_commands.specs.Faults.{refused_by, archive_fault}
-use Rattle.filing_commands.specs.Office.{OfficeStep, due}
-use Rattle.filing_commands.specs.Standing.{Standing, Step, plain}
+use Rattle.desk_commands.specs.Answers.{Answer, listed}
+use Rattle.desk_commands.specs.ArchiveAnswers.{is_refused_outside}
+use Rattle.desk_commands.specs.Calls.{Calls}
+use Rattle.desk_commands.specs.Faults.{refused_by, archive_fault}
+use Rattle.desk_commands.specs.Office.{OfficeStep, due}
+use Rattle.desk_commands.specs.Standing.{Standing, Step, plain}
 use Rattle.filing_desk.specs.Filing.{IsArchiveFault}
 use Rattle.filing_desk.specs.Standing.{IsClean, MayLeave, StandsFor}
 use Rattle.filing_desk.specs.declared.desk.Desk.{Desk}

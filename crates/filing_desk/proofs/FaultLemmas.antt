@@ -9,24 +9,24 @@ use Rattle.sieve_meaning.specs.Case.{Facts}
 use Rattle.sieve_meaning.specs.Outcome as meaning
 use Rattle.sieve_meaning.specs.Reading.{program_of}
 use Rattle.class_plan.specs.Plans.{Listing, is_open_in}
-use Rattle.filing_case.specs.Message.{case_of}
+use Rattle.mail_case.specs.Message.{case_of}
 use Rattle.filing_image.specs.Program.{Program}
 use Rattle.filing_table.specs.Ends.{HasOutcome}
-use Rattle.script_library.specs.Libraries.{Scripts, library_of}
+use Rattle.sieve_library.specs.Libraries.{Scripts, library_of}
 use Rattle.record_archive.specs.Archive.{Archive}
 use Rattle.record_archive.specs.declared.line.Line.{Line}
-use Rattle.filing_commands.specs.Answers.{Answer, dry_run}
-use Rattle.filing_commands.specs.ArchiveAnswers.{is_of_archive}
-use Rattle.filing_commands.specs.Calls.{Calls}
-use Rattle.filing_commands.specs.Faults.{refused_by}
-use Rattle.filing_commands.specs.Limits.{greatest_image, greatest_message, greatest_script}
-use Rattle.filing_commands.specs.Office.{Office, PlainCommand, OfficeStep, Refuses, GivesUp, LacksMemory, IsFiled, IsTried, file, try_image}
-use Rattle.filing_commands.specs.Parts.{IsGood, IsGoodImage, RefusesImage, RefusesScript}
-use Rattle.filing_commands.specs.Scripts.{library}
-use Rattle.filing_commands.specs.Standing.{Standing, is_refusal, plain}
-use Rattle.filing_commands.specs.CallAnswers.{answer_of_lines, answer_of_outcome}
-use Rattle.filing_commands.specs.declared.fault.DeskFault.{DeskFault}
-use Rattle.filing_commands.specs.declared.fault.DeskFault.TheVariants.{NoMemory}
+use Rattle.desk_commands.specs.Answers.{Answer, dry_run}
+use Rattle.desk_commands.specs.ArchiveAnswers.{is_of_archive}
+use Rattle.desk_commands.specs.Calls.{Calls}
+use Rattle.desk_commands.specs.Faults.{refused_by}
+use Rattle.desk_commands.specs.Limits.{greatest_image, greatest_message, greatest_script}
+use Rattle.desk_commands.specs.Office.{Office, PlainCommand, OfficeStep, Refuses, GivesUp, LacksMemory, IsFiled, IsTried, file, try_image}
+use Rattle.desk_commands.specs.Parts.{IsGood, IsGoodImage, RefusesImage, RefusesScript}
+use Rattle.desk_commands.specs.Scripts.{library}
+use Rattle.desk_commands.specs.Standing.{Standing, is_refusal, plain}
+use Rattle.desk_commands.specs.CallAnswers.{answer_of_lines, answer_of_outcome}
+use Rattle.desk_commands.specs.declared.fault.DeskFault.{DeskFault}
+use Rattle.desk_commands.specs.declared.fault.DeskFault.TheVariants.{NoMemory}
 use Rattle.filing_desk.specs.Judging.{IsFaultOf, IsLongMessage}
 use Rattle.filing_desk.specs.Standing.{IsClean, MayLeave, StandsFor}
 use Rattle.filing_desk.specs.declared.desk.Desk.{Desk}

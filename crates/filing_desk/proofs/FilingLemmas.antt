@@ -18,14 +18,14 @@ use Rattle.record_archive.specs.declared.fault.ArchiveFault.TheVariants.{Refused
 use Rattle.record_archive.specs.declared.fault.ArchiveRefusal.{ArchiveRefusal}
 use Rattle.record_archive.specs.declared.fault.ArchiveRefusal.TheVariants.{Full}
 use Rattle.record_archive.specs.declared.line.Line.{Line}
-use Rattle.filing_commands.specs.Faults.{refused_by, archive_fault}
-use Rattle.filing_commands.specs.Standing.{Flight}
-use Rattle.filing_commands.specs.CallAnswers.{answer_of_capture}
-use Rattle.filing_commands.specs.declared.fault.DeskFault.{DeskFault}
-use Rattle.filing_commands.specs.declared.fault.DeskFault.TheVariants as faults
-use Rattle.filing_commands.specs.declared.results.Capture.{Capture}
-use Rattle.filing_flights.specs.Flights.{IsFound}
-use Rattle.filing_flights.specs.FlightViews.{FlightView, facts_in}
+use Rattle.desk_commands.specs.Faults.{refused_by, archive_fault}
+use Rattle.desk_commands.specs.Standing.{Flight}
+use Rattle.desk_commands.specs.CallAnswers.{answer_of_capture}
+use Rattle.desk_commands.specs.declared.fault.DeskFault.{DeskFault}
+use Rattle.desk_commands.specs.declared.fault.DeskFault.TheVariants as faults
+use Rattle.desk_commands.specs.declared.results.Capture.{Capture}
+use Rattle.desk_flights.specs.Flights.{IsFound}
+use Rattle.desk_flights.specs.FlightViews.{FlightView, facts_in}
 use Rattle.filing_desk.specs.Filing.{MakesRecords, FilesSafely, IsArchiveFault, IsNotFiled}
 use Rattle.filing_desk.specs.Standing.{IsShownBy}
 use Rattle.filing_desk.proofs.FlightLemmas.{none_found}

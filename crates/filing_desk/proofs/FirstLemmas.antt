@@ -7,10 +7,10 @@ use Rattle.sieve_meaning.specs.declared.outcome.Outcome.{Outcome}
 use Rattle.filing_image.specs.Program.{Program}
 use Rattle.filing_verify.specs.Well.{IsWell}
 use Rattle.filing_table.specs.Ends.{HasOutcome}
-use Rattle.filing_case.specs.Message.{is_among}
-use Rattle.filing_commands.specs.Pinning.{Pins, BeginState, case_in}
-use Rattle.filing_commands.specs.Standing.{Begins, Flight, IsPinned, Standing, begin_refusal, begin_state}
-use Rattle.filing_flights.specs.Begun.{IsBegun}
+use Rattle.mail_case.specs.Message.{is_among}
+use Rattle.desk_commands.specs.Pinning.{Pins, BeginState, case_in}
+use Rattle.desk_commands.specs.Standing.{Begins, Flight, IsPinned, Standing, begin_refusal, begin_state}
+use Rattle.desk_flights.specs.Begun.{IsBegun}
 
 -- a run of a program that may run ends within the budget, in each case: what `every_run_ends` says
 abbrev pub RunsEnd : Type 0

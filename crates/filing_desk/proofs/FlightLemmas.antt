@@ -9,7 +9,7 @@ use Rattle.class_plan.specs.Calendar.{number_of_day}
 use Rattle.class_plan.specs.Plans.{Listing}
 use Rattle.sieve_meaning.specs.declared.outcome.Outcome.{Outcome}
 use Rattle.sieve_meaning.specs.Case.{Facts}
-use Rattle.filing_case.specs.Message.{is_among}
+use Rattle.mail_case.specs.Message.{is_among}
 use Rattle.record_archive.specs.Archive as archives
 use Rattle.record_archive.specs.Archive.{Archive, IsArchive, capture, capture_lines}
 use Rattle.record_archive.specs.Lines.{line_view}
@@ -17,17 +17,17 @@ use Rattle.record_archive.specs.Calls.{KeepsMade, Makes}
 use Rattle.record_archive.specs.declared.fault.ArchiveRefusal.{ArchiveRefusal}
 use Rattle.record_archive.specs.declared.fault.ArchiveRefusal.TheVariants.{Full}
 use Rattle.record_archive.specs.declared.line.Line.{Line}
-use Rattle.filing_commands.specs.Answers.{Answer, captured, refused}
-use Rattle.filing_commands.specs.ArchiveAnswers.{is_of_archive, is_refused_outside}
-use Rattle.filing_commands.specs.Calls.{Calls, KeepsOne}
-use Rattle.filing_commands.specs.Faults.{refused_by}
-use Rattle.filing_commands.specs.Office.{with_archive}
-use Rattle.filing_commands.specs.Standing.{Standing, Flight, Step, FinishStep, flight_of, grant, is_refusal, with_turns, without, turn, finish}
-use Rattle.filing_commands.specs.declared.fault.DeskFault.{DeskFault}
-use Rattle.filing_flights.specs.Flights.{AreHeld, Finds, IsFound, Removes, Turns}
-use Rattle.filing_flights.specs.FlightViews.{FlightView, Holds, IsOpenAtBegin, IsOutcome, TellsEnd}
-use Rattle.filing_flights.specs.Laws.{CapturesHaveClasses, HasOpen}
-use Rattle.filing_officers.specs.Register.{office_of}
+use Rattle.desk_commands.specs.Answers.{Answer, captured, refused}
+use Rattle.desk_commands.specs.ArchiveAnswers.{is_of_archive, is_refused_outside}
+use Rattle.desk_commands.specs.Calls.{Calls, KeepsOne}
+use Rattle.desk_commands.specs.Faults.{refused_by}
+use Rattle.desk_commands.specs.Office.{with_archive}
+use Rattle.desk_commands.specs.Standing.{Standing, Flight, Step, FinishStep, flight_of, grant, is_refusal, with_turns, without, turn, finish}
+use Rattle.desk_commands.specs.declared.fault.DeskFault.{DeskFault}
+use Rattle.desk_flights.specs.Flights.{AreHeld, Finds, IsFound, Removes, Turns}
+use Rattle.desk_flights.specs.FlightViews.{FlightView, Holds, IsOpenAtBegin, IsOutcome, TellsEnd}
+use Rattle.desk_flights.specs.Laws.{CapturesHaveClasses, HasOpen}
+use Rattle.desk_officers.specs.Register.{office_of}
 use Rattle.filing_desk.specs.Filing.{MakesRecords, FilesSafely, IsArchiveFault, IsNotFiled}
 use Rattle.filing_desk.specs.Standing.{AreOpenPaths, HasPathsOf, IsClean, MayLeave, StandsFor}
 use Rattle.filing_desk.specs.declared.desk.Desk.{Desk}

@@ -5,9 +5,9 @@ use Rattle.filing_image.specs.Spelling.{Fits, spelling}
 use Rattle.filing_verify.specs.Well.{Fails, verify_number}
 use Rattle.filing_verify.specs.declared.fault.VerifyFault.{VerifyFault}
 use Rattle.filing_verify.specs.declared.fault.VerifyFault.TheVariants.{NoMemory, Operand, Backward, Stack, RunsOff, Budget}
-use Rattle.filing_commands.specs.Faults.{verify_fault}
-use Rattle.filing_commands.specs.Limits.{greatest_image}
-use Rattle.filing_commands.specs.Parts.{IsUnfit, RefusesImage}
+use Rattle.desk_commands.specs.Faults.{verify_fault}
+use Rattle.desk_commands.specs.Limits.{greatest_image}
+use Rattle.desk_commands.specs.Parts.{IsUnfit, RefusesImage}
 use Rattle.filing_desk.specs.Judging.{IsFaultOf}
 
 module _ (octets : List ℕ) (p : Program) (short : length octets ≤ greatest_image) (fits : Fits (parts p)) (spells : octets ≡ spelling (parts p)) where

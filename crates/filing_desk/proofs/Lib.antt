@@ -16,3 +16,7 @@ pub mod BeginLemmas
 pub mod FilingLemmas
 pub mod OutcomeLemmas
 mod Rows
+pub mod CallLemmas
+pub mod FaultyRunLemmas
+pub mod BegunLemmas
+pub mod HeedLemmas

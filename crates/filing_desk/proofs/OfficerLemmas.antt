@@ -6,21 +6,21 @@ use Rattle.sieve_syntax.specs.Tree.{CommandTrees}
 use Rattle.sieve_meaning.specs.Program.{Commands}
 use Rattle.sieve_meaning.specs.Reading.{program_of}
 use Rattle.record_archive.specs.Archive.{Archive}
-use Rattle.filing_commands.specs.Answers.{Answer, done}
-use Rattle.filing_commands.specs.ArchiveAnswers.{is_for_archive, is_of_archive}
-use Rattle.filing_commands.specs.Calls.{Calls}
-use Rattle.filing_commands.specs.Faults.{refused_by}
-use Rattle.filing_commands.specs.Limits.{greatest_script}
-use Rattle.filing_commands.specs.Office.{Office, PlainCommand, OfficeStep, Settles, Refuses, GivesUp, LacksMemory, activate}
-use Rattle.filing_commands.specs.Parts.{IsGood, IsKept, RefusesToKeep}
-use Rattle.filing_commands.specs.Pinning.{Officer}
-use Rattle.filing_commands.specs.Scripts.{HasNoRoom, put_script, script_at}
-use Rattle.filing_commands.specs.Standing.{Standing, plain}
-use Rattle.filing_commands.specs.declared.fault.DeskFault.{DeskFault}
-use Rattle.filing_commands.specs.declared.fault.DeskFault.TheVariants.{LibraryFull, NoMemory, NoScript}
-use Rattle.filing_flights.specs.Flights.{AreHeld}
-use Rattle.filing_flights.specs.FlightViews.{FlightView}
-use Rattle.filing_officers.specs.Register.{office_of, officer_at}
+use Rattle.desk_commands.specs.Answers.{Answer, done}
+use Rattle.desk_commands.specs.ArchiveAnswers.{is_for_archive, is_of_archive}
+use Rattle.desk_commands.specs.Calls.{Calls}
+use Rattle.desk_commands.specs.Faults.{refused_by}
+use Rattle.desk_commands.specs.Limits.{greatest_script}
+use Rattle.desk_commands.specs.Office.{Office, PlainCommand, OfficeStep, Settles, Refuses, GivesUp, LacksMemory, activate}
+use Rattle.desk_commands.specs.Parts.{IsGood, IsKept, RefusesToKeep}
+use Rattle.desk_commands.specs.Pinning.{Officer}
+use Rattle.desk_commands.specs.Scripts.{HasNoRoom, put_script, script_at}
+use Rattle.desk_commands.specs.Standing.{Standing, plain}
+use Rattle.desk_commands.specs.declared.fault.DeskFault.{DeskFault}
+use Rattle.desk_commands.specs.declared.fault.DeskFault.TheVariants.{LibraryFull, NoMemory, NoScript}
+use Rattle.desk_flights.specs.Flights.{AreHeld}
+use Rattle.desk_flights.specs.FlightViews.{FlightView}
+use Rattle.desk_officers.specs.Register.{office_of, officer_at}
 use Rattle.filing_desk.specs.Standing.{AreOpenPaths, HasPathsOf, IsClean, MayLeave, StandsFor}
 use Rattle.filing_desk.specs.declared.desk.Desk.{Desk}
 use Rattle.filing_desk.proofs.StepLemmas.{plain_calls, untouched}

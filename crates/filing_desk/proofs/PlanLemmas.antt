@@ -7,15 +7,15 @@ use Rattle.class_plan.specs.declared.faults.PlanFault.TheVariants as plans
 use Rattle.class_plan.specs.declared.faults.PlanFault.TheVariants.{PathDropped}
 use Rattle.record_archive.specs.Archive.{Archive, revise}
 use Rattle.record_archive.specs.declared.fault.ArchiveRefusal.TheVariants.{Plan}
-use Rattle.filing_commands.specs.Answers.{Answer}
-use Rattle.filing_commands.specs.Calls.{Calls}
-use Rattle.filing_commands.specs.Faults.{refused_by, plan_fault}
-use Rattle.filing_commands.specs.Limits.{greatest_plan}
-use Rattle.filing_commands.specs.Office.{Office, OfficeStep, set_plan, IsRefused}
-use Rattle.filing_commands.specs.Parts.{IsPlanOf}
-use Rattle.filing_commands.specs.Standing.{plain}
-use Rattle.filing_commands.specs.declared.fault.DeskFault.{DeskFault}
-use Rattle.filing_commands.specs.declared.fault.DeskFault.TheVariants as faults
+use Rattle.desk_commands.specs.Answers.{Answer}
+use Rattle.desk_commands.specs.Calls.{Calls}
+use Rattle.desk_commands.specs.Faults.{refused_by, plan_fault}
+use Rattle.desk_commands.specs.Limits.{greatest_plan}
+use Rattle.desk_commands.specs.Office.{Office, OfficeStep, set_plan, IsRefused}
+use Rattle.desk_commands.specs.Parts.{IsPlanOf}
+use Rattle.desk_commands.specs.Standing.{plain}
+use Rattle.desk_commands.specs.declared.fault.DeskFault.{DeskFault}
+use Rattle.desk_commands.specs.declared.fault.DeskFault.TheVariants as faults
 use Rattle.filing_desk.specs.Standing.{IsClean, MayLeave, StandsFor}
 use Rattle.filing_desk.specs.declared.desk.Desk.{Desk}
 use Rattle.filing_desk.proofs.ClassLemmas.{revised_keeps}

@@ -2,8 +2,8 @@
 use Rattle.std.proofs.Common.{◌≡◌, ◌<◌, ◌≤◌, ℕ, refl, arith, true, false, Some, None}
 use Rattle.std.specs.Prelude.{nat_le, nat_lt}
 use Rattle.std.proofs.lemmas.Bool.Decides.{nat_tests}
-use Rattle.filing_commands.specs.Limits.{greatest_message, last_moment, last_ticket, most_in_flight}
-use Rattle.filing_commands.specs.Standing.{begin_refusal}
+use Rattle.desk_commands.specs.Limits.{greatest_message, last_moment, last_ticket, most_in_flight}
+use Rattle.desk_commands.specs.Standing.{begin_refusal}
 
 -- from the first
 pub refused_moment : (count last moment size : ℕ) → last_moment < moment → begin_refusal count last moment size ≡ Some 94

@@ -7,11 +7,11 @@ use Rattle.record_archive.specs.Calls.{CarriesOut, Quietly}
 use Rattle.record_archive.specs.declared.fault.ArchiveFault.{ArchiveFault}
 use Rattle.record_archive.specs.declared.fault.ArchiveRefusal.{ArchiveRefusal}
 use Rattle.record_archive.specs.declared.fault.ArchiveRefusal.TheVariants.{NoRecord}
-use Rattle.filing_commands.specs.Answers.{Answer, done}
-use Rattle.filing_commands.specs.Calls.{Calls}
-use Rattle.filing_commands.specs.Faults.{refused_by, refusal_fault, archive_fault}
-use Rattle.filing_commands.specs.Office.{PlainCommand, hold, release, destroy}
-use Rattle.filing_commands.specs.Standing.{plain}
+use Rattle.desk_commands.specs.Answers.{Answer, done}
+use Rattle.desk_commands.specs.Calls.{Calls}
+use Rattle.desk_commands.specs.Faults.{refused_by, refusal_fault, archive_fault}
+use Rattle.desk_commands.specs.Office.{PlainCommand, hold, release, destroy}
+use Rattle.desk_commands.specs.Standing.{plain}
 use Rattle.filing_desk.specs.Standing.{AreOpenPaths, IsClean, MayLeave, StandsFor}
 use Rattle.filing_desk.specs.declared.desk.Desk.{Desk}
 use Rattle.filing_desk.proofs.ClassLemmas.{destroy_stays, hold_stays, release_stays, same_keeps}

@@ -2,7 +2,7 @@
 use Rattle.std.proofs.Common.{◌≡◌, List, ℕ, [], ◌∷◌, true, false, Some, None, refl}
 use Rattle.std.specs.Prelude.{codes}
 use Rattle.sieve_meaning.specs.Program.{Commands}
-use Rattle.filing_commands.specs.Scripts.{script_at, put_script, library}
+use Rattle.desk_commands.specs.Scripts.{script_at, put_script, library}
 
 module _ (a b c : Commands) where
   two : List (List ℕ × Commands)

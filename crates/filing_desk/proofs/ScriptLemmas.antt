@@ -8,8 +8,8 @@ use Rattle.sieve_syntax.specs.declared.tree.Script.{Script}
 use Rattle.sieve_meaning.specs.Program.{Commands}
 use Rattle.sieve_meaning.specs.Reading.{program_of}
 use Rattle.sieve_meaning.specs.Meaning.{ScriptName}
-use Rattle.script_library.specs.Libraries.{NamedScript, Scripts, library_of, script_under, location_of}
-use Rattle.filing_commands.specs.Scripts.{script_at, location, library, meanings_of}
+use Rattle.sieve_library.specs.Libraries.{NamedScript, Scripts, library_of, script_under, location_of}
+use Rattle.desk_commands.specs.Scripts.{script_at, location, library, meanings_of}
 
 abbrev meaning_of : Script → Commands
 meaning_of x = program_of (tree_of x)

@@ -11,17 +11,17 @@ use Rattle.record_archive.specs.Faults.{WhereRefused, number_of}
 use Rattle.record_archive.specs.declared.fault.ArchiveFault.{ArchiveFault}
 use Rattle.record_archive.specs.declared.fault.ArchiveFault.TheVariants.{Refused, Database, NoMemory}
 use Rattle.record_archive.specs.declared.fault.ArchiveRefusal.{ArchiveRefusal}
-use Rattle.filing_commands.specs.Answers.{Answer, done}
-use Rattle.filing_commands.specs.ArchiveAnswers.{is_for_archive, is_of_archive, is_refused_outside}
-use Rattle.filing_commands.specs.Calls.{Calls, KeepsOne}
-use Rattle.filing_commands.specs.Faults.{refused_by, refusal_fault, archive_fault}
-use Rattle.filing_commands.specs.Office.{Office, PlainCommand, OfficeStep, Settles, Refuses, GivesUp, IsMade, IsRefused, IsTrouble, with_archive}
-use Rattle.filing_commands.specs.Standing.{Standing, Command, Flight, Step, plain, is_refusal}
-use Rattle.filing_commands.specs.CallAnswers.{answer_of_done}
-use Rattle.filing_commands.specs.declared.fault.DeskFault.{DeskFault}
-use Rattle.filing_flights.specs.Flights.{AreHeld}
-use Rattle.filing_flights.specs.FlightViews.{FlightView}
-use Rattle.filing_officers.specs.Register.{office_of}
+use Rattle.desk_commands.specs.Answers.{Answer, done}
+use Rattle.desk_commands.specs.ArchiveAnswers.{is_for_archive, is_of_archive, is_refused_outside}
+use Rattle.desk_commands.specs.Calls.{Calls, KeepsOne}
+use Rattle.desk_commands.specs.Faults.{refused_by, refusal_fault, archive_fault}
+use Rattle.desk_commands.specs.Office.{Office, PlainCommand, OfficeStep, Settles, Refuses, GivesUp, IsMade, IsRefused, IsTrouble, with_archive}
+use Rattle.desk_commands.specs.Standing.{Standing, Command, Flight, Step, plain, is_refusal}
+use Rattle.desk_commands.specs.CallAnswers.{answer_of_done}
+use Rattle.desk_commands.specs.declared.fault.DeskFault.{DeskFault}
+use Rattle.desk_flights.specs.Flights.{AreHeld}
+use Rattle.desk_flights.specs.FlightViews.{FlightView}
+use Rattle.desk_officers.specs.Register.{office_of}
 use Rattle.filing_desk.specs.Filing.{IsArchiveFault}
 use Rattle.filing_desk.specs.Standing.{AreOpenPaths, HasPathsOf, IsClean, MayLeave, StandsFor}
 use Rattle.filing_desk.specs.declared.desk.Desk.{Desk}

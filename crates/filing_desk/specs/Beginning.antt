@@ -2,16 +2,16 @@
 use Rattle.std.specs.Prelude.{◌≡◌, ℕ, List, length, Option, Some, None}
 use Rattle.jiff_core.specs.declared.civil.date.Date.{Date}
 use Rattle.class_plan.specs.Plans.{Listing, is_open_in}
-use Rattle.filing_case.specs.Message.{is_among}
+use Rattle.mail_case.specs.Message.{is_among}
 use Rattle.filing_image.specs.Program.{Program}
 use Rattle.filing_verify.specs.Well.{IsWell}
-use Rattle.filing_commands.specs.Faults.{refusal_of}
-use Rattle.filing_commands.specs.Scripts.{meanings_of}
-use Rattle.filing_commands.specs.Standing.{begin_refusal}
-use Rattle.filing_commands.specs.declared.fault.DeskFault.{DeskFault}
-use Rattle.filing_flights.specs.Begun.{HoldsBegun}
-use Rattle.filing_flights.specs.FlightViews.{FlightView}
-use Rattle.filing_officers.specs.Register.{PinsFor, officer_at}
+use Rattle.desk_commands.specs.Faults.{refusal_of}
+use Rattle.desk_commands.specs.Scripts.{meanings_of}
+use Rattle.desk_commands.specs.Standing.{begin_refusal}
+use Rattle.desk_commands.specs.declared.fault.DeskFault.{DeskFault}
+use Rattle.desk_flights.specs.Begun.{HoldsBegun}
+use Rattle.desk_flights.specs.FlightViews.{FlightView}
+use Rattle.desk_officers.specs.Register.{PinsFor, officer_at}
 use Rattle.filing_desk.specs.declared.desk.Desk.{Desk}
 
 -- the number that refuses a beginning at a moment, of a message of this size in octets; none where it is allowed

@@ -6,11 +6,11 @@ use Rattle.record_archive.specs.Lines.{line_view}
 use Rattle.record_archive.specs.Calls.{KeepsMade, Makes}
 use Rattle.record_archive.specs.declared.fault.ArchiveRefusal.TheVariants.{Full}
 use Rattle.record_archive.specs.declared.line.Line.{Line}
-use Rattle.filing_commands.specs.Answers.{refused}
-use Rattle.filing_commands.specs.ArchiveAnswers.{is_refused_outside}
-use Rattle.filing_commands.specs.Faults.{refused_by}
-use Rattle.filing_commands.specs.Office.{IsTrouble}
-use Rattle.filing_commands.specs.declared.fault.DeskFault.{DeskFault}
+use Rattle.desk_commands.specs.Answers.{refused}
+use Rattle.desk_commands.specs.ArchiveAnswers.{is_refused_outside}
+use Rattle.desk_commands.specs.Faults.{refused_by}
+use Rattle.desk_commands.specs.Office.{IsTrouble}
+use Rattle.desk_commands.specs.declared.fault.DeskFault.{DeskFault}
 
 -- there is no memory (99) or the database refuses (89), or else the archive itself refuses
 abbrev pub IsArchiveFault : DeskFault → Type 0

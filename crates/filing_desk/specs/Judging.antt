@@ -1,9 +1,9 @@
 -- What the parts of filing answer.
 use Rattle.std.specs.Prelude.{◌≡◌, ℕ, ◌<◌, ◌≤◌, ◌⊎◌, List, length, is_some}
-use Rattle.filing_commands.specs.Faults.{refusal_of, has_place}
-use Rattle.filing_commands.specs.Limits.{greatest_message}
-use Rattle.filing_commands.specs.declared.fault.DeskFault.{DeskFault}
-use Rattle.filing_commands.specs.declared.fault.DeskFault.TheVariants.{NoMemory}
+use Rattle.desk_commands.specs.Faults.{refusal_of, has_place}
+use Rattle.desk_commands.specs.Limits.{greatest_message}
+use Rattle.desk_commands.specs.declared.fault.DeskFault.{DeskFault}
+use Rattle.desk_commands.specs.declared.fault.DeskFault.TheVariants.{NoMemory}
 
 -- a message is refused with this number: it is too long
 abbrev pub IsLongMessage : (message : List ℕ) (number : ℕ) → Type 0

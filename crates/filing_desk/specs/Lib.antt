@@ -3,3 +3,4 @@ pub mod Standing
 pub mod Messages
 pub mod Beginning
 pub mod Filing
+pub mod Deliveries

@@ -1,10 +1,10 @@
 -- The octets of messages that are to be captured.
 use Rattle.std.specs.Prelude.{◌≡◌, ℕ, ◌≤◌, List, length, flat_map}
 use denote.Ref.{Bor}
-use Rattle.filing_commands.specs.Limits.{greatest_message}
-use Rattle.filing_commands.specs.Payloads.{IsOf}
-use Rattle.filing_commands.specs.declared.payload.Payload.{Payload}
-use Rattle.filing_commands.specs.declared.payload.Payload.TheVariants as payload
+use Rattle.desk_commands.specs.Limits.{greatest_message}
+use Rattle.desk_commands.specs.Payloads.{IsOf}
+use Rattle.desk_commands.specs.declared.payload.Payload.{Payload}
+use Rattle.desk_commands.specs.declared.payload.Payload.TheVariants as payload
 use Rattle.filing_desk.specs.declared.messages.Message.{Message}
 use Rattle.filing_desk.specs.declared.messages.Message.TheVariants as message
 

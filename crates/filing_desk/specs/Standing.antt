@@ -3,13 +3,13 @@ use Rattle.std.specs.Prelude.{◌≡◌, ℕ, List, true, Option, Some, None, mi
 use Rattle.std.specs.List.{AllByRecursion}
 use Rattle.class_plan.specs.Plans.{Listing, has, is_open_in}
 use Rattle.filing_image.specs.Program.{Program}
-use Rattle.filing_case.specs.Message.{is_among}
+use Rattle.mail_case.specs.Message.{is_among}
 use Rattle.filing_machine.specs.Runs.{IsOnRun, Snapshot}
 use Rattle.record_archive.specs.Archive.{Archive}
-use Rattle.filing_commands.specs.Pinning.{case_in}
-use Rattle.filing_commands.specs.Standing.{Standing, Flight}
-use Rattle.filing_flights.specs.Flights.{AreHeld}
-use Rattle.filing_officers.specs.Register.{office_of}
+use Rattle.desk_commands.specs.Pinning.{case_in}
+use Rattle.desk_commands.specs.Standing.{Standing, Flight}
+use Rattle.desk_flights.specs.Flights.{AreHeld}
+use Rattle.desk_officers.specs.Register.{office_of}
 use Rattle.filing_desk.specs.declared.desk.Desk.{Desk}
 
 -- what is read from the desk's archive is what was written to it

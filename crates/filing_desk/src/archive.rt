@@ -6,8 +6,8 @@ ghost use Rattle.record_archive.specs.declared.fault.ArchiveRefusal.TheVariants.
 ghost use Rattle.filing_desk.specs.Filing.{MakesRecords, FilesSafely, IsArchiveFault};
 
 use class_paths::Paths;
-use filing_commands::DeskFault;
-use filing_flights::Flight;
+use desk_commands::DeskFault;
+use desk_flights::Flight;
 use record_archive::{ArchiveRefusal, Line, Records, are_classes};
 
 /// A record's number in 32 bits; no record has a greater one (80).

@@ -4,11 +4,11 @@ ghost use Rattle.std.specs.Prelude.{◌≡◌, ℕ, List, ◌≤◌, ◌<◌, �
 ghost use Rattle.jiff.specs.Words.{epoch_day};
 ghost use Rattle.class_plan.specs.Dates.{IsCaptureDay};
 ghost use Rattle.class_plan.specs.Plans.{is_open_in};
-ghost use Rattle.filing_case.specs.Message.{is_among};
-ghost use Rattle.filing_commands.specs.Limits.{greatest_message};
-ghost use Rattle.filing_commands.specs.Standing as commands;
-ghost use Rattle.filing_commands.specs.Standing.{Standing, flight_of};
-ghost use Rattle.filing_commands.specs.CallAnswers.{answer_of_ticket};
+ghost use Rattle.mail_case.specs.Message.{is_among};
+ghost use Rattle.desk_commands.specs.Limits.{greatest_message};
+ghost use Rattle.desk_commands.specs.Standing as commands;
+ghost use Rattle.desk_commands.specs.Standing.{Standing, flight_of};
+ghost use Rattle.desk_commands.specs.CallAnswers.{answer_of_ticket};
 ghost use Rattle.filing_desk.specs.Beginning.{IsNewFlight, IsNumbered, KeepsAll, against_begin};
 ghost use Rattle.filing_desk.specs.Messages.{IsMessageOf, IsShortMessage, whole_message};
 ghost use Rattle.filing_desk.specs.Standing.{AreOpenPaths, IsShownBy};
@@ -16,15 +16,15 @@ ghost use Rattle.filing_desk.specs.Standing.{AreOpenPaths, IsShownBy};
 use crate::desk::Desk;
 use crate::messages::Message;
 use class_plan::{Date, day_of};
-use filing_commands::DeskFault;
-use filing_flights::{Flight, PinnedPaths, captures_hold_flights};
+use desk_commands::DeskFault;
+use desk_flights::{Flight, PinnedPaths, captures_hold_flights};
 use filing_machine::{Machine, every_run_ends};
 use filing_verify::Verified;
 use record_archive::Records;
 use std::alloc::{AllocError, Global};
 
 impl<A: Records> Desk<A> {
-    ghost use Rattle.filing_commands.specs.Calls.{Calls};
+    ghost use Rattle.desk_commands.specs.Calls.{Calls};
     ghost use Rattle.filing_desk.specs.Standing.{IsClean, MayLeave, StandsFor};
 
     /// The day of a moment, where one more capture may begin. Else 94, 95, 90 or 97, judged in this order.

@@ -1,7 +1,7 @@
 //! The open classes of a plan, as a run asks for them.
 
 use class_plan::Plan;
-use filing_case::OpenPaths;
+use mail_case::OpenPaths;
 
 /// The classes of a plan, which the caller keeps.
 #[derive(Drop)]

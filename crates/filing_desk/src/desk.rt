@@ -3,8 +3,8 @@
 ghost use Rattle.std.specs.Prelude.{◌≡◌, IfOk, IfErr};
 ghost use Rattle.record_archive.specs.Archive.{Archive};
 
-use filing_flights::{Flights, PinnedPaths};
-use filing_officers::Officers;
+use desk_flights::{Flights, PinnedPaths};
+use desk_officers::Officers;
 use record_archive::Records;
 use std::alloc::Global;
 
@@ -24,7 +24,7 @@ pub struct Desk<A> {
 }
 
 impl<A: Records> Desk<A> {
-    ghost use Rattle.filing_commands.specs.Standing.{Standing, opening};
+    ghost use Rattle.desk_commands.specs.Standing.{Standing, opening};
     ghost use Rattle.filing_desk.specs.Standing.{StandsFor};
 
     /// A desk over an archive that is kept, with no script, no program of an officer and no capture in flight. The only error is no

@@ -5,18 +5,18 @@ ghost use Rattle.std.specs.Prelude.{◌≡◌, ℕ, None, IfOk, IfErr};
 ghost use Rattle.sieve_syntax.specs.View.{tree_of};
 ghost use Rattle.sieve_meaning.specs.Reading.{program_of};
 ghost use Rattle.sieve_meaning.specs.Outcome.{outcome};
-ghost use Rattle.script_library.specs.BorrowedShelves.{scripts_of};
-ghost use Rattle.script_library.specs.Libraries.{library_of};
+ghost use Rattle.sieve_library.specs.BorrowedShelves.{scripts_of};
+ghost use Rattle.sieve_library.specs.Libraries.{library_of};
 ghost use Rattle.filing_table.specs.Ends.{HasOutcome};
-ghost use Rattle.filing_commands.specs.declared.fault.DeskFault.TheVariants.{NoMemory};
+ghost use Rattle.desk_commands.specs.declared.fault.DeskFault.TheVariants.{NoMemory};
 
-use filing_commands::DeskFault;
+use desk_commands::DeskFault;
 use filing_gen::{GenFault, compile_with};
 use filing_machine::{Case, run};
 use filing_table::a_run_ends_once;
 use filing_verify::Verified;
-use script_library::Shelves;
 use sieve_check::Checked;
+use sieve_library::Shelves;
 use sieve_meaning::{Outcome, RunFault, fault_alone};
 use std::alloc::{AllocError, Global};
 

@@ -9,7 +9,7 @@
 //! - `dry_runs`: runs that store nothing;
 //! - `payloads`: payloads as scripts, images and cases of messages.
 //!
-//! The crate `filing_commands` defines what each command may be answered and what it leaves. `Standing` in `specs/`
+//! The crate `desk_commands` defines what each command may be answered and what it leaves. `Standing` in `specs/`
 //! says which of its states a desk represents.
 #![tactic(auto)]
 

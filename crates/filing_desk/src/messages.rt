@@ -1,12 +1,12 @@
 //! Messages that are to be captured, as payloads or in pieces.
 
 ghost use Rattle.std.specs.Prelude.{◌≡◌, ℕ, List, ◌<◌, ◌≤◌, false, length, nat_lt, IfOk, IfErr, MatchOption};
-ghost use Rattle.filing_commands.specs.Limits.{greatest_message};
-ghost use Rattle.filing_commands.specs.Payloads.{IsOf};
-ghost use Rattle.filing_commands.specs.declared.fault.DeskFault.TheVariants.{NoMemory};
+ghost use Rattle.desk_commands.specs.Limits.{greatest_message};
+ghost use Rattle.desk_commands.specs.Payloads.{IsOf};
+ghost use Rattle.desk_commands.specs.declared.fault.DeskFault.TheVariants.{NoMemory};
 ghost use Rattle.filing_desk.specs.Messages.{IsMessageOf, IsShortMessage, IsShortPayload, whole_message};
 
-use filing_commands::{DeskFault, MAX_MESSAGE_OCTETS, Payload};
+use desk_commands::{DeskFault, MAX_MESSAGE_OCTETS, Payload};
 use std::alloc::{AllocError, Global};
 
 /// A message that is to be captured.

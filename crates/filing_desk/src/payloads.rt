@@ -1,22 +1,20 @@
 //! Payloads as scripts, images and cases of messages. A script goes to `parser` of `sieve_text` and `checked` of
 //! `sieve_check`, an image to `reading` of `filing_image` and `verifier` of `filing_verify`. The case of a message is
-//! made in `whole` of `filing_case`.
+//! made in `whole` of `mail_case`.
 
 ghost use Rattle.std.specs.Prelude.{◌≡◌, ℕ, List, ◌≤◌, length, IfOk, IfErr, OnOk};
 ghost use Rattle.class_plan.specs.Plans.{is_open_in};
 ghost use Rattle.sieve_syntax.specs.View.{tree_of};
-ghost use Rattle.filing_case.specs.Message.{case_of};
-ghost use Rattle.filing_case.specs.Whole.{facts_by};
-ghost use Rattle.filing_commands.specs.Limits.{greatest_image, greatest_message, greatest_script};
-ghost use Rattle.filing_commands.specs.Parts.{IsGood, IsGoodImage, RefusesImage, RefusesScript};
-ghost use Rattle.filing_commands.specs.Payloads.{IsOf};
+ghost use Rattle.mail_case.specs.Message.{case_of};
+ghost use Rattle.mail_case.specs.Whole.{facts_by};
+ghost use Rattle.desk_commands.specs.Limits.{greatest_image, greatest_message, greatest_script};
+ghost use Rattle.desk_commands.specs.Parts.{IsGood, IsGoodImage, RefusesImage, RefusesScript};
+ghost use Rattle.desk_commands.specs.Payloads.{IsOf};
 ghost use Rattle.filing_desk.specs.Judging.{IsFaultOf, IsLongMessage};
 
 use crate::classes::PlanClasses;
 use class_plan::Plan;
-use filing_commands::{
-    DeskFault, MAX_IMAGE_OCTETS, MAX_MESSAGE_OCTETS, MAX_SCRIPT_OCTETS, Payload,
-};
+use desk_commands::{DeskFault, MAX_IMAGE_OCTETS, MAX_MESSAGE_OCTETS, MAX_SCRIPT_OCTETS, Payload};
 use filing_image::decode;
 use filing_machine::WholeCase;
 use filing_verify::{Verified, verify};

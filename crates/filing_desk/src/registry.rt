@@ -7,10 +7,10 @@ use crate::dry_runs::{outcome_of, run_image};
 use crate::messages::Message;
 use crate::payloads::{judge_image, judge_message, judge_script};
 use class_plan::{Date, Plan};
-use filing_commands::{Capture, DeskFault, MAX_PLAN_OCTETS, Payload, Registry, Turn};
-use filing_flights::captures_hold_flights;
+use desk_commands::{Capture, DeskFault, MAX_PLAN_OCTETS, Payload, Registry, Turn};
+use desk_flights::captures_hold_flights;
 use record_archive::{Line, Records};
-use script_library::{Shelf, Shelves};
+use sieve_library::{Shelf, Shelves};
 use sieve_meaning::Outcome;
 
 impl<A: Records> Registry for Desk<A> {

@@ -19,9 +19,9 @@ use Rattle.filing_flow.specs.Effect as code
 use Rattle.std.specs.Prelude.{slice_set}
 use Rattle.filing_gen.specs.BlockCode.{script_flow}
 use Rattle.filing_gen.specs.Alike.{AreAlike, filing_at, Alike}
-use Rattle.script_procedures.specs.Slots.{Slots, HasSlots}
+use Rattle.filing_procedures.specs.Slots.{Slots, HasSlots}
 use Rattle.filing_gen.specs.IncludeCode.{once_flow, active_flow, found_flow, including_flow, MarksEntries, is_passed}
-use Rattle.script_procedures.specs.ProcedureCode.{number_of}
+use Rattle.filing_procedures.specs.ProcedureCode.{number_of}
 use Rattle.filing_gen.specs.Procedures.{call_flow, call_entry, calling_flow}
 use Rattle.filing_gen.proofs.Includes.{including_alike, entered_related, shrunk}
 use Rattle.filing_gen.proofs.Means.{AgreesAt, means_at}

@@ -19,7 +19,7 @@ use Rattle.sieve_meaning.specs.Outcome.{outcome_at, outcome_of}
 use Rattle.sieve_meaning.proofs.OutcomeLaws.{budget_by_weight}
 use Rattle.sieve_meaning.specs.Weight.{linked_weight, included_weight}
 use Rattle.filing_gen.specs.BlockCode.{script_flow}
-use Rattle.script_procedures.specs.Slots.{Slots, HasSlots}
+use Rattle.filing_procedures.specs.Slots.{Slots, HasSlots}
 use Rattle.filing_gen.specs.IncludeCode.{linked_flow, MarksEntries}
 use Rattle.filing_gen.specs.Alike.{Marking, AreAlike, filing_at, exit_of, Alike}
 use Rattle.std.specs.Prelude.{slice_get}

@@ -17,7 +17,7 @@ use Rattle.filing_flow.specs.Effect.{Exit, CallEffects, effect, caught}
 use Rattle.filing_flow.specs.Effect as code
 use Rattle.filing_gen.specs.BlockCode.{flow}
 use Rattle.filing_gen.specs.Alike.{Marking, AreAlike, filing_at, Alike, Agrees}
-use Rattle.script_procedures.specs.Slots.{Slots, HasSlots}
+use Rattle.filing_procedures.specs.Slots.{Slots, HasSlots}
 use Rattle.filing_gen.specs.IncludeCode.{once_flow, active_flow, found_flow, including_flow, included_flow, MarksEntries, is_passed}
 use Rattle.filing_gen.proofs.Means.{flow_means}
 

@@ -9,7 +9,7 @@ use Rattle.sieve_meaning.specs.Meaning.{ScriptName, script_named, is_among, Libr
 use Rattle.sieve_meaning.specs.Weight.{weight, included_weight, unless_missing, unless_active}
 use Rattle.filing_gen.specs.BlockCode.{flow}
 use Rattle.filing_gen.specs.Levels.{flow_at_level}
-use Rattle.script_procedures.specs.Slots.{Slots, HasSlots}
+use Rattle.filing_procedures.specs.Slots.{Slots, HasSlots}
 use Rattle.filing_gen.specs.IncludeCode.{once_flow, active_flow, found_flow, including_flow, included_flow, is_passed}
 use Rattle.filing_gen.proofs.Types.{flow_typed, flow_small, flow_sound, IncludesTyped, IncludesSmall, IncludesSound}
 

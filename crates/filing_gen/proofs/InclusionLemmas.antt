@@ -4,9 +4,9 @@ use Rattle.sieve_meaning.specs.Program.{Include, Commands}
 use Rattle.sieve_meaning.specs.Meaning.{ScriptName, script_named, is_among, Library}
 use Rattle.sieve_meaning.specs.Procedures.{Procedure}
 use Rattle.filing_flow.specs.Structure.{SetMark, Flow, action, sequence}
-use Rattle.script_library.specs.Libraries.{Scripts, library_of}
-use Rattle.script_procedures.specs.Slots.{slots_of}
-use Rattle.script_procedures.specs.ProcedureCode.{number_of}
+use Rattle.sieve_library.specs.Libraries.{Scripts, library_of}
+use Rattle.filing_procedures.specs.Slots.{slots_of}
+use Rattle.filing_procedures.specs.ProcedureCode.{number_of}
 use Rattle.filing_gen.specs.IncludeCode.{is_passed, once_flow}
 use Rattle.sieve_meaning.specs.declared.run_fault.RunFault.{RunFault}
 use Rattle.filing_gen.specs.Levels.{Judgement, Passes, Fails, Enters, judgement_by, judgement, judgement_flow, judgement_weight}

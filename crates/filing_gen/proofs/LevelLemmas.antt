@@ -16,7 +16,7 @@ use Rattle.filing_gen.specs.Adds.{Puts, Emits}
 use Rattle.filing_gen.specs.declared.finding.Finding.{Finding}
 use Rattle.filing_gen.specs.declared.finding.Finding.TheVariants.{Pass, Fault}
 use Rattle.filing_gen.specs.Scopes.{judgement_of}
-use Rattle.script_procedures.specs.Slots.{Slots}
+use Rattle.filing_procedures.specs.Slots.{Slots}
 use Rattle.filing_gen.specs.IncludeCode.{is_passed, once_flow, active_flow, found_flow, included_flow}
 use Rattle.filing_gen.specs.Levels.{Judgement, Passes, Fails, Enters, judgement_by, judgement, judgement_flow}
 use Rattle.filing_gen.specs.Levels.{judgement_weight, flow_at_level, weight_at_level}

@@ -2,7 +2,7 @@
 use Rattle.std.proofs.Common.{◌≡◌, ℕ, zero, suc, ◌+◌, ◌<◌, List, [], ◌∷◌, ◌++◌, length, Option, refl, sym, subst, arith}
 use Rattle.std.proofs.Common.{below_more}
 use Rattle.sieve_meaning.specs.Procedures.{Procedure}
-use Rattle.script_library.specs.Libraries.{Scripts}
+use Rattle.sieve_library.specs.Libraries.{Scripts}
 use Rattle.filing_gen.specs.Numbers.{IsNumber, number_at}
 
 number_front : (numbers : List (Option ℕ)) (n : Option ℕ) (k : ℕ) → k < length numbers → number_at numbers k ≡ number_at (numbers ++ n ∷ []) k

@@ -10,7 +10,7 @@ use Rattle.sieve_meaning.proofs.SharingLemmas.{IsIn, SameAt, weight_alike, share
 use Rattle.sieve_meaning.proofs.ProcedureLemmas.{some_is, IsSomeEntered, FindsCalls, AllFind, AllOf, all_element}
 use Rattle.sieve_meaning.proofs.ProcedureLemmas.{IsElement, named_once, shared_script, all_find, after_main}
 use Rattle.sieve_meaning.proofs.ProcedureLemmas.{procedures_are, after_main_entered}
-use Rattle.script_procedures.specs.ProcedureCode.{number_of}
+use Rattle.filing_procedures.specs.ProcedureCode.{number_of}
 use Rattle.filing_gen.specs.Procedures.{path_at, called_path, path_weights}
 use Rattle.filing_gen.proofs.CallLemmas.{numbered, entered_there}
 

@@ -10,10 +10,10 @@ use Rattle.sieve_meaning.specs.Meaning.{Library}
 use Rattle.sieve_meaning.specs.Program.{Commands}
 use Rattle.sieve_meaning.specs.Procedures.{Procedure, procedures, path_weight}
 use Rattle.sieve_meaning.proofs.ProcedureLemmas.{after_main}
-use Rattle.script_library.specs.Libraries.{Scripts}
-use Rattle.script_procedures.specs.Keys.{IsKeyOf}
-use Rattle.script_procedures.specs.ProcedureCode.{procedure_of, IsEntered, HaveKeys}
-use Rattle.script_procedures.specs.declared.procedure.Procedure as code
+use Rattle.sieve_library.specs.Libraries.{Scripts}
+use Rattle.filing_procedures.specs.Keys.{IsKeyOf}
+use Rattle.filing_procedures.specs.ProcedureCode.{procedure_of, IsEntered, HaveKeys}
+use Rattle.filing_procedures.specs.declared.procedure.Procedure as code
 use Rattle.filing_gen.specs.Procedures.{path_weights}
 use Rattle.filing_gen.specs.Paths.{known_path, path_from}
 use Rattle.filing_gen.specs.Numbers.{number_at}

@@ -6,7 +6,7 @@ use Rattle.sieve_meaning.specs.Program.{Command, Commands, no_command, command_t
 use Rattle.sieve_meaning.specs.Meaning.{Library}
 use Rattle.sieve_meaning.specs.Procedures.{reaches, procedures}
 use Rattle.filing_flow.specs.Structure.{SetMark, SetCancelled, CallTo, nothing, action, sequence}
-use Rattle.script_procedures.specs.Slots.{Slots}
+use Rattle.filing_procedures.specs.Slots.{Slots}
 use Rattle.filing_flow.specs.Procedures.{places_from, whole_size}
 use Rattle.filing_gen.specs.Procedures.{shared_flows}
 

@@ -6,8 +6,8 @@ use Rattle.sieve_meaning.specs.Procedures.{Procedure, own_weight, shared_weight}
 use Rattle.filing_flow.specs.Structure.{size}
 use Rattle.filing_flow.specs.Procedures.{whole_size}
 use Rattle.filing_gen.specs.BlockCode.{script_flow}
-use Rattle.script_procedures.specs.Slots.{Slots}
-use Rattle.script_procedures.specs.ProcedureCode.{number_of}
+use Rattle.filing_procedures.specs.Slots.{Slots}
+use Rattle.filing_procedures.specs.ProcedureCode.{number_of}
 use Rattle.filing_gen.specs.Procedures.{call_flow, call_entry, calling_flow, procedure_flows}
 use Rattle.filing_gen.proofs.IncludesTypes.{including_small, nothing_there}
 use Rattle.filing_gen.proofs.Types.{flow_small, IncludesSmall}

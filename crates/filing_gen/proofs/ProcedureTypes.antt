@@ -8,8 +8,8 @@ use Rattle.filing_flow.specs.Structure.{Bounds, IsSound}
 use Rattle.filing_flow.specs.Types.{Shape, HasType}
 use Rattle.filing_flow.specs.Procedures.{AreSound, AreTyped}
 use Rattle.filing_gen.specs.BlockCode.{script_flow}
-use Rattle.script_procedures.specs.Slots.{Slots, HasSlots}
-use Rattle.script_procedures.specs.ProcedureCode.{number_of}
+use Rattle.filing_procedures.specs.Slots.{Slots, HasSlots}
+use Rattle.filing_procedures.specs.ProcedureCode.{number_of}
 use Rattle.filing_gen.specs.Procedures.{call_flow, call_entry, calling_flow, procedure_flows}
 use Rattle.filing_gen.proofs.IncludesTypes.{including_typed, including_sound}
 use Rattle.filing_gen.proofs.Types.{flow_typed, flow_sound, IncludesTyped, IncludesSound}

@@ -8,9 +8,9 @@ use Rattle.sieve_meaning.specs.Meaning.{ScriptName, Library}
 use Rattle.sieve_meaning.specs.Procedures.{Procedure, shared_weight}
 use Rattle.filing_flow.specs.Structure.{Flow, size}
 use Rattle.filing_flow.specs.Procedures.{whole_size}
-use Rattle.script_procedures.specs.Slots.{Slots}
-use Rattle.script_procedures.specs.ProcedureCode.{procedure_of}
-use Rattle.script_procedures.specs.declared.procedure.Procedure as code
+use Rattle.filing_procedures.specs.Slots.{Slots}
+use Rattle.filing_procedures.specs.ProcedureCode.{procedure_of}
+use Rattle.filing_procedures.specs.declared.procedure.Procedure as code
 use Rattle.filing_gen.specs.BlockCode.{script_flow}
 use Rattle.filing_gen.specs.Adds.{HasRoom}
 use Rattle.filing_gen.specs.Procedures.{calling_flow, procedure_flows}

@@ -1,9 +1,9 @@
 -- The definitions on small libraries, and on lists of names: each line computes.
 use Rattle.std.proofs.Common.{◌≡◌, ℕ, List, [], ◌∷◌, true, false, codes, refl}
 use Rattle.sieve_syntax.specs.declared.tree.Script.{Script}
-use Rattle.script_library.specs.Libraries.{NamedScript, Scripts}
+use Rattle.sieve_library.specs.Libraries.{NamedScript, Scripts}
 use Rattle.filing_gen.specs.Names.{each_once}
-use Rattle.script_procedures.specs.Slots.{slots_of}
+use Rattle.filing_procedures.specs.Slots.{slots_of}
 
 abbrev entry : List ℕ → Script → NamedScript
 entry name s = record { name = name; script = s }

@@ -9,10 +9,10 @@ use Rattle.sieve_meaning.specs.Weight.{greatest_weight, linked_weight}
 use Rattle.sieve_meaning.specs.Procedures.{Procedure, procedures, shared_weight, path_weight, most_procedures, greatest_path}
 use Rattle.sieve_meaning.specs.TooHeavy.{is_too_heavy}
 use Rattle.sieve_meaning.proofs.OutcomeLaws.{heavy_by_procedures, budget_by_path}
-use Rattle.script_library.specs.Libraries.{Scripts, library_of}
-use Rattle.script_procedures.specs.Slots.{slots_of, HasSlots}
-use Rattle.script_procedures.specs.ProcedureCode.{procedure_of, AreProcedures}
-use Rattle.script_procedures.specs.declared.procedure.Procedure as code
+use Rattle.sieve_library.specs.Libraries.{Scripts, library_of}
+use Rattle.filing_procedures.specs.Slots.{slots_of, HasSlots}
+use Rattle.filing_procedures.specs.ProcedureCode.{procedure_of, AreProcedures}
+use Rattle.filing_procedures.specs.declared.procedure.Procedure as code
 use Rattle.filing_gen.specs.Adds.{HasRoom, IsImageOfOutput}
 use Rattle.filing_flow.specs.Compiled.{IsCompiled}
 use Rattle.filing_gen.specs.Procedures.{procedure_flows, shared_flows}

@@ -18,7 +18,7 @@ use Rattle.filing_flow.specs.Code.{places_in}
 use Rattle.filing_flow.specs.Procedures.{AreProceduresOf, AreSound, ProceduresStand, places_from, whole_size}
 use Rattle.filing_flow.proofs.Stands.{Named}
 use Rattle.filing_flow.proofs.WellProcedures.{typed_procedures_are_well}
-use Rattle.script_procedures.specs.Slots.{Slots, HasSlots}
+use Rattle.filing_procedures.specs.Slots.{Slots, HasSlots}
 use Rattle.filing_gen.specs.Adds.{operands_of, IsImageOfOutput}
 use Rattle.filing_gen.specs.Procedures.{shared_flows}
 use Rattle.filing_gen.specs.declared.output.Output.{Output}

@@ -20,7 +20,7 @@ use Rattle.filing_flow.specs.Effect as code
 use Rattle.filing_flow.specs.Whole.{nothing_done, outcome_from}
 use Rattle.filing_flow.specs.Procedures.{AreProceduresOf, AreSound, called_by, first_call}
 use Rattle.filing_flow.proofs.Calls.{procedures_end}
-use Rattle.script_procedures.specs.Slots.{Slots, HasSlots}
+use Rattle.filing_procedures.specs.Slots.{Slots, HasSlots}
 use Rattle.filing_gen.specs.BlockCode.{script_flow}
 use Rattle.filing_gen.specs.IncludeCode.{MarksEntries}
 use Rattle.filing_gen.specs.Alike.{Marking, exit_of, Alike}

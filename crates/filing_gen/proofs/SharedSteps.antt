@@ -13,7 +13,7 @@ use Rattle.sieve_meaning.specs.Weight.{test_weight, tests_weight, weight, weight
 use Rattle.sieve_meaning.specs.Procedures.{Procedure, procedures, path_weight}
 use Rattle.filing_flow.specs.Structure.{SetMark, Flow, action, sequence}
 use Rattle.filing_flow.specs.Procedures.{flow_steps, steps_by}
-use Rattle.script_procedures.specs.Slots.{Slots}
+use Rattle.filing_procedures.specs.Slots.{Slots}
 use Rattle.filing_gen.specs.Names.{each_once, others_once}
 use Rattle.filing_table.specs.Comparison.{comparison}
 use Rattle.filing_gen.specs.BlockCode.{values_flow, keys_flow, names_flow, test_flow, tests_flow, flow, flow_one, branches_flow, script_flow}

@@ -5,7 +5,7 @@ use Rattle.sieve_meaning.specs.Meaning.{ScriptName, main_names, Library}
 use Rattle.sieve_meaning.specs.Procedures.{Procedure, procedures, shared_weight}
 use Rattle.sieve_meaning.proofs.ProcedureLemmas.{procedures_are}
 use Rattle.filing_flow.specs.Procedures.{AreSound, AreTyped, whole_size}
-use Rattle.script_procedures.specs.Slots.{Slots, HasSlots}
+use Rattle.filing_procedures.specs.Slots.{Slots, HasSlots}
 use Rattle.filing_gen.specs.Procedures.{procedure_flows, shared_flows}
 use Rattle.filing_gen.proofs.ProcedureSizes.{procedures_small}
 use Rattle.filing_gen.proofs.ProcedureTypes.{procedures_typed, procedures_sound}

@@ -11,7 +11,7 @@ use Rattle.filing_flow.specs.Structure.{Flow, block, size}
 use Rattle.filing_flow.specs.Code.{Operands, Stands}
 use Rattle.filing_flow.specs.Procedures.{ProceduresStand, places_from, whole_size}
 use Rattle.filing_flow.proofs.Stands.{Named, SameFrom, stands_there}
-use Rattle.script_procedures.specs.Slots.{Slots}
+use Rattle.filing_procedures.specs.Slots.{Slots}
 use Rattle.filing_gen.specs.BlockCode.{script_flow}
 use Rattle.filing_gen.specs.Adds.{operands_of, Puts, Emits}
 use Rattle.filing_gen.specs.Procedures.{calling_flow, procedure_flows}

@@ -6,7 +6,7 @@ use Rattle.sieve_meaning.specs.declared.run_fault.RunFault.TheVariants.{ScriptMi
 use Rattle.sieve_meaning.specs.Program.{Include, Commands}
 use Rattle.sieve_meaning.specs.Meaning.{ScriptName, script_named, is_among, Library, main_names}
 use Rattle.filing_flow.specs.Structure.{IsMarked, SetMark, Fail, Flow, nothing, action, sequence, block, leave_if}
-use Rattle.script_procedures.specs.Slots.{Slots}
+use Rattle.filing_procedures.specs.Slots.{Slots}
 use Rattle.filing_gen.specs.BlockCode.{flow}
 
 -- under `:once`, no code is run where the script was entered

@@ -2,9 +2,9 @@
 use Rattle.std.specs.Prelude.{ℕ, zero, suc, ◌<◌, List, map, Bool, Option, Some, None}
 use Rattle.sieve_meaning.specs.declared.run_fault.RunFault.TheVariants.{NestingTooDeep}
 use Rattle.sieve_meaning.specs.Program.{Include}
-use Rattle.script_library.specs.BorrowedShelves.{library_on}
-use Rattle.script_procedures.specs.ProcedureCode.{procedure_of}
-use Rattle.script_procedures.specs.Slots.{slots_on}
+use Rattle.sieve_library.specs.BorrowedShelves.{library_on}
+use Rattle.filing_procedures.specs.ProcedureCode.{procedure_of}
+use Rattle.filing_procedures.specs.Slots.{slots_on}
 use Rattle.filing_flow.specs.Structure.{SetMark, Fail, Flow, nothing, action, sequence}
 use Rattle.filing_gen.specs.IncludeCode.{once_flow}
 use Rattle.filing_gen.specs.Procedures.{call_flow, calling_flow, called_path, path_at}

@@ -8,7 +8,7 @@ use Rattle.sieve_meaning.specs.Meaning.{ScriptName, script_named, is_among, Libr
 use Rattle.sieve_meaning.specs.Weight.{weight, included_weight}
 use Rattle.filing_flow.specs.Structure.{SetMark, Fail, Flow, nothing, action, sequence, block}
 use Rattle.filing_gen.specs.BlockCode.{flow}
-use Rattle.script_procedures.specs.Slots.{Slots}
+use Rattle.filing_procedures.specs.Slots.{Slots}
 use Rattle.filing_gen.specs.IncludeCode.{is_passed, once_flow, included_flow}
 
 -- what an include comes to, as far as it is known when it is compiled

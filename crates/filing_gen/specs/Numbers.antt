@@ -3,9 +3,9 @@ use Rattle.std.specs.Prelude.{◌≡◌, ℕ, suc, List, ◌∷◌, Option, Some
 use Rattle.sieve_meaning.specs.Program.{Commands}
 use Rattle.sieve_meaning.specs.Meaning.{ScriptName}
 use Rattle.sieve_meaning.specs.Procedures.{Procedure}
-use Rattle.script_library.specs.Libraries.{Scripts, library_of}
-use Rattle.script_procedures.specs.Slots.{slots_of}
-use Rattle.script_procedures.specs.ProcedureCode.{number_of}
+use Rattle.sieve_library.specs.Libraries.{Scripts, library_of}
+use Rattle.filing_procedures.specs.Slots.{slots_of}
+use Rattle.filing_procedures.specs.ProcedureCode.{number_of}
 
 -- the number of the procedure that an include of the script with this slot enters, where one more script may be active
 abbrev pub IsNumber : Scripts → (later : List Procedure) → Procedure → (slot : ℕ) → Option ℕ → Type 0

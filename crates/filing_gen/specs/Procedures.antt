@@ -7,8 +7,8 @@ use Rattle.sieve_meaning.specs.Meaning.{ScriptName, script_named, is_among, Libr
 use Rattle.sieve_meaning.specs.Weight.{weight, unless_missing, unless_active}
 use Rattle.sieve_meaning.specs.Procedures.{Procedure, procedures}
 use Rattle.filing_flow.specs.Structure.{SetMark, Fail, CallTo, Flow, action, sequence}
-use Rattle.script_procedures.specs.Slots.{Slots}
-use Rattle.script_procedures.specs.ProcedureCode.{number_of}
+use Rattle.filing_procedures.specs.Slots.{Slots}
+use Rattle.filing_procedures.specs.ProcedureCode.{number_of}
 use Rattle.filing_gen.specs.BlockCode.{script_flow}
 use Rattle.filing_gen.specs.IncludeCode.{including_flow}
 

@@ -6,11 +6,11 @@ use Rattle.sieve_meaning.specs.Program.{Commands}
 use Rattle.sieve_meaning.specs.Meaning.{ScriptName, Library, main_names}
 use Rattle.sieve_meaning.specs.Weight.{greatest_weight, linked_weight}
 use Rattle.filing_flow.specs.Structure.{Flow}
-use Rattle.script_library.specs.declared.shelves.Shelves.{Shelves}
-use Rattle.script_library.specs.BorrowedShelves.{scripts_of, library_on}
-use Rattle.script_procedures.specs.declared.procedure.Procedure.{Procedure}
-use Rattle.script_procedures.specs.ProcedureCode.{procedure_of, AreProcedures}
-use Rattle.script_procedures.specs.Slots.{slots_on}
+use Rattle.sieve_library.specs.declared.shelves.Shelves.{Shelves}
+use Rattle.sieve_library.specs.BorrowedShelves.{scripts_of, library_on}
+use Rattle.filing_procedures.specs.declared.procedure.Procedure.{Procedure}
+use Rattle.filing_procedures.specs.ProcedureCode.{procedure_of, AreProcedures}
+use Rattle.filing_procedures.specs.Slots.{slots_on}
 use Rattle.filing_gen.specs.BlockCode.{script_flow}
 use Rattle.filing_gen.specs.Procedures.{calling_flow, procedure_flows}
 use Rattle.filing_gen.specs.Levels.{Judgement, Passes, Fails, Enters, flow_at_level}

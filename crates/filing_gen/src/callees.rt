@@ -2,13 +2,13 @@
 
 ghost use Rattle.std.specs.Prelude.{◌≡◌, ◌<◌, ℕ, List, length, map, IfOk};
 ghost use Rattle.std.specs.List.{All};
-ghost use Rattle.script_library.specs.BorrowedShelves.{scripts_of};
-ghost use Rattle.script_procedures.specs.Keys.{IsKeyOf};
-ghost use Rattle.script_procedures.specs.ProcedureCode.{procedure_of, IsEntered};
+ghost use Rattle.sieve_library.specs.BorrowedShelves.{scripts_of};
+ghost use Rattle.filing_procedures.specs.Keys.{IsKeyOf};
+ghost use Rattle.filing_procedures.specs.ProcedureCode.{procedure_of, IsEntered};
 ghost use Rattle.filing_gen.specs.Numbers.{IsNumber, AreNumbers};
 
 use crate::finding::{Finding, Scope, find};
-use script_procedures::{Procedure, Reach, number_of, slot_count};
+use filing_procedures::{Procedure, Reach, number_of, slot_count};
 use sieve_meaning::{Include, RunFault};
 use std::alloc::{AllocError, Global};
 

@@ -47,10 +47,10 @@ impl Calls<'_> {
 
 impl Linker for Calls<'_> {
     ghost use Rattle.std.specs.Prelude.{map};
-    ghost use Rattle.script_library.specs.BorrowedShelves.{scripts_of};
-    ghost use Rattle.script_library.specs.Libraries.{library_of};
-    ghost use Rattle.script_procedures.specs.ProcedureCode.{procedure_of};
-    ghost use Rattle.script_procedures.specs.Slots.{slots_of};
+    ghost use Rattle.sieve_library.specs.BorrowedShelves.{scripts_of};
+    ghost use Rattle.sieve_library.specs.Libraries.{library_of};
+    ghost use Rattle.filing_procedures.specs.ProcedureCode.{procedure_of};
+    ghost use Rattle.filing_procedures.specs.Slots.{slots_of};
     ghost use Rattle.filing_gen.specs.Scopes.{names_of};
     ghost use Rattle.filing_gen.specs.Procedures.{calling_flow};
 

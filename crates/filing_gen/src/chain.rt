@@ -5,7 +5,7 @@ ghost use Rattle.sieve_meaning.specs.Meaning as meaning;
 ghost use Rattle.sieve_meaning.specs.Meaning.{is_among};
 ghost use Rattle.sieve_meaning.specs.Scripts.{script_of};
 
-use script_procedures::Procedure;
+use filing_procedures::Procedure;
 use sieve_meaning::{Location, ScriptName};
 
 /// The scripts that are active.
@@ -56,7 +56,7 @@ impl<C: Chain> Chain for Link<'_, C> {
 }
 
 impl Chain for Procedure<'_> {
-    ghost use Rattle.script_procedures.specs.ProcedureCode.{names_of};
+    ghost use Rattle.filing_procedures.specs.ProcedureCode.{names_of};
 
     ghost names = { names_of };
 

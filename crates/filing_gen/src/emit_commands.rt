@@ -10,7 +10,7 @@ ghost use Rattle.filing_gen.specs.Adds.{HasRoom, EmitsAnywhere, EmitsReturning};
 ghost use Rattle.filing_gen.specs.Emission.{commands_long, plain_long, part_long, plain_flow, is_apart, EmitsOpen, file_flow};
 ghost use Rattle.filing_gen.specs.Ends.{with_jumps};
 ghost use Rattle.sieve_meaning.specs.declared.branches.BranchPart.TheVariants as parts;
-ghost use Rattle.script_library.specs.Libraries.{listed_program};
+ghost use Rattle.sieve_library.specs.Libraries.{listed_program};
 
 use crate::emit_tests::emit_only;
 use crate::ends::{NO_PLACE, end_branches};

@@ -4,15 +4,15 @@ ghost use Rattle.std.specs.Prelude.{◌+◌, ◌<◌, ◌≤◌, ◌^◌, [], �
 ghost use Rattle.std.specs.List.{All};
 ghost use Rattle.sieve_meaning.specs.Procedures.{shared_weight, most_procedures};
 ghost use Rattle.sieve_meaning.specs.Weight.{greatest_weight};
-ghost use Rattle.script_library.specs.BorrowedShelves.{scripts_of};
-ghost use Rattle.script_procedures.specs.Keys.{IsKeyOf};
-ghost use Rattle.script_procedures.specs.ProcedureCode.{procedure_of, IsEntered, HaveKeys};
+ghost use Rattle.sieve_library.specs.BorrowedShelves.{scripts_of};
+ghost use Rattle.filing_procedures.specs.Keys.{IsKeyOf};
+ghost use Rattle.filing_procedures.specs.ProcedureCode.{procedure_of, IsEntered, HaveKeys};
 ghost use Rattle.filing_flow.specs.Structure.{size};
 ghost use Rattle.filing_flow.specs.Types.{HasType};
 ghost use Rattle.filing_gen.specs.Adds.{HasRoom};
 ghost use Rattle.filing_gen.specs.SharedCode.{EmitsProcedure, IsSharedCode};
 ghost use Rattle.filing_gen.specs.BlockCode.{script_flow};
-ghost use Rattle.script_library.specs.Libraries.{program_in};
+ghost use Rattle.sieve_library.specs.Libraries.{program_in};
 ghost use Rattle.filing_gen.specs.Scopes.{procedure_flow, all_flows};
 
 use crate::callees::{Callees, numbers_by_slot};
@@ -24,7 +24,7 @@ use crate::finding::Scope;
 use crate::linker::Linker;
 use crate::output::{Output, put};
 use filing_image::Operation;
-use script_procedures::{Procedure, Reach};
+use filing_procedures::{Procedure, Reach};
 use sieve_syntax::Script;
 use std::alloc::{AllocError, Global};
 

@@ -5,14 +5,14 @@ ghost use Rattle.sieve_meaning.specs.Scripts.{include_view, script_of};
 ghost use Rattle.filing_gen.specs.IncludeCode.{is_passed as is_passed_of};
 ghost use Rattle.filing_gen.specs.Levels.{judgement_by, judgement};
 ghost use Rattle.filing_gen.specs.Scopes.{names_of, judgement_of, EntersAt};
-ghost use Rattle.script_library.specs.BorrowedShelves.{library_on};
-ghost use Rattle.script_procedures.specs.Slots.{slots_on};
-ghost use Rattle.script_library.specs.Libraries.{program_in};
+ghost use Rattle.sieve_library.specs.BorrowedShelves.{library_on};
+ghost use Rattle.filing_procedures.specs.Slots.{slots_on};
+ghost use Rattle.sieve_library.specs.Libraries.{program_in};
 
 use crate::chain::{Chain, MainScript};
-use script_library::Shelves;
-use script_procedures::find_script;
+use filing_procedures::find_script;
 use sieve_check::Checked;
+use sieve_library::Shelves;
 use sieve_meaning::{Include, RunFault};
 use sieve_syntax::Script;
 

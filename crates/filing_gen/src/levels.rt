@@ -3,14 +3,14 @@
 
 ghost use Rattle.std.specs.Prelude.{◌<◌, OnOk};
 ghost use Rattle.sieve_meaning.specs.Weight.{included_weight};
-ghost use Rattle.script_library.specs.BorrowedShelves.{scripts_of, library_on};
-ghost use Rattle.script_library.specs.Libraries.{library_of, program_in};
+ghost use Rattle.sieve_library.specs.BorrowedShelves.{scripts_of, library_on};
+ghost use Rattle.sieve_library.specs.Libraries.{library_of, program_in};
 ghost use Rattle.filing_flow.specs.Structure.{size};
 ghost use Rattle.filing_gen.specs.Adds.{HasRoom, EmitsAnywhere};
 ghost use Rattle.filing_gen.specs.Levels.{weight_at_level};
 ghost use Rattle.filing_gen.specs.IncludeCode.{included_flow};
 ghost use Rattle.filing_gen.specs.Scopes.{names_of, flow_of_entry};
-ghost use Rattle.script_procedures.specs.Slots.{slots_of};
+ghost use Rattle.filing_procedures.specs.Slots.{slots_of};
 ghost use Rattle.filing_gen.specs.Weights.{IsLeft};
 
 use crate::chain::{Chain, Link};

@@ -11,11 +11,11 @@
 //! which is filled in where the test, the branch, all branches or, for `return`, the script ends (`ends`). What a command
 //! is to the branches before it, and what an include asks for, is computed by `sieve_meaning`.
 //!
-//! The code of an include is left to a `linker`, which looks the script up in the library (`script_library`), with its
-//! slot (`script_procedures`), and judges the include by the `chain` of active scripts (`finding`). That of `levels` puts
+//! The code of an include is left to a `linker`, which looks the script up in the library (`sieve_library`), with its
+//! slot (`filing_procedures`), and judges the include by the `chain` of active scripts (`finding`). That of `levels` puts
 //! the script's own code in the place of the include, one level further down; the deepest level has a fault instead.
 //!
-//! Where that code would weigh more than 60,000, `shared` finds the procedures of the script (`script_procedures`) and
+//! Where that code would weigh more than 60,000, `shared` finds the procedures of the script (`filing_procedures`) and
 //! weighs them (`paths`). Then `emit_procedures` writes each of them once, by the linker of `calls`: an include calls the
 //! procedure that it enters (`callees`). `program` makes the image, which is proved to be one that may run.
 #![tactic(auto)]
@@ -42,4 +42,4 @@ mod weight;
 
 pub use fault::GenFault;
 pub use program::{compile, compile_with};
-pub use script_library::Library;
+pub use sieve_library::Library;

@@ -6,12 +6,12 @@ ghost use Rattle.sieve_meaning.specs.Procedures.{most_procedures};
 ghost use Rattle.sieve_meaning.specs.Program.{Commands};
 ghost use Rattle.sieve_meaning.specs.TooHeavy.{IsTooHeavy};
 ghost use Rattle.sieve_meaning.specs.Weight.{greatest_weight, linked_weight};
-ghost use Rattle.script_library.specs.BorrowedShelves.{scripts_of, library_on};
-ghost use Rattle.script_procedures.specs.ProcedureCode.{AreProcedures};
+ghost use Rattle.sieve_library.specs.BorrowedShelves.{scripts_of, library_on};
+ghost use Rattle.filing_procedures.specs.ProcedureCode.{AreProcedures};
 ghost use Rattle.filing_gen.specs.Correct.{NamesOnce};
 ghost use Rattle.filing_flow.specs.Compiled.{IsCompiled};
 ghost use Rattle.filing_gen.specs.declared.fault.GenFault.TheVariants.{NoMemory, TooLarge};
-ghost use Rattle.script_library.specs.Libraries.{program_in};
+ghost use Rattle.sieve_library.specs.Libraries.{program_in};
 ghost use Rattle.filing_gen.specs.Scopes.{main_name, ForHeavyMain};
 
 use crate::chain::MainScript;
@@ -20,8 +20,8 @@ use crate::fault::GenFault;
 use crate::finding::Scope;
 use crate::paths::{main_path, shared_weight};
 use crate::program::image_of;
+use filing_procedures::{Procedure, Reach, procedures, slot_count};
 use filing_verify::Verified;
-use script_procedures::{Procedure, Reach, procedures, slot_count};
 use sieve_syntax::Script;
 use std::alloc::Global;
 

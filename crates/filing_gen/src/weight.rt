@@ -7,7 +7,7 @@ ghost use Rattle.sieve_syntax.specs.View.{test_of, inner_of, command_of, ending_
 ghost use Rattle.sieve_meaning.specs.Reading.{test_in, only_in, tests_in, string_lists, exists_of, block_in};
 ghost use Rattle.sieve_meaning.specs.Weight.{test_weight, tests_weight, weight};
 ghost use Rattle.filing_gen.specs.Weights.{IsLeft, plain_weight, part_weight, IsWeightUpTo};
-ghost use Rattle.script_library.specs.Libraries.{program_in, listed_program};
+ghost use Rattle.sieve_library.specs.Libraries.{program_in, listed_program};
 ghost use Rattle.filing_gen.specs.Emission.{header_in};
 
 use crate::linker::Weights;

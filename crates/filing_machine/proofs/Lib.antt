@@ -5,3 +5,4 @@ pub mod PlaceLemmas
 pub mod FindLemmas
 pub mod TopLemmas
 pub mod CallLemmas
+pub mod TraceLemmas

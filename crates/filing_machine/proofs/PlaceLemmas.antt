@@ -4,7 +4,7 @@ use Rattle.std.proofs.Common.{map, refl, sym, ap, subst, ◌∙◌, arith, appen
 use Rattle.std.proofs.lemmas.List.Elements.{All-push, All-append, filter_more}
 use Rattle.std.specs.List.{All, AllByRecursion, filter}
 use Rattle.sieve_meaning.specs.Case.{Facts, is_named}
-use Rattle.filing_case.specs.Fields.{field_at}
+use Rattle.mail_case.specs.Fields.{field_at}
 use Rattle.filing_machine.specs.declared.state.Item.{Item}
 use Rattle.filing_machine.specs.declared.state.Item.TheVariants.{Fields}
 use Rattle.filing_machine.specs.StateViews.{InCase}

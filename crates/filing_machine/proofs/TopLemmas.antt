@@ -4,7 +4,7 @@ use Rattle.std.specs.List.{list_any}
 use Rattle.std.specs.Option.{unwrap_or}
 use Rattle.sieve_meaning.specs.Case.{Facts}
 use Rattle.filing_table.specs.Machine.{comparison_holds}
-use Rattle.filing_case.specs.Fields.{field_at}
+use Rattle.mail_case.specs.Fields.{field_at}
 use Rattle.filing_machine.specs.declared.state.Item.{Item}
 use Rattle.filing_machine.specs.declared.state.Item.TheVariants.{Truth, Fields, Count}
 use Rattle.filing_machine.specs.StateViews.{entry}

@@ -2,3 +2,4 @@ pub mod Items
 pub mod StateViews
 pub mod Runs
 pub mod Tops
+pub mod StepRecords

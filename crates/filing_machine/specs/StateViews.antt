@@ -9,7 +9,7 @@ use Rattle.filing_machine.specs.declared.state.Item.TheVariants.{Truth, Fields, 
 use Rattle.filing_machine.specs.declared.state.Progress.{Progress}
 use Rattle.filing_machine.specs.declared.state.Progress.TheVariants.{Going, Ended}
 use Rattle.filing_machine.specs.declared.state.RunState.{RunState}
-use Rattle.filing_case.specs.Fields.{field_at}
+use Rattle.mail_case.specs.Fields.{field_at}
 
 -- an item of the stack as an entry: a list of fields becomes the list of their values
 abbrev pub entry : Facts → Item → Entry

@@ -3,7 +3,7 @@ use Rattle.std.specs.Prelude.{ℕ, Bool, false, List, ◌∷◌, length, Option,
 use Rattle.std.specs.List.{list_any}
 use Rattle.sieve_meaning.specs.Case.{Facts}
 use Rattle.filing_table.specs.Machine.{Entry, T, L, N, comparison_holds}
-use Rattle.filing_case.specs.Fields.{field_at}
+use Rattle.mail_case.specs.Fields.{field_at}
 use Rattle.filing_machine.specs.declared.top.Top.{Top}
 use Rattle.filing_machine.specs.declared.top.Top.TheVariants.{Truth, Values, Number}
 

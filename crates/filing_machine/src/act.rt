@@ -1,4 +1,4 @@
-//! One instruction of a run. What it asks of its case is answered in `whole` of `filing_case`.
+//! One instruction of a run. What it asks of its case is answered in `whole` of `mail_case`.
 
 ghost use Rattle.std.specs.Prelude.{◌≡◌, ◌≢◌, ◌<◌, ◌≤◌, ◌+◌, ◌^◌, [], ◌∷◌, length, map, if◌then◌else◌, slice_set, true, IfOk, IsOk, OnErr, OnOk, Ok};
 ghost use Rattle.std.specs.List.{AllByRecursion};
@@ -12,8 +12,8 @@ ghost use Rattle.filing_machine.specs.declared.state.Progress.TheVariants.{Going
 
 use crate::fields::{any_matches, fields_named, has_field};
 use crate::state::{Item, Progress, RunState};
-use filing_case::Case;
 use filing_image::{Image, Operation};
+use mail_case::Case;
 use sieve_meaning::RunFault;
 use std::alloc::{AllocError, Global};
 

@@ -5,12 +5,12 @@ ghost use Rattle.std.specs.List.{list_any, find};
 ghost use Rattle.sieve_meaning.specs.Truth.{has_field as has_field_of};
 ghost use Rattle.sieve_meaning.specs.Matching.{key_matches as key_matches_by};
 ghost use Rattle.filing_table.specs.Machine.{values_of, comparison_holds};
-ghost use Rattle.filing_case.specs.Fields.{field_at};
+ghost use Rattle.mail_case.specs.Fields.{field_at};
 ghost use Rattle.filing_machine.specs.Tops.{value_matches};
 
 use crate::places::FieldPlaces;
-use filing_case::Case;
 use filing_table::comparison_of;
+use mail_case::Case;
 use sieve_match::{Comparator, MatchType, key_matches};
 use std::alloc::{AllocError, Global};
 

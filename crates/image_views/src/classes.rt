@@ -2,7 +2,7 @@
 
 use class_plan::{Plan, day_of, schedule_text};
 use filing_image::{Image, Operation};
-use filing_trace::{Step, Trace};
+use filing_machine::{Step, Trace};
 use std::alloc::AllocError;
 use std::str;
 use tool_console::{Failure, push_named, push_quoted, write_line};

@@ -2,8 +2,8 @@
 
 use filing_image::{Image, Operation, Version};
 use filing_verify::{VerifyFault, verify};
-use script_findings::Search;
 use std::alloc::{AllocError, Global};
+use tool_findings::Search;
 
 /// The texts of an image.
 fn texts_of(alloc: Global, image: &Image) -> Result<Vec<Vec<u8>>, AllocError> {

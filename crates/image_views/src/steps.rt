@@ -1,9 +1,8 @@
 //! The fields that a message was read as, and the steps of a run over it.
 
-use filing_case::Case;
 use filing_image::{Image, Operation};
-use filing_machine::Top;
-use filing_trace::{Step, Trace};
+use filing_machine::{Step, Top, Trace};
+use mail_case::Case;
 use mail_head::{Field, read_head};
 use std::alloc::{AllocError, Global};
 use tool_console::{Failure, push_named, push_quoted, write_line};

@@ -1,7 +1,7 @@
 //! The program: serves a session from standard input to standard output.
 #![tactic(auto)]
 
-use file_sessions::{serve_memory, serve_path};
+use session_files::{serve_memory, serve_path};
 use session_options::{end_without_session, read_command_line};
 use std::process::ExitCode;
 

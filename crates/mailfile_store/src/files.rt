@@ -1,13 +1,13 @@
 //! Archives in files, which are opened, closed and made here alone.
 
-use archive_files::{Closing, close};
 use class_plan::Plan;
+use cli_console::{Failure, Status};
+use cli_files::{NoStore, create_archive, open_archive};
+use cli_tasks::{Archives, Closed, LastTask};
+use record_files::{Closing, close};
 use sqlite::Unknown;
 use std::alloc::Global;
 use std::fs;
-use store_console::{Failure, Status};
-use store_files::{NoStore, create_archive, open_archive};
-use store_subcommands::{Archives, Closed, LastTask};
 
 /// The failure of a store that cannot be had.
 fn no_store(alloc: Global, path: &str, cause: NoStore) -> Failure {

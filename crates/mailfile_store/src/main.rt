@@ -5,9 +5,9 @@
 
 mod files;
 
+use cli_tasks::serve;
 use files::FileArchives;
 use std::process::ExitCode;
-use store_subcommands::serve;
 
 fn main(rt: HostRuntime) -> ExitCode {
     serve(&rt, &FileArchives)

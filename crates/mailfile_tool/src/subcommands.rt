@@ -2,11 +2,11 @@
 
 use clap::ArgMatches;
 use image_views::dump_image;
-use script_checks::Folders;
 use script_files::{Asked, check_files, compile_script, tell_why};
 use session_lines::{
     explain_by_script, explain_replies, frame_file, frame_input, tell_number, tell_numbers,
 };
+use tool_checks::Folders;
 use tool_console::{Failure, Verdict};
 
 /// The folders of scripts that can be included.

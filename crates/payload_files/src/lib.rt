@@ -2,9 +2,9 @@
 #![tactic(auto)]
 
 ghost use Rattle.std.specs.Prelude.{◌<◌, ◌^◌, IfOk, IfSome};
-ghost use Rattle.filing_commands.specs.Payloads.{IsOf};
+ghost use Rattle.desk_commands.specs.Payloads.{IsOf};
 
-use filing_commands::Payload;
+use desk_commands::Payload;
 use std::alloc::Global;
 use std::fs;
 use std::io::{self, Error, ErrorKind, Read};

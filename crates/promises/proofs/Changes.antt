@@ -2,12 +2,12 @@
 use Rattle.std.proofs.Common.{◌≡◌, ◌+◌, ◌<◌, ◌++◌, [], ◌∷◌, ℕ, List, length, refl, ap, ◌∙◌, sym, inl, inr, Bool, true, false, Option, Some, None}
 use Rattle.std.specs.Prelude.{◌⊎◌, ◌==◌, if◌then◌else◌, nat_le, MatchBool}
 use Rattle.record_archive.specs.Archive.{Archive}
-use Rattle.filing_commands.specs.Answers.{Answer, done, dry_run, begun, running, ended, captured, listed, refused}
-use Rattle.filing_commands.specs.Office.{Office, PlainCommand, OfficeRule, OfficeStep}
-use Rattle.filing_commands.specs.Pinning.{BeginState}
-use Rattle.filing_commands.specs.Standing.{Command, plain, begin, turn, finish, Flight, Standing, Step, BeginStep}
-use Rattle.filing_commands.specs.Standing.{TurnStep, FinishStep, FinishWhole, Files, IsPinned, flight_of, grant}
-use Rattle.filing_commands.specs.Standing.{without, after_finish, begin_refusal, begin_state, turn_answer}
+use Rattle.desk_commands.specs.Answers.{Answer, done, dry_run, begun, running, ended, captured, listed, refused}
+use Rattle.desk_commands.specs.Office.{Office, PlainCommand, OfficeRule, OfficeStep}
+use Rattle.desk_commands.specs.Pinning.{BeginState}
+use Rattle.desk_commands.specs.Standing.{Command, plain, begin, turn, finish, Flight, Standing, Step, BeginStep}
+use Rattle.desk_commands.specs.Standing.{TurnStep, FinishStep, FinishWhole, Files, IsPinned, flight_of, grant}
+use Rattle.desk_commands.specs.Standing.{without, after_finish, begin_refusal, begin_state, turn_answer}
 use Rattle.promises.specs.Beginnings.{tickets_given}
 use Rattle.promises.specs.Turns.{Grants, TurnGrants}
 

@@ -10,7 +10,7 @@ use Rattle.filing_image.specs.Program.{Program, parts}
 use Rattle.filing_image.specs.Spelling.{spelling, Fits}
 use Rattle.filing_verify.specs.Well.{IsWell}
 use Rattle.filing_table.specs.Ends.{HasOutcome}
-use Rattle.filing_commands.specs.Pinning.{BeginState, IsAlone, Pins, case_in}
+use Rattle.desk_commands.specs.Pinning.{BeginState, IsAlone, Pins, case_in}
 
 -- A text has one list of tokens or one refusal, and not both: `one_scan`, `one_verdict`. A list of tokens has one tree
 -- at most: `one_tree`.

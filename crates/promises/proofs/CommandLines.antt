@@ -1,11 +1,11 @@
 -- The commands among the lines of a session.
 use Rattle.std.proofs.Common.{[], ◌∷◌, List, refl, subst}
 use Rattle.record_archive.specs.Archive.{Archive}
-use Rattle.filing_commands.specs.Answers.{Answer}
-use Rattle.filing_commands.specs.Standing.{Standing, Step}
-use Rattle.filing_session.specs.Session.{Item, Call, UnknownCommand, WrongWord}
-use Rattle.filing_session.specs.Session as session
-use Rattle.filing_session.specs.Laws.{RunsLead}
+use Rattle.desk_commands.specs.Answers.{Answer}
+use Rattle.desk_commands.specs.Standing.{Standing, Step}
+use Rattle.session_protocol.specs.Session.{Item, Call, UnknownCommand, WrongWord}
+use Rattle.session_protocol.specs.Session as session
+use Rattle.session_protocol.specs.Laws.{RunsLead}
 use Rattle.promises.specs.Lines.{LineSession, IsSession, answers_in, commands_in}
 use Rattle.promises.specs.Runs.{Steps}
 

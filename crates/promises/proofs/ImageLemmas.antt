@@ -11,9 +11,9 @@ use Rattle.filing_image.specs.Program.{Program}
 use Rattle.filing_table.specs.Ends.{HasOutcome}
 use Rattle.filing_table.specs.Machine.{Trap, after_steps}
 use Rattle.filing_verify.specs.Well.{IsWell}
-use Rattle.filing_commands.specs.Parts.{IsGoodImage, RefusesImage}
+use Rattle.desk_commands.specs.Parts.{IsGoodImage, RefusesImage}
 use Rattle.sieve_meaning.specs.TooHeavy.{is_too_heavy}
-use Rattle.filing_commands.specs.Pinning.{PinsScript, one_fault}
+use Rattle.desk_commands.specs.Pinning.{PinsScript, one_fault}
 use Rattle.promises.specs.Images.{Compiles}
 use Rattle.promises.specs.Records.{EndsWithinBudget, IsFaultAlone}
 use Rattle.promises.proofs.CitedLaws.{LengthsAreOne, OutcomesAreOne, ProgramsAreOne, RunsEnd}

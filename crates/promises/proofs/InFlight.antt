@@ -6,9 +6,9 @@ use Rattle.std.specs.List.{AllByRecursion}
 use Rattle.std.proofs.lemmas.List.{length-append}
 use Rattle.std.proofs.lemmas.List.Elements.{All-from_recursion}
 use Rattle.record_archive.specs.Archive.{Archive}
-use Rattle.filing_commands.specs.Answers.{Answer, begun}
-use Rattle.filing_commands.specs.Limits.{last_ticket, most_in_flight}
-use Rattle.filing_commands.specs.Standing.{Command, Flight, Standing, IsPinned, flight_of, grant, without, opening}
+use Rattle.desk_commands.specs.Answers.{Answer, begun}
+use Rattle.desk_commands.specs.Limits.{last_ticket, most_in_flight}
+use Rattle.desk_commands.specs.Standing.{Command, Flight, Standing, IsPinned, flight_of, grant, without, opening}
 use Rattle.promises.specs.Beginnings.{tickets_given, AreNumbersUpTo}
 use Rattle.promises.specs.Runs.{IsReachedState, Steps}
 use Rattle.promises.specs.Turns.{HasEnded}

@@ -1,15 +1,15 @@
 -- Sessions of lines without what is struck of them.
 use Rattle.std.proofs.Common.{◌≡◌, [], ◌∷◌, ℕ, List, None, refl, inl, ap, ◌∙◌, sym, subst, Bool, true, false}
 use Rattle.record_archive.specs.Archive.{Archive}
-use Rattle.filing_commands.specs.Answers.{Answer, refused}
-use Rattle.filing_commands.specs.Standing.{Standing, Step}
+use Rattle.desk_commands.specs.Answers.{Answer, refused}
+use Rattle.desk_commands.specs.Standing.{Standing, Step}
 use Rattle.promises.specs.Alike.{AreAlike, AllAlike}
 use Rattle.promises.specs.Serial.{Serial, SerialStep, SameButTurns, forget, is_struck}
 use Rattle.promises.proofs.CitedLaws.{OutcomesAreOne, ProgramsAreOne, TextsAreOne}
 use Rattle.promises.proofs.SerialOnce.{step_once}
 use Rattle.promises.proofs.Sessions.{Follows, step_follows}
-use Rattle.filing_session.specs.Session.{Item, Call, UnknownCommand, WrongWord, ItemStep, Run, session_in}
-use Rattle.filing_session.specs.Laws.{RunsLead}
+use Rattle.session_protocol.specs.Session.{Item, Call, UnknownCommand, WrongWord, ItemStep, Run, session_in}
+use Rattle.session_protocol.specs.Laws.{RunsLead}
 use Rattle.promises.specs.Lines.{is_struck_item, kept_items, kept_replies, LineSession, ServedSession, EqualLinesLeft}
 use Rattle.promises.specs.Lines.{ReplyAlike, LeaveTheSame, AreServedAlike}
 

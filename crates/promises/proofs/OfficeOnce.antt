@@ -8,19 +8,19 @@ use Rattle.sieve_meaning.specs.Outcome as meaning
 use Rattle.class_plan.specs.declared.faults.PlanFault.TheVariants.{PathDropped}
 use Rattle.class_plan.specs.Faults as plan
 use Rattle.class_plan.specs.Plans.{Listing, is_open_in, keeps}
-use Rattle.filing_case.specs.Message.{case_of}
+use Rattle.mail_case.specs.Message.{case_of}
 use Rattle.filing_image.specs.Program.{Program}
 use Rattle.filing_table.specs.Ends.{HasOutcome}
 use Rattle.record_archive.specs.Archive.{Archive, Line, revise}
 use Rattle.record_archive.specs.declared.fault.ArchiveRefusal.{ArchiveRefusal}
-use Rattle.filing_commands.specs.Answers.{Answer, done, dry_run, begun, running, ended, captured, listed, refused}
-use Rattle.filing_commands.specs.Office.{Office, PlainCommand, OfficeRule, Settles, Captures, Lists, Refuses, IsFiled}
-use Rattle.filing_commands.specs.Office.{IsMade, IsRefused, IsTried, add_class, set_plan, set_script, set_global}
-use Rattle.filing_commands.specs.Office.{activate, deactivate, set_image, file, try_image, hold, release, due, destroy}
-use Rattle.filing_commands.specs.Office.{with_globals, with_officer, with_scripts, with_active}
-use Rattle.filing_commands.specs.Parts.{IsKept, IsPlanOf, RefusesPlan, RefusesToKeep}
-use Rattle.filing_commands.specs.Pinning.{image}
-use Rattle.filing_commands.specs.Scripts.{library, put_script}
+use Rattle.desk_commands.specs.Answers.{Answer, done, dry_run, begun, running, ended, captured, listed, refused}
+use Rattle.desk_commands.specs.Office.{Office, PlainCommand, OfficeRule, Settles, Captures, Lists, Refuses, IsFiled}
+use Rattle.desk_commands.specs.Office.{IsMade, IsRefused, IsTried, add_class, set_plan, set_script, set_global}
+use Rattle.desk_commands.specs.Office.{activate, deactivate, set_image, file, try_image, hold, release, due, destroy}
+use Rattle.desk_commands.specs.Office.{with_globals, with_officer, with_scripts, with_active}
+use Rattle.desk_commands.specs.Parts.{IsKept, IsPlanOf, RefusesPlan, RefusesToKeep}
+use Rattle.desk_commands.specs.Pinning.{image}
+use Rattle.desk_commands.specs.Scripts.{library, put_script}
 use Rattle.promises.specs.Alike.{AreSameNumber, AreAlike}
 use Rattle.promises.specs.Serial.{is_passing}
 use Rattle.promises.proofs.CitedLaws.{OutcomesAreOne, ProgramsAreOne, TextsAreOne}

@@ -5,8 +5,8 @@ use Rattle.sieve_meaning.specs.declared.outcome.Outcome.{Outcome}
 use Rattle.filing_image.specs.Program.{Program}
 use Rattle.filing_verify.specs.Well.{IsWell}
 use Rattle.filing_table.specs.Ends.{HasOutcome}
-use Rattle.filing_commands.specs.Pinning.{IsAlone, case_in, budget_of}
-use Rattle.filing_commands.specs.Standing.{Flight, IsPinned}
+use Rattle.desk_commands.specs.Pinning.{IsAlone, case_in, budget_of}
+use Rattle.desk_commands.specs.Standing.{Flight, IsPinned}
 use Rattle.promises.specs.Records.{EndsWithinBudget}
 use Rattle.promises.proofs.CitedLaws.{LengthsAreOne, PinnedRunsAreAlone, RunsEnd}
 use Rattle.promises.proofs.Sessions.{pins_budget}

@@ -17,7 +17,7 @@ use Rattle.sieve_meaning.specs.declared.run_fault.RunFault.{RunFault}
 use Rattle.sieve_meaning.specs.declared.run_fault.RunFault.TheVariants as run_faults
 use Rattle.sieve_meaning.specs.Outcome.{outcome, outcome_at, outcome_of}
 use Rattle.sieve_meaning.specs.TooHeavy.{is_too_heavy}
-use Rattle.filing_case.specs.Message.{case_of}
+use Rattle.mail_case.specs.Message.{case_of}
 use Rattle.filing_image.specs.Program.{Program}
 use Rattle.filing_table.specs.Ends.{HasOutcome}
 use Rattle.record_archive.specs.Archive.{Record, Archive, Line, capture, after_capture, capture_lines, due_list, due_of}
@@ -25,12 +25,12 @@ use Rattle.record_archive.specs.Archive.{has_room, is_by, is_due, is_held, line_
 use Rattle.record_archive.specs.Archive.{past_all, records_of}
 use Rattle.record_archive.specs.declared.fault.ArchiveRefusal.{ArchiveRefusal}
 use Rattle.record_archive.specs.declared.fault.ArchiveRefusal.TheVariants.{Full}
-use Rattle.filing_commands.specs.Answers.{captured, listed, refused}
-use Rattle.filing_commands.specs.Answers as answers
-use Rattle.filing_commands.specs.Office.{Office, IsFiled, IsTried, due, file, try_image}
-use Rattle.filing_commands.specs.Parts.{IsGoodImage}
-use Rattle.filing_commands.specs.Pinning.{BeginState, Choice, nothing, script, image_of, GivesOutcome, IsAlone, case_in}
-use Rattle.filing_commands.specs.Standing.{plain, finish, Flight, Standing, Step, FinishWhole, Files, flight_of}
+use Rattle.desk_commands.specs.Answers.{captured, listed, refused}
+use Rattle.desk_commands.specs.Answers as answers
+use Rattle.desk_commands.specs.Office.{Office, IsFiled, IsTried, due, file, try_image}
+use Rattle.desk_commands.specs.Parts.{IsGoodImage}
+use Rattle.desk_commands.specs.Pinning.{BeginState, Choice, nothing, script, image_of, GivesOutcome, IsAlone, case_in}
+use Rattle.desk_commands.specs.Standing.{plain, finish, Flight, Standing, Step, FinishWhole, Files, flight_of}
 use Rattle.promises.specs.Records.{EndsWithinBudget, FilesAlone, IsDueBy, IsDueLine, IsFaultAlone, IsLineOf, IsMadeWhole}
 use Rattle.promises.proofs.CitedLaws.{LengthsAreOne, RunsEnd}
 use Rattle.promises.proofs.Pinned.{budget_holds}

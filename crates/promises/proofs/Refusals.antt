@@ -5,12 +5,12 @@ use Rattle.std.specs.Prelude.{◌⊎◌, ◌↔◌, if◌then◌else◌, nat_le,
 use Rattle.std.specs.Option.{option_map}
 use Rattle.std.proofs.lemmas.Bool.Decides.{nat_tests}
 use Rattle.record_archive.specs.Archive.{Archive}
-use Rattle.filing_commands.specs.Answers.{Answer, done, dry_run, begun, running, ended, captured, listed, refused}
-use Rattle.filing_commands.specs.Limits.{greatest_message, last_moment, last_ticket, most_in_flight}
-use Rattle.filing_commands.specs.Office.{IsTrouble}
-use Rattle.filing_commands.specs.Pinning.{BeginState}
-use Rattle.filing_commands.specs.Standing.{begin, turn, finish, Flight, Standing, Step, BeginStep, TurnStep, FinishStep}
-use Rattle.filing_commands.specs.Standing.{FinishWhole, Files, flight_of, begin_refusal, turn_answer}
+use Rattle.desk_commands.specs.Answers.{Answer, done, dry_run, begun, running, ended, captured, listed, refused}
+use Rattle.desk_commands.specs.Limits.{greatest_message, last_moment, last_ticket, most_in_flight}
+use Rattle.desk_commands.specs.Office.{IsTrouble}
+use Rattle.desk_commands.specs.Pinning.{BeginState}
+use Rattle.desk_commands.specs.Standing.{begin, turn, finish, Flight, Standing, Step, BeginStep, TurnStep, FinishStep}
+use Rattle.desk_commands.specs.Standing.{FinishWhole, Files, flight_of, begin_refusal, turn_answer}
 use Rattle.promises.specs.Beginnings.{MayBegin}
 use Rattle.promises.specs.Turns.{TellsTurns}
 use Rattle.promises.proofs.TicketLemmas.{granted_more, of_grant}

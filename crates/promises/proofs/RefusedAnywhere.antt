@@ -1,10 +1,10 @@
 -- Refusals by a registry, on any disk.
 use Rattle.std.proofs.Common.{◌≡◌, ◌≢◌, ℕ, Bool, true, false, refl, inl, subst}
 use Rattle.record_archive.specs.Archive.{Archive}
-use Rattle.filing_commands.specs.Answers.{refused}
-use Rattle.filing_commands.specs.ArchiveAnswers.{is_of_archive}
-use Rattle.filing_commands.specs.Calls.{Leads}
-use Rattle.filing_commands.specs.Standing.{Standing, Step}
+use Rattle.desk_commands.specs.Answers.{refused}
+use Rattle.desk_commands.specs.ArchiveAnswers.{is_of_archive}
+use Rattle.desk_commands.specs.Calls.{Leads}
+use Rattle.desk_commands.specs.Standing.{Standing, Step}
 use Rattle.promises.specs.RefusedCalls.{IsLeftBy, RefusedCall}
 use Rattle.promises.proofs.Unchanged.{refused_unchanged, steps_kept}
 

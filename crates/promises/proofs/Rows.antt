@@ -1,9 +1,9 @@
 -- Rows of sessions.
 use Rattle.std.proofs.Common.{◌≡◌, [], ◌∷◌, ℕ, List, None, refl, arith, inl, inr}
 use Rattle.record_archive.specs.Archive.{Line}
-use Rattle.filing_commands.specs.Answers.{begun, running, ended, captured, refused}
-use Rattle.filing_commands.specs.Office.{PlainCommand}
-use Rattle.filing_commands.specs.Standing.{plain, begin, turn, finish}
+use Rattle.desk_commands.specs.Answers.{begun, running, ended, captured, refused}
+use Rattle.desk_commands.specs.Office.{PlainCommand}
+use Rattle.desk_commands.specs.Standing.{plain, begin, turn, finish}
 use Rattle.promises.specs.Alike.{AreAlike}
 use Rattle.promises.specs.Beginnings.{tickets_given, AreNumbersUpTo}
 use Rattle.promises.specs.Serial.{kept_commands, kept_answers}

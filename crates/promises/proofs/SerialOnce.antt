@@ -6,10 +6,10 @@ use Rattle.sieve_meaning.specs.Case.{Facts}
 use Rattle.sieve_meaning.specs.declared.outcome.Outcome.{Outcome}
 use Rattle.record_archive.specs.Archive.{Archive, capture, capture_lines}
 use Rattle.record_archive.specs.declared.fault.ArchiveRefusal.TheVariants.{Full}
-use Rattle.filing_commands.specs.Answers.{Answer, done, dry_run, begun, running, ended, captured, listed, refused}
-use Rattle.filing_commands.specs.Office.{with_archive}
-use Rattle.filing_commands.specs.Pinning.{BeginState, IsAlone, GivesOutcome, Choice, nothing, script, image_of, case_in}
-use Rattle.filing_commands.specs.Standing.{Command, plain, begin, turn, finish, Standing, Files, is_refusal}
+use Rattle.desk_commands.specs.Answers.{Answer, done, dry_run, begun, running, ended, captured, listed, refused}
+use Rattle.desk_commands.specs.Office.{with_archive}
+use Rattle.desk_commands.specs.Pinning.{BeginState, IsAlone, GivesOutcome, Choice, nothing, script, image_of, case_in}
+use Rattle.desk_commands.specs.Standing.{Command, plain, begin, turn, finish, Standing, Files, is_refusal}
 use Rattle.promises.specs.Alike.{AreAlike, AllAlike}
 use Rattle.promises.specs.Runs.{Steps}
 use Rattle.promises.specs.Serial.{Serial, SerialStep, SerialBegin, SerialFinish, SerialRun, stood_of, without_ticket}

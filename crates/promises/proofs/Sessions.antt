@@ -10,14 +10,14 @@ use Rattle.sieve_meaning.specs.Meaning.{Library}
 use Rattle.sieve_meaning.specs.TooHeavy.{script_budget}
 use Rattle.filing_image.specs.Program.{Program}
 use Rattle.record_archive.specs.Archive.{Archive}
-use Rattle.filing_commands.specs.Answers.{Answer, done, dry_run, begun, running, ended, captured, listed, refused}
-use Rattle.filing_commands.specs.Office.{Office, PlainCommand, OfficeRule, OfficeStep, GivesUp, IsTrouble, add_class}
-use Rattle.filing_commands.specs.Office.{set_plan, set_script, set_global, activate, deactivate, set_image, file}
-use Rattle.filing_commands.specs.Office.{try_image, hold, release, due, destroy, with_archive}
-use Rattle.filing_commands.specs.Pinning.{BeginState, Choice, nothing, script, image_of, Pins, PinsChoice, PinsScript, budget_of, budget_by}
-use Rattle.filing_commands.specs.Standing.{Command, plain, begin, turn, finish, Flight, Standing, Step, BeginStep}
-use Rattle.filing_commands.specs.Standing.{TurnStep, FinishStep, FinishWhole, Files, flight_of, grant, without}
-use Rattle.filing_commands.specs.Standing.{with_turns, after_finish, begin_refusal, begin_state}
+use Rattle.desk_commands.specs.Answers.{Answer, done, dry_run, begun, running, ended, captured, listed, refused}
+use Rattle.desk_commands.specs.Office.{Office, PlainCommand, OfficeRule, OfficeStep, GivesUp, IsTrouble, add_class}
+use Rattle.desk_commands.specs.Office.{set_plan, set_script, set_global, activate, deactivate, set_image, file}
+use Rattle.desk_commands.specs.Office.{try_image, hold, release, due, destroy, with_archive}
+use Rattle.desk_commands.specs.Pinning.{BeginState, Choice, nothing, script, image_of, Pins, PinsChoice, PinsScript, budget_of, budget_by}
+use Rattle.desk_commands.specs.Standing.{Command, plain, begin, turn, finish, Flight, Standing, Step, BeginStep}
+use Rattle.desk_commands.specs.Standing.{TurnStep, FinishStep, FinishWhole, Files, flight_of, grant, without}
+use Rattle.desk_commands.specs.Standing.{with_turns, after_finish, begin_refusal, begin_state}
 use Rattle.promises.specs.Runs.{Steps}
 use Rattle.promises.specs.Serial.{Serial, SerialStep, SerialRun, Ticket, next_ticket, ticket_of, stood_of}
 use Rattle.promises.specs.Serial.{without_ticket, is_passing, is_struck, kept_commands, kept_answers, forget}

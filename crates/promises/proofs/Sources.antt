@@ -4,8 +4,8 @@ use Rattle.std.specs.Prelude.{◌⊎◌, ◌==◌, if◌then◌else◌}
 use Rattle.std.specs.Option.{option_map}
 use Rattle.std.proofs.lemmas.Bool.Decides.{nat_tests}
 use Rattle.record_archive.specs.Archive.{Archive}
-use Rattle.filing_commands.specs.Answers.{Answer, begun}
-use Rattle.filing_commands.specs.Standing.{Command, begin, Flight, Standing, Step, flight_of, grant, without, opening, begin_state}
+use Rattle.desk_commands.specs.Answers.{Answer, begun}
+use Rattle.desk_commands.specs.Standing.{Command, begin, Flight, Standing, Step, flight_of, grant, without, opening, begin_state}
 use Rattle.promises.specs.Beginnings.{HasBegun}
 use Rattle.promises.specs.Runs.{Steps}
 use Rattle.promises.specs.Turns.{Grants, AllGrant}

@@ -3,7 +3,7 @@ use Rattle.std.proofs.Common.{◌≡◌, ◌≢◌, ◌+◌, ◌<◌, ◌≤◌,
 use Rattle.std.specs.Prelude.{◌==◌, if◌then◌else◌}
 use Rattle.std.specs.Option.{option_map}
 use Rattle.std.proofs.lemmas.Bool.Decides.{nat_tests}
-use Rattle.filing_commands.specs.Standing.{Flight, flight_of, grant, without}
+use Rattle.desk_commands.specs.Standing.{Flight, flight_of, grant, without}
 
 -- a capture after it was granted turns
 abbrev pub granted_more : ℕ → Flight → Flight

@@ -3,11 +3,11 @@ use Rattle.std.proofs.Common.{◌≡◌, ◌≢◌, ◌+◌, ◌<◌, ◌∷◌,
 use Rattle.std.specs.Prelude.{if◌then◌else◌, nat_le}
 use Rattle.record_archive.specs.Archive.{Line}
 use Rattle.sieve_meaning.specs.declared.run_fault.RunFault.{RunFault}
-use Rattle.filing_commands.specs.Answers.{Answer, running, ended, captured, refused}
-use Rattle.filing_commands.specs.Office.{Office, PlainCommand, OfficeStep, with_archive}
-use Rattle.filing_commands.specs.Pinning.{BeginState}
-use Rattle.filing_commands.specs.Standing.{Command, plain, begin, turn, finish, Flight, Standing, Step, TurnStep}
-use Rattle.filing_commands.specs.Standing.{FinishStep, FinishWhole, flight_of, opening, turn_answer, without}
+use Rattle.desk_commands.specs.Answers.{Answer, running, ended, captured, refused}
+use Rattle.desk_commands.specs.Office.{Office, PlainCommand, OfficeStep, with_archive}
+use Rattle.desk_commands.specs.Pinning.{BeginState}
+use Rattle.desk_commands.specs.Standing.{Command, plain, begin, turn, finish, Flight, Standing, Step, TurnStep}
+use Rattle.desk_commands.specs.Standing.{FinishStep, FinishWhole, flight_of, opening, turn_answer, without}
 use Rattle.promises.specs.Runs.{IsReachedState, Steps}
 use Rattle.promises.specs.RefusedCalls.{KeepsSteps}
 use Rattle.promises.proofs.Sources.{AreInOrder, step_in_order}

@@ -12,7 +12,7 @@ use Rattle.filing_image.specs.Program.{Program}
 use Rattle.filing_verify.specs.declared.fault.VerifyFault.{VerifyFault}
 use Rattle.filing_verify.specs.declared.fault.VerifyFault.TheVariants.{NoMemory, Operand, Backward, Stack, RunsOff, Budget}
 use Rattle.filing_verify.specs.Well.{IsWell, Fails, verify_number}
-use Rattle.filing_commands.specs.Parts.{IsGood, IsGoodImage, IsImageOf, RefusesImage, RefusesScript}
+use Rattle.desk_commands.specs.Parts.{IsGood, IsGoodImage, IsImageOf, RefusesImage, RefusesScript}
 use Rattle.promises.specs.Alike.{AreSameNumber}
 use Rattle.promises.proofs.CitedLaws.{ProgramsAreOne, TextsAreOne}
 

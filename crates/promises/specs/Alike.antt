@@ -1,7 +1,7 @@
 -- Answers that say the same, except for an offset and for 20 in the place of 21.
 use Rattle.std.specs.Prelude.{◌≡◌, ℕ, ◌⊎◌, List, [], ◌∷◌}
-use Rattle.filing_commands.specs.Answers.{Answer, refused}
-use Rattle.filing_commands.specs.Standing.{Standing}
+use Rattle.desk_commands.specs.Answers.{Answer, refused}
+use Rattle.desk_commands.specs.Standing.{Standing}
 use Rattle.promises.specs.Runs.{SessionFrom}
 use Rattle.promises.specs.Serial.{kept_answers}
 

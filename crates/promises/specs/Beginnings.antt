@@ -1,8 +1,8 @@
 -- Where a capture in flight began, and what keeps one from beginning.
 use Rattle.std.specs.Prelude.{◌≡◌, ℕ, ◌+◌, ◌<◌, ◌≤◌, List, [], ◌∷◌, ◌++◌, length}
-use Rattle.filing_commands.specs.Answers.{Answer, done, dry_run, begun, running, ended, captured, listed, refused}
-use Rattle.filing_commands.specs.Limits.{greatest_message, last_moment, last_ticket, most_in_flight}
-use Rattle.filing_commands.specs.Standing.{Command, begin, Flight, Standing, Step, begin_state}
+use Rattle.desk_commands.specs.Answers.{Answer, done, dry_run, begun, running, ended, captured, listed, refused}
+use Rattle.desk_commands.specs.Limits.{greatest_message, last_moment, last_ticket, most_in_flight}
+use Rattle.desk_commands.specs.Standing.{Command, begin, Flight, Standing, Step, begin_state}
 use Rattle.promises.specs.Runs.{Steps}
 
 -- One of the commands, with these answers, was a BEGIN that gave the ticket and answered the budget of what is pinned.

@@ -2,8 +2,8 @@
 use Rattle.std.specs.Prelude.{◌≡◌, ℕ, List, Option, Some, None}
 use Rattle.sieve_meaning.specs.declared.run_fault.RunFault.{RunFault}
 use Rattle.record_archive.specs.Archive.{Line}
-use Rattle.filing_commands.specs.Answers.{captured}
-use Rattle.filing_commands.specs.Standing.{Flight, Standing, Step, finish, flight_of}
+use Rattle.desk_commands.specs.Answers.{captured}
+use Rattle.desk_commands.specs.Standing.{Flight, Standing, Step, finish, flight_of}
 
 -- this capture is in flight under the ticket
 abbrev pub IsInFlight : Standing → (ticket : ℕ) → Flight → Type 0

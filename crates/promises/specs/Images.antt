@@ -4,7 +4,7 @@ use Rattle.sieve_meaning.specs.Meaning.{Library}
 use Rattle.sieve_meaning.specs.Program.{Commands}
 use Rattle.filing_image.specs.Program.{Program}
 use Rattle.sieve_meaning.specs.TooHeavy.{is_too_heavy}
-use Rattle.filing_commands.specs.Pinning.{PinsScript}
+use Rattle.desk_commands.specs.Pinning.{PinsScript}
 
 -- A script of that name, with what it can include, is compiled to the program: what the compiler owes, or one FAULT 5
 -- where the script is too heavy.

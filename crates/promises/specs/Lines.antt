@@ -1,11 +1,11 @@
 -- Sessions of lines, what is struck of them, and what is left.
 use Rattle.std.specs.Prelude.{◌≡◌, ◌++◌, ℕ, List, [], ◌∷◌, Bool, false, if◌then◌else◌}
 use Rattle.record_archive.specs.Archive.{Archive}
-use Rattle.filing_commands.specs.Answers.{Answer}
-use Rattle.filing_commands.specs.Standing.{Command, Standing}
-use Rattle.filing_session.specs.Laws.{SureCalls}
-use Rattle.filing_session.specs.Session as session
-use Rattle.filing_session.specs.Session.{Item, Call, UnknownCommand, WrongWord, answers_octets, ending_octets, session_in}
+use Rattle.desk_commands.specs.Answers.{Answer}
+use Rattle.desk_commands.specs.Standing.{Command, Standing}
+use Rattle.session_protocol.specs.Laws.{SureCalls}
+use Rattle.session_protocol.specs.Session as session
+use Rattle.session_protocol.specs.Session.{Item, Call, UnknownCommand, WrongWord, answers_octets, ending_octets, session_in}
 use Rattle.promises.specs.Alike.{AllAlike}
 use Rattle.promises.specs.Runs.{SessionFrom}
 use Rattle.promises.specs.Serial.{is_struck, forget}

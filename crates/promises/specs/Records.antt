@@ -8,14 +8,14 @@ use Rattle.sieve_meaning.specs.declared.outcome.Outcome.{Outcome}
 use Rattle.sieve_meaning.specs.declared.run_fault.RunFault.{RunFault}
 use Rattle.sieve_meaning.specs.Case.{Facts}
 use Rattle.filing_image.specs.Program.{Program}
-use Rattle.filing_case.specs.Message.{case_of}
+use Rattle.mail_case.specs.Message.{case_of}
 use Rattle.filing_table.specs.Ends.{HasOutcome}
 use Rattle.record_archive.specs.Archive.{Record, Archive, Line, due_list, is_held}
-use Rattle.filing_commands.specs.Answers.{dry_run}
-use Rattle.filing_commands.specs.Office.{Office, PlainCommand}
-use Rattle.filing_commands.specs.Parts.{IsGoodImage}
-use Rattle.filing_commands.specs.Pinning.{BeginState, IsAlone}
-use Rattle.filing_commands.specs.Standing.{Standing, Step, plain}
+use Rattle.desk_commands.specs.Answers.{dry_run}
+use Rattle.desk_commands.specs.Office.{Office, PlainCommand}
+use Rattle.desk_commands.specs.Parts.{IsGoodImage}
+use Rattle.desk_commands.specs.Pinning.{BeginState, IsAlone}
+use Rattle.desk_commands.specs.Standing.{Standing, Step, plain}
 
 -- a capture that ended in a fault is in the default class alone
 abbrev pub IsFaultAlone : Outcome → Type 0

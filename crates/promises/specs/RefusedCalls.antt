@@ -1,9 +1,9 @@
 -- Commands and calls of a registry that are refused.
 use Rattle.std.specs.Prelude.{◌≡◌, ◌<◌, ◌⊎◌, ℕ, Option}
 use Rattle.record_archive.specs.Archive.{Archive}
-use Rattle.filing_commands.specs.Answers.{refused}
-use Rattle.filing_commands.specs.Calls.{Calls}
-use Rattle.filing_commands.specs.Standing.{Command, Standing, turn, with_turns}
+use Rattle.desk_commands.specs.Answers.{refused}
+use Rattle.desk_commands.specs.Calls.{Calls}
+use Rattle.desk_commands.specs.Standing.{Command, Standing, turn, with_turns}
 
 -- a TURN made some of the steps that it was to make, and then no more
 pub record MakesSomeSteps (s : Standing) (c : Command) (new : Standing) : Type 0 where

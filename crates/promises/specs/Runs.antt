@@ -1,8 +1,8 @@
 -- Sessions: commands, one after the other.
 use Rattle.std.specs.Prelude.{◌≡◌, List, [], ◌∷◌}
 use Rattle.record_archive.specs.Archive.{Archive}
-use Rattle.filing_commands.specs.Answers.{Answer}
-use Rattle.filing_commands.specs.Standing.{Command, Standing, Step, opening}
+use Rattle.desk_commands.specs.Answers.{Answer}
+use Rattle.desk_commands.specs.Standing.{Command, Standing, Step, opening}
 
 -- commands with their answers, one after the other, and the state that they leave
 abbrev pub Steps : Standing → List Command → List Answer → Standing → Type 0

@@ -2,10 +2,10 @@
 -- its finish, and there is no machine, step or half-done capture.
 use Rattle.std.specs.Prelude.{◌≡◌, ℕ, ◌+◌, List, [], ◌∷◌, ◌++◌, length, map, Bool, true, false, ◌==◌, ◌||◌, if◌then◌else◌, Option, Some, None}
 use Rattle.record_archive.specs.Archive.{Archive}
-use Rattle.filing_commands.specs.Answers.{Answer, begun, refused}
-use Rattle.filing_commands.specs.Pinning.{BeginState, budget_of}
-use Rattle.filing_commands.specs.Office.{Office, OfficeRule, with_archive}
-use Rattle.filing_commands.specs.Standing.{Command, plain, begin, turn, finish, Flight, Standing, begin_refusal, begin_state, Files, is_refusal}
+use Rattle.desk_commands.specs.Answers.{Answer, begun, refused}
+use Rattle.desk_commands.specs.Pinning.{BeginState, budget_of}
+use Rattle.desk_commands.specs.Office.{Office, OfficeRule, with_archive}
+use Rattle.desk_commands.specs.Standing.{Command, plain, begin, turn, finish, Flight, Standing, begin_refusal, begin_state, Files, is_refusal}
 use Rattle.promises.specs.Runs.{SessionFrom}
 
 -- a capture that has begun, with what stood at its beginning

@@ -1,7 +1,7 @@
 -- The turns that a session grants to a ticket, and what is answered about them.
 use Rattle.std.specs.Prelude.{◌≡◌, ℕ, ◌+◌, ◌<◌, ◌≤◌, List, [], ◌∷◌, ◌==◌, MatchBool}
-use Rattle.filing_commands.specs.Answers.{Answer, running, ended, refused}
-use Rattle.filing_commands.specs.Standing.{Command, turn, Flight}
+use Rattle.desk_commands.specs.Answers.{Answer, running, ended, refused}
+use Rattle.desk_commands.specs.Standing.{Command, turn, Flight}
 
 -- The turns that a TURN of this count granted, by its answer: all of them; fewer where it was answered 99; none where
 -- it was refused otherwise.

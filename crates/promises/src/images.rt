@@ -9,11 +9,11 @@ ghost use Rattle.sieve_meaning.specs.Outcome.{outcome};
 ghost use Rattle.sieve_meaning.specs.Program.{Commands};
 ghost use Rattle.filing_image.specs.Program.{Program};
 ghost use Rattle.filing_table.specs.Machine.{Trap, after_steps};
-ghost use Rattle.filing_commands.specs.Parts.{IsGood, IsGoodImage, IsImageOf, RefusesImage};
+ghost use Rattle.desk_commands.specs.Parts.{IsGood, IsGoodImage, IsImageOf, RefusesImage};
 ghost use Rattle.promises.specs.Records.{EndsWithinBudget, IsFaultAlone};
 ghost use Rattle.promises.specs.Images.{Compiles};
 
-use filing_commands::pinned_runs_end_alone;
+use desk_commands::pinned_runs_end_alone;
 use filing_image::one_spelling;
 use filing_machine::every_run_ends;
 use filing_table::a_run_ends_once;

@@ -4,9 +4,9 @@ ghost use Rattle.std.specs.Prelude.{◌≡◌, ◌≢◌, ◌≤◌, ℕ, Option
 ghost use Rattle.sieve_meaning.specs.declared.outcome.Outcome.{Outcome};
 ghost use Rattle.filing_table.specs.Ends.{HasOutcome};
 ghost use Rattle.record_archive.specs.Archive.{Archive};
-ghost use Rattle.filing_commands.specs.Answers.{refused};
-ghost use Rattle.filing_commands.specs.Pinning.{case_in, budget_of, IsAlone};
-ghost use Rattle.filing_commands.specs.Standing.{Command, Flight, Standing, IsPinned, Step, opening};
+ghost use Rattle.desk_commands.specs.Answers.{refused};
+ghost use Rattle.desk_commands.specs.Pinning.{case_in, budget_of, IsAlone};
+ghost use Rattle.desk_commands.specs.Standing.{Command, Flight, Standing, IsPinned, Step, opening};
 ghost use Rattle.promises.specs.Alike.{AnswerAlike};
 ghost use Rattle.promises.specs.Beginnings.{HasBegun};
 ghost use Rattle.promises.specs.Flights.{IsInFlight};
@@ -14,7 +14,7 @@ ghost use Rattle.promises.specs.RefusedCalls.{IsLeftBy, KeepsSteps, RefusedCall}
 ghost use Rattle.promises.specs.Runs.{IsReachedState, SessionFrom};
 ghost use Rattle.promises.specs.Serial.{EqualAfterStriking, SameButTurns, SerialRun, forget, kept_answers, kept_commands};
 
-use filing_commands::{Registry, pinned_runs_end_alone};
+use desk_commands::{Registry, pinned_runs_end_alone};
 use filing_image::one_spelling;
 use filing_machine::every_run_ends;
 use filing_table::a_run_ends_once;

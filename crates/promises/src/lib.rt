@@ -15,9 +15,9 @@
 //!   octets that are read and written.
 //!
 //! The laws of sessions are about states of an office and the steps that commands make between them (`Standing` and
-//! `Step` of `filing_commands`). Each call of a desk makes such a step, by its contract (`Calls`): on any disk, or
+//! `Step` of `desk_commands`). Each call of a desk makes such a step, by its contract (`Calls`): on any disk, or
 //! where its answer comes from the archive, on a disk that returns what was written to it. What a session reads and
-//! writes is then a run of such steps (`serve` and `sessions_refine_states` of `filing_session`). `specs/Runs` says
+//! writes is then a run of such steps (`serve` and `sessions_refine_states` of `session_protocol`). `specs/Runs` says
 //! what a session is, `specs/Flights` which captures are in flight, `specs/Serial` what is struck of a session,
 //! `specs/Alike` which answers say the same, and `specs/RefusedCalls` what a refusal by a registry leaves.
 #![tactic(auto)]

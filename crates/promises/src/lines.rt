@@ -1,17 +1,17 @@
 //! What the laws of sessions say of the lines that `serve` reads, each the contract of a function without effect.
 
 ghost use Rattle.std.specs.Prelude.{List};
-ghost use Rattle.filing_commands.specs.Answers.{Answer};
-ghost use Rattle.filing_commands.specs.Standing.{Standing, Step};
-ghost use Rattle.filing_session.specs.Session.{Item, Run};
+ghost use Rattle.desk_commands.specs.Answers.{Answer};
+ghost use Rattle.desk_commands.specs.Standing.{Standing, Step};
+ghost use Rattle.session_protocol.specs.Session.{Item, Run};
 ghost use Rattle.promises.specs.Lines.{AreServedAlike, EqualLinesLeft, IsSession, LeaveTheSame, LineSession, ReplyAlike, ServedSession, answers_in, commands_in};
 ghost use Rattle.promises.specs.Runs.{Steps};
 ghost use Rattle.promises.specs.Serial.{SameButTurns};
 
-use filing_commands::Registry;
+use desk_commands::Registry;
 use filing_image::one_spelling;
-use filing_session::sessions_refine_states;
 use filing_table::a_run_ends_once;
+use session_protocol::sessions_refine_states;
 use sieve_text::{one_scan, one_tree, one_verdict};
 
 /// Two sessions of lines that are equal after striking are answered alike, except for offsets and for 20 in the place

@@ -3,9 +3,9 @@
 ghost use Rattle.std.specs.Prelude.{◌≡◌, ℕ, List};
 ghost use Rattle.sieve_meaning.specs.declared.outcome.Outcome.{Outcome};
 ghost use Rattle.record_archive.specs.Archive.{Line};
-ghost use Rattle.filing_commands.specs.Answers.{listed};
-ghost use Rattle.filing_commands.specs.Office.{IsFiled, due, file, try_image};
-ghost use Rattle.filing_commands.specs.Standing.{Flight, Standing, Step, plain};
+ghost use Rattle.desk_commands.specs.Answers.{listed};
+ghost use Rattle.desk_commands.specs.Office.{IsFiled, due, file, try_image};
+ghost use Rattle.desk_commands.specs.Standing.{Flight, Standing, Step, plain};
 ghost use Rattle.promises.specs.Flights.{FinishOf, IsInFlight};
 ghost use Rattle.promises.specs.Records.{FilesAlone, ImageEnds, IsDryRun, IsDueList, IsFaultAlone};
 

@@ -2,8 +2,8 @@
 
 ghost use Rattle.std.specs.Prelude.{◌≡◌, ◌<◌, ◌≤◌, ◌↔◌, ℕ, None};
 ghost use Rattle.record_archive.specs.Archive.{Archive};
-ghost use Rattle.filing_commands.specs.Answers.{Answer, refused};
-ghost use Rattle.filing_commands.specs.Standing.{Flight, Standing, Step, finish, opening, turn};
+ghost use Rattle.desk_commands.specs.Answers.{Answer, refused};
+ghost use Rattle.desk_commands.specs.Standing.{Flight, Standing, Step, finish, opening, turn};
 ghost use Rattle.promises.specs.Beginnings.{tickets_given, AreNumbersUpTo, BeginFrom, HasNoPlace, HasNoTicket, HasPlace, MayBegin};
 ghost use Rattle.promises.specs.Flights.{FinishOf, IsInFlight, NoneInFlight};
 ghost use Rattle.promises.specs.Runs.{IsReachedState, SessionFrom};

@@ -12,7 +12,7 @@ use Rattle.class_plan.specs.declared.schedules.Schedule.TheVariants.{After}
 use Rattle.class_plan.specs.Changes.{addition}
 use Rattle.class_plan.specs.Plans.{Listing, IsPlan, first_plan, has, keeps, schedule_at}
 use Rattle.class_plan.specs.Calendar.{due_on}
-pub use Rattle.archive_items.specs.Items.{Message, Record}
+pub use Rattle.record_items.specs.Items.{Message, Record}
 use Rattle.record_archive.specs.Lists.{sort_by, IsAscending}
 use Rattle.record_archive.specs.declared.fault.ArchiveRefusal.{ArchiveRefusal}
 use Rattle.record_archive.specs.declared.fault.ArchiveRefusal.TheVariants as refusal

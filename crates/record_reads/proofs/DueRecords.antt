@@ -38,7 +38,7 @@ use Rattle.sqlite.specs.Schema.{Schema}
 use Rattle.record_tables.specs.Tables.{IsArchiveSchema, record_table, due_table}
 use Rattle.record_tables.proofs.Described.{seen}
 use Rattle.record_tables.proofs.Compiling.{Draft, Means, no_page, draft_of, means_query_two}
-use Rattle.archive_items.specs.Items.{Record}
+use Rattle.record_items.specs.Items.{Record}
 use Rattle.record_tables.specs.Rows.{Tables, Stores, AreKeyed, record_key, record_row, Due, due_key, due_row}
 use Rattle.record_tables.specs.Reads.{is_by, due_cmp, dues_by}
 use Rattle.record_reads.specs.DueRecords.{DueRecord, due_record, is_of, with_records, due_records_by, due_record_values}

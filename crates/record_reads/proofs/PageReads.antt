@@ -10,7 +10,7 @@ use Rattle.sqlite.specs.State.{State, Shown}
 use Rattle.sqlite_sql.specs.declared.ops.CompareOp.TheVariants.{Ge, Le}
 use Rattle.sqlite_value.proofs.OrderLemmas.{value_cmp-Int, value_cmp-Text}
 use Rattle.sqlite_typed.proofs.TestLemmas.{last_key, then_key, last_term, then_term, at_ints}
-use Rattle.archive_items.specs.Items.{Record}
+use Rattle.record_items.specs.Items.{Record}
 use Rattle.record_tables.proofs.Described.{records, holds}
 use Rattle.record_tables.specs.Rows.{Tables, Stores, AreKeyed, record_key}
 use Rattle.record_tables.specs.Reads.{HoldEntry, hold_entry, hold_values, AreHolds, FitsHold, record_values}

@@ -18,7 +18,7 @@ use Rattle.sqlite_keyed.specs.Keyed.{IsKeyedBy}
 use Rattle.sqlite_typed.specs.Columns.{or_null}
 use Rattle.sqlite_keyed.proofs.ListLemmas.{map-map, all_unmap}
 use Rattle.sqlite_typed.proofs.AnswerLemmas.{last_table, at_end, matches_are, unfiltered}
-use Rattle.archive_items.specs.Items.{Message, Record}
+use Rattle.record_items.specs.Items.{Message, Record}
 use Rattle.record_tables.specs.Tables.{Stands, message_table, record_table, hold_table, class_table, schedule_table}
 use Rattle.record_tables.proofs.Described.{seen}
 use Rattle.record_tables.proofs.Compiling.{no_page}

@@ -24,7 +24,7 @@ use Rattle.sqlite_keyed.proofs.ListLemmas.{IsPermutation-filter, ascending-map, 
 use Rattle.sqlite_keyed.proofs.SortLemmas.{sorted_unique}
 use Rattle.sqlite_typed.proofs.AnswerLemmas.{Source, last_table, at_end, answer_by_keys, matches_are, unfiltered}
 use Rattle.sqlite_typed.proofs.TestLemmas.{last_key, then_key}
-use Rattle.archive_items.specs.Items.{Message}
+use Rattle.record_items.specs.Items.{Message}
 use Rattle.record_tables.proofs.Described.{Described, messages, records, holds as holdings, settings, classes, schedules, dues, seen}
 use Rattle.record_tables.specs.Tables.{Stands}
 use Rattle.record_tables.specs.Rows.{Tables, Hold, Stores, StoresCommon, AreKeyed, message_key, record_key, hold_key, due_key}

@@ -3,13 +3,10 @@ use Rattle.std.proofs.Common.{◌≡◌, ◌==◌, ◌&&◌, ℕ, Bool, true, fa
 use Rattle.std.proofs.lemmas.Bool.Decides.{nat_tests}
 use Rattle.std.specs.Bool.{Decides}
 use Rattle.std.specs.Cmp.Lexicographic.{pointwise}
+use Rattle.common_laws.proofs.Tests.{both}
 use Rattle.record_tables.specs.Rows.{Due}
 use Rattle.record_tables.specs.Reads.{due_values}
 use Rattle.record_reads.specs.StoredDues.{shows_due}
-
-both_true : (a b : Bool) → (a && b) ≡ true → (a ≡ true) × (b ≡ true)
-both_true true b h = (refl, h)
-both_true false b h = absurd (cc)
 
 is_number : (m n : ℕ) → (m == n) ≡ true → m ≡ n
 is_number m n h = grind (arith, nat_tests)
@@ -20,7 +17,7 @@ itself n = grind (arith, nat_tests)
 one_told : (d e : Due) → Decides (shows_due (due_values d) e) (d ≡ e)
 one_told d e = (
   λ h.
-      let parts = both_true (d.number == e.number) (d.day == e.day) h in
+      let parts = both (d.number == e.number) (d.day == e.day) h in
       λ i. record { number = is_number d.number e.number parts.0 i; day = is_number d.day e.day parts.1 i },
   λ h. ap (λ (x : Due). (d.number == x.number) && (d.day == x.day)) (sym h) ∙ rw (itself d.number, itself d.day) refl,
 )

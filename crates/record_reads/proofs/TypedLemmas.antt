@@ -15,7 +15,7 @@ use Rattle.sqlite_typed.specs.Columns.{or_null}
 use Rattle.record_tables.specs.declared.fault.Fault.{Fault}
 use Rattle.record_tables.specs.declared.fault.Fault.TheVariants.{NoArchive}
 use Rattle.record_tables.specs.Faults.{fault_of}
-use Rattle.archive_items.specs.Items.{Record}
+use Rattle.record_items.specs.Items.{Record}
 use Rattle.record_tables.specs.Rows.{as_flag}
 use Rattle.record_tables.specs.Changes.{ClassEntry, Rule}
 use Rattle.record_tables.specs.Reads.{HoldEntry, Pair, record_values, ReadsRecord, FitsRecord, number_values}

@@ -4,7 +4,7 @@ use Rattle.std.specs.List.{AllByRecursion}
 use Rattle.std.specs.Ordering.{int_eq}
 use Rattle.sqlite.specs.declared.types.Value.TheVariants.{Int, Text as Words}
 use Rattle.sqlite.specs.Order.{Row, column}
-use Rattle.archive_items.specs.Items.{Record}
+use Rattle.record_items.specs.Items.{Record}
 use Rattle.record_tables.specs.Rows.{Tables, Due}
 use Rattle.record_tables.specs.Reads.{dues_by}
 use Rattle.record_tables.specs.declared.rows.DueRecordRow.{DueRecordRow}

@@ -5,7 +5,7 @@ use Rattle.sqlite.specs.Store.{Ghosts}
 use Rattle.sqlite.specs.State.{HasCleanDisk, Survives}
 use Rattle.sqlite.specs.Held.{Held, state}
 use Rattle.record_tables.specs.Tables.{IsArchiveSchema}
-use Rattle.archive_items.specs.Items.{Message, Record}
+use Rattle.record_items.specs.Items.{Message, Record}
 use Rattle.record_tables.specs.Rows.{Tables}
 use Rattle.record_tables.specs.Changes.{is_hold}
 use Rattle.record_tables.specs.declared.fault.Fault.{Fault}

@@ -1,6 +1,6 @@
 -- The records of a page, and the holds on them.
 use Rattle.std.specs.Prelude.{ℕ, pos, ◌&&◌, Bool, List, filter, int_le}
-use Rattle.archive_items.specs.Items.{Record}
+use Rattle.record_items.specs.Items.{Record}
 use Rattle.record_tables.specs.Rows.{Tables}
 use Rattle.record_tables.specs.Reads.{HoldEntry}
 

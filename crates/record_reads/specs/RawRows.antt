@@ -5,7 +5,7 @@ use Rattle.sqlite.specs.Order.{Row}
 use Rattle.sqlite.specs.Effect.{Database}
 use Rattle.sqlite_typed.specs.Columns.{or_null}
 use Rattle.sqlite_keyed.specs.Keyed.{IsKeyedBy}
-use Rattle.archive_items.specs.Items.{Message, Record}
+use Rattle.record_items.specs.Items.{Message, Record}
 use Rattle.record_tables.specs.Tables.{Stands, message_table, record_table, hold_table, class_table, schedule_table}
 use Rattle.record_tables.specs.Rows.{Hold, Class, Schedule, as_flag}
 

@@ -5,15 +5,14 @@
 
 ghost use Rattle.std.specs.Prelude.{◌≡◌, map};
 ghost use Rattle.std.specs.List.{AllByRecursion};
-ghost use Rattle.sqlite.specs.Held.{state};
 ghost use Rattle.record_tables.specs.Tables.{HasCommonTables, IsArchiveSchema};
 ghost use Rattle.record_tables.specs.Rows.{Tables, Stores, StoresCommon, AreKeyed};
 ghost use Rattle.record_tables.specs.Reads.{FitsRecord, FitsNumber, FitsHold, FitsRule, AreHolds, ArePairs, AreClassRows, AreRules, numbers_of, ForRows};
 ghost use Rattle.record_reads.specs.Lookups.{WasOpenOnNoArchive};
-ghost use Rattle.record_reads.specs.Quiet.{IsQuiet};
+ghost use Rattle.record_reads.specs.Quiet.{ReadsQuietly};
 ghost use Rattle.record_reads.specs.RawRows.{AreTypedRecords, AreTypedMessages, AreTypedHolds, AreTypedClasses, AreTypedSchedules};
 ghost use Rattle.record_tables.specs.CodeRows.{record_of, hold_entry_of, pair_of, class_entry_of, rule_of};
-ghost use Rattle.record_tables.specs.Steps.{CommitsNothingOf, Falls, IsIdle, ReadsAlone, Learns, Rejects, WasOpenOnOk};
+ghost use Rattle.record_tables.specs.Steps.{Learns, Rejects};
 
 use crate::query::read_all;
 use record_tables::fault::Fault;
@@ -32,14 +31,7 @@ pub fn records<S: Alter>(alloc: Global, conn: &mut Connection<S>) -> Result<Vec<
     ensures seen { WasOpenOnNoArchive S.Store conn.old conn.new result }
     ensures typed { Learns S.Store conn.old conn.new result
         (λ db all. HasCommonTables db.schema → AreTypedRecords db) }
-    ensures same { ReadsAlone S.Store conn.old conn.new result
-        (HasCommonTables (state S.Store conn.old).now.schema) }
-    ensures quiet { IsQuiet S.Store conn.old conn.new }
-    ensures was_open { WasOpenOnOk S.Store conn.old conn.new result }
-    ensures falls { Falls S.Store conn.old conn.new }
-    ensures idle { IsIdle S.Store conn.old conn.new }
-    ensures survives { CommitsNothingOf S.Store conn.old conn.new
-        (HasCommonTables (state S.Store conn.old).now.schema) }
+    ensures frame { ReadsQuietly S.Store conn.old conn.new result HasCommonTables }
 {
     read_all(
         alloc,
@@ -59,14 +51,7 @@ pub fn message_numbers<S: Alter>(alloc: Global, conn: &mut Connection<S>) -> Res
         AllByRecursion FitsNumber (numbers_of t) → ⊥) }
     ensures typed { Learns S.Store conn.old conn.new result
         (λ db all. HasCommonTables db.schema → AreTypedMessages db) }
-    ensures same { ReadsAlone S.Store conn.old conn.new result
-        (HasCommonTables (state S.Store conn.old).now.schema) }
-    ensures quiet { IsQuiet S.Store conn.old conn.new }
-    ensures was_open { WasOpenOnOk S.Store conn.old conn.new result }
-    ensures falls { Falls S.Store conn.old conn.new }
-    ensures idle { IsIdle S.Store conn.old conn.new }
-    ensures survives { CommitsNothingOf S.Store conn.old conn.new
-        (HasCommonTables (state S.Store conn.old).now.schema) }
+    ensures frame { ReadsQuietly S.Store conn.old conn.new result HasCommonTables }
 {
     read_all(
         alloc,
@@ -84,14 +69,7 @@ pub fn holds<S: Alter>(alloc: Global, conn: &mut Connection<S>) -> Result<Vec<Ho
         (λ db. ForRows StoresCommon AreHolds db (λ hs. AllByRecursion FitsHold hs → ⊥)) }
     ensures typed { Learns S.Store conn.old conn.new result
         (λ db all. HasCommonTables db.schema → AreTypedHolds db) }
-    ensures same { ReadsAlone S.Store conn.old conn.new result
-        (HasCommonTables (state S.Store conn.old).now.schema) }
-    ensures quiet { IsQuiet S.Store conn.old conn.new }
-    ensures was_open { WasOpenOnOk S.Store conn.old conn.new result }
-    ensures falls { Falls S.Store conn.old conn.new }
-    ensures idle { IsIdle S.Store conn.old conn.new }
-    ensures survives { CommitsNothingOf S.Store conn.old conn.new
-        (HasCommonTables (state S.Store conn.old).now.schema) }
+    ensures frame { ReadsQuietly S.Store conn.old conn.new result HasCommonTables }
 {
     read_all(
         alloc,
@@ -107,14 +85,7 @@ pub fn settings<S: Alter>(alloc: Global, conn: &mut Connection<S>) -> Result<Vec
         (λ db all. ForRows StoresCommon ArePairs db (λ ps. map pair_of all.items ≡ ps)) }
     ensures none { Rejects S.Store conn.old conn.new result
         (λ db. ForRows StoresCommon ArePairs db (λ ps. ⊥)) }
-    ensures same { ReadsAlone S.Store conn.old conn.new result
-        (HasCommonTables (state S.Store conn.old).now.schema) }
-    ensures quiet { IsQuiet S.Store conn.old conn.new }
-    ensures was_open { WasOpenOnOk S.Store conn.old conn.new result }
-    ensures falls { Falls S.Store conn.old conn.new }
-    ensures idle { IsIdle S.Store conn.old conn.new }
-    ensures survives { CommitsNothingOf S.Store conn.old conn.new
-        (HasCommonTables (state S.Store conn.old).now.schema) }
+    ensures frame { ReadsQuietly S.Store conn.old conn.new result HasCommonTables }
 {
     read_all(alloc, conn, "SELECT key, value FROM meta ORDER BY key", &[])
 }
@@ -127,14 +98,7 @@ pub fn classes<S: Alter>(alloc: Global, conn: &mut Connection<S>) -> Result<Vec<
         (λ db. ForRows StoresCommon AreClassRows db (λ cs. ⊥)) }
     ensures typed { Learns S.Store conn.old conn.new result
         (λ db all. HasCommonTables db.schema → AreTypedClasses db) }
-    ensures same { ReadsAlone S.Store conn.old conn.new result
-        (HasCommonTables (state S.Store conn.old).now.schema) }
-    ensures quiet { IsQuiet S.Store conn.old conn.new }
-    ensures was_open { WasOpenOnOk S.Store conn.old conn.new result }
-    ensures falls { Falls S.Store conn.old conn.new }
-    ensures idle { IsIdle S.Store conn.old conn.new }
-    ensures survives { CommitsNothingOf S.Store conn.old conn.new
-        (HasCommonTables (state S.Store conn.old).now.schema) }
+    ensures frame { ReadsQuietly S.Store conn.old conn.new result HasCommonTables }
 {
     read_all(
         alloc,
@@ -155,14 +119,7 @@ pub fn schedules<S: Alter>(
         (λ db. ForRows Stores AreRules db (λ rs. AllByRecursion FitsRule rs → ⊥)) }
     ensures typed { Learns S.Store conn.old conn.new result
         (λ db all. IsArchiveSchema db.schema → AreTypedSchedules db) }
-    ensures same { ReadsAlone S.Store conn.old conn.new result
-        (IsArchiveSchema (state S.Store conn.old).now.schema) }
-    ensures quiet { IsQuiet S.Store conn.old conn.new }
-    ensures was_open { WasOpenOnOk S.Store conn.old conn.new result }
-    ensures falls { Falls S.Store conn.old conn.new }
-    ensures idle { IsIdle S.Store conn.old conn.new }
-    ensures survives { CommitsNothingOf S.Store conn.old conn.new
-        (IsArchiveSchema (state S.Store conn.old).now.schema) }
+    ensures frame { ReadsQuietly S.Store conn.old conn.new result IsArchiveSchema }
 {
     read_all(
         alloc,

@@ -5,7 +5,7 @@ ghost use Rattle.std.specs.List.{AllZip, AllByRecursion};
 ghost use Rattle.sqlite.specs.Order.{column};
 ghost use Rattle.sqlite.specs.declared.types.Value.{Value};
 ghost use Rattle.sqlite.specs.declared.types.Value.TheVariants.{Blob as Octets};
-ghost use Rattle.archive_items.specs.Items.{Record};
+ghost use Rattle.record_items.specs.Items.{Record};
 ghost use Rattle.record_tables.specs.Changes.{ClassEntry, Rule};
 ghost use Rattle.record_tables.specs.Reads.{HoldEntry, Pair, ReadsNumber, FitsNumber, ReadsRecord, FitsRecord, ReadsHold, FitsHold, ReadsPair, ReadsClass, ReadsRule, FitsRule};
 ghost use Rattle.record_tables.specs.CodeRows.{record_of, hold_entry_of, pair_of, class_entry_of, rule_of};

@@ -13,18 +13,12 @@ use Rattle.record_tables.specs.declared.rows.HoldRow.{HoldRow}
 use Rattle.record_archive.specs.Archive.{Record}
 use Rattle.record_tables.specs.Reads.{HoldEntry}
 use Rattle.record_tables.specs.CodeRows.{record_of, hold_entry_of}
+use Rattle.common_laws.proofs.Tests.{five}
 use Rattle.record_rows.specs.SoundRows.{is_named, is_live, is_one_of, IsSound, AreRows}
 use Rattle.record_rows.specs.Tests.{is_sound, rises_from, rises_after}
 use Rattle.record_rows.proofs.Sorted.{rises-sorted, sorted-rises, holds-sorted, sorted-holds, sorted-same}
 
 -- ---- each record
-
-five : (a b c d e : Bool) → (a && b && c && d && e) ≡ true → (a ≡ true) × (b ≡ true) × (c ≡ true) × (d ≡ true) × (e ≡ true)
-five true true true true e h = (refl, refl, refl, refl, h)
-five true true true false e h = absurd (cc)
-five true true false d e h = absurd (cc)
-five true false c d e h = absurd (cc)
-five false b c d e h = absurd (cc)
 
 le_test : (x y : ℕ) → nat_le x y ≡ true → x ≤ y
 le_test x y h = grind (arith, nat_tests)

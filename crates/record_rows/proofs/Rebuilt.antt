@@ -13,27 +13,12 @@ use Rattle.record_tables.specs.declared.rows.ScheduleRow.{ScheduleRow}
 use Rattle.record_tables.specs.declared.rows.ClassRow.{ClassRow}
 use Rattle.record_tables.specs.Changes.{ClassEntry, Rule}
 use Rattle.record_tables.specs.CodeRows.{rule_of, class_entry_of}
+use Rattle.common_laws.proofs.Tests.{both, three, five}
 use Rattle.record_rows.specs.Rules.{rule_at, own_rules, rules_of, entry_of_row, classes_of, HasRows, same_rule, same_class, answer_entry}
 use Rattle.record_rows.specs.Merge.{schedule_in, merge}
 use Rattle.record_rows.proofs.Loops.{told-are}
 use Rattle.record_rows.proofs.Merged.{schedule_back, merged-rows}
 use Rattle.record_rows.proofs.Pairs.{pairs-decide}
-
-five : (a b c d e : Bool) → (a && b && c && d && e) ≡ true → (a ≡ true) × (b ≡ true) × (c ≡ true) × (d ≡ true) × (e ≡ true)
-five true true true true e h = (refl, refl, refl, refl, h)
-five true true true false e h = absurd (cc)
-five true true false d e h = absurd (cc)
-five true false c d e h = absurd (cc)
-five false b c d e h = absurd (cc)
-
-three : (a b c : Bool) → (a && b && c) ≡ true → (a ≡ true) × (b ≡ true) × (c ≡ true)
-three true true c h = (refl, refl, h)
-three true false c h = absurd (cc)
-three false b c h = absurd (cc)
-
-both : (a b : Bool) → (a && b) ≡ true → (a ≡ true) × (b ≡ true)
-both true b h = (refl, h)
-both false b h = absurd (cc)
 
 pub and-true : (a b : Bool) → a ≡ true → (a && b) ≡ b
 and-true a b e = ap (λ z. z && b) e

@@ -13,7 +13,7 @@ use Rattle.record_archive.specs.Faults.{is_trouble}
 use Rattle.record_archive.specs.declared.fault.ArchiveRefusal.{ArchiveRefusal}
 use Rattle.record_store.specs.Faults.{StoreFault}
 use Rattle.record_store.specs.Stores.{Becomes, Falls, Leaves, LeavesNow, Obeys, ObeysRows, StandsFor, StaysOpenOnOk, Tells}
-use Rattle.record_store.specs.Stores.{Fate, Left, ShutAfter, FateKeeps, MayMeet}
+use Rattle.record_store.specs.Stores.{Fate, Left, ShutAfter, FateKeeps, MayMeet, keeper_of}
 use Rattle.record_store.specs.declared.store.Store.{Store}
 
 made : {S : Type 0} (g : Ghosts S) (new : Store S) (r : Result Archive ArchiveRefusal) → Becomes g new r → Makes (StandsFor g new) r
@@ -49,11 +49,10 @@ met_before g old new survives clean (ShutAfter n) may =
 
 module _ {S X : Type 0} (g : Ghosts S) (old new : Store S) where
   abbrev pub Done : (command : Archive → Result Archive ArchiveRefusal) (Answers : Archive → X → Type 0) (result : Result X StoreFault) → Type 0
-  Done command Answers result = Does (λ (s : Store S). HasCleanDisk (state g s.conn)) (StandsFor g) old new command Answers result
+  Done command Answers result = Does (keeper_of g) old new command Answers result
 
   abbrev pub Carried : (command : Archive → Result Archive ArchiveRefusal) (Answers : Archive → X → Type 0) (result : Result X StoreFault) → Type 0
-  Carried command Answers result = CarriesOut (λ (s : Store S). HasCleanDisk (state g s.conn)) (StandsFor g)
-      (MayMeet g) FateKeeps old new command Answers result
+  Carried command Answers result = CarriesOut (keeper_of g) old new command Answers result
 
   -- a call that relies on what it knows beside the tables
   pub done_so : (command : Archive → Result Archive ArchiveRefusal) (Answers : Archive → X → Type 0) (result : Result X StoreFault)

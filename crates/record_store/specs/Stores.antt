@@ -7,7 +7,7 @@ use Rattle.sqlite.specs.State.{HasCleanDisk, Survives}
 use Rattle.sqlite.specs.Tree.{Trees}
 use Rattle.sqlite.specs.Held.{Held, state}
 use Rattle.record_archive.specs.Archive.{Archive, IsArchive, next_number, record_at}
-use Rattle.record_archive.specs.Calls.{KeepsMade}
+use Rattle.record_archive.specs.Calls.{Keeper, KeepsMade}
 use Rattle.record_archive.specs.Faults.{WhereRefused}
 use Rattle.record_archive.specs.declared.fault.ArchiveRefusal.{ArchiveRefusal}
 use Rattle.record_archive.specs.declared.fault.ArchiveRefusal.TheVariants.{NoRecord}
@@ -88,6 +88,16 @@ abbrev pub FateKeeps : Fate → Archive → Type 0
 FateKeeps (Left trees) a = TreesKeep trees a
 FateKeeps (ShutAfter n) a = 0 < n
 
+-- how a store keeps an archive
+abbrev pub keeper_of : {S : Type 0} → Ghosts S → Keeper (Store S) Archive
+keeper_of g = record {
+  clean = λ s. HasCleanDisk (state g s.conn);
+  stands = StandsFor g;
+  remains = Fate;
+  may_leave = MayMeet g;
+  keeps = FateKeeps;
+}
+
 -- while the connection is open, whatever a crash at this moment leaves keeps the archive that the store represents
 abbrev pub LeavesNow : {S : Type 0} → Ghosts S → Store S → Type 0
 LeavesNow g store = HasCleanDisk (state g store.conn) → IsTrue (state g store.conn).is_open → (a : Archive) →
@@ -155,6 +165,13 @@ IsOpenOnOk g new result = HasCleanDisk (state g new.conn) → OnOk result (IsTru
 abbrev pub StaysOpenOnOk : {S X : Type 0} → Ghosts S → (old new : Store S) → Result X StoreFault → Type 0
 StaysOpenOnOk g old new result = (a : Archive) → StandsFor g old a → HasCleanDisk (state g new.conn) →
     IsTrue (state g old.conn).is_open → OnOk result (IsTrue (state g new.conn).is_open)
+
+-- What every call of a store promises beside what it does: a disk that is clean after it was clean before, it is never
+-- refused by the store itself, and where it succeeds the connection is open.
+pub record Behaves {S X : Type 0} (g : Ghosts S) (old new : Store S) (result : Result X StoreFault) : Type 0 where
+  pub falls : Falls g old new
+  pub cause : IsNeverOwn g old new result
+  pub «open» : IsOpenOnOk g new result
 
 -- the archive has no record of this number, and that is the refusal
 abbrev pub LacksRecord : ℕ → Archive → ArchiveRefusal → Type 0

@@ -5,7 +5,7 @@ ghost use Rattle.record_archive.specs.Archive as archive;
 ghost use Rattle.record_archive.specs.Archive.{Archive};
 ghost use Rattle.record_archive.specs.Faults.{is_trouble};
 ghost use Rattle.record_archive.specs.Calls.{Quietly};
-ghost use Rattle.record_store.specs.Stores.{StandsFor, ObeysRows, Leaves, LeavesAll, LeavesMade, Falls, ChangesByCommand, TellsOutcome, IsOpenOnOk, IsNeverOwn};
+ghost use Rattle.record_store.specs.Stores.{StandsFor, ObeysRows, Leaves, LeavesAll, LeavesMade, ChangesByCommand, TellsOutcome, Behaves};
 
 use crate::changes::{Holding, Release};
 use crate::fault::{BUSY, StoreFault, fault_of};
@@ -19,9 +19,7 @@ impl<S: Alter> Store<S> {
     fn judge_hold(&mut self, name: &[u8], number: u32) -> Result<(), StoreFault>
         ensures tells { TellsOutcome S.Store self.old self.new result
             (λ a. archive.hold a name.now number) (λ a. archive.with_hold a name.now number) }
-        ensures falls { Falls S.Store self.old self.new }
-        ensures open { IsOpenOnOk S.Store self.new result }
-        ensures cause { IsNeverOwn S.Store self.old self.new result }
+        ensures behaves { Behaves S.Store self.old self.new result }
         ensures crash { LeavesAll S.Store self.old self.new }
     {
         let record = self.record_at(number)?;
@@ -41,9 +39,7 @@ impl<S: Alter> Store<S> {
         ensures err { OnErr result
             ((a : Archive) → StandsFor S.Store self.old a → StandsFor S.Store self.new a) }
         ensures trouble { IfErr result (λ f. is_trouble f ≡ true) }
-        ensures falls { Falls S.Store self.old self.new }
-        ensures cause { IsNeverOwn S.Store self.old self.new result }
-        ensures open { IsOpenOnOk S.Store self.new result }
+        ensures behaves { Behaves S.Store self.old self.new result }
         ensures crash { LeavesMade S.Store self.old self.new (λ a. archive.hold a name.now number)
             (λ a. archive.with_hold a name.now number) }
     {
@@ -69,9 +65,7 @@ impl<S: Alter> Store<S> {
     pub fn hold(&mut self, name: &[u8], number: u32) -> Result<(), StoreFault>
         ensures obeys { ObeysRows S.Store self.old self.new result
             (λ a. archive.hold a name.now number) Quietly }
-        ensures falls { Falls S.Store self.old self.new }
-        ensures cause { IsNeverOwn S.Store self.old self.new result }
-        ensures open { IsOpenOnOk S.Store self.new result }
+        ensures behaves { Behaves S.Store self.old self.new result }
         ensures crash { Leaves S.Store self.old self.new (λ a. archive.hold a name.now number) }
     {
         self.judge_hold(name, number)?;
@@ -83,9 +77,7 @@ impl<S: Alter> Store<S> {
     fn judge_release(&mut self, name: &[u8], number: u32) -> Result<(), StoreFault>
         ensures tells { TellsOutcome S.Store self.old self.new result
             (λ a. archive.release a name.now number) (λ a. archive.without_hold a name.now number) }
-        ensures falls { Falls S.Store self.old self.new }
-        ensures open { IsOpenOnOk S.Store self.new result }
-        ensures cause { IsNeverOwn S.Store self.old self.new result }
+        ensures behaves { Behaves S.Store self.old self.new result }
         ensures crash { LeavesAll S.Store self.old self.new }
     {
         let _record = self.record_at(number)?;
@@ -103,9 +95,7 @@ impl<S: Alter> Store<S> {
         ensures err { OnErr result
             ((a : Archive) → StandsFor S.Store self.old a → StandsFor S.Store self.new a) }
         ensures trouble { IfErr result (λ f. is_trouble f ≡ true) }
-        ensures falls { Falls S.Store self.old self.new }
-        ensures cause { IsNeverOwn S.Store self.old self.new result }
-        ensures open { IsOpenOnOk S.Store self.new result }
+        ensures behaves { Behaves S.Store self.old self.new result }
         ensures crash { LeavesMade S.Store self.old self.new
             (λ a. archive.release a name.now number) (λ a. archive.without_hold a name.now number) }
     {
@@ -128,9 +118,7 @@ impl<S: Alter> Store<S> {
     pub fn release(&mut self, name: &[u8], number: u32) -> Result<(), StoreFault>
         ensures obeys { ObeysRows S.Store self.old self.new result
             (λ a. archive.release a name.now number) Quietly }
-        ensures falls { Falls S.Store self.old self.new }
-        ensures cause { IsNeverOwn S.Store self.old self.new result }
-        ensures open { IsOpenOnOk S.Store self.new result }
+        ensures behaves { Behaves S.Store self.old self.new result }
         ensures crash { Leaves S.Store self.old self.new (λ a. archive.release a name.now number) }
     {
         self.judge_release(name, number)?;

@@ -1,9 +1,7 @@
 //! The store as `Records`, over which a desk is made. Each call first finds the connection open, and then is the store's
 //! own of the same name. So nothing is done any more on a connection that a fault of the disk has shut.
 
-ghost use Rattle.sqlite.specs.State.{HasCleanDisk};
-ghost use Rattle.sqlite.specs.Held.{state};
-ghost use Rattle.record_store.specs.Stores.{Fate, FateKeeps, MayMeet, StandsFor};
+ghost use Rattle.record_store.specs.Stores.{keeper_of};
 
 use crate::fault::{Cause, StoreFault};
 use crate::store::Store;
@@ -15,15 +13,7 @@ use sqlite::Alter;
 impl<S: Alter> Records for Store<S> {
     type Cause = Cause;
 
-    ghost clean = { λ s. HasCleanDisk (state S.Store s.conn) };
-
-    ghost stands = { StandsFor S.Store };
-
-    ghost remains = { Fate };
-
-    ghost may_leave = { MayMeet S.Store };
-
-    ghost keeps = { FateKeeps };
+    ghost keeper = { keeper_of S.Store };
 
     ghost plan_of = { λ s. s.plan };
 

@@ -16,7 +16,7 @@ use Rattle.sqlite_keyed.specs.Keyed.{IsKeyedBy}
 use Rattle.sqlite_schema.specs.Names.{table_named}
 use Rattle.record_tables.specs.Tables.{Stands, IsArchiveSchema, in_tree, message_table}
 use Rattle.record_tables.specs.Tables.{record_table, hold_table, meta_table, class_table, schedule_table, due_table}
-use Rattle.archive_items.specs.Items.{Message, Record}
+use Rattle.record_items.specs.Items.{Message, Record}
 use Rattle.record_tables.specs.Rows.{Tables, message_key, message_row, record_key, record_row, Hold, hold_key, hold_row}
 use Rattle.record_tables.specs.Rows.{Setting, setting_key, setting_row, Class, class_key, class_row, Schedule}
 use Rattle.record_tables.specs.Rows.{schedule_key, schedule_row, Due, due_key, due_row, Stores, StoresKeyed, AreKeyed}

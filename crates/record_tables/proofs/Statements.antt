@@ -32,7 +32,7 @@ use Rattle.sqlite_sql.specs.declared.ops.CompareOp.TheVariants.{Eq}
 use Rattle.sqlite_sql.specs.Program.{overlay}
 use Rattle.sqlite.specs.Schema.{Schema}
 use Rattle.record_tables.specs.Tables.{IsArchiveSchema, in_tree, record_table}
-use Rattle.archive_items.specs.Items.{Message, Record}
+use Rattle.record_items.specs.Items.{Message, Record}
 use Rattle.record_tables.specs.Rows.{Tables, record_key, record_row, Hold, hold_row}
 use Rattle.record_tables.specs.Rows.{Due, Stores, StoresKeyed}
 use Rattle.record_tables.specs.Rows.{AreKeyed, as_flag}

@@ -8,7 +8,7 @@ use Rattle.sqlite_keyed.specs.Lists.{delete_where, update_where}
 use Rattle.sqlite.specs.State.{State}
 use Rattle.sqlite.specs.Effect.{Database, IsDatabase}
 use Rattle.sqlite_trees.specs.Tree.{IsAscending}
-use Rattle.archive_items.specs.Items.{Message, Record}
+use Rattle.record_items.specs.Items.{Message, Record}
 use Rattle.record_tables.specs.Rows.{Tables, Hold, Setting, Class, Schedule, Due, Stores, StoresKeyed, AreKeyed, hold_key, setting_key, class_key, schedule_key}
 
 -- a statement in a transaction, which continues; a database that is sound stays so

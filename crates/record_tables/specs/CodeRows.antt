@@ -7,7 +7,7 @@ use Rattle.record_tables.specs.declared.rows.ClassRow.{ClassRow}
 use Rattle.record_tables.specs.declared.rows.ScheduleRow.{ScheduleRow}
 use Rattle.record_tables.specs.declared.rows.DueRow.{DueRow}
 use Rattle.sqlite.specs.Effect.{Database}
-use Rattle.archive_items.specs.Items.{Record}
+use Rattle.record_items.specs.Items.{Record}
 use Rattle.record_tables.specs.Rows.{Tables, Due}
 use Rattle.record_tables.specs.Changes.{ClassEntry, Rule, with_plan}
 use Rattle.record_tables.specs.Layouts.{IsMoved}

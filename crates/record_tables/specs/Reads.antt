@@ -10,7 +10,7 @@ use Rattle.sqlite.specs.Effect.{Database}
 use Rattle.sqlite_typed.specs.Columns.{or_null}
 use Rattle.sqlite_keyed.specs.Lists.{sort_by}
 use Rattle.sqlite_trees.specs.Tree.{IsAscending}
-use Rattle.archive_items.specs.Items.{Message, Record}
+use Rattle.record_items.specs.Items.{Message, Record}
 use Rattle.record_tables.specs.Rows.{Tables, Hold, Setting, Class, Schedule, Due, AreKeyed, as_flag}
 use Rattle.record_tables.specs.Changes.{ClassEntry, Rule}
 

@@ -1,8 +1,8 @@
 //! Scripts and plans, judged as they are named.
 
-use run_inquiry::script_name;
-use script_checks::{Folders, Surroundings, check_plan, check_script, read_plan};
+use tool_checks::{Folders, Surroundings, check_plan, check_script, read_plan};
 use tool_console::{Failure, Verdict};
+use tool_inquiry::script_name;
 
 /// What the path of a plan's file ends with.
 const PLAN_ENDING: &str = ".toml";

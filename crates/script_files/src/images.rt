@@ -4,11 +4,11 @@ use crate::scripts::{read_folders, read_script, unless_full};
 use filing_gen::{GenFault, compile};
 use filing_image::encode;
 use filing_verify::Verified;
-use run_inquiry::{ScriptFile, library_of, script_name};
-use script_checks::Folders;
-use script_library::Library;
+use sieve_library::Library;
 use sieve_meaning::Location;
+use tool_checks::Folders;
 use tool_console::{Failure, Verdict, write_file, write_line, write_refusal};
+use tool_inquiry::{ScriptFile, library_of, script_name};
 
 /// The library of the scripts that can be included; none where one is refused, which is reported.
 fn read_library(rt: &HostRuntime, folders: Folders<'_>) -> Result<Option<Library>, Failure> {

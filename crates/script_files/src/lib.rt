@@ -6,7 +6,7 @@
 //! - `questions`: a message, a plan and a day that are asked about;
 //! - `runs`: why a message is filed where it is, for `why`.
 //!
-//! What becomes of a message is found by `run_inquiry`, and an image is made by `filing_gen`; their contracts say what
+//! What becomes of a message is found by `tool_inquiry`, and an image is made by `filing_gen`; their contracts say what
 //! these are. What is read and written here, no contract speaks of: tests of the program show it.
 #![tactic(auto)]
 

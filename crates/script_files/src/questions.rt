@@ -1,8 +1,8 @@
 //! What `why` is asked about: a message, a plan and a day.
 
 use class_plan::{Date, day_number, day_of};
-use script_checks::{Folders, NamedPlan, read_plan};
 use std::alloc::Global;
+use tool_checks::{Folders, NamedPlan, read_plan};
 use tool_console::{Failure, now, read_file};
 use tool_texts::Payload;
 

@@ -2,16 +2,16 @@
 
 use crate::questions::{Asked, Question, read_question};
 use crate::scripts::{read_folders, read_script, unless_full};
-use filing_case::Case;
-use filing_trace::{Trace, trace_run};
+use filing_machine::{Trace, trace_run};
 use filing_verify::Verified;
 use image_views::{read_image, show_classes, show_fields, show_steps};
-use run_inquiry::{
+use mail_case::Case;
+use sieve_meaning::{Location, Outcome, RunFault};
+use tool_checks::Folders;
+use tool_console::{Failure, Verdict, tell, write, write_refusal};
+use tool_inquiry::{
     Answer, Form, Inquiry, ScriptFile, Scripts, answer_to, compiled, open_case, outcome_text,
 };
-use script_checks::Folders;
-use sieve_meaning::{Location, Outcome, RunFault};
-use tool_console::{Failure, Verdict, tell, write, write_refusal};
 
 /// A script with those of the folders; none where one of these is refused, which is reported.
 fn scripts_with(

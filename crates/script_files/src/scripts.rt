@@ -1,9 +1,9 @@
 //! Scripts of files, and of folders of scripts that can be included.
 
-use run_inquiry::{InquiryFault, ScriptFile, script_of};
-use script_checks::{Folders, SCRIPT_ENDING, read_good_script};
 use sieve_meaning::Location;
+use tool_checks::{Folders, SCRIPT_ENDING, read_good_script};
 use tool_console::{Failure, paths_in, write_refusal};
+use tool_inquiry::{InquiryFault, ScriptFile, script_of};
 
 /// The script of a file; none where it is refused, which is reported on standard output.
 pub fn read_script(

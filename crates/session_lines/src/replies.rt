@@ -1,10 +1,10 @@
 //! Replies with texts after their numbers.
 
-use script_findings::judge;
 use std::alloc::{AllocError, Global};
 use std::io::{BufRead, BufReader};
 use std::str;
 use tool_console::{Failure, read_file, read_line, write};
+use tool_findings::judge;
 use tool_texts::{Payload, fault_text, line_at, place_of, refusal_text};
 
 /// The script that was refused, and its path.

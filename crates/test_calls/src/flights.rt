@@ -4,7 +4,7 @@ use crate::told::word;
 use anyhow::{Result, bail};
 use class_paths::Paths;
 use class_plan::{Date, Plan};
-use filing_commands::{Payload, Registry};
+use desk_commands::{Payload, Registry};
 use filing_desk::Desk;
 use record_archive::{ArchiveFault, ArchiveRefusal, Line, Records};
 use std::alloc::Global;

@@ -2,7 +2,7 @@
 
 use crate::told::{size, word};
 use anyhow::{Result, bail};
-use filing_case::{Case, PieceCase, WholeCase};
+use mail_case::{Case, PieceCase, WholeCase};
 use mail_head::{HeadFault, HeadReader, MAX_OCTETS, PieceHead, read_head};
 use std::alloc::Global;
 use std::collections::BTreeSet;

@@ -6,12 +6,12 @@
 //! puts N times TEXT before its first text.
 //!
 //! In texts and answers `\n`, `\r`, `\s` (a space) and `\xHH` are octets, and a backslash before another octet is left
-//! out (`row_text`). Empty lines and those that begin with `#` are ignored.
+//! out (`test_rows`). Empty lines and those that begin with `#` are ignored.
 
 use crate::call::Call;
 use anyhow::{Context, Result};
-use row_text::octets_of;
 use std::alloc::{AllocError, Global};
+use test_rows::octets_of;
 
 /// A call, its texts, and the expected answer.
 #[derive(Drop)]

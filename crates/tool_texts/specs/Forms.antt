@@ -1,10 +1,10 @@
 -- The forms that the words of a command must have, and how a line breaks them.
 use Rattle.std.specs.Prelude.{ℕ, Bool, List, [], ◌∷◌, ◌==◌, not, is_some, nat_le, if◌then◌else◌, Option, Some, None, option_map, length, position}
 use Rattle.std.specs.List.{zip}
-use Rattle.command_words.specs.Words.{words_of, is_name, number_up_to, greatest_length, greatest_number}
-use Rattle.command_words.specs.Verbs.{verb_of}
-use Rattle.command_words.specs.declared.verbs.Verb.{Verb}
-use Rattle.command_words.specs.declared.verbs.Verb.TheVariants as verb
+use Rattle.session_words.specs.Words.{words_of, is_name, number_up_to, greatest_length, greatest_number}
+use Rattle.session_words.specs.Verbs.{verb_of}
+use Rattle.session_words.specs.declared.verbs.Verb.{Verb}
+use Rattle.session_words.specs.declared.verbs.Verb.TheVariants as verb
 use Rattle.tool_texts.specs.declared.forms.Payload.TheVariants as payload
 use Rattle.tool_texts.specs.declared.forms.Slot.{Slot}
 use Rattle.tool_texts.specs.declared.forms.Slot.TheVariants as slot

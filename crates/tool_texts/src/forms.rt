@@ -2,11 +2,11 @@
 
 ghost use Rattle.std.specs.Prelude.{◌≡◌, map, IfOk};
 ghost use Rattle.std.specs.List.{slice_split};
-ghost use Rattle.command_words.specs.Words.{words_of};
+ghost use Rattle.session_words.specs.Words.{words_of};
 ghost use Rattle.tool_texts.specs.Forms.{has_form as has_form_of, slots_after as slots_after_of, slots_of, first_wrong as first_wrong_of, misfit as misfit_of, fault_of_words as fault_of_words_of, fault_of};
 
 use crate::framing::words;
-use command_words::{Verb, is_name, read_length, read_number, verb_of};
+use session_words::{Verb, is_name, read_length, read_number, verb_of};
 use std::alloc::{AllocError, Global};
 
 /// The greatest number of octets that a line has before its line feed.

@@ -2,12 +2,12 @@
 
 ghost use Rattle.std.specs.Prelude.{◌≡◌, ◌++◌, ◌≤◌, ◌<◌, true, length, slice_index, map, IfOk, IfSome, OnOk};
 ghost use Rattle.std.specs.List.{join_with_byte};
-ghost use Rattle.command_words.specs.Words.{words_of};
+ghost use Rattle.session_words.specs.Words.{words_of};
 ghost use Rattle.tool_texts.specs.Framing.{line_of, session_word, word_of, path_in};
 
 use crate::forms::{Payload, Slot, slots};
-use command_words::read_length;
 use itoa::Buffer;
+use session_words::read_length;
 use std::alloc::{AllocError, Global};
 
 /// A word of a command, and what replaces it in a session.

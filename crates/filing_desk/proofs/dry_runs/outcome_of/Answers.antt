@@ -1,8 +1,8 @@
 use Rattle.std.proofs.Common.{◌∙◌, None, Err, ap, sym}
 use Rattle.sieve_syntax.specs.View.{tree_of}
 use Rattle.sieve_meaning.specs.Reading.{program_of}
-use Rattle.script_library.specs.BorrowedShelves.{scripts_of}
-use Rattle.script_library.specs.Libraries.{library_of}
+use Rattle.sieve_library.specs.BorrowedShelves.{scripts_of}
+use Rattle.sieve_library.specs.Libraries.{library_of}
 use Rattle.filing_desk.proofs.OutcomeLemmas.{heavy_outcome, ok_is_no_fault, outcome_of_run}
 use Rattle.filing_desk.proofs.dry_runs.outcome_of.Goals as goal
 

@@ -1,5 +1,5 @@
 use Rattle.std.proofs.Common.{◌≡◌, ◌≤◌, length, take}
-use Rattle.filing_commands.specs.Limits.{greatest_message}
+use Rattle.desk_commands.specs.Limits.{greatest_message}
 use Rattle.filing_desk.specs.Messages.{whole_message}
 use Rattle.filing_desk.proofs.messages.length_of.Given as goal
 

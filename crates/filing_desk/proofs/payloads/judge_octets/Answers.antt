@@ -1,7 +1,7 @@
 use Rattle.std.proofs.Common.{sym, subst}
-use Rattle.filing_commands.specs.Limits.{greatest_image}
-use Rattle.filing_commands.specs.Parts.{RefusesImage}
-use Rattle.filing_commands.specs.declared.fault.DeskFault.{DeskFault}
+use Rattle.desk_commands.specs.Limits.{greatest_image}
+use Rattle.desk_commands.specs.Parts.{RefusesImage}
+use Rattle.desk_commands.specs.declared.fault.DeskFault.{DeskFault}
 use Rattle.filing_desk.specs.Judging.{IsFaultOf}
 use Rattle.filing_desk.proofs.ImageLemmas.{unfit_fault}
 use Rattle.filing_desk.proofs.payloads.judge_octets.Goals as goal

@@ -1,9 +1,9 @@
 use Rattle.std.proofs.Common.{inl, inr, refl, sym, subst}
 use Rattle.sieve_text.specs.declared.fault.ScanRefusal.TheVariants.{ScriptTooLong}
 use Rattle.sieve_text.specs.declared.fault.TextRefusal.TheVariants.{Scan}
-use Rattle.filing_commands.specs.Limits.{greatest_script}
-use Rattle.filing_commands.specs.Parts.{RefusesScript}
-use Rattle.filing_commands.specs.declared.fault.DeskFault.{DeskFault}
+use Rattle.desk_commands.specs.Limits.{greatest_script}
+use Rattle.desk_commands.specs.Parts.{RefusesScript}
+use Rattle.desk_commands.specs.declared.fault.DeskFault.{DeskFault}
 use Rattle.filing_desk.specs.Judging.{IsFaultOf}
 use Rattle.filing_desk.proofs.payloads.judge_script.Goals as goal
 

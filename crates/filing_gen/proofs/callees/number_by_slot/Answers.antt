@@ -1,7 +1,7 @@
 use Rattle.std.proofs.Common.{◌≡◌, ◌∷◌, ◌-◌, ℕ, map, subst, arith}
-use Rattle.script_library.specs.BorrowedShelves.{scripts_of}
-use Rattle.script_library.specs.Libraries.{library_of}
-use Rattle.script_procedures.specs.ProcedureCode.{names_of, procedure_of, number_of}
+use Rattle.sieve_library.specs.BorrowedShelves.{scripts_of}
+use Rattle.sieve_library.specs.Libraries.{library_of}
+use Rattle.filing_procedures.specs.ProcedureCode.{names_of, procedure_of, number_of}
 use Rattle.filing_gen.proofs.callees.number_by_slot.Goals as goal
 
 pub returns : goal.returns

@@ -1,6 +1,6 @@
 use Rattle.std.proofs.Common.{◌≡◌, length, map}
-use Rattle.script_library.specs.BorrowedShelves.{scripts_of}
-use Rattle.script_procedures.specs.ProcedureCode.{procedure_of}
+use Rattle.sieve_library.specs.BorrowedShelves.{scripts_of}
+use Rattle.filing_procedures.specs.ProcedureCode.{procedure_of}
 use Rattle.filing_gen.proofs.NumberLemmas.{AreNumbersBelow}
 use Rattle.filing_gen.proofs.callees.numbers_by_slot.Given as goal
 

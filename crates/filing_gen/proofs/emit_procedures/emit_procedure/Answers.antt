@@ -1,8 +1,8 @@
 use Rattle.std.proofs.Common.{[], map}
-use Rattle.script_library.specs.BorrowedShelves.{scripts_of}
-use Rattle.script_library.specs.Libraries.{library_of}
-use Rattle.script_procedures.specs.ProcedureCode.{procedure_of}
-use Rattle.script_procedures.specs.Slots.{slots_of}
+use Rattle.sieve_library.specs.BorrowedShelves.{scripts_of}
+use Rattle.sieve_library.specs.Libraries.{library_of}
+use Rattle.filing_procedures.specs.ProcedureCode.{procedure_of}
+use Rattle.filing_procedures.specs.Slots.{slots_of}
 use Rattle.filing_gen.specs.Scopes.{names_of}
 use Rattle.filing_gen.proofs.ProcedureTypes.{procedure_typed}
 use Rattle.filing_gen.proofs.emit_procedures.emit_procedure.Goals as goal

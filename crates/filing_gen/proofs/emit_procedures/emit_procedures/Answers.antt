@@ -1,10 +1,10 @@
 use Rattle.std.proofs.Common.{◌≡◌, ◌+◌, ℕ, ◌∷◌, [], ◌++◌, suc, length, drop, sym, ap, ◌∙◌, subst, arith}
 use Rattle.std.specs.List.{All}
 use Rattle.std.proofs.lemmas.List.{take_rest}
-use Rattle.script_library.specs.BorrowedShelves.{scripts_of}
-use Rattle.script_library.specs.Libraries.{library_of}
-use Rattle.script_procedures.specs.ProcedureCode.{IsEntered}
-use Rattle.script_procedures.specs.Slots.{slots_of}
+use Rattle.sieve_library.specs.BorrowedShelves.{scripts_of}
+use Rattle.sieve_library.specs.Libraries.{library_of}
+use Rattle.filing_procedures.specs.ProcedureCode.{IsEntered}
+use Rattle.filing_procedures.specs.Slots.{slots_of}
 use Rattle.filing_gen.specs.Scopes.{names_of}
 use Rattle.filing_gen.proofs.PathTables.{key_at, later_entered}
 use Rattle.filing_gen.proofs.ProceduresEmitted.{place_fits, room_left, procedure_more, none_written, all_written}

@@ -1,7 +1,7 @@
 use Rattle.std.proofs.Common.{take}
-use Rattle.script_library.specs.BorrowedShelves.{scripts_of}
-use Rattle.script_library.specs.Libraries.{library_of}
-use Rattle.script_procedures.specs.Slots.{slots_of}
+use Rattle.sieve_library.specs.BorrowedShelves.{scripts_of}
+use Rattle.sieve_library.specs.Libraries.{library_of}
+use Rattle.filing_procedures.specs.Slots.{slots_of}
 use Rattle.filing_gen.specs.Scopes.{names_of}
 use Rattle.filing_gen.proofs.ProceduresEmitted.{flows}
 use Rattle.filing_gen.proofs.WrittenProcedures.{HasProcedures}

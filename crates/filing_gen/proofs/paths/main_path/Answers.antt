@@ -2,10 +2,10 @@ use Rattle.std.proofs.Common.{◌≡◌, ℕ, List, map, sym, ap, ◌∙◌, ari
 use Rattle.std.specs.Prelude.{Option}
 use Rattle.sieve_meaning.specs.Program.{Commands}
 use Rattle.sieve_meaning.specs.Procedures.{path_weight}
-use Rattle.script_library.specs.BorrowedShelves.{scripts_of}
-use Rattle.script_library.specs.Libraries.{Scripts, library_of}
-use Rattle.script_procedures.specs.ProcedureCode.{procedure_of, AreProcedures}
-use Rattle.script_procedures.specs.declared.procedure.Procedure as code
+use Rattle.sieve_library.specs.BorrowedShelves.{scripts_of}
+use Rattle.sieve_library.specs.Libraries.{Scripts, library_of}
+use Rattle.filing_procedures.specs.ProcedureCode.{procedure_of, AreProcedures}
+use Rattle.filing_procedures.specs.declared.procedure.Procedure as code
 use Rattle.filing_gen.specs.Numbers.{number_at}
 use Rattle.filing_gen.specs.Paths.{known_path}
 use Rattle.filing_gen.specs.Procedures.{path_weights}

@@ -2,10 +2,10 @@ use Rattle.std.proofs.Common.{◌≡◌, suc, ◌+◌, ◌-◌, ℕ, List, lengt
 use Rattle.std.specs.List.{All}
 use Rattle.std.specs.Prelude.{Option}
 use Rattle.std.proofs.lemmas.List.{length-set}
-use Rattle.script_library.specs.BorrowedShelves.{scripts_of}
-use Rattle.script_library.specs.Libraries.{library_of}
-use Rattle.script_procedures.specs.ProcedureCode.{procedure_of, IsEntered}
-use Rattle.script_procedures.specs.declared.procedure.Procedure as code
+use Rattle.sieve_library.specs.BorrowedShelves.{scripts_of}
+use Rattle.sieve_library.specs.Libraries.{library_of}
+use Rattle.filing_procedures.specs.ProcedureCode.{procedure_of, IsEntered}
+use Rattle.filing_procedures.specs.declared.procedure.Procedure as code
 use Rattle.filing_gen.specs.Paths.{known_path, path_from}
 use Rattle.filing_gen.specs.Procedures.{path_weights}
 use Rattle.filing_gen.proofs.PathTables.{rest_of, weight_more, key_at, later_entered}

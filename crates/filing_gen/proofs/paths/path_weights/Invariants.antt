@@ -1,7 +1,7 @@
 use Rattle.std.proofs.Common.{◌≡◌, drop, length, map}
-use Rattle.script_library.specs.BorrowedShelves.{scripts_of}
-use Rattle.script_library.specs.Libraries.{library_of}
-use Rattle.script_procedures.specs.ProcedureCode.{procedure_of}
+use Rattle.sieve_library.specs.BorrowedShelves.{scripts_of}
+use Rattle.sieve_library.specs.Libraries.{library_of}
+use Rattle.filing_procedures.specs.ProcedureCode.{procedure_of}
 use Rattle.filing_gen.specs.Paths.{known_path}
 use Rattle.filing_gen.specs.Procedures.{path_weights}
 use Rattle.filing_gen.proofs.paths.path_weights.Given as goal

@@ -1,6 +1,6 @@
 use Rattle.std.proofs.Common.{◌≡◌, ◌+◌, drop, map}
 use Rattle.sieve_meaning.specs.Procedures.{shared_weight}
-use Rattle.script_procedures.specs.ProcedureCode.{procedure_of}
+use Rattle.filing_procedures.specs.ProcedureCode.{procedure_of}
 use Rattle.filing_gen.proofs.paths.shared_weight.Given as goal
 
 abbrev pub invariant-loop-procedure : goal.invariant-loop-procedure

@@ -4,9 +4,9 @@ use Rattle.std.proofs.lemmas.Result.{IfOk-weaker}
 use Rattle.sieve_syntax.specs.View.{tree_of}
 use Rattle.sieve_meaning.specs.Meaning.{main_names}
 use Rattle.sieve_meaning.specs.Reading.{program_of}
-use Rattle.script_procedures.specs.Slots.{slots_of}
-use Rattle.script_library.specs.BorrowedShelves.{scripts_of}
-use Rattle.script_library.specs.Libraries.{library_of}
+use Rattle.filing_procedures.specs.Slots.{slots_of}
+use Rattle.sieve_library.specs.BorrowedShelves.{scripts_of}
+use Rattle.sieve_library.specs.Libraries.{library_of}
 use Rattle.filing_gen.specs.IncludeCode.{linked_flow}
 use Rattle.filing_gen.proofs.Types.{flow_typed}
 use Rattle.filing_gen.proofs.IncludesTypes.{included_typed}

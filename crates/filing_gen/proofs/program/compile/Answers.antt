@@ -3,7 +3,7 @@ use Rattle.std.specs.Option.{option_map}
 use Rattle.sieve_syntax.specs.View.{tree_of}
 use Rattle.sieve_meaning.specs.Reading.{program_of}
 use Rattle.sieve_meaning.specs.TooHeavy.{IsTooHeavy}
-use Rattle.script_library.specs.Libraries.{Scripts, library_of}
+use Rattle.sieve_library.specs.Libraries.{Scripts, library_of}
 use Rattle.filing_gen.specs.declared.fault.GenFault.TheVariants.{TooLarge, NoMemory}
 use Rattle.filing_gen.proofs.program.compile.Goals as goal
 

@@ -6,8 +6,8 @@ use Rattle.sieve_syntax.specs.declared.tree.Script.{Script}
 use Rattle.sieve_meaning.specs.Reading.{program_of}
 use Rattle.sieve_meaning.specs.Weight.{linked_weight}
 use Rattle.sieve_meaning.proofs.OutcomeLaws.{light_by_weight}
-use Rattle.script_library.specs.BorrowedShelves.{scripts_of}
-use Rattle.script_library.specs.Libraries.{library_of}
+use Rattle.sieve_library.specs.BorrowedShelves.{scripts_of}
+use Rattle.sieve_library.specs.Libraries.{library_of}
 use Rattle.filing_gen.specs.declared.fault.GenFault.{GenFault}
 use Rattle.filing_gen.specs.declared.fault.GenFault.TheVariants.{NoMemory}
 use Rattle.filing_gen.proofs.program.compile_with.Goals as goal

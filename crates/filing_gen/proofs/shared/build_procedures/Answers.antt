@@ -4,10 +4,10 @@ use Rattle.std.specs.Option.{option_map}
 use Rattle.sieve_meaning.specs.Program.{Commands}
 use Rattle.sieve_meaning.specs.Procedures.{shared_weight, path_weight, greatest_path}
 use Rattle.sieve_meaning.specs.Weight.{greatest_weight}
-use Rattle.script_library.specs.BorrowedShelves.{scripts_of}
-use Rattle.script_library.specs.Libraries.{Scripts, library_of}
-use Rattle.script_procedures.specs.ProcedureCode.{procedure_of, AreProcedures}
-use Rattle.script_procedures.specs.declared.procedure.Procedure as code
+use Rattle.sieve_library.specs.BorrowedShelves.{scripts_of}
+use Rattle.sieve_library.specs.Libraries.{Scripts, library_of}
+use Rattle.filing_procedures.specs.ProcedureCode.{procedure_of, AreProcedures}
+use Rattle.filing_procedures.specs.declared.procedure.Procedure as code
 use Rattle.filing_gen.proofs.SharedBuilt.{heavy_by_path, heavy_by_code, light_by_all, few_written, shared_image, compiled_image}
 use Rattle.filing_gen.proofs.shared.build_procedures.Goals as goal
 

@@ -2,7 +2,7 @@ use Rattle.std.proofs.Common.{ℕ, List, Option, Bor, refl}
 use Rattle.std.specs.Option.{option_map}
 use Rattle.sieve_syntax.specs.View.{tree_of}
 use Rattle.sieve_meaning.specs.Reading.{program_of}
-use Rattle.script_library.specs.BorrowedShelves.{scripts_of}
+use Rattle.sieve_library.specs.BorrowedShelves.{scripts_of}
 use Rattle.filing_gen.proofs.SharedBuilt.{heavy_by_many}
 use Rattle.filing_gen.proofs.shared.build_reached.Goals as goal
 

@@ -3,9 +3,9 @@ use Rattle.std.specs.Option.{option_map}
 use Rattle.sieve_syntax.specs.View.{tree_of}
 use Rattle.sieve_meaning.specs.Reading.{program_of}
 use Rattle.sieve_meaning.specs.Weight.{greatest_weight, linked_weight}
-use Rattle.script_library.specs.declared.shelves.Shelves.{Shelves}
-use Rattle.script_library.specs.BorrowedShelves.{scripts_of}
-use Rattle.script_library.specs.Libraries.{library_of}
+use Rattle.sieve_library.specs.declared.shelves.Shelves.{Shelves}
+use Rattle.sieve_library.specs.BorrowedShelves.{scripts_of}
+use Rattle.sieve_library.specs.Libraries.{library_of}
 use Rattle.filing_gen.proofs.shared.build_shared.Goals as goal
 
 pub build_reached-requires : goal.build_reached-requires

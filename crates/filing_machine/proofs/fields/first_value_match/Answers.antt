@@ -1,6 +1,6 @@
 use Rattle.std.proofs.Common.{◌≡◌, ◌<◌, ℕ, Bool, Some, true, false, sym, ap, ◌∙◌, arith, length, get_or}
 use Rattle.sieve_meaning.specs.Matching.{key_matches}
-use Rattle.filing_case.specs.Fields.{field_at}
+use Rattle.mail_case.specs.Fields.{field_at}
 use Rattle.filing_machine.proofs.FindLemmas.{find_here, find_none_more}
 use Rattle.filing_machine.proofs.fields.first_value_match.Goals as goal
 

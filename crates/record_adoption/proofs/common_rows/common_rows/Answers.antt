@@ -14,37 +14,37 @@ use Rattle.record_adoption.proofs.common_rows.common_rows.Goals as goal
 -- ---- the reads so far
 
 settings_read : (g : Over) (c : In_ok-settings g) → Reads g.S.Store HasCommonTables c.args.conn.now c.settings.new.conn
-settings_read g c = record { sees = search rules; same = c.in_ok-settings.ensures.same }
+settings_read g c = record { sees = search rules; same = c.in_ok-settings.ensures.frame.same }
 
 classes_read : (g : Over) (c : In_ok-classes g) → Reads g.S.Store HasCommonTables c.args.conn.now c.classes.new.conn
 classes_read g c =
     reads_then (settings_read g (goal.at.In_ok-classes g c).In_ok-settings)
-    (record { sees = search rules; same = c.in_ok-classes.ensures.same })
+    (record { sees = search rules; same = c.in_ok-classes.ensures.frame.same })
 
 records_read : (g : Over) (c : In_ok-records g) → Reads g.S.Store HasCommonTables c.args.conn.now c.records.new.conn
 records_read g c =
     reads_then (classes_read g (goal.at.In_ok-records g c).In_ok-classes)
-    (record { sees = search rules; same = c.in_ok-records.ensures.same })
+    (record { sees = search rules; same = c.in_ok-records.ensures.frame.same })
 
 messages_read : (g : Over) (c : In_ok-messages g) → Reads g.S.Store HasCommonTables c.args.conn.now c.message_numbers.new.conn
 messages_read g c =
     reads_then (records_read g (goal.at.In_ok-messages g c).In_ok-records)
-    (record { sees = search rules; same = c.in_ok-messages.ensures.same })
+    (record { sees = search rules; same = c.in_ok-messages.ensures.frame.same })
 
 holds_read : (g : Over) (c : In_ok-holds g) → Reads g.S.Store HasCommonTables c.args.conn.now c.holds.new.conn
 holds_read g c =
     reads_then (messages_read g (goal.at.In_ok-holds g c).In_ok-messages)
-    (record { sees = search rules; same = c.in_ok-holds.ensures.same })
+    (record { sees = search rules; same = c.in_ok-holds.ensures.frame.same })
 
 -- the disk was clean after each read
 all_clean : (g : Over) (c : In_ok-holds g) → HasCleanDisk (state g.S.Store c.holds.new.conn)
     → HasCleanDisk (state g.S.Store c.settings.new.conn) × HasCleanDisk (state g.S.Store c.classes.new.conn)
     × HasCleanDisk (state g.S.Store c.records.new.conn) × HasCleanDisk (state g.S.Store c.message_numbers.new.conn)
 all_clean g c clean =
-    let messages = c.holds.ensures.falls clean in
-    let records = c.message_numbers.ensures.falls messages in
-    let classes = c.records.ensures.falls records in
-    (c.classes.ensures.falls classes, classes, records, messages)
+    let messages = c.holds.ensures.frame.falls clean in
+    let records = c.message_numbers.ensures.frame.falls messages in
+    let classes = c.records.ensures.frame.falls records in
+    (c.classes.ensures.frame.falls classes, classes, records, messages)
 
 -- ---- what a read that fails leaves
 
@@ -71,27 +71,27 @@ returns-in_err-settings-clause-none g c clean is = λ (l : CommonLists) h small.
 pub returns-in_err-classes-clause-none : goal.returns-in_err-classes-clause-none
 returns-in_err-classes-clause-none g c clean is = λ (l : CommonLists) h small.
     let read = settings_read g (goal.at.returns-in_err-classes-clause-none g c).In_ok-settings in
-    let k = lists_after read (c.classes.ensures.falls clean) h in
+    let k = lists_after read (c.classes.ensures.frame.falls clean) h in
     c.in_err-classes.ensures.none clean (refused c.from_residual-in_err-classes.ensures.1 is) k.tables l.classes k.classes k.stored k.keyed
 
 pub returns-in_err-records-clause-none : goal.returns-in_err-records-clause-none
 returns-in_err-records-clause-none g c clean is = λ (l : CommonLists) h small.
     let read = classes_read g (goal.at.returns-in_err-records-clause-none g c).In_ok-classes in
-    let k = lists_after read (c.records.ensures.falls clean) h in
+    let k = lists_after read (c.records.ensures.frame.falls clean) h in
     c.in_err-records.ensures.none clean (refused c.from_residual-in_err-records.ensures.1 is) k.tables k.stored k.keyed
     (subst (AllByRecursion FitsRecord) (sym k.records) small.records)
 
 pub returns-in_err-messages-clause-none : goal.returns-in_err-messages-clause-none
 returns-in_err-messages-clause-none g c clean is = λ (l : CommonLists) h small.
     let read = records_read g (goal.at.returns-in_err-messages-clause-none g c).In_ok-records in
-    let k = lists_after read (c.message_numbers.ensures.falls clean) h in
+    let k = lists_after read (c.message_numbers.ensures.frame.falls clean) h in
     c.in_err-messages.ensures.none clean (refused c.from_residual-in_err-messages.ensures.1 is) k.tables k.stored k.keyed
     (subst (AllByRecursion FitsNumber) (sym k.messages) small.messages)
 
 pub returns-in_err-holds-clause-none : goal.returns-in_err-holds-clause-none
 returns-in_err-holds-clause-none g c clean is = λ (l : CommonLists) h small.
     let read = messages_read g (goal.at.returns-in_err-holds-clause-none g c).In_ok-messages in
-    let k = lists_after read (c.holds.ensures.falls clean) h in
+    let k = lists_after read (c.holds.ensures.frame.falls clean) h in
     c.in_err-holds.ensures.none clean (refused c.from_residual-in_err-holds.ensures.1 is) k.tables l.archive.holds k.holds k.stored k.keyed
     small.holds
 

@@ -33,7 +33,7 @@ told : (g : Over) (c : After-as_slice g) → HasCleanDisk (state g.S.Store c.sch
     → FindsSecond (state g.S.Store c.args.conn.now).now a → IsKeyed a
     → (common_lists c.in_ok-rows.rows ≡ second_lists a) × TellsSecond c.in_ok-rows.rows (map rule_of c.as_slice.result.now) a.plan
 told g c clean a h keyed =
-    let clean1 = c.schedules.ensures.falls clean in
+    let clean1 = c.schedules.ensures.frame.falls clean in
     let k = holds_after (λ (db : Database). FindsSecond db a) (rows_read g (goal.at.After-as_slice g c).In_ok-rows) clean1 h.stored.schema h in
     let lists = c.in_ok-rows.ensures.tells clean1 (second_lists a) (second_listed h keyed) in
     let listed = rules_listed k.tables a.plan keyed.plan k.keeps.schedules in
@@ -69,7 +69,7 @@ returns-clause-sees g c = both_seen g (goal.at.returns-clause-sees g c).After-sc
 pub returns-clause-same : goal.returns-clause-same
 returns-clause-same g c =
     let second : Reads g.S.Store IsArchiveSchema c.common_rows.new.conn c.schedules.new.conn =
-    record { sees = search rules; same = c.in_ok-rules.ensures.same } in
+    record { sees = search rules; same = c.in_ok-rules.ensures.frame.same } in
     (reads_then (rows_read g (goal.at.returns-clause-same g c).In_ok-rows) second).same
 
 -- ---- refusals
@@ -82,7 +82,7 @@ returns-in_err-rows-clause-none g c clean is = λ (a : Archive) h archive.
 pub returns-in_err-rules-clause-none : goal.returns-in_err-rules-clause-none
 returns-in_err-rules-clause-none g c clean is = λ (a : Archive) h archive.
     let read = rows_read g (goal.at.returns-in_err-rules-clause-none g c).In_ok-rows in
-    let k = holds_after (λ (db : Database). FindsSecond db a) read (c.schedules.ensures.falls clean) h.stored.schema h in
+    let k = holds_after (λ (db : Database). FindsSecond db a) read (c.schedules.ensures.frame.falls clean) h.stored.schema h in
     c.in_err-rules.ensures.none clean (refused c.from_residual-in_err-rules.ensures.1 is) k.tables (rules_of a.plan)
     (rules_listed k.tables a.plan archive.plan k.keeps.schedules) k.stored k.keyed (rules_fit a.plan archive.plan)
 
@@ -109,7 +109,7 @@ returns-clause-found g c clean = λ (a : Archive) h keyed.
 
 pub returns-clause-sound : goal.returns-clause-sound
 returns-clause-sound g c clean = λ t ps rs cs d.
-    let clean1 = c.schedules.ensures.falls clean in
+    let clean1 = c.schedules.ensures.frame.falls clean in
     let read = rows_read g (goal.at.returns-clause-sound g c).In_ok-rows in
     let k = holds_after (λ (db : Database). ReadsSecond db t ps rs cs) read clean1 d.stored.schema d in
     let lists = c.in_ok-rows.ensures.tells clean1 _ (second_read c.in_ok-plan.plan d) in
@@ -118,7 +118,7 @@ returns-clause-sound g c clean = λ t ps rs cs d.
 
 pub returns-clause-typed : goal.returns-clause-typed
 returns-clause-typed g c clean = λ has.
-    let clean1 = c.schedules.ensures.falls clean in
+    let clean1 = c.schedules.ensures.frame.falls clean in
     let first = c.in_ok-rows.ensures.typed clean1 (archive_common _ has) in
     let read = rows_read g (goal.at.returns-clause-typed g c).In_ok-rows in
     let schedules = held_before AreTypedSchedules read clean1 has (c.in_ok-rules.ensures.typed clean) in

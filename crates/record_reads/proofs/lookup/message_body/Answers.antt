@@ -4,7 +4,7 @@ use Rattle.sqlite.specs.declared.types.Value.TheVariants.{Blob}
 use Rattle.std.proofs.lemmas.Option.{slice_get-map}
 use Rattle.sqlite_tied.specs.Compute.{everything}
 use Rattle.sqlite_keyed.proofs.ListLemmas.{slice_get-filter}
-use Rattle.archive_items.specs.Items.{Message}
+use Rattle.record_items.specs.Items.{Message}
 use Rattle.record_tables.specs.Rows.{Tables}
 use Rattle.record_reads.proofs.LookupLemmas.{body_values, few_bodies, shows_body, popped}
 use Rattle.record_reads.proofs.TypedLemmas.{back, readable_all, handed_on}

@@ -1,7 +1,7 @@
 use Rattle.std.proofs.Common.{◌∙◌, ap, refl, ◌==◌, Err}
 use Rattle.sqlite_tied.specs.Compute.{everything}
 use Rattle.sqlite_keyed.proofs.ListLemmas.{all-filter, slice_get-filter}
-use Rattle.archive_items.specs.Items.{Record}
+use Rattle.record_items.specs.Items.{Record}
 use Rattle.record_tables.specs.Rows.{Tables}
 use Rattle.record_tables.specs.Reads.{record_values, ReadsRecord, FitsRecord}
 use Rattle.record_tables.specs.CodeRows.{record_of}

@@ -5,7 +5,6 @@ use Rattle.record_tables.specs.CodeRows.{hold_entry_of}
 use Rattle.record_reads.proofs.ReadLemmas.{shows_holds}
 use Rattle.record_reads.proofs.TypedLemmas.{if_ok, back, readable, one_hold, can_hold}
 use Rattle.record_reads.proofs.RawLemmas.{typed_holds}
-use Rattle.record_reads.proofs.Quiet.{nothing_of}
 use Rattle.record_reads.proofs.read.holds.Goals as goal
 
 pub read_all-requires : goal.read_all-requires
@@ -25,6 +24,3 @@ returns-clause-none g c clean is t hs are s keyed fits =
 pub returns-clause-typed : goal.returns-clause-typed
 returns-clause-typed g c clean =
     if_ok c.read_all.result _ _ (c.read_all.ensures.all clean) (λ all h has. typed_holds hold_entry_of _ _ h.0 all.items h.1.0 h.1.1)
-
-pub returns-clause-survives : goal.returns-clause-survives
-returns-clause-survives g c = nothing_of g.S.Store c.args.conn.now c.read_all.new.conn _ c.read_all.ensures.survives

@@ -4,7 +4,6 @@ use Rattle.record_tables.specs.Reads.{number_values, ReadsNumber}
 use Rattle.record_reads.proofs.ReadLemmas.{shows_numbers}
 use Rattle.record_reads.proofs.TypedLemmas.{if_ok, back, readable, one_number, can_number}
 use Rattle.record_reads.proofs.RawLemmas.{typed_messages}
-use Rattle.record_reads.proofs.Quiet.{nothing_of}
 use Rattle.record_reads.proofs.read.message_numbers.Goals as goal
 
 pub read_all-requires : goal.read_all-requires
@@ -24,6 +23,3 @@ returns-clause-none g c clean is t s keyed fits =
 pub returns-clause-typed : goal.returns-clause-typed
 returns-clause-typed g c clean =
     if_ok c.read_all.result _ _ (c.read_all.ensures.all clean) (λ all h has. typed_messages (λ n. n) _ _ h.0 all.items h.1.0 h.1.1)
-
-pub returns-clause-survives : goal.returns-clause-survives
-returns-clause-survives g c = nothing_of g.S.Store c.args.conn.now c.read_all.new.conn _ c.read_all.ensures.survives

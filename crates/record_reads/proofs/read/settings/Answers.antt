@@ -4,7 +4,6 @@ use Rattle.record_tables.specs.Reads.{pair_values, ReadsPair}
 use Rattle.record_tables.specs.CodeRows.{pair_of}
 use Rattle.record_reads.proofs.ReadLemmas.{shows_settings}
 use Rattle.record_reads.proofs.TypedLemmas.{if_ok, back, readable_all, one_setting, can_setting}
-use Rattle.record_reads.proofs.Quiet.{nothing_of}
 use Rattle.record_reads.proofs.read.settings.Goals as goal
 
 pub read_all-requires : goal.read_all-requires
@@ -20,6 +19,3 @@ pub returns-clause-none : goal.returns-clause-none
 returns-clause-none g c clean is t ps are s keyed =
     let found = c.read_all.ensures.none clean is in
     found.1.1 (readable_all pair_values _ can_setting found.0 _ (shows_settings _ _ found.0 t ps s keyed are found.1.0))
-
-pub returns-clause-survives : goal.returns-clause-survives
-returns-clause-survives g c = nothing_of g.S.Store c.args.conn.now c.read_all.new.conn _ c.read_all.ensures.survives

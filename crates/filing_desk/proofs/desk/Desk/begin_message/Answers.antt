@@ -1,7 +1,7 @@
 use Rattle.std.proofs.Common.{◌≡◌, ◌+◌, ℕ, List, ap, refl, subst, sym, ◌∙◌}
 use Rattle.class_plan.specs.Plans.{Listing}
-use Rattle.filing_commands.specs.Answers.{begun}
-use Rattle.filing_commands.specs.declared.fault.DeskFault.TheVariants.{NoMemory}
+use Rattle.desk_commands.specs.Answers.{begun}
+use Rattle.desk_commands.specs.declared.fault.DeskFault.TheVariants.{NoMemory}
 use Rattle.filing_image.specs.Program.{Program}
 use Rattle.filing_desk.specs.Beginning.{IsNewFlight}
 use Rattle.filing_desk.specs.Standing.{AreOpenPaths}

@@ -1,6 +1,6 @@
 use Rattle.std.proofs.Common.{List, [], refl, subst, sym}
-use Rattle.filing_flights.specs.Flights.{AreHeld}
-use Rattle.filing_flights.specs.FlightViews.{FlightView}
+use Rattle.desk_flights.specs.Flights.{AreHeld}
+use Rattle.desk_flights.specs.FlightViews.{FlightView}
 use Rattle.filing_desk.proofs.desk.Desk.new.Goals as goal
 
 pub returns-clause-opens : goal.returns-clause-opens

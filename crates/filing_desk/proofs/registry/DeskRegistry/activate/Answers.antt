@@ -1,10 +1,10 @@
 use Rattle.std.proofs.Common.{Err, ap, refl, subst, sym, true, ◌≡◌}
 use Rattle.std.specs.Prelude.{is_some}
-use Rattle.filing_commands.specs.Answers.{Answer}
-use Rattle.filing_commands.specs.Office.{OfficeStep, activate, with_active}
-use Rattle.filing_commands.specs.Pinning.{Officer, script_named}
-use Rattle.filing_commands.specs.Scripts.{script_at}
-use Rattle.filing_officers.specs.Register.{officer_at}
+use Rattle.desk_commands.specs.Answers.{Answer}
+use Rattle.desk_commands.specs.Office.{OfficeStep, activate, with_active}
+use Rattle.desk_commands.specs.Pinning.{Officer, script_named}
+use Rattle.desk_commands.specs.Scripts.{script_at}
+use Rattle.desk_officers.specs.Register.{officer_at}
 use Rattle.filing_desk.proofs.OfficerLemmas.{activate_refused, not_set, officer_is, set_by}
 use Rattle.filing_desk.proofs.StepLemmas.{done_fault}
 use Rattle.filing_desk.proofs.registry.DeskRegistry.activate.Goals as goal

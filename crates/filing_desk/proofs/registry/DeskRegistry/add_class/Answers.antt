@@ -1,5 +1,5 @@
 use Rattle.std.proofs.Common.{refl}
-use Rattle.filing_commands.specs.Office.{add_class}
+use Rattle.desk_commands.specs.Office.{add_class}
 use Rattle.record_archive.specs.Archive as archives
 use Rattle.filing_desk.proofs.ClassLemmas.{added_keeps}
 use Rattle.filing_desk.proofs.StepLemmas.{done_by, done_fault, refused_by_archive}

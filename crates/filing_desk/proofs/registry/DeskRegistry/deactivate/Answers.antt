@@ -1,6 +1,6 @@
 use Rattle.std.proofs.Common.{refl}
-use Rattle.filing_commands.specs.Office.{deactivate, with_active}
-use Rattle.filing_commands.specs.Pinning.{no_program}
+use Rattle.desk_commands.specs.Office.{deactivate, with_active}
+use Rattle.desk_commands.specs.Pinning.{no_program}
 use Rattle.filing_desk.proofs.OfficerLemmas.{set_by}
 use Rattle.filing_desk.proofs.registry.DeskRegistry.deactivate.Goals as goal
 

@@ -1,7 +1,7 @@
 use Rattle.std.proofs.Common.{rules, ◌∙◌}
 use Rattle.sieve_syntax.specs.View.{tree_of}
-use Rattle.filing_commands.specs.Limits.{greatest_script}
-use Rattle.filing_commands.specs.Office.{file}
+use Rattle.desk_commands.specs.Limits.{greatest_script}
+use Rattle.desk_commands.specs.Office.{file}
 use Rattle.filing_desk.proofs.FaultLemmas.{file_done, file_no_message, file_no_script, gave_up, outcome_fault}
 use Rattle.filing_desk.proofs.registry.DeskRegistry.file.Goals as goal
 

@@ -1,6 +1,6 @@
 use Rattle.std.proofs.Common.{◌≡◌, arith, false, true, refl}
 use Rattle.std.proofs.lemmas.Grind.{common_steps}
-use Rattle.filing_commands.specs.declared.fault.DeskFault.TheVariants.{NoMemory}
+use Rattle.desk_commands.specs.declared.fault.DeskFault.TheVariants.{NoMemory}
 use Rattle.filing_desk.proofs.FilingLemmas.{capture_fault}
 use Rattle.filing_desk.proofs.FlightLemmas.{finish_done, finish_early, finish_none, finish_poor, finish_refused}
 use Rattle.filing_desk.proofs.registry.DeskRegistry.finish.Goals as goal

@@ -1,12 +1,12 @@
 use Rattle.std.proofs.Common.{Err, ap, inl, refl, subst, sym}
 use Rattle.sieve_syntax.specs.View.{tree_of}
 use Rattle.sieve_meaning.specs.Reading.{program_of}
-use Rattle.filing_commands.specs.Answers.{Answer}
-use Rattle.filing_commands.specs.Limits.{greatest_script}
-use Rattle.filing_commands.specs.Office.{OfficeStep, set_global}
-use Rattle.filing_commands.specs.Parts.{RefusesScript}
-use Rattle.filing_commands.specs.Scripts.{meanings_of, put_script}
-use Rattle.filing_officers.specs.Register.{with_global_script}
+use Rattle.desk_commands.specs.Answers.{Answer}
+use Rattle.desk_commands.specs.Limits.{greatest_script}
+use Rattle.desk_commands.specs.Office.{OfficeStep, set_global}
+use Rattle.desk_commands.specs.Parts.{RefusesScript}
+use Rattle.desk_commands.specs.Scripts.{meanings_of, put_script}
+use Rattle.desk_officers.specs.Register.{with_global_script}
 use Rattle.filing_desk.proofs.FaultLemmas.{refused_part}
 use Rattle.filing_desk.proofs.OfficerLemmas.{globals_are, keep_refused, kept, not_set, set_by}
 use Rattle.filing_desk.proofs.StepLemmas.{done_fault}

@@ -1,8 +1,8 @@
 use Rattle.std.proofs.Common.{refl}
-use Rattle.filing_commands.specs.Limits.{greatest_image}
-use Rattle.filing_commands.specs.Office.{set_image, with_active}
-use Rattle.filing_commands.specs.Parts.{RefusesImage}
-use Rattle.filing_commands.specs.Pinning.{image}
+use Rattle.desk_commands.specs.Limits.{greatest_image}
+use Rattle.desk_commands.specs.Office.{set_image, with_active}
+use Rattle.desk_commands.specs.Parts.{RefusesImage}
+use Rattle.desk_commands.specs.Pinning.{image}
 use Rattle.filing_desk.proofs.FaultLemmas.{lacking, refused_part}
 use Rattle.filing_desk.proofs.OfficerLemmas.{not_set, set_by}
 use Rattle.filing_desk.proofs.StepLemmas.{done_fault}

@@ -1,7 +1,7 @@
 use Rattle.std.proofs.Common.{refl}
 use Rattle.record_archive.specs.Archive as archives
-use Rattle.filing_commands.specs.Office.{set_plan}
-use Rattle.filing_commands.specs.Parts.{IsPlanOf}
+use Rattle.desk_commands.specs.Office.{set_plan}
+use Rattle.desk_commands.specs.Parts.{IsPlanOf}
 use Rattle.filing_desk.proofs.PlanLemmas.{no_plan, no_text, plan_command}
 use Rattle.filing_desk.proofs.StepLemmas.{done_by, done_fault, refused_by_archive}
 use Rattle.filing_desk.proofs.registry.DeskRegistry.set_plan.Goals as goal

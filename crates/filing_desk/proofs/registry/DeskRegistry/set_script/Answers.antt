@@ -1,13 +1,13 @@
 use Rattle.std.proofs.Common.{Err, ap, inl, refl, subst, sym}
 use Rattle.sieve_syntax.specs.View.{tree_of}
 use Rattle.sieve_meaning.specs.Reading.{program_of}
-use Rattle.filing_commands.specs.Answers.{Answer}
-use Rattle.filing_commands.specs.Limits.{greatest_script}
-use Rattle.filing_commands.specs.Office.{OfficeStep, set_script}
-use Rattle.filing_commands.specs.Parts.{RefusesScript}
-use Rattle.filing_commands.specs.Pinning.{Officer}
-use Rattle.filing_commands.specs.Scripts.{put_script}
-use Rattle.filing_officers.specs.Register.{with_own_script, officer_at}
+use Rattle.desk_commands.specs.Answers.{Answer}
+use Rattle.desk_commands.specs.Limits.{greatest_script}
+use Rattle.desk_commands.specs.Office.{OfficeStep, set_script}
+use Rattle.desk_commands.specs.Parts.{RefusesScript}
+use Rattle.desk_commands.specs.Pinning.{Officer}
+use Rattle.desk_commands.specs.Scripts.{put_script}
+use Rattle.desk_officers.specs.Register.{with_own_script, officer_at}
 use Rattle.filing_desk.proofs.FaultLemmas.{refused_part}
 use Rattle.filing_desk.proofs.OfficerLemmas.{keep_refused, kept, not_set, officer_is, set_by}
 use Rattle.filing_desk.proofs.StepLemmas.{done_fault}

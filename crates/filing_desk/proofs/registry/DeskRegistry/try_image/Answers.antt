@@ -1,6 +1,6 @@
 use Rattle.std.proofs.Common.{refl, ◌∙◌}
-use Rattle.filing_commands.specs.Limits.{greatest_image}
-use Rattle.filing_commands.specs.Office.{try_image}
+use Rattle.desk_commands.specs.Limits.{greatest_image}
+use Rattle.desk_commands.specs.Office.{try_image}
 use Rattle.filing_desk.proofs.FaultLemmas.{gave_up, outcome_fault, try_done, try_no_image, try_no_message}
 use Rattle.filing_desk.proofs.registry.DeskRegistry.try_image.Goals as goal
 

@@ -3,8 +3,8 @@ use Rattle.std.proofs.lemmas.List.{length-map}
 use Rattle.sieve_syntax.specs.View.{tree_of}
 use Rattle.sieve_meaning.specs.Reading.{program_of}
 use Rattle.sieve_meaning.specs.Scripts.{include_view}
-use Rattle.script_library.specs.BorrowedShelves.{scripts_of}
-use Rattle.script_procedures.specs.ProcedureCode.{procedure_of}
+use Rattle.sieve_library.specs.BorrowedShelves.{scripts_of}
+use Rattle.filing_procedures.specs.ProcedureCode.{procedure_of}
 use Rattle.filing_gen.specs.Scopes.{names_of}
 use Rattle.filing_gen.specs.Inclusions.{CallsOneOf}
 use Rattle.filing_gen.specs.declared.callees.Call.{Call}

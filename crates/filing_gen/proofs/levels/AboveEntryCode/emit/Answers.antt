@@ -1,11 +1,11 @@
 use Rattle.std.proofs.Common.{◌≡◌, ℕ, [], ◌∷◌, length, refl, subst, ◌∙◌, arith}
 use Rattle.sieve_syntax.specs.View.{tree_of}
 use Rattle.sieve_meaning.specs.Reading.{program_of}
-use Rattle.script_library.specs.BorrowedShelves.{scripts_of}
-use Rattle.script_library.specs.Libraries.{library_of}
+use Rattle.sieve_library.specs.BorrowedShelves.{scripts_of}
+use Rattle.sieve_library.specs.Libraries.{library_of}
 use Rattle.filing_gen.specs.Ends.{no_place, IsEnded}
 use Rattle.filing_image.specs.declared.instruction.Operation.TheVariants.{Mark}
-use Rattle.script_procedures.specs.Slots.{slots_of}
+use Rattle.filing_procedures.specs.Slots.{slots_of}
 use Rattle.filing_gen.specs.IncludeCode.{included_flow}
 use Rattle.filing_gen.specs.Scopes.{names_of}
 use Rattle.filing_gen.specs.BlockCode.{flow}

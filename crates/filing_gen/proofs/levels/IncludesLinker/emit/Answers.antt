@@ -5,12 +5,12 @@ use Rattle.sieve_syntax.specs.View.{tree_of}
 use Rattle.sieve_meaning.specs.Reading.{program_of}
 use Rattle.sieve_meaning.specs.Scripts.{include_view, script_of}
 use Rattle.filing_gen.specs.Adds.{Emits}
-use Rattle.script_library.specs.BorrowedShelves.{scripts_of}
-use Rattle.script_library.specs.Libraries.{library_of}
+use Rattle.sieve_library.specs.BorrowedShelves.{scripts_of}
+use Rattle.sieve_library.specs.Libraries.{library_of}
 use Rattle.filing_gen.specs.Ends.{no_place, IsEnded}
 use Rattle.filing_image.specs.declared.instruction.Operation.TheVariants.{Marked, JumpIf}
 use Rattle.filing_gen.specs.Levels.{Passes, Fails, flow_at_level}
-use Rattle.script_procedures.specs.Slots.{slots_of}
+use Rattle.filing_procedures.specs.Slots.{slots_of}
 use Rattle.filing_gen.specs.Scopes.{names_of, judgement_of}
 use Rattle.filing_gen.proofs.Emitted.{grows, put_grows, emits_nothing}
 use Rattle.filing_gen.proofs.IncludesTypes.{entered_typed}

@@ -1,9 +1,9 @@
 use Rattle.std.proofs.Common.{◌≡◌, ◌-◌, ◌<◌, ◌≤◌, ℕ, length, map, None, sym, ap, ◌∙◌, subst, arith}
 use Rattle.std.specs.Prelude.{Option, Some, slice_index}
 use Rattle.std.specs.Option.{SomeIff}
-use Rattle.script_library.specs.BorrowedShelves.{scripts_of}
-use Rattle.script_library.specs.Libraries.{library_of}
-use Rattle.script_procedures.specs.ProcedureCode.{procedure_of}
+use Rattle.sieve_library.specs.BorrowedShelves.{scripts_of}
+use Rattle.sieve_library.specs.Libraries.{library_of}
+use Rattle.filing_procedures.specs.ProcedureCode.{procedure_of}
 use Rattle.filing_gen.specs.Procedures.{path_weights}
 use Rattle.filing_gen.specs.Weights.{IsLeft}
 use Rattle.filing_gen.specs.Inclusions.{path_of, path_of_call, EntersOneOf, CallsOneOf}

@@ -1,6 +1,6 @@
 use Rattle.std.proofs.Common.{◌≡◌, Some, is_some, sym, ap, ◌∙◌, slice_get}
 use Rattle.filing_table.specs.Machine.{comparison_holds}
-use Rattle.filing_case.specs.Fields.{field_at}
+use Rattle.mail_case.specs.Fields.{field_at}
 use Rattle.filing_machine.specs.declared.state.Item.TheVariants.{Fields}
 use Rattle.filing_machine.specs.Runs.{Snapshot}
 use Rattle.filing_machine.specs.Tops.{value_matches}

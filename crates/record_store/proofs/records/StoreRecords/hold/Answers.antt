@@ -11,6 +11,6 @@ pub returns : goal.returns
 returns g c =
     let opened = c.ensure_open.ensures in
     carried_out g.S.Store c.args.self.now c.ensure_open.new.self c.hold-done.new.self _ _ opened.stands opened.falls
-    c.in_ok-ensure_open.ensures.open opened.crash c.hold-done.ensures.falls c.hold-done.ensures.crash c.is_idle-idle.ensures.left _
+    c.in_ok-ensure_open.ensures.open opened.crash c.hold-done.ensures.behaves.falls c.hold-done.ensures.crash c.is_idle-idle.ensures.left _
     (done_rows g.S.Store c.ensure_open.new.self c.hold-done.new.self _ _ c.hold-done.result c.hold-done.ensures.obeys) (λ a s clean on.
-    c.hold-done.ensures.open clean)
+    c.hold-done.ensures.behaves.open clean)

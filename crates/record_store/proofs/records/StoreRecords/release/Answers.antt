@@ -11,6 +11,6 @@ pub returns : goal.returns
 returns g c =
     let opened = c.ensure_open.ensures in
     carried_out g.S.Store c.args.self.now c.ensure_open.new.self c.release-done.new.self _ _ opened.stands opened.falls
-    c.in_ok-ensure_open.ensures.open opened.crash c.release-done.ensures.falls c.release-done.ensures.crash c.is_idle-idle.ensures.left _
+    c.in_ok-ensure_open.ensures.open opened.crash c.release-done.ensures.behaves.falls c.release-done.ensures.crash c.is_idle-idle.ensures.left _
     (done_rows g.S.Store c.ensure_open.new.self c.release-done.new.self _ _ c.release-done.result c.release-done.ensures.obeys) (λ a s
-    clean on. c.release-done.ensures.open clean)
+    clean on. c.release-done.ensures.behaves.open clean)

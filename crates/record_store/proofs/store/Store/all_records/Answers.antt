@@ -7,26 +7,26 @@ use Rattle.record_store.proofs.store.Store.all_records.Goals as goal
 
 pub returns-in-Ok : goal.returns-in-Ok
 returns-in-Ok g c =
-    let made = c.records.ensures in
+    let made = c.records.ensures.frame in
     let looks = looks_common g.S.Store c.args.self.now.conn c.records.new.conn made.idle made.falls made.quiet made.survives in
     record {
       tells = λ (a : Archive) s. (
         stands_looked g.S.Store c.args.self.now _ a s looks refl refl (λ n. refl) (λ m. refl),
         λ clean.
-            let kept = s.rows (made.falls clean) (c.in-Ok.ensures.was_open clean) in
+            let kept = s.rows (made.falls clean) (c.in-Ok.ensures.frame.was_open clean) in
             c.in-Ok.ensures.all clean kept.tables (common_of _ kept.tables kept.stored) kept.keyed ∙ kept.keeps.records,
       );
       falls = made.falls;
       «open» = λ (a : Archive) s clean.
-          let kept = s.rows (made.falls clean) (c.in-Ok.ensures.was_open clean) in
-          (c.in-Ok.ensures.same clean kept.stored.schema.common).0.is_open;
+          let kept = s.rows (made.falls clean) (c.in-Ok.ensures.frame.was_open clean) in
+          (c.in-Ok.ensures.frame.same clean kept.stored.schema.common).0.is_open;
       cause = λ a s clean. tt;
       crash = λ (a : Archive) s. leaves_looked g.S.Store c.args.self.now (record c.args.self.now { conn = c.records.new.conn }) a s looks;
     }
 
 pub returns-in-Err : goal.returns-in-Err
 returns-in-Err g c =
-    let made = c.records.ensures in
+    let made = c.records.ensures.frame in
     let looks = looks_common g.S.Store c.args.self.now.conn c.records.new.conn made.idle made.falls made.quiet made.survives in
     record {
       tells = λ (a : Archive) s. (

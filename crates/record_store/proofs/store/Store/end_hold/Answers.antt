@@ -1,4 +1,4 @@
-use Rattle.std.proofs.Common.{arith, ◌≡◌, Ok}
+use Rattle.std.proofs.Common.{rules, arith, ◌≡◌, Ok}
 use Rattle.record_tables.specs.Changes as tables
 use Rattle.record_tables.specs.Changes.{Always}
 use Rattle.record_archive.specs.Archive as archive
@@ -36,6 +36,9 @@ returns-in-Err-clause-crash g c = λ (a : Archive) s.
     (λ legal. released_is_archive a name n s.archive) (λ was kept legal. tt)
     (λ was db kept legal turns. stores_released name n a was db kept turns) c.transact.ensures.live c.transact.ensures.crash
 
-pub returns-then-not-is_autocommit-clause-cause : goal.returns-then-not-is_autocommit-clause-cause
-returns-then-not-is_autocommit-clause-cause g c = λ (a : Archive) s clean.
-    absurd (never_busy _ _ s.idle c.is_autocommit.ensures.value c.if-not-is_autocommit.true)
+pub returns-then-not-is_autocommit-clause-behaves : goal.returns-then-not-is_autocommit-clause-behaves
+returns-then-not-is_autocommit-clause-behaves g c = record {
+  falls = search rules;
+  cause = λ (a : Archive) s clean. absurd (never_busy _ _ s.idle c.is_autocommit.ensures.value c.if-not-is_autocommit.true);
+  «open» = search rules;
+}

@@ -1,0 +1,281 @@
+//! `dispose`: what is due, and its destruction.
+
+use clap::ArgMatches;
+use class_plan::{Action, Date, Plan, Schedule};
+use cli_console::{Failure, Status, Task, Walk, day_asked, now, read_number, tell, write_text};
+use cli_texts::{Certificate, captured_line, certificate_line, sum_of};
+use record_store::{Line, RecordEntry, Store, StoreFault};
+use sqlite::Alter;
+use std::alloc::{AllocError, Global};
+
+/// How many records are read at a time in a search for others of one message.
+const GROUP: usize = 16;
+
+/// The failure of a call of the store on a record.
+fn record_failure(rt: &HostRuntime, number: u32, fault: StoreFault) -> Failure {
+    match format!(in rt.alloc(); "record {number}") {
+        Ok(name) => Failure::of_store(rt.alloc(), name.as_str(), fault),
+        Err(_) => Failure::NoMemory,
+    }
+}
+
+/// Whether the schedule of a class destroys its records.
+pub fn destroys(plan: &Plan, path: &[u8]) -> bool {
+    matches!(
+        plan.schedule_of(path),
+        Some(Schedule::After {
+            action: Action::Destroy,
+            ..
+        })
+    )
+}
+
+/// The records that are due by a day, that no hold keeps and whose schedule destroys them.
+fn disposable<S: Alter>(
+    rt: &HostRuntime,
+    archive: &mut Store<S>,
+    day: Date,
+) -> Result<Vec<Line>, Failure> {
+    let due = match archive.due(day) {
+        Ok(due) => due,
+        Err(fault) => return Err(Failure::of_store(rt.alloc(), "the store", fault)),
+    };
+    let mut lines = Vec::new(rt.alloc());
+    for line in due {
+        if destroys(archive.plan(), line.path.as_slice()) {
+            lines.push(line)?;
+        }
+    }
+    Ok(lines)
+}
+
+/// The numbers of records, in order.
+fn numbers_of(alloc: Global, lines: &[Line]) -> Result<Vec<u32>, AllocError> {
+    let mut numbers = Vec::with_capacity(alloc, lines.len())?;
+    for line in lines {
+        numbers.push(line.number)?;
+    }
+    numbers.sort()?;
+    Ok(numbers)
+}
+
+/// The numbers that were typed, in order. Each has to be among those of the records that may be destroyed by a day.
+fn read_numbers(
+    rt: &HostRuntime,
+    words: &[&str],
+    among: &[u32],
+    day: Date,
+) -> Result<Vec<u32>, Failure> {
+    let mut numbers = Vec::with_capacity(rt.alloc(), words.len())?;
+    for word in words {
+        let number = read_number(rt, *word)?;
+        if among.binary_search(&number).is_err() {
+            let reason = format!(in rt.alloc();
+                "not among the records that may be destroyed by {day}"
+            )?;
+            return Err(Failure::at(rt.alloc(), Status::BadData, *word, &reason));
+        }
+        numbers.push(number)?;
+    }
+    numbers.sort()?;
+    Ok(numbers)
+}
+
+/// Of the records that may be destroyed by a day, those whose numbers were typed; all, where none was.
+fn chosen(
+    rt: &HostRuntime,
+    lines: Vec<Line>,
+    words: &[&str],
+    day: Date,
+) -> Result<Vec<Line>, Failure> {
+    if words.is_empty() {
+        return Ok(lines);
+    }
+    let among = numbers_of(rt.alloc(), lines.as_slice())?;
+    let numbers = read_numbers(rt, words, among.as_slice(), day)?;
+    let mut chosen = Vec::with_capacity(rt.alloc(), numbers.len())?;
+    for line in lines {
+        if numbers.as_slice().binary_search(&line.number).is_ok() {
+            chosen.push(line)?;
+        }
+    }
+    Ok(chosen)
+}
+
+/// How far the search for another record of a message has come.
+#[derive(Clone, Copy)]
+enum Search {
+    Found(u32),
+    /// There is none.
+    Ended,
+    /// There may be one among the next records.
+    Further,
+}
+
+/// Looks for another live record of a message among some records, which are all of its records or the first of these.
+fn search_in(page: &[RecordEntry], message: u32, number: u32) -> Search {
+    for entry in page {
+        if entry.message != message {
+            return Search::Ended;
+        }
+        if !entry.destroyed && entry.number != number {
+            return Search::Found(entry.number);
+        }
+    }
+    if page.is_empty() {
+        Search::Ended
+    } else {
+        Search::Further
+    }
+}
+
+/// The first other live record that has the message of a record. The records of a message have one number after another, and the
+/// message has the first of these.
+fn keeper_of<S: Alter>(
+    rt: &HostRuntime,
+    archive: &mut Store<S>,
+    number: u32,
+) -> Result<Option<u32>, Failure> {
+    let message = match Walk::in_steps(number, 1).next_page(rt, archive)?.first() {
+        Some(entry) => entry.message,
+        None => return Ok(None),
+    };
+    let mut walk = Walk::in_steps(message, GROUP);
+    for _ in 0..u64::MAX {
+        let page = walk.next_page(rt, archive)?;
+        match search_in(page.as_slice(), message, number) {
+            Search::Found(keeper) => return Ok(Some(keeper)),
+            Search::Ended => break,
+            Search::Further => {}
+        }
+    }
+    Ok(None)
+}
+
+/// A record that was destroyed.
+#[derive(Drop)]
+struct Destroyed {
+    certificate: String,
+    /// Whether its message is gone with it.
+    is_gone: bool,
+}
+
+/// Destroys a record.
+fn destroy<S: Alter>(
+    rt: &HostRuntime,
+    archive: &mut Store<S>,
+    line: &Line,
+    day: Date,
+) -> Result<Destroyed, Failure> {
+    let message = match archive.message(line.number) {
+        Ok(message) => message,
+        Err(fault) => return Err(record_failure(rt, line.number, fault)),
+    };
+    let sum = sum_of(rt.alloc(), message.as_slice())?;
+    let kept_by = keeper_of(rt, archive, line.number)?;
+    let facts = Certificate {
+        number: line.number,
+        path: line.path.as_slice(),
+        due: line.due,
+        octets: message.len(),
+        sum: sum.as_str(),
+        moment: now(rt)?,
+        kept_by,
+    };
+    let certificate = certificate_line(rt.alloc(), &facts)?;
+    match archive.destroy(line.number, day) {
+        Ok(()) => Ok(Destroyed {
+            certificate,
+            is_gone: kept_by.is_none(),
+        }),
+        Err(fault) => Err(record_failure(rt, line.number, fault)),
+    }
+}
+
+/// Writes a certificate. Where that fails, it goes to standard error instead, and no more is destroyed.
+fn write_certificate(rt: &HostRuntime, text: &str) -> Result<(), Failure> {
+    match write_text(rt, text) {
+        Ok(()) => Ok(()),
+        Err(_) => {
+            tell(rt, text);
+            Err(Failure::told(
+                rt.alloc(),
+                Status::NotWritten,
+                "the certificate above could not be written to standard output; no further record is destroyed",
+            ))
+        }
+    }
+}
+
+/// Destroys records, with a certificate for each.
+fn destroy_all<S: Alter>(
+    rt: &HostRuntime,
+    archive: &mut Store<S>,
+    lines: &[Line],
+    day: Date,
+) -> Result<(), Failure> {
+    let mut is_any_gone = false;
+    for line in lines {
+        let done = destroy(rt, archive, line, day)?;
+        is_any_gone = is_any_gone || done.is_gone;
+        write_certificate(rt, done.certificate.as_str())?;
+    }
+    if is_any_gone {
+        tell(
+            rt,
+            "the messages are gone from the archive, but their octets may still lie in unused parts of its file; copy makes a store without them",
+        );
+    }
+    Ok(())
+}
+
+/// Writes or destroys what is due by a day; of records whose numbers were typed, these alone.
+fn dispose_by<S: Alter>(
+    rt: &HostRuntime,
+    archive: &mut Store<S>,
+    day: Date,
+    asked: &ArgMatches<'_>,
+) -> Result<(), Failure> {
+    let lines = disposable(rt, archive, day)?;
+    let words = asked.get_strs("numbers").unwrap_or(&[]);
+    let lines = chosen(rt, lines, words, day)?;
+    if asked.get_flag("yes") {
+        return destroy_all(rt, archive, lines.as_slice(), day);
+    }
+    for line in lines.as_slice() {
+        write_text(rt, captured_line(rt.alloc(), line)?.as_str())?;
+    }
+    Ok(())
+}
+
+/// `dispose`: writes what is due and may be destroyed, or destroys it.
+#[derive(Clone, Copy)]
+pub struct DisposeTask<'a, 'w> {
+    day: Date,
+    asked: &'w ArgMatches<'a>,
+}
+
+impl<'a, 'w> DisposeTask<'a, 'w> {
+    /// The task of a command line. `Usage` where its day is none, or has not come yet.
+    pub fn read(
+        rt: &HostRuntime,
+        asked: &'w ArgMatches<'a>,
+    ) -> Result<DisposeTask<'a, 'w>, Failure> {
+        let day = day_asked(rt, asked.get_str("day"))?;
+        Ok(DisposeTask { day, asked })
+    }
+}
+
+impl Task for DisposeTask<'_, '_> {
+    type Answer = ();
+
+    fn work_on<S: Alter>(
+        self,
+        rt: &HostRuntime,
+        archive: Store<S>,
+    ) -> (Store<S>, Result<(), Failure>) {
+        let mut archive = archive;
+        let done = dispose_by(rt, &mut archive, self.day, self.asked);
+        (archive, done)
+    }
+}

@@ -1,0 +1,316 @@
+//! `intake`: the new messages of a Maildir.
+
+use crate::deliver::{desk_failure, given_up_words, report_capture};
+use crate::rules::FilingRules;
+use clap::ArgMatches;
+use cli_console::{Failure, Status, Task, now};
+use desk_commands::{Capture, MAX_MESSAGE_OCTETS, Payload};
+use filing_desk::{Delivery, Desk, deliver};
+use maildir::{
+    NewMail, has_cur, is_in_cur, is_message, move_to_cur, new_mail, new_path, settle, try_move,
+};
+use payload_files::payload_of_file;
+use record_archive::Records;
+use record_store::Store;
+use sqlite::Alter;
+use std::fmt::Display;
+use std::io::{self, IsTerminal};
+use tool_texts::named;
+
+/// After how many messages progress is shown.
+const STEP: u64 = 100;
+
+/// What became of a message.
+#[derive(Clone, Copy)]
+enum Taken {
+    /// It is captured, and moved.
+    Filed,
+    /// It stays, for a reason of its own.
+    Stays,
+    /// It stays, since its run ended with a fault.
+    GivenUp,
+}
+
+/// What became of the messages so far.
+#[derive(Clone, Copy)]
+struct Tally {
+    filed: u64,
+    stay: u64,
+    given_up: u64,
+}
+
+impl Tally {
+    fn add(&mut self, taken: Taken) {
+        match taken {
+            Taken::Filed => self.filed = self.filed.saturating_add(1),
+            Taken::Stays => self.stay = self.stay.saturating_add(1),
+            Taken::GivenUp => self.given_up = self.given_up.saturating_add(1),
+        }
+    }
+}
+
+/// `intake`: captures the new messages of a Maildir, and moves them to its folder `cur`.
+#[derive(Drop)]
+pub struct IntakeTask<'a> {
+    maildir: &'a str,
+    filing: FilingRules<'a>,
+}
+
+/// Names a message that stays, with the reason.
+fn name_one<T: Display>(rt: &HostRuntime, name: &str, reason: &T) {
+    if let Ok(name) = named(rt.alloc(), name.as_bytes()) {
+        let _ = eprintln!(rt; "mailfile-store: {name} stays: {reason}");
+    }
+}
+
+/// Names a message that stays since its file cannot be had. Without memory for that, the intake fails.
+fn name_unread(rt: &HostRuntime, name: &str, error: io::Error) -> Result<(), Failure> {
+    if let io::ErrorKind::OutOfMemory = error.kind() {
+        return Err(Failure::NoMemory);
+    }
+    name_one(rt, name, &error);
+    Ok(())
+}
+
+/// The failure of the Maildir.
+fn maildir_failure(rt: &HostRuntime, maildir: &str, error: io::Error) -> Failure {
+    let status = match error.kind() {
+        io::ErrorKind::OutOfMemory => return Failure::NoMemory,
+        io::ErrorKind::NotFound | io::ErrorKind::NotADirectory => Status::NoInput,
+        _ => Status::TryAgain,
+    };
+    Failure::at(rt.alloc(), status, maildir, &error)
+}
+
+/// Whether a message can be taken over; where it cannot, that is reported.
+fn is_for_us(rt: &HostRuntime, maildir: &str, name: &str, path: &str) -> Result<bool, Failure> {
+    match (is_message(rt, path), is_in_cur(rt, maildir, name)) {
+        (Ok(true), Ok(false)) => return Ok(true),
+        (Ok(false), _) => name_one(rt, name, &"not a regular file"),
+        (_, Ok(true)) => name_one(rt, name, &"cur has a message of this name"),
+        (Err(error), _) | (_, Err(error)) => name_unread(rt, name, error)?,
+    }
+    Ok(false)
+}
+
+/// The octets of a message; none where it stays, which is reported.
+fn read_message(rt: &HostRuntime, maildir: &str, name: &str) -> Result<Option<Payload>, Failure> {
+    let path = new_path(rt.alloc(), maildir, name)?;
+    if !is_for_us(rt, maildir, name, path.as_str())? {
+        return Ok(None);
+    }
+    match payload_of_file(rt, path.as_str(), MAX_MESSAGE_OCTETS) {
+        Ok(Payload::TooLong) => {
+            name_one(rt, name, &"more than 8,388,608 octets");
+            Ok(None)
+        }
+        Ok(message) => Ok(Some(message)),
+        Err(error) => {
+            name_unread(rt, name, error)?;
+            Ok(None)
+        }
+    }
+}
+
+/// Reports a capture, and moves its message.
+fn file_away(
+    rt: &HostRuntime,
+    maildir: &str,
+    name: &str,
+    capture: &Capture,
+) -> Result<Taken, Failure> {
+    let shown = named(rt.alloc(), name.as_bytes())?;
+    let before = format!(in rt.alloc(); "{shown}: ")?;
+    report_capture(rt, before.as_str(), capture);
+    match move_to_cur(rt, maildir, name) {
+        Ok(()) => Ok(Taken::Filed),
+        Err(error) => match format!(in rt.alloc();
+            "{shown} is captured, but still in new, where the next intake would capture it again: {error}"
+        ) {
+            Ok(text) => Err(Failure::Told(Status::TryAgain, text)),
+            Err(_) => Err(Failure::NoMemory),
+        },
+    }
+}
+
+/// Captures a message and moves it, or reports why it stays.
+fn take_one<A: Records>(
+    rt: &HostRuntime,
+    desk: &mut Desk<A>,
+    job: &IntakeTask<'_>,
+    name: &str,
+) -> Result<Taken, Failure> {
+    let Some(message) = read_message(rt, job.maildir, name)? else {
+        return Ok(Taken::Stays);
+    };
+    let filing = &job.filing;
+    let officer = filing.officer.as_bytes();
+    match deliver(desk, officer, now(rt)?, message, filing.on_fault) {
+        Ok(Delivery::Captured(capture)) => file_away(rt, job.maildir, name, &capture),
+        Ok(Delivery::GivenUp(fault)) => {
+            name_one(rt, name, &given_up_words(rt.alloc(), fault)?);
+            Ok(Taken::GivenUp)
+        }
+        Err(fault) => Err(desk_failure(rt.alloc(), name, fault)),
+    }
+}
+
+/// Shows on a terminal how far the intake is.
+fn show_progress(rt: &HostRuntime, tally: &Tally) {
+    if tally.filed % STEP == 0 && rt.stderr().is_terminal() {
+        let filed = tally.filed;
+        let _ = eprint!(rt; "\r{filed} messages");
+    }
+}
+
+/// Takes messages over, up to one whose run ends with a fault. Answers how many that were.
+fn take_with<A: Records>(
+    rt: &HostRuntime,
+    desk: &mut Desk<A>,
+    job: &IntakeTask<'_>,
+    names: &[String],
+    tally: &mut Tally,
+) -> Result<usize, Failure> {
+    let mut done: usize = 0;
+    for name in names {
+        let taken = take_one(rt, desk, job, name.as_str())?;
+        tally.add(taken);
+        done = done.saturating_add(1);
+        show_progress(rt, tally);
+        if let Taken::GivenUp = taken {
+            break;
+        }
+    }
+    Ok(done)
+}
+
+/// Takes messages over at a new desk, up to one whose run ends with a fault: its capture is dropped with the desk.
+/// Answers how many that were.
+fn take_run<A: Records>(
+    rt: &HostRuntime,
+    archive: A,
+    job: &IntakeTask<'_>,
+    names: &[String],
+    tally: &mut Tally,
+) -> (A, Result<usize, Failure>) {
+    let mut desk = match job.filing.desk(rt, archive) {
+        Ok(desk) => desk,
+        Err((archive, failure)) => return (archive, Err(failure)),
+    };
+    let done = take_with(rt, &mut desk, job, names, tally);
+    (desk.into_store(), done)
+}
+
+/// Takes all messages over.
+fn take_all<A: Records>(
+    rt: &HostRuntime,
+    archive: A,
+    job: &IntakeTask<'_>,
+    names: &[String],
+    tally: &mut Tally,
+) -> (A, Result<(), Failure>) {
+    let mut archive = archive;
+    let mut rest = names;
+    for _ in 0..names.len() {
+        if rest.is_empty() {
+            break;
+        }
+        let (back, run) = take_run(rt, archive, job, rest, tally);
+        archive = back;
+        match run {
+            Ok(done) => rest = rest.get(done..).unwrap_or(&[]),
+            Err(failure) => return (archive, Err(failure)),
+        }
+    }
+    (archive, Ok(()))
+}
+
+/// The status of an intake that came to its end.
+fn end(rt: &HostRuntime, tally: &Tally, nameless: usize) -> Result<(), Failure> {
+    let (stay, given_up) = (tally.stay, tally.given_up);
+    if nameless > 0 {
+        let _ = eprintln!(rt;
+            "mailfile-store: messages that stay, since their names are no UTF-8: {nameless}"
+        );
+    }
+    if given_up > 0 {
+        return Err(Failure::Reported(Status::TryAgain));
+    }
+    if stay > 0 || nameless > 0 {
+        return Err(Failure::Reported(Status::BadData));
+    }
+    Ok(())
+}
+
+/// The new messages of a Maildir, if they can be moved.
+fn movable_mail(rt: &HostRuntime, maildir: &str) -> io::Result<NewMail> {
+    let mail = new_mail(rt, maildir)?;
+    if !mail.names.is_empty() {
+        try_move(rt, maildir)?;
+    }
+    Ok(mail)
+}
+
+/// Takes the new messages of a Maildir over, in the order of their names.
+fn take_new<A: Records>(
+    rt: &HostRuntime,
+    archive: A,
+    job: &IntakeTask<'_>,
+) -> (A, Result<(), Failure>) {
+    let mail = match movable_mail(rt, job.maildir) {
+        Ok(mail) => mail,
+        Err(error) => return (archive, Err(maildir_failure(rt, job.maildir, error))),
+    };
+    let mut tally = Tally {
+        filed: 0,
+        stay: 0,
+        given_up: 0,
+    };
+    let (archive, taken) = take_all(rt, archive, job, mail.names.as_slice(), &mut tally);
+    let settled = settle(rt, job.maildir);
+    let ended = match (taken, settled) {
+        (Err(failure), _) => Err(failure),
+        (Ok(()), Err(error)) => Err(maildir_failure(rt, job.maildir, error)),
+        (Ok(()), Ok(())) => end(rt, &tally, mail.nameless),
+    };
+    (archive, ended)
+}
+
+/// Finds that a folder is a Maildir.
+fn judge_maildir(rt: &HostRuntime, maildir: &str) -> Result<(), Failure> {
+    match has_cur(rt, maildir) {
+        Ok(true) => Ok(()),
+        Ok(false) => Err(Failure::at(
+            rt.alloc(),
+            Status::NoInput,
+            maildir,
+            &"no Maildir: it has no folder cur",
+        )),
+        Err(error) => Err(maildir_failure(rt, maildir, error)),
+    }
+}
+
+impl<'a> IntakeTask<'a> {
+    /// The task of a command line. `NoInput` where it names no Maildir. It may be done later, `TryAgain`, where the
+    /// Maildir cannot be looked at, or where rules are at fault and mail is not to go to `unfiled` then.
+    pub fn read(rt: &HostRuntime, asked: &ArgMatches<'a>) -> Result<IntakeTask<'a>, Failure> {
+        let maildir = asked.get_str("maildir").unwrap_or("");
+        judge_maildir(rt, maildir)?;
+        Ok(IntakeTask {
+            maildir,
+            filing: FilingRules::read(rt, asked)?,
+        })
+    }
+}
+
+impl Task for IntakeTask<'_> {
+    type Answer = ();
+
+    fn work_on<S: Alter>(
+        self,
+        rt: &HostRuntime,
+        archive: Store<S>,
+    ) -> (Store<S>, Result<(), Failure>) {
+        take_new(rt, archive, &self)
+    }
+}

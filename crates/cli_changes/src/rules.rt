@@ -1,0 +1,79 @@
+//! The rules by which mail is filed, and what is done where they are at fault.
+
+use clap::ArgMatches;
+use cli_console::{Failure, Status, tell};
+use cli_sources::{Rules, RulesFault, read_rules, set_rules};
+use filing_desk::{Desk, OnFault};
+use record_archive::Records;
+
+/// How mail is filed.
+#[derive(Drop)]
+pub struct FilingRules<'a> {
+    pub officer: &'a str,
+    pub on_fault: OnFault,
+    /// None where the rules are at fault, and mail may go to `unfiled` then.
+    rules: Option<Rules>,
+}
+
+/// Reports a fault of rules. It is no failure where mail may go to `unfiled` then.
+fn excuse(rt: &HostRuntime, fault: &RulesFault, on_fault: OnFault) -> Result<(), Failure> {
+    let failure = Failure::by(rt.alloc(), Status::TryAgain, fault);
+    if !fault.is_of_rules() || matches!(on_fault, OnFault::GiveUp) {
+        return Err(failure);
+    }
+    match failure {
+        Failure::Told(_, text) => {
+            tell(rt, text.as_str());
+            Ok(())
+        }
+        other => Err(other),
+    }
+}
+
+impl<'a> FilingRules<'a> {
+    /// How the command line says that mail is to be filed.
+    pub fn read(rt: &HostRuntime, asked: &ArgMatches<'a>) -> Result<FilingRules<'a>, Failure> {
+        let folder = asked.get_str("rules").unwrap_or("");
+        let officer = asked.get_str("officer").unwrap_or("");
+        let on_fault = if asked.get_flag("unfiled-on-fault") {
+            OnFault::Capture
+        } else {
+            OnFault::GiveUp
+        };
+        let rules = match read_rules(rt, folder, officer) {
+            Ok(rules) => Some(rules),
+            Err(fault) => {
+                excuse(rt, &fault, on_fault)?;
+                None
+            }
+        };
+        Ok(FilingRules {
+            officer,
+            on_fault,
+            rules,
+        })
+    }
+
+    /// Sets the rules at a desk.
+    fn set<A: Records>(&self, rt: &HostRuntime, desk: &mut Desk<A>) -> Result<(), Failure> {
+        let Some(rules) = &self.rules else {
+            return Ok(());
+        };
+        match set_rules(rt.alloc(), desk, rules) {
+            Ok(()) => Ok(()),
+            Err(fault) => excuse(rt, &fault, self.on_fault),
+        }
+    }
+
+    /// A desk over an archive, with these rules. A failure hands the archive back.
+    pub fn desk<A: Records>(&self, rt: &HostRuntime, archive: A) -> Result<Desk<A>, (A, Failure)> {
+        let mut desk = match Desk::new(rt.alloc(), archive) {
+            Ok(desk) => desk,
+            Err(archive) => return Err((archive, Failure::NoMemory)),
+        };
+        match self.set(rt, &mut desk) {
+            Ok(()) => Ok(desk),
+            Err(failure) => Err((desk.into_store(), failure)),
+        }
+    }
+}

@@ -1,0 +1,18 @@
+use Rattle.sqlite.specs.WalFiles.{image_at}
+use Rattle.record_store.specs.Layouts.{HasArchiveTables}
+use Rattle.record_files.proofs.OpeningLemmas.{finds_opened, holds_tables}
+use Rattle.cli_files.proofs.opening.open_store.Goals as goal
+
+pub returns-in-Ok-adopt_found-clause-stands : goal.returns-in-Ok-adopt_found-clause-stands
+returns-in-Ok-adopt_found-clause-stands g c clean a held =
+    let opened = c.in-Ok.ensures in
+    let adopted = c.in-Ok-adopt_found.ensures in
+    let early = adopted.clean clean in
+    adopted.stands clean a (finds_opened c.in-Ok.conn (image_at g.S.Start) a (opened.opened early) (opened.found early) held)
+
+pub returns-in-Ok-adopt_found-clause-layout : goal.returns-in-Ok-adopt_found-clause-layout
+returns-in-Ok-adopt_found-clause-layout g c clean =
+    let opened = c.in-Ok.ensures in
+    let adopted = c.in-Ok-adopt_found.ensures in
+    let early = adopted.clean clean in
+    holds_tables HasArchiveTables c.in-Ok.conn (image_at g.S.Start) (opened.opened early) (opened.found early) adopted.layout

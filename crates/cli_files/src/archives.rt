@@ -1,0 +1,139 @@
+//! The store in the file at a path, as programs have it.
+//!
+//! What the files held before, and how a write that a crash cuts short is read, is what `S` says; programs pass
+//! `Unknown`. No code knows it, so what is said here holds whatever it is. No clause ties the files to the path.
+
+ghost use Rattle.std.specs.Prelude.{◌≡◌, false, IfOk};
+ghost use Rattle.sqlite.specs.State.{HasCleanDisk};
+ghost use Rattle.sqlite.specs.Held.{state};
+ghost use Rattle.sqlite.specs.WalReads.{AreClean};
+ghost use Rattle.sqlite.specs.WalFiles.{image_at};
+ghost use Rattle.sqlite.specs.Files.{file_state, over_files};
+ghost use Rattle.record_tables.specs.Tables.{IsFree};
+ghost use Rattle.record_archive.specs.Archive.{Archive, empty_archive};
+ghost use Rattle.record_store.specs.Layouts.{HasArchiveTables};
+ghost use Rattle.record_store.specs.Stores.{StandsFor};
+ghost use Rattle.record_files.specs.Files.{FindsAt, HoldsTables, KeepsNew, KeepsTogether, system_file};
+
+use crate::fault::NoStore;
+use crate::opening::{close_store, open_store};
+use crate::places::{has_log, look_at, make_file, remove_files};
+use class_plan::Plan;
+use record_files::leave;
+use record_store::Store;
+use sqlite::{Alter, Connection, FileFrom, FileStore, Files, Start};
+use sqlite_disk::Disk;
+use std::alloc::Global;
+
+/// The store in the file at a path, which must be there and hold an archive. While the disk returns what was written to
+/// it, the store represents the archive that the files held, and what they held are an archive's tables.
+pub fn open_archive<S: Start>(
+    rt: &HostRuntime,
+    path: &str,
+    start: S,
+) -> Result<Store<FileStore<FileFrom<S>>>, NoStore>
+    ensures stands { IfOk result (λ s. HasCleanDisk (file_state s.conn) → (a : Archive)
+        → FindsAt (image_at S.Start) a → StandsFor over_files s a) }
+    ensures layout { IfOk result (λ s. HasCleanDisk (file_state s.conn)
+        → HoldsTables HasArchiveTables (image_at S.Start)) }
+{
+    look_at(rt, path)?;
+    open_store(rt, path, start)
+}
+
+/// A new archive with a plan, in a database that has none of its tables.
+///
+/// Refused where the database refuses, or for lack of memory. The connection is then handed back, perhaps with the tables
+/// of an archive of another plan.
+pub fn lay_archive<S: Alter>(
+    alloc: Global,
+    conn: Connection<S>,
+    plan: Plan,
+) -> Result<Store<S>, (NoStore, Connection<S>)>
+    requires { conn.in_transaction ≡ false }
+    ensures stands { IfOk result (λ s. HasCleanDisk (state S.Store s.conn)
+        → IsFree (state S.Store conn).now.schema
+        → StandsFor S.Store s (record empty_archive { plan = plan })) }
+    ensures clean { IfOk result (λ s. HasCleanDisk (state S.Store s.conn)
+        → HasCleanDisk (state S.Store conn)) }
+{
+    let mut store = match Store::create(alloc, conn) {
+        Ok(store) => store,
+        Err((fault, conn)) => return Err((NoStore::from(fault), conn)),
+    };
+    match store.revise(plan) {
+        Ok(()) => Ok(store),
+        Err(fault) => Err((NoStore::from(fault), store.into_connection())),
+    }
+}
+
+/// Lays a new archive with a plan in the database of a connection, and closes its files, which together keep it. Refused
+/// also where a fault of the disk has shut the store, or fell while its log was copied.
+fn lay_files<D: Disk + Drop>(
+    alloc: Global,
+    conn: Connection<FileStore<D>>,
+    plan: Plan,
+) -> Result<Files<D>, NoStore>
+    requires { conn.in_transaction ≡ false }
+    ensures clean { IfOk result (λ files. AreClean D.Disk files.log files.db
+        → HasCleanDisk (file_state conn)) }
+    ensures keeps { IfOk result (λ files. AreClean D.Disk files.log files.db
+        → IsFree (file_state conn).now.schema
+        → KeepsTogether D.Disk files (record empty_archive { plan = plan })) }
+{
+    let store = match lay_archive(alloc, conn, plan) {
+        Ok(store) => store,
+        Err((fault, conn)) => {
+            let _files = leave(conn);
+            return Err(fault);
+        }
+    };
+    let (files, closing) = close_store(store);
+    if closing.keeps_archive() {
+        Ok(files)
+    } else {
+        Err(NoStore::Disk)
+    }
+}
+
+/// Makes an archive with a plan in the empty file at a path.
+fn fill_file<S: Start>(
+    rt: &HostRuntime,
+    path: &str,
+    plan: Plan,
+    start: S,
+) -> Result<Files<FileFrom<S>>, NoStore>
+    ensures { IfOk result (KeepsNew (system_file S.Start) (image_at S.Start) plan) }
+{
+    let conn = match Connection::open_from(rt, path, true, start) {
+        Ok(conn) => conn,
+        Err((error, _)) => return Err(NoStore::of_opening(error, has_log(rt, path))),
+    };
+    match lay_files(rt.alloc(), conn, plan) {
+        Ok(files) => Ok(files),
+        Err(fault) => Err(fault),
+    }
+}
+
+/// Makes a new store with a plan in a new file at a path, which only its owner may read and write. Answers its files. As
+/// they held nothing before, the two together then keep an archive of that plan without records, while the disk returns
+/// what was written to it.
+///
+/// Where something refuses, no file is left; so also where the disk fails before the files are closed.
+pub fn create_archive<S: Start>(
+    rt: &HostRuntime,
+    path: &str,
+    plan: Plan,
+    start: S,
+) -> Result<Files<FileFrom<S>>, NoStore>
+    ensures { IfOk result (KeepsNew (system_file S.Start) (image_at S.Start) plan) }
+{
+    make_file(rt, path)?;
+    match fill_file(rt, path, plan, start) {
+        Ok(files) => Ok(files),
+        Err(fault) => {
+            remove_files(rt, path);
+            Err(fault)
+        }
+    }
+}

@@ -1,0 +1,90 @@
+//! The text of a page, which grows piece by piece.
+
+ghost use Rattle.std.specs.Prelude.{◌≡◌, ◌++◌, [], OnOk, string_bytes};
+ghost use Rattle.std.specs.Str.{chars, encode_utf8_all};
+ghost use Rattle.cli_page.specs.Escaping.{shown_all};
+
+use crate::escaping::push_escaped;
+use class_plan::Date;
+use std::alloc::{AllocError, Global};
+use std::str;
+
+/// The text of a page, which grows piece by piece. Markup is a text of the program itself; whatever an archive or a command
+/// line names is added as text, in which nothing is markup.
+#[derive(Drop)]
+pub struct Page {
+    alloc: Global,
+    pub(crate) html: String,
+}
+
+impl Page {
+    /// An empty page.
+    pub fn new(alloc: Global) -> Page
+        ensures { string_bytes result.html ≡ [] }
+    {
+        let html = String::new(alloc);
+        Page { alloc, html }
+    }
+
+    /// Adds markup.
+    pub fn markup(&mut self, markup: &'static str) -> Result<(), AllocError>
+        ensures { OnOk result
+            (string_bytes self.new.html ≡ string_bytes self.old.html ++ markup.now) }
+    {
+        self.html.push_str(markup)
+    }
+
+    /// Adds text, as [`escaped`](crate::escaped) shows it.
+    pub fn text(&mut self, text: &str) -> Result<(), AllocError>
+        ensures { OnOk result (string_bytes self.new.html
+            ≡ string_bytes self.old.html ++ encode_utf8_all (shown_all (chars text.now))) }
+    {
+        push_escaped(&mut self.html, text)
+    }
+
+    /// Adds the path of a class, the name of a hold or a schedule, which are ASCII.
+    pub fn name(&mut self, name: &[u8]) -> Result<(), AllocError> {
+        self.text(str::from_utf8(name).unwrap_or("\u{fffd}"))
+    }
+
+    /// Adds a number in decimal.
+    pub fn number(&mut self, number: u64) -> Result<(), AllocError> {
+        write!(self.html, "{number}")
+    }
+
+    /// Adds a date as `2030-11-14`.
+    pub fn date(&mut self, date: Date) -> Result<(), AllocError> {
+        let text = format!(in self.alloc; "{date}")?;
+        self.text(text.as_str())
+    }
+
+    /// Adds a date as an element, which is not broken into lines.
+    pub(crate) fn time(&mut self, date: Date) -> Result<(), AllocError> {
+        self.markup("<time>")?;
+        self.date(date)?;
+        self.markup("</time>")
+    }
+
+    /// Adds a line of a table's body: a number in a cell.
+    pub(crate) fn number_cell(&mut self, number: u64) -> Result<(), AllocError> {
+        self.markup("<td class=\"n\">")?;
+        self.number(number)?;
+        self.markup("</td>")
+    }
+
+    /// Adds an attribute that is a number.
+    pub(crate) fn attribute(&mut self, name: &'static str, value: u64) -> Result<(), AllocError> {
+        self.markup(" ")?;
+        self.markup(name)?;
+        self.markup("=\"")?;
+        self.number(value)?;
+        self.markup("\"")
+    }
+
+    /// What was added.
+    pub fn as_str(&self) -> &str
+        ensures { result.now ≡ string_bytes self.now.html }
+    {
+        self.html.as_str()
+    }
+}

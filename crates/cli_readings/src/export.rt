@@ -1,0 +1,228 @@
+//! `export`: records as files, with a manifest.
+
+use crate::choice::Choice;
+use crate::list::row_of;
+use clap::ArgMatches;
+use cli_console::{Failure, Status, Task, Walk};
+use cli_texts::{Kept, MANIFEST_HEADER, manifest_row, sum_of};
+use record_store::{RecordEntry, Store};
+use sqlite::Alter;
+use std::alloc::{AllocError, Global};
+use std::fs::{self, File, OpenOptions};
+use std::io::{self, ErrorKind, Write};
+use std::os::unix::fs::OpenOptionsExt;
+
+/// The permissions of a file of an export, as of a store.
+const MODE: u32 = 0o600;
+
+/// The files of an export that lists the others.
+#[derive(Drop)]
+struct ExportFiles<'a> {
+    folder: &'a str,
+    manifest: File,
+    sums: File,
+    /// The message that was written last: its number, the name of its file, its length and its sum.
+    last: Option<Written>,
+}
+
+/// A message that was written to a file.
+#[derive(Drop)]
+struct Written {
+    message: u32,
+    file: String,
+    octets: usize,
+    sum: String,
+}
+
+/// The failure of a file that cannot be made or written.
+fn file_failure(rt: &HostRuntime, path: &str, error: io::Error) -> Failure {
+    let status = match error.kind() {
+        ErrorKind::OutOfMemory => return Failure::NoMemory,
+        ErrorKind::StorageFull | ErrorKind::QuotaExceeded => Status::TryAgain,
+        _ => Status::CannotMake,
+    };
+    Failure::at(rt.alloc(), status, path, &error)
+}
+
+/// A new file of a folder, which only its owner may read. One that is there is not replaced.
+fn make_file(rt: &HostRuntime, folder: &str, name: &str) -> Result<File, Failure> {
+    let path = format!(in rt.alloc(); "{folder}/{name}")?;
+    let made = OpenOptions::new()
+        .write(true)
+        .create_new(true)
+        .mode(MODE)
+        .open(rt, path.as_str());
+    match made {
+        Ok(file) => Ok(file),
+        Err(error) => Err(file_failure(rt, path.as_str(), error)),
+    }
+}
+
+/// Writes octets to a file of a folder.
+fn write_to(rt: &HostRuntime, folder: &str, file: &mut File, octets: &[u8]) -> Result<(), Failure> {
+    match file.write_all(octets) {
+        Ok(()) => Ok(()),
+        Err(error) => Err(file_failure(rt, folder, error)),
+    }
+}
+
+/// Makes the folder, if it is not there.
+fn make_folder(rt: &HostRuntime, folder: &str) -> Result<(), Failure> {
+    match fs::create_dir(rt, folder) {
+        Ok(()) => Ok(()),
+        Err(error) if error.kind() == ErrorKind::AlreadyExists => Ok(()),
+        Err(error) => Err(file_failure(rt, folder, error)),
+    }
+}
+
+/// Writes a message to a new file that is named by its number.
+fn write_message(
+    rt: &HostRuntime,
+    export: &mut ExportFiles<'_>,
+    number: u32,
+    octets: &[u8],
+) -> Result<Written, Failure> {
+    let alloc = rt.alloc();
+    let name = format!(in alloc; "{number}.eml")?;
+    let mut file = make_file(rt, export.folder, name.as_str())?;
+    write_to(rt, export.folder, &mut file, octets)?;
+    let sum = sum_of(alloc, octets)?;
+    let line = format!(in alloc; "{sum}  {name}\n")?;
+    write_to(rt, export.folder, &mut export.sums, line.as_bytes())?;
+    Ok(Written {
+        message: number,
+        file: name,
+        octets: octets.len(),
+        sum,
+    })
+}
+
+/// Writes the message of a record, unless it was written for the record before.
+fn write_new<S: Alter>(
+    rt: &HostRuntime,
+    archive: &mut Store<S>,
+    export: &mut ExportFiles<'_>,
+    entry: &RecordEntry,
+) -> Result<(), Failure> {
+    if export
+        .last
+        .as_ref()
+        .is_some_and(|last| last.message == entry.message)
+    {
+        return Ok(());
+    }
+    match archive.message(entry.number) {
+        Ok(octets) => {
+            export.last = Some(write_message(rt, export, entry.message, octets.as_slice())?);
+            Ok(())
+        }
+        Err(fault) => Err(Failure::of_store(rt.alloc(), "the store", fault)),
+    }
+}
+
+/// The row of a record, with the message that was written last.
+fn row_beside(
+    alloc: Global,
+    entry: &RecordEntry,
+    last: &Option<Written>,
+) -> Result<Vec<u8>, AllocError> {
+    let row = row_of(entry);
+    match last {
+        Some(last) => {
+            let kept = Kept {
+                file: last.file.as_str(),
+                octets: last.octets,
+                sum: last.sum.as_str(),
+            };
+            manifest_row(alloc, &row, Some(kept))
+        }
+        None => manifest_row(alloc, &row, None),
+    }
+}
+
+/// Exports a record: its message, unless it is destroyed, and its row.
+fn export_record<S: Alter>(
+    rt: &HostRuntime,
+    archive: &mut Store<S>,
+    export: &mut ExportFiles<'_>,
+    entry: &RecordEntry,
+) -> Result<(), Failure> {
+    let row = if entry.destroyed {
+        manifest_row(rt.alloc(), &row_of(entry), None)?
+    } else {
+        write_new(rt, archive, export, entry)?;
+        row_beside(rt.alloc(), entry, &export.last)?
+    };
+    write_to(rt, export.folder, &mut export.manifest, row.as_slice())
+}
+
+/// Exports the chosen records.
+fn export_records<S: Alter>(
+    rt: &HostRuntime,
+    archive: &mut Store<S>,
+    export: &mut ExportFiles<'_>,
+    choice: &Choice,
+) -> Result<(), Failure> {
+    let mut walk = Walk::from(choice.from);
+    for _ in 0..u64::MAX {
+        let page = walk.next_page(rt, archive)?;
+        if page.is_empty() {
+            break;
+        }
+        for entry in page.iter().filter(|entry| choice.has(*entry)) {
+            export_record(rt, archive, export, entry)?;
+        }
+    }
+    Ok(())
+}
+
+/// Exports the chosen records to a folder in which none of the files is yet.
+fn export_to<S: Alter>(
+    rt: &HostRuntime,
+    archive: &mut Store<S>,
+    folder: &str,
+    choice: &Choice,
+) -> Result<(), Failure> {
+    choice.judge(rt, archive.plan())?;
+    make_folder(rt, folder)?;
+    let mut manifest = make_file(rt, folder, "manifest.csv")?;
+    write_to(rt, folder, &mut manifest, MANIFEST_HEADER.as_bytes())?;
+    let mut export = ExportFiles {
+        folder,
+        manifest,
+        sums: make_file(rt, folder, "SHA256SUMS")?,
+        last: None,
+    };
+    export_records(rt, archive, &mut export, choice)
+}
+
+/// `export`: writes the chosen records to files of a folder.
+#[derive(Drop)]
+pub struct ExportTask<'a> {
+    choice: Choice,
+    folder: &'a str,
+}
+
+impl<'a> ExportTask<'a> {
+    /// The task of a command line. `Usage` where a day or a number of it is none.
+    pub fn read(rt: &HostRuntime, asked: &ArgMatches<'a>) -> Result<ExportTask<'a>, Failure> {
+        Ok(ExportTask {
+            choice: Choice::read(rt, asked)?,
+            folder: asked.get_str("folder").unwrap_or(""),
+        })
+    }
+}
+
+impl Task for ExportTask<'_> {
+    type Answer = ();
+
+    fn work_on<S: Alter>(
+        self,
+        rt: &HostRuntime,
+        archive: Store<S>,
+    ) -> (Store<S>, Result<(), Failure>) {
+        let mut archive = archive;
+        let done = export_to(rt, &mut archive, self.folder, &self.choice);
+        (archive, done)
+    }
+}

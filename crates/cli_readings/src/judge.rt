@@ -1,0 +1,130 @@
+//! `check`: what an archive holds.
+
+use class_plan::Date;
+use cli_console::{Failure, Task, Walk, is_by, today, write_text};
+use record_store::{RecordEntry, Store};
+use sqlite::Alter;
+
+/// What an archive holds.
+#[derive(Clone, Copy)]
+struct Contents {
+    records: u64,
+    live: u64,
+    held: u64,
+    /// Live records that are due today, held or not.
+    due: u64,
+    messages: u64,
+    octets: u64,
+    /// The greatest number of a record.
+    last: u32,
+    /// The message that was counted last.
+    message: u32,
+}
+
+impl Contents {
+    /// Adds a record, and its message where it is the first live one that has it.
+    fn add<S: Alter>(
+        &mut self,
+        rt: &HostRuntime,
+        archive: &mut Store<S>,
+        entry: &RecordEntry,
+        today: Date,
+    ) -> Result<(), Failure> {
+        self.records = self.records.saturating_add(1);
+        self.last = entry.number;
+        if entry.destroyed {
+            return Ok(());
+        }
+        self.live = self.live.saturating_add(1);
+        if !entry.holds.is_empty() {
+            self.held = self.held.saturating_add(1);
+        }
+        if is_by(entry.due, today) {
+            self.due = self.due.saturating_add(1);
+        }
+        self.add_message(rt, archive, entry)
+    }
+
+    /// Adds the message of a live record, unless it was that of the one before.
+    fn add_message<S: Alter>(
+        &mut self,
+        rt: &HostRuntime,
+        archive: &mut Store<S>,
+        entry: &RecordEntry,
+    ) -> Result<(), Failure> {
+        if self.messages > 0 && self.message == entry.message {
+            return Ok(());
+        }
+        match archive.message(entry.number) {
+            Ok(octets) => {
+                self.message = entry.message;
+                self.messages = self.messages.saturating_add(1);
+                self.octets = self.octets.saturating_add(octets.len() as u64);
+                Ok(())
+            }
+            Err(fault) => Err(Failure::of_store(rt.alloc(), "the store", fault)),
+        }
+    }
+}
+
+/// What an archive holds.
+fn contents_of<S: Alter>(rt: &HostRuntime, archive: &mut Store<S>) -> Result<Contents, Failure> {
+    let today = today(rt)?;
+    let mut contents = Contents {
+        records: 0,
+        live: 0,
+        held: 0,
+        due: 0,
+        messages: 0,
+        octets: 0,
+        last: 0,
+        message: 0,
+    };
+    let mut walk = Walk::from(1);
+    for _ in 0..u64::MAX {
+        let page = walk.next_page(rt, archive)?;
+        if page.is_empty() {
+            break;
+        }
+        for entry in page.iter() {
+            contents.add(rt, archive, entry, today)?;
+        }
+    }
+    Ok(contents)
+}
+
+/// Says what an archive holds.
+fn write_contents<S: Alter>(rt: &HostRuntime, archive: &mut Store<S>) -> Result<(), Failure> {
+    let classes = archive.plan().class_count();
+    let held = contents_of(rt, archive)?;
+    let text = format!(in rt.alloc();
+        "classes {}\nrecords {}\nlive {}\nheld {}\ndue today {}\nmessages {}\noctets {}\nnext number {}\n",
+        classes,
+        held.records,
+        held.live,
+        held.held,
+        held.due,
+        held.messages,
+        held.octets,
+        u64::from(held.last) + 1
+    )?;
+    write_text(rt, text.as_str())
+}
+
+/// `check`: reads a whole store, and writes to standard output what it holds.
+#[derive(Clone, Copy)]
+pub struct CheckTask;
+
+impl Task for CheckTask {
+    type Answer = ();
+
+    fn work_on<S: Alter>(
+        self,
+        rt: &HostRuntime,
+        archive: Store<S>,
+    ) -> (Store<S>, Result<(), Failure>) {
+        let mut archive = archive;
+        let done = write_contents(rt, &mut archive);
+        (archive, done)
+    }
+}

@@ -1,0 +1,147 @@
+//! How much an archive keeps, and whether two archives are the same.
+
+use class_plan::day_number;
+use cli_console::{Failure, Task, Walk};
+use cli_texts::plan_text;
+use record_store::{RecordEntry, Store};
+use sha2::{Digest, Sha256};
+use sqlite::Alter;
+
+/// What is counted and summed of an archive.
+#[derive(Drop)]
+struct Summing {
+    hasher: Sha256,
+    records: u64,
+    messages: u64,
+    octets: u64,
+    /// The message that was added last.
+    message: u32,
+}
+
+/// How much an archive keeps, and a sum over all of it. Archives with the same sum are the same.
+#[derive(Clone, Copy)]
+pub struct Summary {
+    /// How many records it has, destroyed ones too.
+    pub records: u64,
+    /// How many messages it has.
+    pub messages: u64,
+    /// How many octets these messages have.
+    pub octets: u64,
+    /// The SHA-256 of the plan, the records with their holds, and the messages.
+    pub sum: [u8; 32],
+}
+
+impl Summing {
+    fn add_number(&mut self, number: i64) {
+        self.hasher.update(number.to_le_bytes().as_slice());
+    }
+
+    /// Adds octets, and before them how many they are.
+    fn add_octets(&mut self, octets: &[u8]) {
+        self.hasher
+            .update((octets.len() as u64).to_le_bytes().as_slice());
+        self.hasher.update(octets);
+    }
+
+    /// Adds a record with its holds.
+    fn add_record(&mut self, entry: &RecordEntry) {
+        self.records = self.records.saturating_add(1);
+        self.add_number(i64::from(entry.number));
+        self.add_number(i64::from(entry.message));
+        self.add_number(i64::from(entry.destroyed));
+        self.add_number(day_number(entry.day));
+        self.add_octets(entry.path.as_slice());
+        self.hasher
+            .update((entry.holds.len() as u64).to_le_bytes().as_slice());
+        for name in entry.holds.iter() {
+            self.add_octets(name.as_slice());
+        }
+    }
+
+    /// Adds the message of a live record, unless it was that of the one before.
+    fn add_message<S: Alter>(
+        &mut self,
+        rt: &HostRuntime,
+        archive: &mut Store<S>,
+        entry: &RecordEntry,
+    ) -> Result<(), Failure> {
+        if entry.destroyed || (self.messages > 0 && self.message == entry.message) {
+            return Ok(());
+        }
+        match archive.message(entry.number) {
+            Ok(octets) => {
+                self.message = entry.message;
+                self.messages = self.messages.saturating_add(1);
+                self.octets = self.octets.saturating_add(octets.len() as u64);
+                self.add_octets(octets.as_slice());
+                Ok(())
+            }
+            Err(fault) => Err(Failure::of_store(rt.alloc(), "the store", fault)),
+        }
+    }
+
+    /// Adds all records and their messages.
+    fn add_all<S: Alter>(
+        &mut self,
+        rt: &HostRuntime,
+        archive: &mut Store<S>,
+    ) -> Result<(), Failure> {
+        let mut walk = Walk::from(1);
+        for _ in 0..u64::MAX {
+            let page = walk.next_page(rt, archive)?;
+            if page.is_empty() {
+                break;
+            }
+            for entry in page.iter() {
+                self.add_record(entry);
+                self.add_message(rt, archive, entry)?;
+            }
+        }
+        Ok(())
+    }
+}
+
+/// Reads a whole archive: its plan, its records with their holds, and its messages. A failure is that of the store.
+pub fn summary_of<S: Alter>(rt: &HostRuntime, archive: &mut Store<S>) -> Result<Summary, Failure> {
+    let mut summing = Summing {
+        hasher: Sha256::new(),
+        records: 0,
+        messages: 0,
+        octets: 0,
+        message: 0,
+    };
+    let plan = plan_text(rt.alloc(), archive.plan())?;
+    summing.add_octets(plan.as_bytes());
+    summing.add_all(rt, archive)?;
+    let Summing {
+        hasher,
+        records,
+        messages,
+        octets,
+        ..
+    } = summing;
+    Ok(Summary {
+        records,
+        messages,
+        octets,
+        sum: hasher.finalize(),
+    })
+}
+
+/// `copy`: reads a whole archive.
+#[derive(Clone, Copy)]
+pub struct SumTask;
+
+impl Task for SumTask {
+    type Answer = Summary;
+
+    fn work_on<S: Alter>(
+        self,
+        rt: &HostRuntime,
+        archive: Store<S>,
+    ) -> (Store<S>, Result<Summary, Failure>) {
+        let mut archive = archive;
+        let summary = summary_of(rt, &mut archive);
+        (archive, summary)
+    }
+}

@@ -1,0 +1,2 @@
+#![tactic(auto)]
+//! Laws that several crates cite. It has no code.

@@ -1,0 +1,116 @@
+-- Deliveries: the calls of a desk by which a message is captured, with their answers, and what is done on a fault.
+use Rattle.std.specs.Prelude.{◌≡◌, ◌⊎◌, ℕ, ◌+◌, List, [], ◌∷◌, Bool, true, false, ◌||◌, nat_lt, MatchBool}
+use Rattle.std.specs.Prelude.{Option, Some, None, Result, Ok, Err}
+use Rattle.sieve_meaning.specs.declared.outcome.Outcome.{Outcome}
+use Rattle.sieve_meaning.specs.declared.run_fault.RunFault.{RunFault}
+use Rattle.desk_commands.specs.Answers.{Answer, begun, captured, refused}
+use Rattle.desk_commands.specs.ArchiveAnswers.{is_of_archive}
+use Rattle.desk_commands.specs.CallAnswers.{answer_of_capture}
+use Rattle.desk_commands.specs.Faults.{refused_by}
+use Rattle.desk_commands.specs.Calls.{Leads}
+use Rattle.desk_commands.specs.Office.{IsTrouble}
+use Rattle.desk_commands.specs.Pinning.{BeginState, IsAlone}
+use Rattle.desk_commands.specs.Standing.{Command, Flight, Standing, Step, begin, begin_state, finish, flight_of, turn}
+use Rattle.desk_commands.specs.declared.fault.DeskFault.{DeskFault}
+use Rattle.desk_commands.specs.declared.fault.DeskFault.TheVariants.{NoMemory}
+use Rattle.filing_desk.specs.declared.deliveries.Delivery.{Delivery}
+use Rattle.filing_desk.specs.declared.deliveries.Delivery.TheVariants.{Captured, GivenUp}
+use Rattle.filing_desk.specs.declared.deliveries.OnFault.{OnFault}
+use Rattle.filing_desk.specs.declared.deliveries.OnFault.TheVariants.{GiveUp, Capture}
+
+-- a command and its answer
+pub record Call : Type 0 where
+  pub command : Command
+  pub answer : Answer
+
+-- calls, one after the other, lead from a state to this one
+abbrev pub Goes : Standing → List Call → Standing → Type 0
+Goes s [] new = new ≡ s
+Goes s (c ∷ calls) new = (mid : Standing) × Step s c.command c.answer mid × Goes mid calls new
+
+-- whether one of these answers comes from the archive
+abbrev pub are_of_archive : List Call → Bool
+are_of_archive [] = false
+are_of_archive (c ∷ calls) = is_of_archive c.command c.answer || are_of_archive calls
+
+-- A desk went through these calls. Where it is clean afterwards, it was clean before, and each state that it represented
+-- leads by the calls to one that it represents. Only an answer of the archive needs that the desk is clean afterwards.
+pub record Follows {D : Type 0} (clean : D → Type 0) (stands : D → Standing → Type 0) (old : D) (calls : List Call)
+    (new : D) : Type 0 where
+  pub was_clean : clean new → clean old
+  pub leads : (are_of_archive calls ≡ true → clean new) → (s : Standing) → stands old s → Leads stands new (Goes s calls)
+
+-- The outcome of a capture alone, by the state at its beginning, has this fault, or none.
+abbrev pub HasFault : BeginState → Option RunFault → Type 0
+HasFault at_begin fault = (o : Outcome) × IsAlone at_begin o × (o.fault ≡ fault)
+
+-- What is reported of a capture that is looked up: the fault of its outcome alone, where it has come to its end; and none
+-- where it has not, or where no capture is found.
+abbrev pub TellsFault : Option Flight → Option RunFault → Type 0
+TellsFault None told = told ≡ None
+TellsFault (Some f) told = MatchBool (nat_lt f.granted f.run_length) (told ≡ None) (HasFault f.at_begin told)
+
+-- An answer to the FINISH of a capture whose run ended with this fault: the capture with this fault, or a refusal because
+-- the numbers of records are used up (87), by the database (89) or for lack of memory (99).
+abbrev pub AnswersFault : RunFault → Answer → Type 0
+AnswersFault fault (captured told lines) = told ≡ Some fault
+AnswersFault fault (refused n at) = (n ≡ 87) ⊎ IsTrouble n
+AnswersFault fault _ = ⊥
+
+-- what a delivery is of: an officer, a moment and a message
+module _ (officer : List ℕ) (moment : ℕ) (message : List ℕ) where
+  -- BEGIN, with a ticket and a budget
+  abbrev pub begins : (ticket budget : ℕ) → Call
+  begins t b = record { command = begin officer moment message; answer = begun t b }
+
+  -- BEGIN, and as many turns as its budget
+  abbrev pub first_calls : (ticket budget : ℕ) → Answer → List Call
+  first_calls t b turned = begins t b ∷ record { command = turn t b; answer = turned } ∷ []
+
+  -- the same, and FINISH
+  abbrev pub all_calls : (ticket budget : ℕ) → Answer → Answer → List Call
+  all_calls t b turned finished =
+      begins t b ∷ record { command = turn t b; answer = turned } ∷ record { command = finish t; answer = finished } ∷ []
+
+  -- BEGIN and its turns were answered, or the first of them that was refused is the refusal
+  abbrev pub AreFirst : Result ℕ DeskFault → List Call → Type 0
+  AreFirst (Ok t) calls = (b : ℕ) × (turned : Answer) × (calls ≡ first_calls t b turned)
+  AreFirst (Err f) calls = (calls ≡ record { command = begin officer moment message; answer = refused_by f } ∷ [])
+      ⊎ ((t : ℕ) × (b : ℕ) × (calls ≡ first_calls t b (refused_by f)))
+
+  -- What was captured is what FINISH answered. A message that was given up has no FINISH, and one that was refused has
+  -- the refusal of its last call, or there was no memory to look for a fault.
+  abbrev pub AreCalls : Result Delivery DeskFault → List Call → Type 0
+  AreCalls (Ok (Captured c)) calls =
+      (t : ℕ) × (b : ℕ) × (turned : Answer) × (calls ≡ all_calls t b turned (answer_of_capture (Ok c)))
+  AreCalls (Ok (GivenUp fault)) calls = (t : ℕ) × (b : ℕ) × (turned : Answer) × (calls ≡ first_calls t b turned)
+  AreCalls (Err f) calls = AreFirst (Err f) calls
+      ⊎ (((t : ℕ) × (b : ℕ) × (turned : Answer) × (calls ≡ all_calls t b turned (refused_by f)))
+      ⊎ ((t : ℕ) × (b : ℕ) × (turned : Answer) × (f ≡ NoMemory) × (calls ≡ first_calls t b turned)))
+
+-- A message that was delivered in this state has this fault. In each state that the desk then represents, a FINISH of its
+-- ticket, which is the next one, would be answered with this fault or refused. And where no capture had that ticket
+-- before, as in each state of a session, the outcome of the capture alone, by the state at its BEGIN, has this fault.
+pub record IsFaulty {D : Type 0} (stands : D → Standing → Type 0) (s : Standing) (officer : List ℕ) (moment : ℕ)
+    (message : List ℕ) (fault : RunFault) (new : D) : Type 0 where
+  pub answers : (to after : Standing) (a : Answer) → stands new to → Step to (finish (s.last + 1)) a after → AnswersFault fault a
+  pub alone : flight_of (s.last + 1) s.flights ≡ None → HasFault (begin_state s.office officer moment message) (Some fault)
+
+module _ {D : Type 0} (clean : D → Type 0) (stands : D → Standing → Type 0) (old : D) (officer : List ℕ) (moment : ℕ)
+    (message : List ℕ) where
+  abbrev pub BeginsCapture : Result ℕ DeskFault → (new : D) → Type 0
+  BeginsCapture result new = (calls : List Call) × AreFirst officer moment message result calls × Follows clean stands old calls new
+
+  -- What was to be done on a fault is done. Where messages are given up for a fault, one that was captured has none, on a
+  -- clean disk, and one that was given up has the fault that is reported, on any disk. Else none is given up.
+  abbrev pub Heeds : Result Delivery DeskFault → OnFault → (new : D) → Type 0
+  Heeds (Ok (Captured c)) GiveUp new = clean new → (s : Standing) → stands old s → c.fault ≡ None
+  Heeds (Ok (GivenUp fault)) GiveUp new = (s : Standing) → stands old s → IsFaulty stands s officer moment message fault new
+  Heeds (Ok (Captured c)) Capture new = Unit {0}
+  Heeds (Ok (GivenUp fault)) Capture new = ⊥
+  Heeds (Err f) on_fault new = Unit {0}
+
+  -- the desk went through the calls of a delivery, this is their result, and on a fault it was done as was said
+  abbrev pub Delivers : OnFault → Result Delivery DeskFault → (new : D) → Type 0
+  Delivers on_fault result new = (calls : List Call) × AreCalls officer moment message result calls
+      × Follows clean stands old calls new × Heeds result on_fault new

@@ -1,4 +1,0 @@
-pub mod CallLemmas
-pub mod FaultLemmas
-pub mod BegunLemmas
-pub mod HeedLemmas

@@ -1,7 +1,0 @@
-use Rattle.std.proofs.Common.{◌≡◌, map, take}
-use Rattle.plain_evaluator.specs.Case.{field_of}
-use Rattle.filing_case.specs.Message.{field_in}
-use Rattle.plain_evaluator.proofs.case.BorrowedCase.read.Given as goal
-
-abbrev pub invariant-loop-field : goal.invariant-loop-field
-invariant-loop-field g l = map field_of l.fields.items ≡ map field_in (take l.field-index l.field-items)

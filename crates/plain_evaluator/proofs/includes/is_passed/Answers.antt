@@ -1,7 +1,0 @@
-use Rattle.std.proofs.Common.{◌∙◌}
-use Rattle.sieve_meaning.specs.Scripts.{script_of}
-use Rattle.plain_evaluator.proofs.IncludeLemmas.{among_names}
-use Rattle.plain_evaluator.proofs.includes.is_passed.Goals as goal
-
-pub returns-then-include : goal.returns-then-include
-returns-then-include c = rw c.if-include.true (c.was_entered.ensures ∙ among_names c.args.entered.now.items (script_of c.args.include.now.script))

@@ -1,7 +1,0 @@
-use Rattle.std.proofs.Common.{◌≡◌, ◌++◌, flat_map, string_bytes}
-use Rattle.std.specs.Str.{encode_utf8_all}
-use Rattle.report_page.specs.Escaping.{shown_of}
-use Rattle.report_page.proofs.escaping.push_escaped.Given as goal
-
-abbrev pub invariant-loop-c : goal.invariant-loop-c
-invariant-loop-c l = string_bytes l.page ≡ string_bytes l.initial.page ++ encode_utf8_all (flat_map shown_of l.yielded)

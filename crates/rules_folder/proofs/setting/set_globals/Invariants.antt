@@ -1,9 +1,0 @@
-use Rattle.std.proofs.Common.{drop}
-use Rattle.filing_commands.specs.Calls.{Calls}
-use Rattle.rules_folder.specs.Setting.{globally}
-use Rattle.rules_folder.proofs.Calling.{Goes}
-use Rattle.rules_folder.proofs.setting.set_globals.Given as goal
-
-abbrev pub invariant-loop-script : goal.invariant-loop-script
-invariant-loop-script g l = Goes (Calls g.D.Registry.clean g.D.Registry.stands g.D.Registry.may_leave g.D.Registry.keeps) globally
-    l.rules.globals.items (drop l.script-index l.script-items) l.initial.desk l.desk

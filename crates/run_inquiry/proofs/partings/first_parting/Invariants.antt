@@ -1,6 +1,0 @@
-use Rattle.std.proofs.Common.{◌≡◌, take}
-use Rattle.run_inquiry.specs.Partings.{words_of}
-use Rattle.run_inquiry.proofs.partings.first_parting.Given as goal
-
-abbrev pub invariant-loop-number : goal.invariant-loop-number
-invariant-loop-number l = take l.number (words_of l.one) ≡ take l.number (words_of l.other)

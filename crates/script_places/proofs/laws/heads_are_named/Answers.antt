@@ -1,5 +1,0 @@
-use Rattle.script_places.proofs.HeadLemmas.{heads_named}
-use Rattle.script_places.proofs.laws.heads_are_named.Goals as goal
-
-pub returns : goal.returns
-returns c = heads_named

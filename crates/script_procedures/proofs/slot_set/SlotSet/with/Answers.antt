@@ -1,5 +1,0 @@
-use Rattle.script_procedures.proofs.SetLemmas.{has_one_more}
-use Rattle.script_procedures.proofs.slot_set.SlotSet.with.Goals as goal
-
-pub returns : goal.returns
-returns c = λ k. has_one_more c.args.self.bits c.args.slot k c.requires

@@ -1,0 +1,23 @@
+use Rattle.std.proofs.Common.{◌≡◌, ◌-◌, ◌≤◌}
+use Rattle.desk_commands.specs.Calls.{Calls}
+use Rattle.session_protocol.specs.Session.{session_of, left_by}
+use Rattle.session_protocol.proofs.Served.{Doing}
+use Rattle.session_protocol.specs.Streams.{most_with}
+use Rattle.session_protocol.proofs.session.serve.Given as goal
+
+abbrev pub invariant-loop : goal.invariant-loop
+invariant-loop g l = record {
+  doing : Doing (Calls g.R.Registry.clean g.R.Registry.stands g.R.Registry.may_leave g.R.Registry.keeps) g.S.Source.tells g.K.Sink.tells l.counter
+      (session_of 1000000 (g.S.Source.left l.fn.source)) l.fn.registry
+      (g.K.Sink.written l.fn.sink) (g.S.Source.left l.source) l.registry (g.K.Sink.written l.sink);
+  unread : g.S.Source.tells → left_by 1000000 (g.S.Source.left l.fn.source) ≡ left_by (1000000 - l.counter) (g.S.Source.left l.source);
+  ends : g.S.Source.ends l.fn.source ≤ g.S.Source.ends l.source;
+  reads_over : (g.S.Source.troubles l.source).interruptions ≤ (g.S.Source.troubles l.fn.source).interruptions;
+  reads : (g.S.Source.troubles l.source).most_interruptions ≤ most_with (g.S.Source.troubles l.fn.source) 63;
+  writes_over : (g.K.Sink.troubles l.sink).interruptions ≤ (g.K.Sink.troubles l.fn.sink).interruptions;
+  writes : (g.K.Sink.troubles l.sink).most_interruptions ≤ most_with (g.K.Sink.troubles l.fn.sink) 63;
+  reads_all : (g.S.Source.troubles l.fn.source).all_interruptions ≤ (g.S.Source.troubles l.source).all_interruptions;
+  writes_all : (g.K.Sink.troubles l.fn.sink).all_interruptions ≤ (g.K.Sink.troubles l.sink).all_interruptions;
+  read_failures : (g.S.Source.troubles l.source).failures ≡ (g.S.Source.troubles l.fn.source).failures;
+  write_failures : (g.K.Sink.troubles l.sink).failures ≡ (g.K.Sink.troubles l.fn.sink).failures;
+}

@@ -1,0 +1,115 @@
+//! A writer as a session's sink. Nothing is claimed about the octets of a terminal, a file or a pipe. Where the writers
+//! of a type know what they have taken, exactly what is written is given to them.
+
+ghost use Rattle.std.specs.Prelude.{◌≡◌, ◌≤◌, ◌++◌, [], length, take, false, true, IfOk, Ok};
+ghost use Rattle.std.specs.Io.KnownBytes.{Keeps, WriteAppends, append_known};
+ghost use Rattle.session_protocol.specs.Streams.{no_troubles};
+ghost use Rattle.session_protocol.specs.Written.{has_line_end};
+
+use crate::held::Held;
+use crate::stream::{Sink, Trouble};
+use crate::tally::Tally;
+use crate::trouble::trouble_of;
+use std::io::{self, Write};
+
+/// A writer that is given whole lines as soon as they end, where they are short enough. So whoever waits for a reply
+/// has it before more input is read.
+#[derive(Drop)]
+pub struct Output<W> {
+    inner: W,
+    held: Held,
+    tally: Tally,
+    ghost no_line_held: { has_line_end held ≡ false },
+}
+
+impl<W: Write> Output<W> {
+    /// A sink over a writer, which holds nothing, and has met no trouble yet.
+    pub fn new(inner: W) -> Output<W>
+        ensures inner { result.inner ≡ inner }
+        ensures held { result.held ≡ [] }
+        ensures tally { result.tally ≡ no_troubles }
+    {
+        Output {
+            inner,
+            held: Held::new(),
+            tally: Tally::new(),
+        }
+    }
+
+    /// Holds octets as far as there is room, and answers how many. None is held where one of them ends a line.
+    fn hold(&mut self, octets: &[u8]) -> usize
+        ensures within { result ≤ length octets.now }
+        ensures held { self.new.held ≡ self.old.held ++ take result octets.now }
+        ensures inner { self.new.inner ≡ self.old.inner }
+        ensures tally { self.new.tally ≡ self.old.tally }
+    {
+        if octets.contains(&b'\n') {
+            return 0;
+        }
+        self.held.hold(octets)
+    }
+
+    /// Writes what is held; false where a write took no octet. What was not written is held on.
+    fn send_held(&mut self) -> io::Result<bool>
+        ensures octets { Keeps (append_known (W.contents self.old.inner) self.old.held)
+            (append_known (W.contents self.new.inner) self.new.held) }
+        ensures sent { result ≡ Ok true → self.new.held ≡ [] }
+        ensures tally { self.new.tally ≡ self.old.tally }
+    {
+        while !self.held.is_empty() {
+            let count = self.inner.write(self.held.as_slice())?;
+            if count == 0 {
+                return Ok(false);
+            }
+            self.held.release(count);
+        }
+        Ok(true)
+    }
+
+    /// Writes what is held and then these octets, and answers how many of these the writer took. The answer is 0 also
+    /// where a write of what is held took no octet.
+    fn write_through(&mut self, octets: &[u8]) -> io::Result<usize>
+        ensures within { IfOk result (λ n. n ≤ length octets.now) }
+        ensures octets { WriteAppends (append_known (W.contents self.old.inner) self.old.held)
+            (append_known (W.contents self.new.inner) self.new.held) result octets.now }
+        ensures tally { self.new.tally ≡ self.old.tally }
+    {
+        if !self.send_held()? {
+            return Ok(0);
+        }
+        self.inner.write(octets)
+    }
+}
+
+impl<W: Write> Sink for Output<W> {
+    ghost use Rattle.std.specs.Prelude.{IsSome, refl};
+    ghost use Rattle.session_protocol.specs.Known.{known};
+
+    ghost tells = { (w : W) → IsSome (W.contents w) };
+
+    ghost written = { λ s. known (W.contents s.inner) ++ s.held };
+
+    ghost sent = { λ s. known (W.contents s.inner) };
+
+    ghost troubles = { λ s. s.tally };
+
+    fn write(&mut self, octets: &[u8]) -> Result<usize, Trouble> {
+        if octets.is_empty() {
+            return Ok(self.tally.count_moved(0));
+        }
+        let count = self.hold(octets);
+        if count > 0 {
+            return Ok(self.tally.count_moved(count));
+        }
+        match self.write_through(octets) {
+            Ok(0) => {
+                let _ = self.tally.count(Trouble::Failed);
+                Ok(0)
+            }
+            Ok(count) => Ok(self.tally.count_moved(count)),
+            Err(error) => Err(self.tally.count(trouble_of(&error))),
+        }
+    }
+
+    ghost lines_are_sent = { λ s. (s.held, refl, s.no_line_held) };
+}

@@ -1,0 +1,129 @@
+//! Warnings of includes that come back to a script that is still running.
+
+use crate::reached::{Reached, Start};
+use std::alloc::{AllocError, Global};
+use tool_console::{Failure, push_named, push_place, write_line};
+use tool_findings::{Circle, circles_of};
+
+/// Adds the path of a script, as it is shown.
+fn push_path(text: &mut String, reached: &Reached, script: usize) -> Result<(), AllocError> {
+    push_named(text, reached.path(script).as_bytes())
+}
+
+/// Adds the paths of scripts, each of which includes the next one.
+fn push_including(
+    text: &mut String,
+    reached: &Reached,
+    scripts: &[usize],
+) -> Result<(), AllocError> {
+    for script in scripts {
+        push_path(text, reached, *script)?;
+        text.push_str(" includes ")?;
+    }
+    Ok(())
+}
+
+/// Adds the scripts of a circle in words, each of which includes the next one, beginning at a place among them.
+fn push_chain(
+    text: &mut String,
+    reached: &Reached,
+    scripts: &[usize],
+    from: usize,
+) -> Result<(), AllocError> {
+    let (before, after) = scripts.split_at(from.min(scripts.len()));
+    push_including(text, reached, after)?;
+    push_including(text, reached, before)?;
+    push_path(text, reached, scripts.get(from).copied().unwrap_or(0))
+}
+
+/// The place of the script of a circle whose path is the first of all in byte order.
+fn first_of(reached: &Reached, scripts: &[usize]) -> usize {
+    let mut first: usize = 0;
+    for (place, script) in scripts.iter().enumerate() {
+        let least = scripts.get(first).copied().unwrap_or(0);
+        if reached.path(*script) < reached.path(least) {
+            first = place;
+        }
+    }
+    first
+}
+
+/// The scripts of a circle in words, which are the same from whichever script the circle was found.
+fn name_of(alloc: Global, reached: &Reached, circle: &Circle) -> Result<String, AllocError> {
+    let scripts = circle.scripts.as_slice();
+    let mut name = String::new(alloc);
+    push_chain(&mut name, reached, scripts, first_of(reached, scripts))?;
+    Ok(name)
+}
+
+/// Writes the warning of a circle, with its place.
+fn write_warning(rt: &HostRuntime, reached: &Reached, circle: &Circle) -> Result<(), Failure> {
+    let last = circle.scripts.last().copied().unwrap_or(0);
+    let mut line = String::new(rt.alloc());
+    push_place(&mut line, reached.path(last), reached.text(last), circle.at)?;
+    line.push_str("warning: this include comes back: ")?;
+    push_chain(&mut line, reached, circle.scripts.as_slice(), 0)?;
+    write_line(rt, &mut line)
+}
+
+/// Whether a text is among others.
+fn is_among(texts: &[String], text: &str) -> bool {
+    for other in texts {
+        if other.as_str() == text {
+            return true;
+        }
+    }
+    false
+}
+
+/// Writes the warning of a circle, unless it was told before.
+fn warn_once(
+    rt: &HostRuntime,
+    reached: &Reached,
+    circle: &Circle,
+    told: &mut Vec<String>,
+) -> Result<(), Failure> {
+    let name = name_of(rt.alloc(), reached, circle)?;
+    if is_among(told, name.as_str()) {
+        return Ok(());
+    }
+    told.push(name)?;
+    write_warning(rt, reached, circle)
+}
+
+/// The includes that come back, among the scripts that a script can reach, which are read.
+fn read_circles(
+    rt: &HostRuntime,
+    start: &Start<'_>,
+    reached: &mut Reached,
+) -> Result<Vec<Circle>, Failure> {
+    let mut includes = Vec::new(rt.alloc());
+    reached.follow(rt, start, &mut includes)?;
+    Ok(circles_of(rt.alloc(), includes.as_slice())?)
+}
+
+/// Writes the warnings of circles, but for those that were told before.
+fn warn_of_each(
+    rt: &HostRuntime,
+    reached: &Reached,
+    circles: &[Circle],
+    told: &mut Vec<String>,
+) -> Result<(), Failure> {
+    for circle in circles {
+        warn_once(rt, reached, circle, told)?;
+    }
+    Ok(())
+}
+
+/// Writes a warning for each include that comes back to a script that is still running, among the scripts that a good
+/// script with this text can reach. A circle that was told already, from any of its scripts, is not told again.
+pub fn warn_of_circles(
+    rt: &HostRuntime,
+    start: &Start<'_>,
+    text: Vec<u8>,
+    told: &mut Vec<String>,
+) -> Result<(), Failure> {
+    let mut reached = Reached::alone(rt.alloc(), start.path, text)?;
+    let circles = read_circles(rt, start, &mut reached)?;
+    warn_of_each(rt, &reached, circles.as_slice(), told)
+}
