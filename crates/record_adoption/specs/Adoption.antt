@@ -30,7 +30,7 @@ use Rattle.record_adoption.specs.declared.common_rows.ArchiveRows.{ArchiveRows}
 use Rattle.record_adoption.specs.declared.common_rows.CommonRows.{CommonRows}
 use Rattle.record_adoption.specs.declared.overview.Overview.{Overview}
 use Rattle.record_adoption.specs.declared.plan_rows.PlanRows.{PlanRows}
-use Rattle.record_adoption.specs.declared.settle.Contents.{Contents}
+use Rattle.record_adoption.specs.declared.version.Contents.{Contents}
 
 -- ---- the rows of a database
 

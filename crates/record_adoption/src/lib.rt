@@ -10,8 +10,10 @@ mod plan_rows;
 mod settle;
 mod tallies;
 mod text_rows;
+mod version;
 
 pub use counts::Counts;
 pub use overview::Overview;
 pub use plan_days::{LAST_CAPTURE_DAY, due_day_of, due_rows_by, number_of};
-pub use settle::{settle_first, settle_second};
+pub use settle::settle_version;
+pub use version::{First, Second, Version};

@@ -14,7 +14,7 @@ use std::alloc::{AllocError, Global};
 
 /// The rows of a plan, by their paths.
 #[derive(Drop)]
-pub(crate) struct PlanRows {
+pub struct PlanRows {
     pub(crate) rules: Vec<ScheduleRow>,
     pub(crate) classes: Vec<ClassRow>,
 }

@@ -3,7 +3,7 @@
 ghost use Rattle.std.specs.Prelude.{◌≡◌, false, IfOk, IfErr, OnOk};
 ghost use Rattle.sqlite.specs.State.{HasCleanDisk};
 ghost use Rattle.sqlite.specs.Held.{state};
-ghost use Rattle.record_tables.specs.Tables.{IsFree, HasCommonTables, IsArchiveSchema};
+ghost use Rattle.record_tables.specs.Tables.{IsFree};
 ghost use Rattle.record_tables.specs.Steps.{IsUntouched};
 ghost use Rattle.record_archive.specs.declared.fault.ArchiveFault.TheVariants.{Refused};
 ghost use Rattle.record_archive.specs.declared.fault.ArchiveRefusal.TheVariants.{NoArchive};
@@ -13,11 +13,11 @@ ghost use Rattle.record_adoption.specs.Keeping.{StoresArchive};
 ghost use Rattle.record_store.specs.Faults.{is_own};
 ghost use Rattle.record_store.specs.Layouts.{HasArchiveTablesOrNone};
 ghost use Rattle.record_store.specs.Stores.{StandsFor, TakesOver};
-ghost use Rattle.record_adoption.specs.Adoption.{Finds, FindsRows, FindsSecond, FindsFirst, HasNoArchive, HasArchive, HasRows, IsKeyed, LeavesArchive, IsSoundSecond, IsSoundFirst, FindsNone, LeavesFound, AreTypedSecond, AreTypedFirst, HasTypedRows};
+ghost use Rattle.record_adoption.specs.Adoption.{Finds, FindsRows, HasNoArchive, HasArchive, HasRows, IsKeyed, LeavesArchive, FindsNone, LeavesFound, HasTypedRows};
 
 use crate::fault::{StoreFault, fault_of_read};
 use crate::store::Store;
-use record_adoption::{Overview, settle_first, settle_second};
+use record_adoption::{First, Overview, Second, Version, settle_version};
 use record_archive::ArchiveRefusal;
 use record_tables::layout::{Layout, layout_of};
 use sqlite::{Alter, Connection};
@@ -47,67 +47,36 @@ fn store_over<S: Alter>(alloc: Global, conn: Connection<S>, overview: Overview) 
     }
 }
 
+/// The store over a database with a version of the tables.
+fn adopt_version<V: Version, S: Alter>(
+    alloc: Global,
+    mut conn: Connection<S>,
+) -> Result<Store<S>, (StoreFault, Connection<S>)>
+    requires { conn.in_transaction ≡ false }
+    ensures sound { IfOk result
+        (λ s. HasCleanDisk (state S.Store s.conn) → V.is_sound (state S.Store conn).now) }
+    ensures typed { IfOk result (λ s. HasCleanDisk (state S.Store s.conn)
+        → V.are_there (state S.Store conn).now.schema → V.are_typed (state S.Store conn).now) }
+    ensures found { IfOk result (λ s. TakesOver S.Store conn s V.finds IsKeyed) }
+    ensures no_archive { IfErr result (λ e. e.0 ≡ Refused NoArchive →
+        HasCleanDisk (state S.Store e.1) → FindsNone V.finds (state S.Store conn).now) }
+    ensures trouble { IfErr result (λ e. is_trouble e.0 ≡ false → e.0 ≡ Refused NoArchive) }
+    ensures cause { IfErr result (λ e. is_own e.0 ≡ false) }
+    ensures unchanged { IfErr result (λ e. IsUntouched S.Store conn e.1) }
+    ensures crash { IfOk result (λ s. LeavesFound S.Store conn s.conn V.finds IsKeyed) }
+    ensures crash_refused { IfErr result (λ e. LeavesFound S.Store conn e.1 V.finds IsKeyed) }
+{
+    let _settled = conn.is_autocommit();
+    match settle_version::<V, S>(alloc, &mut conn) {
+        Ok(overview) => Ok(store_over(alloc, conn, overview)),
+        Err(fault) => {
+            let _still = conn.is_autocommit();
+            Err((fault_of_read(fault), conn))
+        }
+    }
+}
+
 impl<S: Alter> Store<S> {
-    fn adopt_second(
-        alloc: Global,
-        mut conn: Connection<S>,
-    ) -> Result<Store<S>, (StoreFault, Connection<S>)>
-        requires { conn.in_transaction ≡ false }
-        ensures sound { IfOk result
-            (λ s. HasCleanDisk (state S.Store s.conn) → IsSoundSecond (state S.Store conn).now) }
-        ensures typed { IfOk result (λ s. HasCleanDisk (state S.Store s.conn)
-            → IsArchiveSchema (state S.Store conn).now.schema
-            → AreTypedSecond (state S.Store conn).now) }
-        ensures found { IfOk result (λ s. TakesOver S.Store conn s FindsSecond IsKeyed) }
-        ensures no_archive { IfErr result (λ e. e.0 ≡ Refused NoArchive →
-            HasCleanDisk (state S.Store e.1) → FindsNone FindsSecond (state S.Store conn).now) }
-        ensures trouble { IfErr result (λ e. is_trouble e.0 ≡ false → e.0 ≡ Refused NoArchive) }
-        ensures cause { IfErr result (λ e. is_own e.0 ≡ false) }
-        ensures unchanged { IfErr result (λ e. IsUntouched S.Store conn e.1) }
-        ensures crash { IfOk result (λ s. LeavesFound S.Store conn s.conn FindsSecond IsKeyed) }
-        ensures crash_refused { IfErr result
-            (λ e. LeavesFound S.Store conn e.1 FindsSecond IsKeyed) }
-    {
-        let _settled = conn.is_autocommit();
-        match settle_second(alloc, &mut conn) {
-            Ok(overview) => Ok(store_over(alloc, conn, overview)),
-            Err(fault) => {
-                let _still = conn.is_autocommit();
-                Err((fault_of_read(fault), conn))
-            }
-        }
-    }
-
-    fn adopt_first(
-        alloc: Global,
-        mut conn: Connection<S>,
-    ) -> Result<Store<S>, (StoreFault, Connection<S>)>
-        requires { conn.in_transaction ≡ false }
-        ensures sound { IfOk result
-            (λ s. HasCleanDisk (state S.Store s.conn) → IsSoundFirst (state S.Store conn).now) }
-        ensures typed { IfOk result (λ s. HasCleanDisk (state S.Store s.conn)
-            → HasCommonTables (state S.Store conn).now.schema
-            → AreTypedFirst (state S.Store conn).now) }
-        ensures found { IfOk result (λ s. TakesOver S.Store conn s FindsFirst IsKeyed) }
-        ensures no_archive { IfErr result (λ e. e.0 ≡ Refused NoArchive →
-            HasCleanDisk (state S.Store e.1) → FindsNone FindsFirst (state S.Store conn).now) }
-        ensures trouble { IfErr result (λ e. is_trouble e.0 ≡ false → e.0 ≡ Refused NoArchive) }
-        ensures cause { IfErr result (λ e. is_own e.0 ≡ false) }
-        ensures unchanged { IfErr result (λ e. IsUntouched S.Store conn e.1) }
-        ensures crash { IfOk result (λ s. LeavesFound S.Store conn s.conn FindsFirst IsKeyed) }
-        ensures crash_refused { IfErr result
-            (λ e. LeavesFound S.Store conn e.1 FindsFirst IsKeyed) }
-    {
-        let _settled = conn.is_autocommit();
-        match settle_first(alloc, &mut conn) {
-            Ok(overview) => Ok(store_over(alloc, conn, overview)),
-            Err(fault) => {
-                let _still = conn.is_autocommit();
-                Err((fault_of_read(fault), conn))
-            }
-        }
-    }
-
     /// The store over a database. In an empty one the tables are created, as by `create`. Version 2 is taken over,
     /// and its due days are replaced where they are wrong. Version 1, with or without due days, is moved over to
     /// version 2 in one transaction. Tables of other names are ignored.
@@ -142,8 +111,8 @@ impl<S: Alter> Store<S> {
     {
         match layout_of(conn.schema()) {
             Layout::Empty => Store::create(alloc, conn),
-            Layout::Second => Store::adopt_second(alloc, conn),
-            Layout::First | Layout::FirstWithDues => Store::adopt_first(alloc, conn),
+            Layout::Second => adopt_version::<Second, S>(alloc, conn),
+            Layout::First | Layout::FirstWithDues => adopt_version::<First, S>(alloc, conn),
             Layout::Other => Err((StoreFault::Refused(ArchiveRefusal::NoArchive), conn)),
         }
     }

@@ -43,8 +43,8 @@ returns-in-Second g c =
     let lays = lays_at c.schema.result.now db.schema l c.schema.ensures.value c.layout_of.ensures.is c.layout_of.ensures.empty
     c.layout_of.ensures.first c.layout_of.ensures.first_with_dues c.layout_of.ensures.second in
     let version = is_second db l lays c.in-Second.is in
-    let r = c.adopt_second.result in
-    let told = c.adopt_second.ensures in
+    let r = c.adopt_version.result in
+    let told = c.adopt_version.ensures in
     record {
       empty = IfOk-weaker r _ _ (λ s h clean free. absurd (version.named free.none)) told.found;
       found = IfOk-weaker r _ _ (λ s h clean (a : Archive) rows keyed. h clean a (version.only a rows) keyed) told.found;
@@ -68,8 +68,8 @@ returns-in-First g c =
     let lays = lays_at c.schema.result.now db.schema l c.schema.ensures.value c.layout_of.ensures.is c.layout_of.ensures.empty
     c.layout_of.ensures.first c.layout_of.ensures.first_with_dues c.layout_of.ensures.second in
     let version = is_first db l lays c.in-First.is in
-    let r = c.adopt_first.result in
-    let told = c.adopt_first.ensures in
+    let r = c.adopt_version-in-First.result in
+    let told = c.adopt_version-in-First.ensures in
     record {
       empty = IfOk-weaker r _ _ (λ s h clean free. absurd (version.named free.none)) told.found;
       found = IfOk-weaker r _ _ (λ s h clean (a : Archive) rows keyed. h clean a (version.only a rows) keyed) told.found;

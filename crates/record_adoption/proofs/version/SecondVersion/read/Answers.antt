@@ -13,9 +13,9 @@ use Rattle.record_adoption.proofs.AdoptReads.{Reads, sees_as, sees_then, reads_t
 use Rattle.record_adoption.proofs.AdoptReads.{second_lists, second_listed, second_read, second_sound}
 use Rattle.record_adoption.proofs.AdoptRows.{archive_small}
 use Rattle.record_adoption.proofs.AdoptSettled.{keyed_of}
-use Rattle.record_adoption.proofs.settle.read_second.Given.{Over}
-use Rattle.record_adoption.proofs.settle.read_second.Goals.{In_ok-rows, After-schedules, In_ok-rules, After-as_slice}
-use Rattle.record_adoption.proofs.settle.read_second.Goals as goal
+use Rattle.record_adoption.proofs.version.SecondVersion.read.Given.{Over}
+use Rattle.record_adoption.proofs.version.SecondVersion.read.Goals.{In_ok-rows, After-schedules, In_ok-rules, After-as_slice}
+use Rattle.record_adoption.proofs.version.SecondVersion.read.Goals as goal
 
 -- ---- the two reads
 

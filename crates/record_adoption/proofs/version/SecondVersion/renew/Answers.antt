@@ -12,9 +12,9 @@ use Rattle.record_adoption.specs.Keeping.{StoresArchive}
 use Rattle.record_adoption.specs.declared.plan_rows.PlanRows.{PlanRows}
 use Rattle.record_adoption.proofs.AdoptReads.{Reads, holds_after}
 use Rattle.record_adoption.proofs.AdoptSettled.{stores_settled, tells_slices, leaves_read, leaves_then, leaves_made}
-use Rattle.record_adoption.proofs.settle.settle_dues.Given.{Over}
-use Rattle.record_adoption.proofs.settle.settle_dues.Goals.{After-are_dues, In_ok-are_stored, After-replace_plan}
-use Rattle.record_adoption.proofs.settle.settle_dues.Goals as goal
+use Rattle.record_adoption.proofs.version.SecondVersion.renew.Given.{Over}
+use Rattle.record_adoption.proofs.version.SecondVersion.renew.Goals.{After-are_dues, In_ok-are_stored, After-replace_plan}
+use Rattle.record_adoption.proofs.version.SecondVersion.renew.Goals as goal
 
 -- the archive that is found
 abbrev IsFound : PlanRows → List DueRow → Database → Archive → Type 0

@@ -4,7 +4,7 @@ use Rattle.record_adoption.specs.Adoption.{CommonLists, TellsPlan}
 use Rattle.record_adoption.proofs.AdoptReads.{first_lists, first_listed, first_read, first_sound, tells_first, refused}
 use Rattle.record_adoption.proofs.AdoptRows.{archive_small}
 use Rattle.record_adoption.proofs.AdoptSettled.{keyed_of}
-use Rattle.record_adoption.proofs.settle.read_first.Goals as goal
+use Rattle.record_adoption.proofs.version.FirstVersion.read.Goals as goal
 
 pub returns-in_err-rows-clause-none : goal.returns-in_err-rows-clause-none
 returns-in_err-rows-clause-none g c clean is = λ (a : Archive) h archive.

@@ -6,9 +6,9 @@ use Rattle.record_tables.specs.CodeRows.{IsMovedTo, due_of}
 use Rattle.record_adoption.specs.Adoption.{FindsFirst, FindsWith, LeavesArchive}
 use Rattle.record_adoption.specs.Keeping.{StoresArchive}
 use Rattle.record_adoption.proofs.AdoptSettled.{stores_moved, tells_slices, leaves_made}
-use Rattle.record_adoption.proofs.settle.move_over.Given.{Over}
-use Rattle.record_adoption.proofs.settle.move_over.Goals.{After-move_first}
-use Rattle.record_adoption.proofs.settle.move_over.Goals as goal
+use Rattle.record_adoption.proofs.version.FirstVersion.renew.Given.{Over}
+use Rattle.record_adoption.proofs.version.FirstVersion.renew.Goals.{After-move_first}
+use Rattle.record_adoption.proofs.version.FirstVersion.renew.Goals as goal
 
 -- the archive that is found before
 abbrev IsFound : (g : Over) → After-move_first g → Archive → Type 0
