@@ -273,17 +273,17 @@ no_arguments (arguments.Strings l ∷ more) h k = absurd k
 no_arguments (arguments.Number n ∷ more) h k = absurd k
 no_arguments (arguments.Tag name ∷ more) h k = absurd cc
 
-one_string : (xs : List Argument) → TakesEach (places.OneString ∷ []) xs → (s : List ℕ) × (xs ≡ arguments.Strings (string_lists.One s) ∷ [])
+pub one_string : (xs : List Argument) → TakesEach (places.OneString ∷ []) xs → (s : List ℕ) × (xs ≡ arguments.Strings (string_lists.One s) ∷ [])
 one_string [] h = absurd h
 one_string (a ∷ []) h = (h.0.0, ap (λ (b : Argument). b ∷ []) h.0.1)
 one_string (a ∷ b ∷ more) h = absurd h.1
 
-one_number : (xs : List Argument) → TakesEach (places.OneNumber ∷ []) xs → (n : ℕ) × (xs ≡ arguments.Number n ∷ [])
+pub one_number : (xs : List Argument) → TakesEach (places.OneNumber ∷ []) xs → (n : ℕ) × (xs ≡ arguments.Number n ∷ [])
 one_number [] h = absurd h
 one_number (a ∷ []) h = (h.0.0, ap (λ (b : Argument). b ∷ []) h.0.1)
 one_number (a ∷ b ∷ more) h = absurd h.1
 
-two_lists : (xs : List Argument) → TakesEach (places.StringList ∷ places.StringList ∷ []) xs → (names : StringList)
+pub two_lists : (xs : List Argument) → TakesEach (places.StringList ∷ places.StringList ∷ []) xs → (names : StringList)
     × (keys : StringList) × (xs ≡ arguments.Strings names ∷ arguments.Strings keys ∷ [])
 two_lists [] h = absurd h
 two_lists (a ∷ []) h = absurd h.1

@@ -22,7 +22,7 @@ use Rattle.sieve_check.specs.Shapes.{TakesEach, HasEnding, HasForm, TestShape, I
 use Rattle.sieve_check.specs.Shapes.{CommandShape, EndingShape, CommandsShape}
 use Rattle.sieve_check.specs.Tables as tables
 use Rattle.sieve_check.specs.Tables.{WordForm, size_form}
-use Rattle.sieve_check.proofs.Shaped.{shape_law}
+use Rattle.sieve_check.proofs.Shaped.{shape_law, one_string, one_number, two_lists}
 use Rattle.sieve_meaning.specs.declared.words.CommandWord.{CommandWord}
 use Rattle.sieve_meaning.specs.declared.words.CommandWord.TheVariants as commands
 use Rattle.sieve_meaning.specs.declared.words.TestWord.{TestWord}
@@ -91,62 +91,36 @@ takes_none : (xs : List Argument) → TakesEach [] xs → xs ≡ []
 takes_none [] h = refl
 takes_none (a ∷ more) h = absurd h
 
-takes_string : (xs : List Argument) → TakesEach (places.OneString ∷ []) xs → (s : List ℕ) × (xs ≡ arguments.Strings (string_list.One s) ∷ [])
-takes_string [] h = absurd h
-takes_string (a ∷ []) h = (h.0.0, ap (λ (b : Argument). b ∷ []) h.0.1)
-takes_string (a ∷ b ∷ more) h = absurd h.1
-
 takes_list : (xs : List Argument) → TakesEach (places.StringList ∷ []) xs → (l : StringList) × (xs ≡ arguments.Strings l ∷ [])
 takes_list [] h = absurd h
 takes_list (a ∷ []) h = (h.0.0, ap (λ (b : Argument). b ∷ []) h.0.1)
 takes_list (a ∷ b ∷ more) h = absurd h.1
 
-takes_number : (xs : List Argument) → TakesEach (places.OneNumber ∷ []) xs → (n : ℕ) × (xs ≡ arguments.Number n ∷ [])
-takes_number [] h = absurd h
-takes_number (a ∷ []) h = (h.0.0, ap (λ (b : Argument). b ∷ []) h.0.1)
-takes_number (a ∷ b ∷ more) h = absurd h.1
-
-takes_lists : (xs : List Argument) → TakesEach (places.StringList ∷ places.StringList ∷ []) xs → (names : StringList)
-    × (keys : StringList) × (xs ≡ arguments.Strings names ∷ arguments.Strings keys ∷ [])
-takes_lists [] h = absurd h
-takes_lists (a ∷ []) h = absurd h.1
-takes_lists (a ∷ b ∷ []) h = (h.0.0, h.1.0.0, both a b (arguments.Strings h.0.0) (arguments.Strings h.1.0.0) h.0.1 h.1.0.1)
-  where
-    both : (a b c d : Argument) → a ≡ c → b ≡ d → ◌≡◌ {A = List Argument} (a ∷ b ∷ []) (c ∷ d ∷ [])
-    both a b c d e f = cc
-takes_lists (a ∷ b ∷ c ∷ more) h = absurd h.1.1
-
 -- the arguments of a form that has none, one string, one list, two lists, or a number
-module _ (names : List (List (List ℕ))) (form : WordForm) (args : List Argument) (inner : InnerTests)
-    (all : AreRead names form.tags) (each : AreKinds form names) (h : HasForm form args inner) where
+module _ (names : List (List (List ℕ))) {form : WordForm} {args : List Argument} {inner : InnerTests}
+    (h : HasForm form args inner) (all : AreRead names form.tags) (each : AreKinds form names) where
+  -- the arguments in their places, of a form that has these
+  taken : {ps : List Positional} → form.positional ≡ ps → TakesEach ps (positional_arguments (pieces form.tags args))
+  taken e = subst (λ (ps : List Positional). TakesEach ps (positional_arguments (pieces form.tags args))) e h.positional
+
   reads_none : form.positional ≡ [] → HasArguments names [] [] args
-  reads_none e =
-      form_read names form args inner all each h [] (takes_none (positional_arguments (pieces form.tags args))
-      (subst (λ (ps : List Positional). TakesEach ps (positional_arguments (pieces form.tags args))) e h.positional))
+  reads_none e = form_read names form args inner all each h [] (takes_none _ (taken e))
 
   reads_string : form.positional ≡ places.OneString ∷ [] → HasString names args
   reads_string e =
-      let t = takes_string (positional_arguments (pieces form.tags args)) (subst (λ (ps : List Positional).
-      TakesEach ps (positional_arguments (pieces form.tags args))) e h.positional) in
+      let t = one_string _ (taken e) in
       (t.0, form_read names form args inner all each h (arguments.Strings (string_list.One t.0) ∷ []) t.1)
 
   reads_list : form.positional ≡ places.StringList ∷ [] → (l : StringList) × HasArguments names (l ∷ []) [] args
-  reads_list e =
-      let t = takes_list (positional_arguments (pieces form.tags args)) (subst (λ (ps : List Positional).
-      TakesEach ps (positional_arguments (pieces form.tags args))) e h.positional) in
-      (t.0, form_read names form args inner all each h (arguments.Strings t.0 ∷ []) t.1)
+  reads_list e = let t = takes_list _ (taken e) in (t.0, form_read names form args inner all each h (arguments.Strings t.0 ∷ []) t.1)
 
   reads_number : form.positional ≡ places.OneNumber ∷ [] → (n : ℕ) × HasArguments names [] (n ∷ []) args
-  reads_number e =
-      let t = takes_number (positional_arguments (pieces form.tags args)) (subst (λ (ps : List Positional).
-      TakesEach ps (positional_arguments (pieces form.tags args))) e h.positional) in
-      (t.0, form_read names form args inner all each h (arguments.Number t.0 ∷ []) t.1)
+  reads_number e = let t = one_number _ (taken e) in (t.0, form_read names form args inner all each h (arguments.Number t.0 ∷ []) t.1)
 
   reads_lists : form.positional ≡ places.StringList ∷ places.StringList ∷ [] → (names' : StringList)
       × (keys : StringList) × HasArguments names (names' ∷ keys ∷ []) [] args
   reads_lists e =
-      let t = takes_lists (positional_arguments (pieces form.tags args)) (subst (λ (ps : List Positional).
-      TakesEach ps (positional_arguments (pieces form.tags args))) e h.positional) in
+      let t = two_lists _ (taken e) in
       (t.0, t.1, form_read names form args inner all each h (arguments.Strings t.0 ∷ arguments.Strings t.1 ∷ []) t.2)
 
 -- KINDS OF TAGS
@@ -182,86 +156,56 @@ include_kinds = (
 
 -- TESTS
 
-test_is : (name row : List ℕ) (w : TestWord) (args : List Argument) (inner : InnerTests) → same_name name row ≡ true
-    → test_word row ≡ w → TestReads w args inner → TestReads (test_word name) args inner
-test_is name row w args inner h e r = subst (λ (v : TestWord). TestReads v args inner) (sym (test_same name row h ∙ e)) r
+-- the word of each name of the table
+record TestNames : Type 0 where
+  header : test_word (codes "header") ≡ tests.Header
+  exists : test_word (codes "exists") ≡ tests.Exists
+  size : test_word (codes "size") ≡ tests.Size
+  negated : test_word (codes "not") ≡ tests.Not
+  allof : test_word (codes "allof") ≡ tests.AllOf
+  anyof : test_word (codes "anyof") ≡ tests.AnyOf
+  true_is : test_word (codes "true") ≡ tests.True
+  false_is : test_word (codes "false") ≡ tests.False
 
-header_is : test_word (codes "header") ≡ tests.Header
+test_names : TestNames
 unfolding test_word
-header_is = refl
-
-exists_is : test_word (codes "exists") ≡ tests.Exists
-unfolding test_word
-exists_is = refl
-
-size_is : test_word (codes "size") ≡ tests.Size
-unfolding test_word
-size_is = refl
-
-not_is : test_word (codes "not") ≡ tests.Not
-unfolding test_word
-not_is = refl
-
-allof_is : test_word (codes "allof") ≡ tests.AllOf
-unfolding test_word
-allof_is = refl
-
-anyof_is : test_word (codes "anyof") ≡ tests.AnyOf
-unfolding test_word
-anyof_is = refl
-
-true_is : test_word (codes "true") ≡ tests.True
-unfolding test_word
-true_is = refl
-
-false_is : test_word (codes "false") ≡ tests.False
-unfolding test_word
-false_is = refl
+test_names = record { header = refl; exists = refl; size = refl; negated = refl; allof = refl; anyof = refl; true_is = refl; false_is = refl }
 
 test_found : (name : List ℕ) (args : List Argument) (inner : InnerTests) (w : tables.TestWord)
     → HasForm w.form args inner → Found (λ (r : tables.TestWord). same_name name r.name) tables.test_table w
     → TestReads (test_word name) args inner
 unfolding Found same_name
-test_found name args inner w f (inl h) =
-    let g = subst (λ (v : tables.TestWord). HasForm v.form args inner) (sym h.1) f in
-    test_is name (codes "header") tests.Header args inner h.0 header_is (
-      reads_lists header_tags tables.header_form args inner (
-        refl,
-        refl,
-        (refl, refl, (refl, refl, (refl, refl, tt))),
-      ) header_kinds g refl,
-      g.tests,
+test_found name args inner w f t = by t
+  where
+    -- the form of the row, once it is known
+    form : {v : tables.TestWord} → v ≡ w → HasForm v.form args inner
+    form e = subst (λ (v : tables.TestWord). HasForm v.form args inner) (sym e) f
+
+    is : (row : List ℕ) (v : TestWord) → test_word row ≡ v → same_name name row ≡ true → TestReads v args inner
+        → TestReads (test_word name) args inner
+    is row v e h r = subst (λ (u : TestWord). TestReads u args inner) (sym (test_same name row h ∙ e)) r
+
+    by : Found (λ (r : tables.TestWord). same_name name r.name) tables.test_table w → TestReads (test_word name) args inner
+    by (inl (h, e)) = is (codes "header") tests.Header test_names.header h (
+      reads_lists header_tags (form e) (refl, refl, (refl, refl, (refl, refl, (refl, refl, tt)))) header_kinds refl,
+      (form e).tests,
     )
-test_found name args inner w f (inr (inl h)) =
-    let g = subst (λ (v : tables.TestWord). HasForm v.form args inner) (sym h.1) f in
-    test_is name (codes "exists") tests.Exists args inner h.0 exists_is (reads_list [] _ args inner tt tt g refl, g.tests)
-test_found name args inner w f (inr (inr (inl h))) =
-    let g = subst (λ (v : tables.TestWord). HasForm v.form args inner) (sym h.1) f in
-    test_is name (codes "size") tests.Size args inner h.0 size_is (
-      reads_number size_tags size_form args inner (
-        refl,
-        refl,
-        (refl, refl, tt),
-      ) size_kinds g refl,
-      limit_there args (not-false (list_any (rules.has_kind kinds.SizeLimit) (pieces size_form.tags args)) g.needed),
-      g.tests,
+    by (inr (inl (h, e))) = is (codes "exists") tests.Exists test_names.exists h (reads_list [] (form e) tt tt refl, (form e).tests)
+    by (inr (inr (inl (h, e)))) = is (codes "size") tests.Size test_names.size h (
+      reads_number size_tags (form e) (refl, refl, (refl, refl, tt)) size_kinds refl,
+      limit_there args (not-false (list_any (rules.has_kind kinds.SizeLimit) (pieces size_form.tags args)) (form e).needed),
+      (form e).tests,
     )
-test_found name args inner w f (inr (inr (inr (inl h)))) =
-    let g = subst (λ (v : tables.TestWord). HasForm v.form args inner) (sym h.1) f in
-    test_is name (codes "not") tests.Not args inner h.0 not_is (reads_none [] _ args inner tt tt g refl, g.tests)
-test_found name args inner w f (inr (inr (inr (inr (inl h))))) =
-    let g = subst (λ (v : tables.TestWord). HasForm v.form args inner) (sym h.1) f in
-    test_is name (codes "allof") tests.AllOf args inner h.0 allof_is (reads_none [] _ args inner tt tt g refl, g.tests)
-test_found name args inner w f (inr (inr (inr (inr (inr (inl h)))))) =
-    let g = subst (λ (v : tables.TestWord). HasForm v.form args inner) (sym h.1) f in
-    test_is name (codes "anyof") tests.AnyOf args inner h.0 anyof_is (reads_none [] _ args inner tt tt g refl, g.tests)
-test_found name args inner w f (inr (inr (inr (inr (inr (inr (inl h))))))) =
-    let g = subst (λ (v : tables.TestWord). HasForm v.form args inner) (sym h.1) f in
-    test_is name (codes "true") tests.True args inner h.0 true_is (reads_none [] _ args inner tt tt g refl, g.tests)
-test_found name args inner w f (inr (inr (inr (inr (inr (inr (inr (inl h)))))))) =
-    let g = subst (λ (v : tables.TestWord). HasForm v.form args inner) (sym h.1) f in
-    test_is name (codes "false") tests.False args inner h.0 false_is (reads_none [] _ args inner tt tt g refl, g.tests)
-test_found name args inner w f (inr (inr (inr (inr (inr (inr (inr (inr h)))))))) = absurd h
+    by (inr (inr (inr (inl (h, e))))) = is (codes "not") tests.Not test_names.negated h (reads_none [] (form e) tt tt refl, (form e).tests)
+    by (inr (inr (inr (inr (inl (h, e)))))) =
+        is (codes "allof") tests.AllOf test_names.allof h (reads_none [] (form e) tt tt refl, (form e).tests)
+    by (inr (inr (inr (inr (inr (inl (h, e))))))) =
+        is (codes "anyof") tests.AnyOf test_names.anyof h (reads_none [] (form e) tt tt refl, (form e).tests)
+    by (inr (inr (inr (inr (inr (inr (inl (h, e)))))))) =
+        is (codes "true") tests.True test_names.true_is h (reads_none [] (form e) tt tt refl, (form e).tests)
+    by (inr (inr (inr (inr (inr (inr (inr (inl (h, e))))))))) =
+        is (codes "false") tests.False test_names.false_is h (reads_none [] (form e) tt tt refl, (form e).tests)
+    by (inr (inr (inr (inr (inr (inr (inr (inr h)))))))) = absurd h
 
 mutual
   test_read : (t : TestTree) → TestShape t → TestIsRead t
@@ -288,143 +232,92 @@ record IsCommand (follows : Bool) (name : List ℕ) (args : List Argument) (inne
   follows_branch : Follows (command_word name) follows
   branch : rules.is_branch (rules.role_of (lookup.command_named name)) ≡ is_branch (command_word name)
 
-command_is : (follows : Bool) (name row : List ℕ) (args : List Argument) (inner : InnerTests) (finish : EndingTree)
-    (w : CommandWord) (v : tables.CommandWord) → same_name name row ≡ true → command_word row ≡ w
-    → CommandReads w args inner finish → Follows w follows → lookup.command_named name ≡ Some v
-    → rules.is_branch v.role ≡ is_branch w → IsCommand follows name args inner finish
-command_is follows name row args inner finish w v h e r f n b =
-    let same : w ≡ command_word name = sym (command_same name row h ∙ e) in
-    record {
-      reads = subst (λ (u : CommandWord). CommandReads u args inner finish) same r;
-      follows_branch = subst (λ (u : CommandWord). Follows u follows) same f;
-      branch = ap (λ (o : Option tables.CommandWord). rules.is_branch (rules.role_of o)) n ∙ b ∙ ap is_branch same;
-    }
+-- the word of each name of the table
+record CommandNames : Type 0 where
+  require : command_word (codes "require") ≡ commands.Require
+  if_is : command_word (codes "if") ≡ commands.If
+  elsif : command_word (codes "elsif") ≡ commands.ElsIf
+  else_is : command_word (codes "else") ≡ commands.Else
+  stop : command_word (codes "stop") ≡ commands.Stop
+  keep : command_word (codes "keep") ≡ commands.Keep
+  discard : command_word (codes "discard") ≡ commands.Discard
+  return_is : command_word (codes "return") ≡ commands.Return
+  fileinto : command_word (codes "fileinto") ≡ commands.FileInto
+  include : command_word (codes "include") ≡ commands.Include
 
-require_is : command_word (codes "require") ≡ commands.Require
+command_names : CommandNames
 unfolding command_word
-require_is = refl
-
-if_is : command_word (codes "if") ≡ commands.If
-unfolding command_word
-if_is = refl
-
-elsif_is : command_word (codes "elsif") ≡ commands.ElsIf
-unfolding command_word
-elsif_is = refl
-
-else_is : command_word (codes "else") ≡ commands.Else
-unfolding command_word
-else_is = refl
-
-stop_is : command_word (codes "stop") ≡ commands.Stop
-unfolding command_word
-stop_is = refl
-
-keep_is : command_word (codes "keep") ≡ commands.Keep
-unfolding command_word
-keep_is = refl
-
-discard_is : command_word (codes "discard") ≡ commands.Discard
-unfolding command_word
-discard_is = refl
-
-return_is : command_word (codes "return") ≡ commands.Return
-unfolding command_word
-return_is = refl
-
-fileinto_is : command_word (codes "fileinto") ≡ commands.FileInto
-unfolding command_word
-fileinto_is = refl
-
-include_is : command_word (codes "include") ≡ commands.Include
-unfolding command_word
-include_is = refl
+command_names = record {
+  require = refl;
+  if_is = refl;
+  elsif = refl;
+  else_is = refl;
+  stop = refl;
+  keep = refl;
+  discard = refl;
+  return_is = refl;
+  fileinto = refl;
+  include = refl;
+}
 
 command_found : (follows : Bool) (name : List ℕ) (args : List Argument) (inner : InnerTests) (finish : EndingTree)
     (r : HasCommandRow follows name args inner finish)
     → Found (λ (v : tables.CommandWord). same_name name v.name) tables.command_table r.word
     → IsCommand follows name args inner finish
 unfolding Found same_name
-command_found follows name args inner finish r (inl h) =
-    let g = subst (λ (v : tables.CommandWord). HasForm v.form args inner) (sym h.1) r.form in
-    let e = subst (λ (v : tables.CommandWord). HasEnding v.has_block finish) (sym h.1) r.ending in
-    let b = subst (λ (v : tables.CommandWord). rules.lacks_branch v.role follows ≡ false) (sym h.1) r.branch in
-    command_is follows name (codes "require") args inner finish commands.Require _ h.0 require_is
-    (reads_list [] _ args inner tt tt g refl, g.tests, e) (tt) (r.named
-    ∙ ap (λ (v : tables.CommandWord). Some v) (sym h.1)) refl
-command_found follows name args inner finish r (inr (inl h)) =
-    let g = subst (λ (v : tables.CommandWord). HasForm v.form args inner) (sym h.1) r.form in
-    let e = subst (λ (v : tables.CommandWord). HasEnding v.has_block finish) (sym h.1) r.ending in
-    let b = subst (λ (v : tables.CommandWord). rules.lacks_branch v.role follows ≡ false) (sym h.1) r.branch in
-    command_is follows name (codes "if") args inner finish commands.If _ h.0 if_is
-    (reads_none [] _ args inner tt tt g refl, g.tests, e) (tt) (r.named
-    ∙ ap (λ (v : tables.CommandWord). Some v) (sym h.1)) refl
-command_found follows name args inner finish r (inr (inr (inl h))) =
-    let g = subst (λ (v : tables.CommandWord). HasForm v.form args inner) (sym h.1) r.form in
-    let e = subst (λ (v : tables.CommandWord). HasEnding v.has_block finish) (sym h.1) r.ending in
-    let b = subst (λ (v : tables.CommandWord). rules.lacks_branch v.role follows ≡ false) (sym h.1) r.branch in
-    command_is follows name (codes "elsif") args inner finish commands.ElsIf _ h.0 elsif_is
-    (reads_none [] _ args inner tt tt g refl, g.tests, e) (not-false follows b) (r.named
-    ∙ ap (λ (v : tables.CommandWord). Some v) (sym h.1)) refl
-command_found follows name args inner finish r (inr (inr (inr (inl h)))) =
-    let g = subst (λ (v : tables.CommandWord). HasForm v.form args inner) (sym h.1) r.form in
-    let e = subst (λ (v : tables.CommandWord). HasEnding v.has_block finish) (sym h.1) r.ending in
-    let b = subst (λ (v : tables.CommandWord). rules.lacks_branch v.role follows ≡ false) (sym h.1) r.branch in
-    command_is follows name (codes "else") args inner finish commands.Else _ h.0 else_is
-    (reads_none [] _ args inner tt tt g refl, g.tests, e) (not-false follows b) (r.named
-    ∙ ap (λ (v : tables.CommandWord). Some v) (sym h.1)) refl
-command_found follows name args inner finish r (inr (inr (inr (inr (inl h))))) =
-    let g = subst (λ (v : tables.CommandWord). HasForm v.form args inner) (sym h.1) r.form in
-    let e = subst (λ (v : tables.CommandWord). HasEnding v.has_block finish) (sym h.1) r.ending in
-    let b = subst (λ (v : tables.CommandWord). rules.lacks_branch v.role follows ≡ false) (sym h.1) r.branch in
-    command_is follows name (codes "stop") args inner finish commands.Stop _ h.0 stop_is
-    (reads_none [] _ args inner tt tt g refl, g.tests, e) (tt) (r.named
-    ∙ ap (λ (v : tables.CommandWord). Some v) (sym h.1)) refl
-command_found follows name args inner finish r (inr (inr (inr (inr (inr (inl h)))))) =
-    let g = subst (λ (v : tables.CommandWord). HasForm v.form args inner) (sym h.1) r.form in
-    let e = subst (λ (v : tables.CommandWord). HasEnding v.has_block finish) (sym h.1) r.ending in
-    let b = subst (λ (v : tables.CommandWord). rules.lacks_branch v.role follows ≡ false) (sym h.1) r.branch in
-    command_is follows name (codes "keep") args inner finish commands.Keep _ h.0 keep_is
-    (reads_none [] _ args inner tt tt g refl, g.tests, e) (tt) (r.named
-    ∙ ap (λ (v : tables.CommandWord). Some v) (sym h.1)) refl
-command_found follows name args inner finish r (inr (inr (inr (inr (inr (inr (inl h))))))) =
-    let g = subst (λ (v : tables.CommandWord). HasForm v.form args inner) (sym h.1) r.form in
-    let e = subst (λ (v : tables.CommandWord). HasEnding v.has_block finish) (sym h.1) r.ending in
-    let b = subst (λ (v : tables.CommandWord). rules.lacks_branch v.role follows ≡ false) (sym h.1) r.branch in
-    command_is follows name (codes "discard") args inner finish commands.Discard _ h.0 discard_is
-    (reads_none [] _ args inner tt tt g refl, g.tests, e) (tt) (r.named
-    ∙ ap (λ (v : tables.CommandWord). Some v) (sym h.1)) refl
-command_found follows name args inner finish r (inr (inr (inr (inr (inr (inr (inr (inl h)))))))) =
-    let g = subst (λ (v : tables.CommandWord). HasForm v.form args inner) (sym h.1) r.form in
-    let e = subst (λ (v : tables.CommandWord). HasEnding v.has_block finish) (sym h.1) r.ending in
-    let b = subst (λ (v : tables.CommandWord). rules.lacks_branch v.role follows ≡ false) (sym h.1) r.branch in
-    command_is follows name (codes "return") args inner finish commands.Return _ h.0 return_is
-    (reads_none [] _ args inner tt tt g refl, g.tests, e) (tt) (r.named
-    ∙ ap (λ (v : tables.CommandWord). Some v) (sym h.1)) refl
-command_found follows name args inner finish r (inr (inr (inr (inr (inr (inr (inr (inr (inl h))))))))) =
-    let g = subst (λ (v : tables.CommandWord). HasForm v.form args inner) (sym h.1) r.form in
-    let e = subst (λ (v : tables.CommandWord). HasEnding v.has_block finish) (sym h.1) r.ending in
-    let b = subst (λ (v : tables.CommandWord). rules.lacks_branch v.role follows ≡ false) (sym h.1) r.branch in
-    command_is follows name (codes "fileinto") args inner finish commands.FileInto _ h.0 fileinto_is (
-      reads_string fileinto_tags tables.fileinto_form args inner (refl, refl, tt) fileinto_kinds g refl,
-      g.tests,
-      e,
-    ) (tt) (r.named ∙ ap (λ (v : tables.CommandWord). Some v) (sym h.1)) refl
-command_found follows name args inner finish r (inr (inr (inr (inr (inr (inr (inr (inr (inr (inl h)))))))))) =
-    let g = subst (λ (v : tables.CommandWord). HasForm v.form args inner) (sym h.1) r.form in
-    let e = subst (λ (v : tables.CommandWord). HasEnding v.has_block finish) (sym h.1) r.ending in
-    let b = subst (λ (v : tables.CommandWord). rules.lacks_branch v.role follows ≡ false) (sym h.1) r.branch in
-    command_is follows name (codes "include") args inner finish commands.Include _ h.0 include_is (
-      reads_string include_tags tables.include_form args inner (
-        refl,
-        refl,
-        (refl, refl, (refl, refl, (refl, refl, tt))),
-      ) include_kinds g refl,
-      g.tests,
-      e,
-    ) (tt) (r.named
-    ∙ ap (λ (v : tables.CommandWord). Some v) (sym h.1)) refl
-command_found follows name args inner finish r (inr (inr (inr (inr (inr (inr (inr (inr (inr (inr h)))))))))) = absurd h
+command_found follows name args inner finish r t = by t
+  where
+    -- what the row says, once it is known
+    form : {v : tables.CommandWord} → v ≡ r.word → HasForm v.form args inner
+    form e = subst (λ (v : tables.CommandWord). HasForm v.form args inner) (sym e) r.form
+
+    ending : {v : tables.CommandWord} → v ≡ r.word → HasEnding v.has_block finish
+    ending e = subst (λ (v : tables.CommandWord). HasEnding v.has_block finish) (sym e) r.ending
+
+    branch : {v : tables.CommandWord} → v ≡ r.word → rules.lacks_branch v.role follows ≡ false
+    branch e = subst (λ (v : tables.CommandWord). rules.lacks_branch v.role follows ≡ false) (sym e) r.branch
+
+    is : (row : List ℕ) (w : CommandWord) {v : tables.CommandWord} → command_word row ≡ w → v ≡ r.word → same_name name row ≡ true
+        → CommandReads w args inner finish → Follows w follows → rules.is_branch v.role ≡ is_branch w
+        → IsCommand follows name args inner finish
+    is row w c e h reads f b =
+        let same : w ≡ command_word name = sym (command_same name row h ∙ c) in
+        record {
+          reads = subst (λ (u : CommandWord). CommandReads u args inner finish) same reads;
+          follows_branch = subst (λ (u : CommandWord). Follows u follows) same f;
+          branch = ap (λ (o : Option tables.CommandWord). rules.is_branch (rules.role_of o)) (r.named
+              ∙ ap (λ (u : tables.CommandWord). Some u) (sym e)) ∙ b ∙ ap is_branch same;
+        }
+
+    by : Found (λ (v : tables.CommandWord). same_name name v.name) tables.command_table r.word
+        → IsCommand follows name args inner finish
+    by (inl (h, e)) =
+        is (codes "require") commands.Require command_names.require e h (reads_list [] (form e) tt tt refl, (form e).tests, ending e) tt refl
+    by (inr (inl (h, e))) =
+        is (codes "if") commands.If command_names.if_is e h (reads_none [] (form e) tt tt refl, (form e).tests, ending e) tt refl
+    by (inr (inr (inl (h, e)))) =
+        is (codes "elsif") commands.ElsIf command_names.elsif e h (reads_none [] (form e) tt tt refl, (form e).tests, ending e) (not-false follows (branch e)) refl
+    by (inr (inr (inr (inl (h, e))))) =
+        is (codes "else") commands.Else command_names.else_is e h (reads_none [] (form e) tt tt refl, (form e).tests, ending e) (not-false follows (branch e)) refl
+    by (inr (inr (inr (inr (inl (h, e)))))) =
+        is (codes "stop") commands.Stop command_names.stop e h (reads_none [] (form e) tt tt refl, (form e).tests, ending e) tt refl
+    by (inr (inr (inr (inr (inr (inl (h, e))))))) =
+        is (codes "keep") commands.Keep command_names.keep e h (reads_none [] (form e) tt tt refl, (form e).tests, ending e) tt refl
+    by (inr (inr (inr (inr (inr (inr (inl (h, e)))))))) =
+        is (codes "discard") commands.Discard command_names.discard e h (reads_none [] (form e) tt tt refl, (form e).tests, ending e) tt refl
+    by (inr (inr (inr (inr (inr (inr (inr (inl (h, e))))))))) =
+        is (codes "return") commands.Return command_names.return_is e h (reads_none [] (form e) tt tt refl, (form e).tests, ending e) tt refl
+    by (inr (inr (inr (inr (inr (inr (inr (inr (inl (h, e)))))))))) = is (codes "fileinto") commands.FileInto command_names.fileinto e h (
+      reads_string fileinto_tags (form e) (refl, refl, tt) fileinto_kinds refl,
+      (form e).tests,
+      ending e,
+    ) tt refl
+    by (inr (inr (inr (inr (inr (inr (inr (inr (inr (inl (h, e))))))))))) = is (codes "include") commands.Include command_names.include e h (
+      reads_string include_tags (form e) (refl, refl, (refl, refl, (refl, refl, (refl, refl, tt)))) include_kinds refl,
+      (form e).tests,
+      ending e,
+    ) tt refl
+    by (inr (inr (inr (inr (inr (inr (inr (inr (inr (inr h)))))))))) = absurd h
 
 mutual
   command_read : (follows : Bool) (c : CommandTree) → CommandShape follows c → CommandIsRead follows c
