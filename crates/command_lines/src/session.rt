@@ -1,4 +1,4 @@
-//! The words of the command line.
+//! The command line of `mailfile`, the program of sessions, and how it ends where that leads to no session.
 
 use clap::{Arg, ArgAction, Command, Error};
 use std::alloc::{AllocError, Global};
