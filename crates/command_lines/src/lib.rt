@@ -1,12 +1,15 @@
-//! The command lines of the three programs, read into types: what a program is asked for, or why a line is refused.
+//! The command lines of the three programs, read into types: what a program is asked to do, or why that is nothing.
 //!
-//! This is the one crate that calls `clap`, which makes and drops many values for each argument that is added: what
-//! calls it takes long to prove.
+//! - `table`: subcommands with their words, as data; `reading`: the words that `clap` finds by them;
+//! - `session`, `archives` and `tools`: the command lines of `mailfile`, `mailfile-store` and `mailfile-tool`.
+//!
+//! No other crate calls `clap`, whose values take long to prove.
 #![tactic(auto)]
 
 pub mod archives;
+mod reading;
 pub mod session;
 mod table;
 pub mod tools;
 
-pub use table::{FLAG, Form, OPTION, PLACE, Program, Subcommand, Word, command_of, read_words};
+pub use reading::{NoCommand, words_of_process};

@@ -1,8 +1,9 @@
 //! Command lines as data: a program's subcommands with their words, which `clap` reads.
 //!
-//! `clap` makes and drops many values for each argument that is added, so a program that calls it for each of its words
-//! takes long to prove. Here it is called by a few functions, once for all programs, each of which has a table.
-use clap::{Arg, ArgAction, ArgMatches, Command, Error};
+//! `clap` makes and drops many values for each argument that is added, so it is called by a few functions here, once for
+//! all programs, each of which has a table.
+
+use clap::{Arg, ArgAction, Command};
 use std::alloc::{AllocError, Global};
 
 /// How a word stands on a command line.
@@ -71,11 +72,14 @@ pub struct Subcommand {
     pub words: &'static [Word],
 }
 
+/// The version of the programs.
+pub const VERSION: &str = "0.1.0";
+
 /// The command line of a program, which always has a subcommand.
 #[derive(Clone, Copy)]
 pub struct Program {
+    /// As it is started, and as its help names it.
     pub name: &'static str,
-    pub version: &'static str,
     /// What it does.
     pub about: &'static str,
     /// Its subcommands, in the order in which they are shown.
@@ -111,7 +115,7 @@ fn helped<'a>(argument: Arg<'a>, word: &Word) -> Arg<'a> {
 }
 
 /// The argument that a word is.
-fn argument_of<'a>(alloc: Global, word: &Word) -> Result<Arg<'a>, AllocError> {
+pub fn argument_of<'a>(alloc: Global, word: &Word) -> Result<Arg<'a>, AllocError> {
     let argument = Arg::new(alloc, word.name)
         .action(action_of(word.form))
         .required(word.is_required);
@@ -153,25 +157,23 @@ fn with_subcommand<'a>(
     command.subcommand(subcommand)
 }
 
+/// A command line that has no words yet. `--help` names the program so, whatever the name of its file is.
+pub fn bare_command<'a>(
+    alloc: Global,
+    name: &'a str,
+    about: &'a str,
+) -> Result<Command<'a>, AllocError> {
+    Command::new(alloc, name)
+        .version(VERSION)
+        .about(about)
+        .bin_name(name)
+}
+
 /// The whole command line of a program. The only error is out of memory.
 pub fn command_of<'a>(alloc: Global, program: &Program) -> Result<Command<'a>, AllocError> {
-    let mut command = Command::new(alloc, program.name)
-        .version(program.version)
-        .about(program.about)
-        .subcommand_required(true);
+    let mut command = bare_command(alloc, program.name, program.about)?.subcommand_required(true);
     for described in program.subcommands {
         command = with_subcommand(alloc, command, described)?;
     }
     Ok(command)
-}
-
-/// Reads the words of a command line, the program's name first. The error is what `clap` reports: what `--help` and
-/// `--version` print, what is wrong with a word, or that there is no memory.
-pub fn read_words<'a>(
-    alloc: Global,
-    program: &Program,
-    words: &'a [String],
-) -> Result<ArgMatches<'a>, Error> {
-    let command = command_of(alloc, program)?;
-    command.try_get_matches_from(words)
 }
