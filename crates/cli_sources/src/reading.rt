@@ -1,8 +1,8 @@
 //! The scripts of an officer, from the folder of all rules.
 
 use crate::fault::RulesFault;
+use crate::payloads::payload_of_file;
 use desk_commands::{MAX_SCRIPT_OCTETS, Payload};
-use payload_files::payload_of_file;
 use session_words::is_name;
 use std::alloc::Global;
 use std::fs;
