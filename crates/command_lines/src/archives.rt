@@ -2,7 +2,7 @@
 
 mod words;
 
-use crate::reading::{NoCommand, has_flag, read_words, required, value_of, values_of};
+use crate::reading::{NoCommand, day_of, has_flag, read_words, required, value_of, values_of};
 use crate::table::Word;
 use clap::ArgMatches;
 use jiff::civil::Date;
@@ -175,24 +175,6 @@ fn records_asked<'a>(
         })?;
     }
     Ok(records)
-}
-
-/// The number of a word of exactly `count` decimal digits.
-fn digits(word: &str, count: usize) -> Option<i16> {
-    if word.len() != count || !word.bytes().all(|octet| octet.is_ascii_digit()) {
-        return None;
-    }
-    word.parse().ok()
-}
-
-/// The day of a text `YYYY-MM-DD`, of 1970 to 9999; none for any other text.
-fn day_of(text: &str) -> Option<Date> {
-    let (year, rest) = text.split_once('-')?;
-    let (month, day) = rest.split_once('-')?;
-    let year = digits(year, 4).filter(|year| *year >= 1970)?;
-    let month = i8::try_from(digits(month, 2)?).ok()?;
-    let day = i8::try_from(digits(day, 2)?).ok()?;
-    Date::new(year, month, day).ok()
 }
 
 /// A day, where it is given.
