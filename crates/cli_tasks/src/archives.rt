@@ -21,13 +21,13 @@ pub enum Closed {
 /// and is proved beside them.
 pub trait Archives {
     /// What holds an archive's database while it is open.
-    type Store: Alter;
+    type Database: Alter;
 
     /// Opens the archive at a path.
-    fn open(&self, rt: &HostRuntime, path: &str) -> Result<Store<Self::Store>, Failure>;
+    fn open(&self, rt: &HostRuntime, path: &str) -> Result<Store<Self::Database>, Failure>;
 
     /// Closes an archive whose store has ended.
-    fn close(&self, conn: Connection<Self::Store>) -> Closed;
+    fn close(&self, conn: Connection<Self::Database>) -> Closed;
 
     /// Makes an archive with a plan at a path where nothing is. Where that fails, nothing is left there.
     fn create(&self, rt: &HostRuntime, path: &str, plan: Plan) -> Result<(), Failure>;
@@ -85,7 +85,7 @@ pub fn close_after<A: Archives, T: Drop>(
     rt: &HostRuntime,
     archives: &A,
     path: &str,
-    archive: Store<A::Store>,
+    archive: Store<A::Database>,
     done: Result<T, Failure>,
 ) -> Result<T, Failure> {
     let closed = archives.close(archive.into_connection());
@@ -93,7 +93,7 @@ pub fn close_after<A: Archives, T: Drop>(
 }
 
 /// Opens the archive at a path, does something with it, and closes it, as `settled` does.
-pub fn with_archive<A: Archives, T: Drop, F: FnOnce(&mut Store<A::Store>) -> Result<T, Failure>>(
+pub fn with_archive<A: Archives, T: Drop, F: FnOnce(&mut Store<A::Database>) -> Result<T, Failure>>(
     rt: &HostRuntime,
     archives: &A,
     path: &str,

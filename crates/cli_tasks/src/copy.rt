@@ -66,7 +66,7 @@ fn fill<A: Archives>(
     rt: &HostRuntime,
     archives: &A,
     plan: &Plan,
-    from: &mut Connection<A::Store>,
+    from: &mut Connection<A::Database>,
     paths: Paths<'_>,
 ) -> Result<(), Failure> {
     let archive = archives.open(rt, paths.new).map_err(not_made)?;
@@ -86,7 +86,7 @@ fn fill<A: Archives>(
 fn copy_all<A: Archives>(
     rt: &HostRuntime,
     archives: &A,
-    archive: Store<A::Store>,
+    archive: Store<A::Database>,
     paths: Paths<'_>,
 ) -> (Result<Summary, Failure>, Closed) {
     let mut archive = archive;
@@ -157,7 +157,7 @@ fn settle<A: Archives>(
 fn make_alike<A: Archives>(
     rt: &HostRuntime,
     archives: &A,
-    archive: &Store<A::Store>,
+    archive: &Store<A::Database>,
     new: &str,
 ) -> Result<(), Failure> {
     make(rt, archives, new, archive.plan().copy()?)

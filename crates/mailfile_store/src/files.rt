@@ -36,13 +36,13 @@ fn closed_by(closing: Closing) -> Closed {
 pub struct FileArchives;
 
 impl Archives for FileArchives {
-    type Store = FileStore<FileFrom<Unknown>>;
+    type Database = FileStore<FileFrom<Unknown>>;
 
-    fn open(&self, rt: &HostRuntime, path: &str) -> Result<Store<Self::Store>, Failure> {
+    fn open(&self, rt: &HostRuntime, path: &str) -> Result<Store<Self::Database>, Failure> {
         open_archive(rt, path, Unknown).map_err(|cause| no_store(rt.alloc(), path, cause))
     }
 
-    fn close(&self, conn: Connection<Self::Store>) -> Closed {
+    fn close(&self, conn: Connection<Self::Database>) -> Closed {
         let (_files, closing) = close(conn);
         closed_by(closing)
     }
