@@ -21,6 +21,6 @@ pub use export::export_to;
 pub use judge::write_contents;
 pub use list::write_list;
 pub use report::write_report;
-pub use show::{read_message, write_message};
+pub use show::{message_of_record, write_message};
 pub use sums::{Summary, summary_of};
 pub use why::{Captured, read_captured, write_why};

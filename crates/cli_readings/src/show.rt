@@ -30,7 +30,7 @@ fn write_fields(rt: &HostRuntime, message: &[u8]) -> Result<(), Failure> {
 }
 
 /// The message of a record.
-pub fn read_message<S: Alter>(
+pub fn message_of_record<S: Alter>(
     rt: &HostRuntime,
     archive: &mut Store<S>,
     record: TypedNumber<'_>,

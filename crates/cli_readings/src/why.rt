@@ -1,7 +1,7 @@
 //! `why`: why a record is in its class, and whether the rules of today would file its message there again.
 
 use crate::list::row_of;
-use crate::show::read_message;
+use crate::show::message_of_record;
 use class_plan::{Date, Plan, day_number};
 use cli_console::{Failure, Status, write, write_text};
 use cli_sources::{Script, read_rules};
@@ -131,7 +131,7 @@ pub fn read_captured<S: Alter>(
     let message = if entry.destroyed {
         None
     } else {
-        Some(read_message(rt, archive, record)?)
+        Some(message_of_record(rt, archive, record)?)
     };
     Ok(Captured {
         entry,

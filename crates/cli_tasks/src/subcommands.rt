@@ -2,16 +2,19 @@
 
 use crate::archives::{Archives, close_after, make, with_archive};
 use crate::copy::{Paths, copy_to};
+use class_plan::Date;
 use cli_changes::{
     Change, FilingRules, Intake, change_holds, day_of_disposal, deliver_to, dispose_by,
     read_message, read_plan, replace_plan, report_delivery, take_new, write_plan,
 };
 use cli_console::{Failure, day_or_today, now};
 use cli_readings::{
-    export_to, judge_choice, read_captured, write_contents, write_list, write_message,
-    write_report, write_why,
+    export_to, judge_choice, message_of_record, read_captured, write_contents, write_list,
+    write_message, write_report, write_why,
 };
-use command_lines::archives::{Command, CommandLine, Filing};
+use command_lines::archives::{
+    Choice, Command, CommandLine, Disposal, Filing, Format, Holding, TypedNumber, Why,
+};
 
 /// Captures the message on standard input. A store that cannot be had, or that may not keep the message, is a reason to
 /// try again, so that a mail server keeps it.
@@ -48,6 +51,100 @@ fn intake<A: Archives>(
     close_after(rt, archives, store, archive, done)
 }
 
+/// Lists records.
+fn list<A: Archives>(
+    rt: &HostRuntime,
+    archives: &A,
+    store: &str,
+    choice: &Choice<'_>,
+    format: Format,
+) -> Result<(), Failure> {
+    judge_choice(rt, choice)?;
+    with_archive(rt, archives, store, |archive| {
+        write_list(rt, archive, choice, format)
+    })
+}
+
+/// Exports records to a folder.
+fn export<A: Archives>(
+    rt: &HostRuntime,
+    archives: &A,
+    store: &str,
+    choice: &Choice<'_>,
+    folder: &str,
+) -> Result<(), Failure> {
+    judge_choice(rt, choice)?;
+    with_archive(rt, archives, store, |archive| {
+        export_to(rt, archive, choice, folder)
+    })
+}
+
+/// Writes the message of a record once the archive is closed, or the fields of its header.
+fn show<A: Archives>(
+    rt: &HostRuntime,
+    archives: &A,
+    store: &str,
+    record: TypedNumber<'_>,
+    fields: bool,
+) -> Result<(), Failure> {
+    let message = with_archive(rt, archives, store, |archive| {
+        message_of_record(rt, archive, record)
+    })?;
+    write_message(rt, message.as_slice(), fields)
+}
+
+/// Says why a record is in its class, once the archive is closed.
+fn why<A: Archives>(
+    rt: &HostRuntime,
+    archives: &A,
+    store: &str,
+    asked: &Why<'_>,
+) -> Result<(), Failure> {
+    let captured = with_archive(rt, archives, store, |archive| {
+        read_captured(rt, archive, asked.record)
+    })?;
+    write_why(rt, asked, &captured)
+}
+
+/// Places a hold on records, or ends it.
+fn hold<A: Archives>(
+    rt: &HostRuntime,
+    archives: &A,
+    store: &str,
+    change: Change,
+    asked: &Holding<'_>,
+) -> Result<(), Failure> {
+    with_archive(rt, archives, store, |archive| {
+        change_holds(rt, archive, change, asked)
+    })
+}
+
+/// Lists what is due and may be destroyed, or destroys it.
+fn dispose<A: Archives>(
+    rt: &HostRuntime,
+    archives: &A,
+    store: &str,
+    asked: &Disposal<'_>,
+) -> Result<(), Failure> {
+    let day = day_of_disposal(rt, asked)?;
+    with_archive(rt, archives, store, |archive| {
+        dispose_by(rt, archive, asked, day)
+    })
+}
+
+/// Writes a report on the archive by a day, or else by today.
+fn report<A: Archives>(
+    rt: &HostRuntime,
+    archives: &A,
+    store: &str,
+    day: Option<Date>,
+) -> Result<(), Failure> {
+    let day = day_or_today(rt, day)?;
+    with_archive(rt, archives, store, |archive| {
+        write_report(rt, archive, store, day)
+    })
+}
+
 /// Does what a command line asks for.
 pub fn execute<A: Archives>(
     rt: &HostRuntime,
@@ -57,79 +154,23 @@ pub fn execute<A: Archives>(
     let CommandLine { store, command } = line;
     match command {
         Command::Create { plan } => make(rt, archives, store, read_plan(rt, plan)?),
-        Command::WritePlan => {
-            with_archive(
-                rt,
-                archives,
-                store,
-                |archive| write_plan(rt, archive.plan()),
-            )
-        }
-        Command::ReplacePlan { plan, is_agreed } => {
-            with_archive(
-                rt,
-                archives,
-                store,
-                |archive| replace_plan(rt, archive, plan, is_agreed),
-            )
-        }
+        Command::WritePlan => with_archive(rt, archives, store, |archive| {
+            write_plan(rt, archive.plan())
+        }),
+        Command::ReplacePlan { plan, is_agreed } => with_archive(rt, archives, store, |archive| {
+            replace_plan(rt, archive, plan, is_agreed)
+        }),
         Command::Deliver { moment, filing } => deliver(rt, archives, store, moment, &filing),
         Command::Intake { maildir, filing } => intake(rt, archives, store, maildir, &filing),
-        Command::List { choice, format } => {
-            judge_choice(rt, &choice)?;
-            with_archive(
-                rt,
-                archives,
-                store,
-                |archive| write_list(rt, archive, &choice, format),
-            )
-        }
-        Command::Show { record, fields } => {
-            let message = with_archive(rt, archives, store, |archive| {
-                cli_readings::read_message(rt, archive, record)
-            })?;
-            write_message(rt, message.as_slice(), fields)
-        }
-        Command::Export { choice, folder } => {
-            judge_choice(rt, &choice)?;
-            with_archive(
-                rt,
-                archives,
-                store,
-                |archive| export_to(rt, archive, &choice, folder),
-            )
-        }
+        Command::List { choice, format } => list(rt, archives, store, &choice, format),
+        Command::Show { record, fields } => show(rt, archives, store, record, fields),
+        Command::Export { choice, folder } => export(rt, archives, store, &choice, folder),
         Command::Copy { new } => copy_to(rt, archives, Paths { store, new }),
         Command::Check => with_archive(rt, archives, store, |archive| write_contents(rt, archive)),
-        Command::Why(why) => {
-            let captured = with_archive(rt, archives, store, |archive| {
-                read_captured(rt, archive, why.record)
-            })?;
-            write_why(rt, &why, &captured)
-        }
-        Command::Hold(holding) => with_archive(rt, archives, store, |archive| {
-            change_holds(rt, archive, Change::Place, &holding)
-        }),
-        Command::Release(holding) => with_archive(rt, archives, store, |archive| {
-            change_holds(rt, archive, Change::End, &holding)
-        }),
-        Command::Dispose(disposal) => {
-            let day = day_of_disposal(rt, &disposal)?;
-            with_archive(
-                rt,
-                archives,
-                store,
-                |archive| dispose_by(rt, archive, &disposal, day),
-            )
-        }
-        Command::Report { day } => {
-            let day = day_or_today(rt, day)?;
-            with_archive(
-                rt,
-                archives,
-                store,
-                |archive| write_report(rt, archive, store, day),
-            )
-        }
+        Command::Why(asked) => why(rt, archives, store, &asked),
+        Command::Hold(asked) => hold(rt, archives, store, Change::Place, &asked),
+        Command::Release(asked) => hold(rt, archives, store, Change::End, &asked),
+        Command::Dispose(asked) => dispose(rt, archives, store, &asked),
+        Command::Report { day } => report(rt, archives, store, day),
     }
 }
