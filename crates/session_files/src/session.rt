@@ -12,8 +12,6 @@ ghost use Rattle.record_archive.specs.Faults.{is_trouble};
 ghost use Rattle.desk_commands.specs.Standing.{Standing};
 ghost use Rattle.session_protocol.specs.Session.{session_in};
 ghost use Rattle.record_store.specs.Layouts.{HasArchiveTablesOrNone};
-ghost use Rattle.record_store.specs.Stores as stores;
-ghost use Rattle.filing_desk.specs.Standing.{StandsFor};
 ghost use Rattle.record_files.specs.Closing.{HasCause, HaveCounted, HoldsLeft, LeavesBy};
 ghost use Rattle.record_files.specs.Files.{FindsAt, HoldsTables, KeepsAt, KeepsFiles, system_file};
 ghost use Rattle.session_files.specs.Refusals.{RefusalHasCause};
