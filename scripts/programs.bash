@@ -228,7 +228,7 @@ find_program() {
 answer_unbuilt() {
     case $#${2-} in
         2--version | 2-V)
-            source_folders "$1" | sed "s|^|$root/|" | xargs -d '\n' grep -r -h -o -E 'version(: |\()"[^"]*"' |
+            source_folders "$1" | sed "s|^|$root/|" | xargs -d '\n' grep -r -h -o -E 'VERSION: &str = "[^"]*"' |
                 sed "s/.*\"\(.*\)\"/$self \1/"
             ;;
         2--help | 2-h)

@@ -16,7 +16,7 @@ make_stage() {
     echo 'measures: low' > "$stage/tree/beside/measures/uses"
     echo low > "$stage/tree/crates/low/src/lib.rt"
     echo tool > "$stage/tree/crates/mailfile_tool/src/main.rt"
-    echo 'Command::new("mailfile").version("1.2.3").about(' > "$stage/tree/crates/mailfile/src/command_line.rt"
+    echo 'pub const VERSION: &str = "1.2.3";' > "$stage/tree/crates/mailfile/src/command_line.rt"
     touch "$stage/tree/man/"{mailfile,mailfile-tool}.1
     sed -i 's/^PROGRAMS=.*/PROGRAMS=(mailfile mailfile_tool)/' "$stage/tree/scripts/programs.bash"
     echo 'kit 1' > "$stage/kit/KIT-ID"

@@ -1,7 +1,6 @@
 //! The folders of a Maildir: new mail lies in `new`, and what was taken over in `cur`.
 //!
 //! No contract knows what a file system does. So these calls are only proved to be safe, and tests show what they do.
-#![tactic(auto)]
 
 use std::alloc::{AllocError, Global};
 use std::fs::{self, DirEntry, File};

@@ -1,7 +1,7 @@
 use Rattle.std.proofs.Common.{◌≡◌, ◌+◌, ◌≤◌, ℕ, List, [], ◌++◌, length, take, Option, Some, None, IfSome, option_map}
 use Rattle.std.proofs.Common.{ap, subst, ◌∙◌, arith, length-take}
 use Rattle.std.proofs.lemmas.List.{take_all}
-use Rattle.payload_files.proofs.read_with_room.Goals as goal
+use Rattle.cli_sources.proofs.payloads.read_with_room.Goals as goal
 
 -- of all that is left, one octet more than the limit was asked for, and no more than the limit came
 all_came : (limit n : ℕ) (left asked : Option (List ℕ)) (octets before : List ℕ) → n ≡ limit + 1 → asked ≡ left → before ≡ []

@@ -1,11 +1,8 @@
-//! The command line of `mailfile-store`: its subcommands, each with its words and an example.
-#![tactic(auto)]
+//! The subcommands of `mailfile-store`, each with its words and an example.
 
-use clap::Command;
-use command_lines::{FLAG, Form, OPTION, PLACE, Program, Subcommand, Word, command_of};
-use std::alloc::{AllocError, Global};
+use crate::table::{FLAG, Form, OPTION, PLACE, Program, Subcommand, Word};
 
-const STORE: Word = Word {
+pub const STORE: Word = Word {
     name: "store",
     value: "FILE",
     is_required: true,
@@ -14,39 +11,56 @@ const STORE: Word = Word {
 };
 
 /// The numbers of records.
-const NUMBERS: Word = Word {
+pub const NUMBERS: Word = Word {
     name: "numbers",
     form: Form::Places,
     value: "NUMBER",
     ..PLACE
 };
 
-const NUMBER: Word = Word {
+pub const NUMBER: Word = Word {
     name: "number",
     value: "NUMBER",
     ..PLACE
 };
 
-const OFFICER: Word = Word {
+pub const OFFICER: Word = Word {
     name: "officer",
     value: "OFFICER",
     ..PLACE
+};
+
+pub const PLAN_FILE: Word = Word {
+    name: "plan",
+    value: "PLAN",
+    is_required: true,
+    help: Some("The file of the plan"),
+    ..OPTION
 };
 
 const CREATE: Subcommand = Subcommand {
     name: "create",
     about: "Makes a new store with a plan, in a file that only its owner may read and write",
     example: "Example: mailfile-store create --store records.db --plan plan.toml",
-    words: &[
-        STORE,
-        Word {
-            name: "plan",
-            value: "PLAN",
-            is_required: true,
-            help: Some("The file of the plan"),
-            ..OPTION
-        },
-    ],
+    words: &[STORE, PLAN_FILE],
+};
+
+pub const YES: Word = Word {
+    name: "yes",
+    ..FLAG
+};
+
+pub const DAY: Word = Word {
+    name: "day",
+    value: "YYYY-MM-DD",
+    ..OPTION
+};
+
+pub const NEW_PLAN: Word = Word {
+    name: "set",
+    value: "PLAN",
+    help: Some("The file of the plan that replaces it"),
+    ..OPTION
 };
 
 const PLAN: Subcommand = Subcommand {
@@ -55,22 +69,16 @@ const PLAN: Subcommand = Subcommand {
     example: "Example: mailfile-store plan --store records.db > plan.toml",
     words: &[
         STORE,
+        NEW_PLAN,
         Word {
-            name: "set",
-            value: "PLAN",
-            help: Some("The file of the plan that replaces it"),
-            ..OPTION
-        },
-        Word {
-            name: "yes",
             help: Some("Replaces it without asking"),
-            ..FLAG
+            ..YES
         },
     ],
 };
 
 /// The rules by which mail is filed.
-const RULES: Word = Word {
+pub const RULES: Word = Word {
     name: "rules",
     value: "FOLDER",
     is_required: true,
@@ -80,7 +88,7 @@ const RULES: Word = Word {
     ..OPTION
 };
 
-const UNFILED_ON_FAULT: Word = Word {
+pub const UNFILED_ON_FAULT: Word = Word {
     name: "unfiled-on-fault",
     help: Some(
         "Captures mail in unfiled where the officer or a script is missing, or a script or a run is at fault",
@@ -88,145 +96,123 @@ const UNFILED_ON_FAULT: Word = Word {
     ..FLAG
 };
 
+pub const AT: Word = Word {
+    name: "at",
+    value: "SECONDS",
+    help: Some("The moment of the capture, in seconds since 1970; now if none is given"),
+    ..OPTION
+};
+
 const DELIVER: Subcommand = Subcommand {
     name: "deliver",
     about: "Captures the message on standard input, and prints its records",
     example: "Example: mailfile-store deliver --store records.db --rules rules ann < mail.eml",
-    words: &[
-        STORE,
-        Word {
-            name: "at",
-            value: "SECONDS",
-            help: Some("The moment of the capture, in seconds since 1970; now if none is given"),
-            ..OPTION
-        },
-        RULES,
-        UNFILED_ON_FAULT,
-        OFFICER,
-    ],
+    words: &[STORE, AT, RULES, UNFILED_ON_FAULT, OFFICER],
+};
+
+pub const MAILDIR: Word = Word {
+    name: "maildir",
+    value: "MAILDIR",
+    ..PLACE
 };
 
 const INTAKE: Subcommand = Subcommand {
     name: "intake",
     about: "Captures each message in MAILDIR/new, and moves it to MAILDIR/cur once its records are in the file",
     example: "Example: mailfile-store intake --store records.db --rules rules ann Maildir",
-    words: &[
-        STORE,
-        RULES,
-        UNFILED_ON_FAULT,
-        OFFICER,
-        Word {
-            name: "maildir",
-            value: "MAILDIR",
-            ..PLACE
-        },
-    ],
+    words: &[STORE, RULES, UNFILED_ON_FAULT, OFFICER, MAILDIR],
 };
 
-const CLASS: Word = Word {
+pub const CLASS: Word = Word {
     name: "class",
     value: "PATH",
     help: Some("Records of this class and of those below it"),
     ..OPTION
 };
 
-const DUE: Word = Word {
+pub const DUE: Word = Word {
     name: "due",
     value: "YYYY-MM-DD",
     help: Some("Records that are due by this day, which is not later than today"),
     ..OPTION
 };
 
-const HELD: Word = Word {
+pub const HELD: Word = Word {
     name: "held",
     help: Some("Records that a hold keeps"),
     ..FLAG
 };
 
-const LIVE: Word = Word {
+pub const LIVE: Word = Word {
     name: "live",
     help: Some("Records that are not destroyed"),
     ..FLAG
 };
 
-const FROM: Word = Word {
+pub const FROM: Word = Word {
     name: "from",
     value: "N",
     help: Some("Records with this number or a greater one"),
     ..OPTION
 };
 
+pub const CSV: Word = Word {
+    name: "csv",
+    help: Some("Prints rows of CSV, with a header"),
+    ..FLAG
+};
+
+pub const JSON: Word = Word {
+    name: "json",
+    help: Some("Prints an array of JSON objects"),
+    conflict: Some("csv"),
+    ..FLAG
+};
+
 const LIST: Subcommand = Subcommand {
     name: "list",
     about: "Prints a line for each record: number, class, day, due date or never, holds, and whether it is destroyed",
     example: "Example: mailfile-store list --store records.db --class finance --live",
-    words: &[
-        STORE,
-        CLASS,
-        DUE,
-        HELD,
-        LIVE,
-        FROM,
-        Word {
-            name: "csv",
-            help: Some("Prints rows of CSV, with a header"),
-            ..FLAG
-        },
-        Word {
-            name: "json",
-            help: Some("Prints an array of JSON objects"),
-            conflict: Some("csv"),
-            ..FLAG
-        },
-    ],
+    words: &[STORE, CLASS, DUE, HELD, LIVE, FROM, CSV, JSON],
+};
+
+pub const FIELDS: Word = Word {
+    name: "fields",
+    help: Some("Prints the fields of its header, as the archive reads them"),
+    ..FLAG
 };
 
 const SHOW: Subcommand = Subcommand {
     name: "show",
     about: "Prints the message of a record, octet by octet",
     example: "Example: mailfile-store show --store records.db 1 > mail.eml",
-    words: &[
-        STORE,
-        Word {
-            name: "fields",
-            help: Some("Prints the fields of its header, as the archive reads them"),
-            ..FLAG
-        },
-        NUMBER,
-    ],
+    words: &[STORE, FIELDS, NUMBER],
+};
+
+pub const FOLDER: Word = Word {
+    name: "folder",
+    value: "FOLDER",
+    ..PLACE
 };
 
 const EXPORT: Subcommand = Subcommand {
     name: "export",
     about: "Writes the messages of records to a folder, with manifest.csv and SHA256SUMS; replaces nothing",
     example: "Example: mailfile-store export --store records.db --class finance for-court",
-    words: &[
-        STORE,
-        CLASS,
-        DUE,
-        HELD,
-        LIVE,
-        FROM,
-        Word {
-            name: "folder",
-            value: "FOLDER",
-            ..PLACE
-        },
-    ],
+    words: &[STORE, CLASS, DUE, HELD, LIVE, FROM, FOLDER],
+};
+
+pub const NEW: Word = Word {
+    name: "new",
+    value: "NEW",
+    ..PLACE
 };
 
 const COPY: Subcommand = Subcommand {
     name: "copy",
     about: "Makes a new store with the same archive, without the octets of what was destroyed",
     example: "Example: mailfile-store copy --store records.db backup.db",
-    words: &[
-        STORE,
-        Word {
-            name: "new",
-            value: "NEW",
-            ..PLACE
-        },
-    ],
+    words: &[STORE, NEW],
 };
 
 const CHECK: Subcommand = Subcommand {
@@ -234,6 +220,15 @@ const CHECK: Subcommand = Subcommand {
     about: "Judges a whole store, and says what it holds",
     example: "Example: mailfile-store check --store records.db",
     words: &[STORE],
+};
+
+pub const FORMERLY: Word = Word {
+    name: "formerly",
+    value: "FOLDER",
+    help: Some(
+        "The folder of the rules as they were: shows the first test or command that differs",
+    ),
+    ..OPTION
 };
 
 const WHY: Subcommand = Subcommand {
@@ -246,21 +241,14 @@ const WHY: Subcommand = Subcommand {
             help: Some("The folder of the rules, as of deliver"),
             ..RULES
         },
-        Word {
-            name: "formerly",
-            value: "FOLDER",
-            help: Some(
-                "The folder of the rules as they were: shows the first test or command that differs",
-            ),
-            ..OPTION
-        },
+        FORMERLY,
         OFFICER,
         NUMBER,
     ],
 };
 
 /// The name of a hold.
-const NAME: Word = Word {
+pub const NAME: Word = Word {
     name: "name",
     value: "NAME",
     ..PLACE
@@ -287,17 +275,14 @@ const DISPOSE: Subcommand = Subcommand {
     words: &[
         STORE,
         Word {
-            name: "day",
-            value: "YYYY-MM-DD",
             help: Some(
                 "The day by which records are due, which is not later than today; today if none is given",
             ),
-            ..OPTION
+            ..DAY
         },
         Word {
-            name: "yes",
             help: Some("Destroys the records"),
-            ..FLAG
+            ..YES
         },
         Word {
             is_required: false,
@@ -313,27 +298,19 @@ const REPORT: Subcommand = Subcommand {
     words: &[
         STORE,
         Word {
-            name: "day",
-            value: "YYYY-MM-DD",
             help: Some(
                 "The day by which records are due, which may be later than today; today if none is given",
             ),
-            ..OPTION
+            ..DAY
         },
     ],
 };
 
-const PROGRAM: Program = Program {
+pub const PROGRAM: Program = Program {
     name: "mailfile-store",
-    version: "0.1.0",
     about: "Runs an archive of e-mail in a file: captures, lists, shows, exports, holds and destroys records",
     subcommands: &[
         CREATE, PLAN, DELIVER, INTAKE, LIST, SHOW, EXPORT, COPY, CHECK, WHY, HOLD, RELEASE,
         DISPOSE, REPORT,
     ],
 };
-
-/// The whole command line, with all subcommands. The only error is out of memory.
-pub fn command<'a>(alloc: Global) -> Result<Command<'a>, AllocError> {
-    command_of(alloc, &PROGRAM)
-}

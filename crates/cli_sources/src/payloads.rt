@@ -1,5 +1,4 @@
 //! Payloads that are read from files and streams.
-#![tactic(auto)]
 
 ghost use Rattle.std.specs.Prelude.{◌<◌, ◌^◌, IfOk, IfSome};
 ghost use Rattle.desk_commands.specs.Payloads.{IsOf};
