@@ -24,8 +24,8 @@ readonly CUT=('' a-first-class-and-a-first-message scripts-of-an-officer-that-in
 # and after it a line `want TEXT` for each line of its answers.
 commands_of() {
     local octets said end lines from=0 shown=0
-    octets=$(od -A n -v -t x1 -- "sessions/$1.session" | tr -d ' \n' | sed 's/../\\x&/g')
-    mapfile -t said < "sessions/$1.expected"
+    octets=$(od -A n -v -t x1 -- sessions/*/"$1.session" | tr -d ' \n' | sed 's/../\\x&/g')
+    mapfile -t said < <(cat -- sessions/*/"$1.expected")
     while read -r end lines _; do
         ((end > 0)) || continue
         echo "send ${octets:from * 4:(end - from) * 4}"
@@ -33,7 +33,7 @@ commands_of() {
             echo "want ${said[shown]}"
         done
         from=$end
-    done < "sessions/$1.cuts"
+    done < <(cat -- sessions/*/"$1.cuts")
 }
 
 # All of these sessions, without their answers.

@@ -54,7 +54,7 @@ read_session() {
     local word text
     commands=()
     wanted=()
-    ending=$(< "sessions/$1.expected")$'\n'
+    ending=$(cat -- sessions/*/"$1.expected")$'\n'
     while read -r word text; do
         if [[ $word == send ]]; then
             commands+=("$text")

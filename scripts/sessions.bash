@@ -60,6 +60,20 @@ sessions_in() {
     compgen -G "$1/*/1.session" | sed 's:/1\.session$::'
 }
 
+# The names in the tables of a folder's README.md, and those of its sessions.
+names_shown() {
+    # shellcheck disable=SC2016 # these backticks are those of the page
+    sed -n -E 's/^\| `([a-z0-9-]+)` \| .+ \|$/\1/p' "$1/README.md" | sort
+}
+names_there() {
+    sessions_in "$1" | sed 's:.*/::; s:\.session$::' | sort
+}
+
+# Whether each session of a chapter has one line in its README.md, and each line has its session.
+has_titles() {
+    diff <(names_there "$1") <(names_shown "$1")
+}
+
 # Makes the sessions that are too large or too many for files, and plays all.
 all_sessions() {
     local folder sessions
@@ -67,7 +81,11 @@ all_sessions() {
         mkdir -- "$work/large"
         count "the large sessions are made" "$root/sessions/large.bash" "$work/large"
     fi
-    mapfile -t sessions < <(for folder in "$root/examples" "$root/sessions" "$work/large"; do sessions_in "$folder"; done)
+    for folder in "$root"/sessions/[0-9]*; do
+        count "each session of ${folder##*/} has its line in README.md" has_titles "$folder"
+    done
+    group "titles of sessions"
+    mapfile -t sessions < <(for folder in "$root/examples" "$root"/sessions/[0-9]* "$work/large"; do sessions_in "$folder"; done)
     play_sessions
 }
 

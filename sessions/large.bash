@@ -186,7 +186,7 @@ begin_changes() {
     echo ok >&4
 }
 
-# Sessions that try changes of images, as the file `changes` has them.
+# Sessions that try changes of images, as the file `06-images/changes` has them.
 changes() {
     local word values rest part value octets=() message=''
     while read -r word values rest; do
@@ -200,18 +200,18 @@ changes() {
                 done
             done
         fi
-    done < <(grep -v '^#' "$here/changes")
+    done < <(grep -v '^#' "$here/06-images/changes")
     echo end >&4
     exec 3>&- 4>&-
 }
 
 # A session that ends at each of its octets, and after it one that asks for what is in the store.
 cuts() {
-    local name=$1 place=0 lines=0 end=0 archive='' size questions part stages said
-    size=$(stat -c %s -- "$here/$name.session")
+    local session=$1 name=${1##*/} place=0 lines=0 end=0 archive='' size questions part stages said
+    size=$(stat -c %s -- "$session.session")
     questions=$(< "$here/questions")
-    mapfile -t stages < "$here/$name.cuts"
-    mapfile -t said < "$here/$name.expected"
+    mapfile -t stages < "$session.cuts"
+    mapfile -t said < "$session.expected"
     for ((place = 0; place <= size; place++)); do
         if [[ ${#stages[@]} -gt 0 && ${stages[0]%% *} -eq $place ]]; then
             read -r end lines archive <<< "${stages[0]}"
@@ -219,7 +219,7 @@ cuts() {
         fi
         part=$folder/$name-cut-at-$place
         mkdir -- "$part"
-        head -c "$place" -- "$here/$name.session" > "$part/1.session"
+        head -c "$place" -- "$session.session" > "$part/1.session"
         {
             ((lines == 0)) || answers "${said[@]:0:lines}"
             ((place == end)) || answers 'refused 72'
@@ -236,6 +236,6 @@ strings
 plans
 commands
 changes
-for file in "$here"/*.cuts; do
-    cuts "$(basename -- "$file" .cuts)"
+for file in "$here"/*/*.cuts; do
+    cuts "${file%.cuts}"
 done
