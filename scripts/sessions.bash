@@ -84,7 +84,7 @@ all_sessions() {
     for folder in "$root"/sessions/[0-9]*; do
         count "each session of ${folder##*/} has its line in README.md" has_titles "$folder"
     done
-    group "titles of sessions"
+    group "large sessions, and the titles of all"
     mapfile -t sessions < <(for folder in "$root/examples" "$root"/sessions/[0-9]* "$work/large"; do sessions_in "$folder"; done)
     play_sessions
 }
