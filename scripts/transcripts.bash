@@ -81,6 +81,7 @@ play_transcript() {
     local after needs typed wanted folder=$work/archives/${1//\//,} from=$root/examples/archive/start
     [[ ! -d $folder ]] || return 0
     read_transcript "$root/examples/archive/cases/$1.txt" || return
+    [[ $(head -n 1 -- "$root/examples/archive/cases/$1.txt") == '# '* ]] || echo "failed: $1 does not begin with what it shows"
     if [[ -n $needs ]] && ! command -v "$needs" > "$work/found"; then
         return
     fi
