@@ -78,7 +78,7 @@ play_commands() {
 
 # Plays a transcript in a folder that is as another one has left its own, or as all begin. That other one is played first.
 play_transcript() {
-    local after needs typed wanted folder=$work/archives/${1//\//,} from=$root/examples/archive/start
+    local after needs typed wanted folder=$work/archives/${1//\//,} from=$root/examples/archive/inputs
     [[ ! -d $folder ]] || return 0
     read_transcript "$root/examples/archive/cases/$1.txt" || return
     [[ $(head -n 1 -- "$root/examples/archive/cases/$1.txt") == '# '* ]] || echo "failed: $1 does not begin with what it shows"
