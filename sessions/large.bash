@@ -230,10 +230,55 @@ cuts() {
     done
 }
 
+# Answers of many lines: a due list, and a capture in each of 4,096 classes.
+long_answers() {
+    local number script
+    {
+        printf 'PLAN 23\nroot = "1 days review"\n'
+        for number in {1..2000}; do printf 'BEGIN ann 0 0\nTURN %s 1\nFINISH %s\n' "$number" "$number"; done
+        echo 'DUE 1970-01-02'
+    } | session a-due-list-of-2000-lines ok \
+        "$(for number in {1..2000}; do
+            printf 'ticket %s budget 1\nended 1\nrecord %s class unfiled due 1970-01-02\n' "$number" "$number"
+        done)" \
+        "$(printf 'record %s class unfiled due 1970-01-02\n' {1..2000})" ok end
+    script=$(printf 'require "fileinto"; keep;' && printf ' fileinto "c%s";' {1..4095})
+    {
+        printf 'CLASS c%s\n' {1..4095}
+        printf 'SCRIPT ann main %s\n%sACTIVE ann main\nBEGIN ann 0 0\nTURN 1 60000\nFINISH 1\n' ${#script} "$script"
+    } | session a-capture-in-4096-classes "$(lines 4095 ok)" ok ok 'ticket 1 budget 16389' 'ended 4097' \
+        "$(printf '%s\n' c{1..4095} unfiled | LC_ALL=C sort | awk '{print "record " NR " class " $0 " due never"}')" end
+}
+
+# A record that many holds keep, and the longest path and name of an officer.
+holds_and_names() {
+    local number path officer script
+    {
+        printf 'PLAN 24\nroot = "1 days destroy"\nBEGIN ann 0 0\nTURN 1 1\nFINISH 1\n'
+        printf 'HOLD h%s 1\n' {1..1100}
+        printf 'DUE 1970-01-02\nDESTROY 1 1970-01-02\n'
+        printf 'RELEASE h%s 1\n' {1100..1}
+        printf 'DUE 1970-01-02\nDESTROY 1 1970-01-02\n'
+    } | session a-record-with-1100-holds ok 'ticket 1 budget 1' 'ended 1' 'record 1 class unfiled due 1970-01-02' \
+        "$(lines 1100 ok)" ok 'refused 81' "$(lines 1100 ok)" 'record 1 class unfiled due 1970-01-02' ok ok end
+    officer=$(times 64 o)
+    path=$(printf 'aaaaaaaaaaaaaaaaaaaaaaaaaaaaaaaaaaaaaaaa/%.0s' {1..8})
+    path=${path%/}
+    script="require \"fileinto\"; fileinto \"$path\";"
+    {
+        for number in {1..8}; do echo "CLASS ${path:0:41 * number - 1}"; done
+        printf 'SCRIPT %s main %s\n%sACTIVE %s main\n' "$officer" ${#script} "$script" "$officer"
+        printf 'BEGIN %s 0 0\nTURN 1 9\nFINISH 1\n' "$officer"
+    } | session the-longest-path-and-officer "$(lines 8 ok)" ok ok 'ticket 1 budget 9' 'ended 2' \
+        "record 1 class $path due never" end
+}
+
 payloads
 scripts
 strings
 plans
+long_answers
+holds_and_names
 commands
 changes
 for file in "$here"/*/*.cuts; do
