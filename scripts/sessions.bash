@@ -74,18 +74,18 @@ has_titles() {
     diff <(names_there "$1") <(names_shown "$1")
 }
 
-# Makes the sessions that are too large or too many for files, and plays all.
+# Makes the sessions that are too large or too many for files, and plays all, from the top of the repository.
 all_sessions() {
     local folder sessions
-    if [[ -x $root/sessions/large.bash ]]; then
+    if [[ -x sessions/large.bash ]]; then
         mkdir -- "$work/large"
-        count "the large sessions are made" "$root/sessions/large.bash" "$work/large"
+        count "the large sessions are made" sessions/large.bash "$work/large"
     fi
-    for folder in "$root"/sessions/[0-9]*; do
+    for folder in sessions/[0-9]*; do
         count "each session of ${folder##*/} has its line in README.md" has_titles "$folder"
     done
     group "large sessions, and the titles of all"
-    mapfile -t sessions < <(for folder in "$root/examples" "$root"/sessions/[0-9]* "$work/large"; do sessions_in "$folder"; done)
+    mapfile -t sessions < <(for folder in examples sessions/[0-9]* "$work/large"; do sessions_in "$folder"; done)
     play_sessions
 }
 

@@ -2,7 +2,7 @@
 # shellcheck disable=SC2154,SC2317,SC2015 # `here` and `status` come from limits.bash, which calls the functions `after_CASE` by their
 # names; and `|| shows_run` only reports
 # Asks mailfile-store of the stores that the sessions of some cases have left. What it is given and has to answer is in the folder of the
-# case (sessions/limits/stores.bash). ./hostile sources this file after store.bash; `here` is the folder of the store.
+# case (sessions/limits/stores.bash). scripts/hostile.bash sources this file after store.bash; `here` is the folder of the store.
 
 : "${work:?}"
 

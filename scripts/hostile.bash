@@ -2,24 +2,24 @@
 # Compares what is proved with what is plain: generated scripts by their images and by their trees, sessions with their turns shuffled
 # and in serial order, and random commands of the store by a plain archive. Then it gives a million inputs that are changed, cut and put
 # together at random to the public calls: images, scripts, messages, plans and sessions. It counts the answers to each kind. The last
-# line must be `N inputs, 0 crashes, 0 hangs, 0 over budget`; any other line is a failure. The program beside/trials is proved and built
+# line must be `N inputs, 0 crashes, 0 hangs, 0 over budget`; any other line is a failure. The program trials/trials is proved and built
 # first.
 #
-#     ./hostile            the inputs of seed 1
-#     ./hostile SEED       the inputs of another seed, a number
-#     ./hostile limits [CASE..]    each command at its limits, by sessions of the built mailfile, after some of which mailfile-store is
-#                                  asked (sessions/limits.bash)
+#     ./test hostile            the inputs of seed 1
+#     ./test hostile SEED       the inputs of another seed, a number
+#     ./test hostile limits [CASE..]    each command at its limits, by sessions of the built mailfile, after some of which mailfile-store
+#                                       is asked (sessions/limits.bash)
 #
 # The inputs come in batches. If a batch crashes or hangs, the command that plays it again is printed.
 # shellcheck disable=SC2034 # variables are for what is sourced
 set -uo pipefail
 
-root=$(dirname -- "$(readlink -f -- "${BASH_SOURCE[0]}")") || exit 125
-self=hostile
+root=$(readlink -f -- "${BASH_SOURCE[0]}") && root=${root%/*/*} || exit 125
+self="test hostile"
 # shellcheck source=scripts/build.bash
 . "$root/scripts/build.bash" || exit 125
-# shellcheck source=scripts/beside.bash
-. "$root/scripts/beside.bash" || exit 125
+# shellcheck source=scripts/trials.bash
+. "$root/scripts/trials.bash" || exit 125
 readonly BATCHES=50 BATCH=20000
 
 # A batch that takes this many seconds is hanging; normally it takes a few.
@@ -37,7 +37,7 @@ play_batch() {
     timeout -k 5 "$PATIENCE" "$program" hostile "$seed" "$BATCH" > "$work/said.$2" 2> "$work/error.$2" < /dev/null || status=$?
     if ((status != 0)); then
         echo "$status" > "$work/status.$2"
-        echo "hostile: status $status of: $program hostile $seed $BATCH" >&2
+        echo "$self: status $status of: $program hostile $seed $BATCH" >&2
         cat -- "$work/error.$2" >&2
     fi
 }
@@ -79,14 +79,12 @@ verdict() {
     ((inputs == BATCHES * BATCH && crashes + hangs + over == 0))
 }
 
+[[ ${1-} != --help ]] || print_help
 seed=${1-1}
-if ! [[ $seed == limits || $# -le 1 && $seed =~ ^[0-9]{1,9}$ ]]; then
-    echo "usage: ./hostile [SEED | limits [CASE..]]" >&2
-    exit 2
-fi
+[[ $seed == limits || $# -le 1 && $seed =~ ^[0-9]{1,9}$ ]] || usage "./test hostile [SEED | limits [CASE..]]"
 scratch=
 work=$(mktemp -d) || give_up "no folder could be made for the results"
-trap 'rm -rf -- "$work" ${scratch:+"$scratch"}' EXIT
+trap 'end_lanes; rm -rf -- "$work" ${scratch:+"$scratch"}' EXIT
 trap 'kill $(jobs -p) 2> /dev/null; exit 143' HUP INT TERM
 if [[ $seed == limits ]]; then
     for part in counts sessions store store_limits limits; do
@@ -96,8 +94,8 @@ if [[ $seed == limits ]]; then
     limits "${@:2}"
     finish
 fi
-ensure_beside trials
-program=$(beside_program trials)
+ensure_trial trials
+program=$(trial_program trials)
 "$program" compare || give_up "another answer than the plain one"
 play_batches "$((10#$seed))"
 counts > "$work/counts"

@@ -1,18 +1,20 @@
 #!/usr/bin/env bash
-# Builds the program of measures if needed, and prints a table of what was asked and reached. Each measure is compared with a
-# plain pass over the same input in the same run. Each call of the store is compared with its own statements, run by the kit's
-# library and by the system's sqlite3. `./bench --write` also replaces the table in docs/PERFORMANCE.md.
+# Builds the program of measures if needed, and prints a table of what was asked and reached.
 #
-# `./bench store` does the same for ./mailfile-store: an intake beside a session of ./mailfile, lists beside the opening of the store, and
-# exports and copies beside `cp`.
+#     ./test speed           each measure compared with a plain pass over the same input in the same run, and each call of the store with
+#                            its own statements, run by the kit's library and by the system's sqlite3
+#     ./test speed store     ./mailfile-store: an intake beside a session of ./mailfile, lists beside the opening of the store, and
+#                            exports and copies beside `cp`
+#
+# With `--write` as the last word, the table in docs/PERFORMANCE.md is replaced too.
 set -uo pipefail
 
-root=$(dirname -- "$(readlink -f -- "${BASH_SOURCE[0]}")") || exit 125
-self=bench
+root=$(readlink -f -- "${BASH_SOURCE[0]}") && root=${root%/*/*} || exit 125
+self="test speed"
 # shellcheck source=scripts/build.bash
 . "$root/scripts/build.bash" || exit 125
-# shellcheck source=scripts/beside.bash
-. "$root/scripts/beside.bash" || exit 125
+# shellcheck source=scripts/trials.bash
+. "$root/scripts/trials.bash" || exit 125
 cd -- "$root" || exit 125
 octets=1048576
 rounds=50
@@ -93,19 +95,19 @@ show() {
 }
 
 # The table of ./mailfile-store.
-bench_store() {
+speed_of_store() {
     folder=$(mktemp -d) || give_up "no folder could be made for the files of the store"
     memory=$(mktemp -d -p /dev/shm 2> /dev/null) || memory=
     trap 'rm -rf -- "$folder" ${memory:+"$memory"}' EXIT
     # shellcheck source=scripts/store_figures.bash
     . "$root/scripts/store_figures.bash" || exit 125
     { machine && echo && store_figures; } > "$folder/table" || give_up "the table was not made"
-    show "$folder/table" "./bench store" "$1"
+    show "$folder/table" "./test speed store" "$1"
 }
 
 # The rows of the store, on an archive with a number of holds and with its databases in a folder.
 store_rows() {
-    "$(beside_program measures)" store "$records" "$2" "$store_rounds" "$1/store" "$3" > "$folder/rows" || return
+    "$(trial_program measures)" store "$records" "$2" "$store_rounds" "$1/store" "$3" > "$folder/rows" || return
     cat -- "$folder/rows"
     sqlite3_rows "$1/store-bare.db" "$3" < "$folder/rows" || return
     rm -f -- "$1"/store-*
@@ -114,33 +116,33 @@ store_rows() {
 case $#${1-}${2-} in
     0 | 1--write) ;;
     1store | 2store--write)
-        bench_store "${2-}"
+        speed_of_store "${2-}"
         exit
         ;;
-    *)
-        echo "usage: ./bench [store] [--write]" >&2
-        exit 2
-        ;;
+    1--help) print_help ;;
+    *) usage "./test speed [store] [--write]" ;;
 esac
-ensure_beside measures
-measured=$root/beside/measures/out/measured
+trap end_lanes EXIT
+trap 'kill $(jobs -p) 2> /dev/null; exit 143' HUP INT TERM
+ensure_trial measures
+measured=$root/trials/measures/out/measured
 # Each measure is run once on a small input, for which its answer is known.
-if ! "$(beside_program measures)" > "$measured.rows"; then
+if ! "$(trial_program measures)" > "$measured.rows"; then
     give_up "the program ended with a fault"
 fi
-cmp -s beside/measures/answers "$measured.rows" || give_up "a measure has another answer than in beside/measures/answers"
-if ! "$(beside_program measures)" "$octets" "$rounds" > "$measured.rows"; then
+cmp -s trials/measures/answers "$measured.rows" || give_up "a measure has another answer than in trials/measures/answers"
+if ! "$(trial_program measures)" "$octets" "$rounds" > "$measured.rows"; then
     give_up "the program ended with a fault"
 fi
 # The memory of cases and of commands, each in its own process, whose greatest size the system reports.
 for index in 0 1 2 3 4 5 6 7; do
-    if ! "$(beside_program measures)" memory "$index" >> "$measured.rows"; then
+    if ! "$(trial_program measures)" memory "$index" >> "$measured.rows"; then
         give_up "the program ended with a fault"
     fi
 done
 # The store over files in memory, if the system has a folder of such files, and in real files, also with holds. It is compared
 # with sqlite3 on the databases that it leaves.
-folder=$(mktemp -d -p "$root/beside/measures/out") || give_up "no folder could be made for the files of the store"
+folder=$(mktemp -d -p "$root/trials/measures/out") || give_up "no folder could be made for the files of the store"
 memory=$(mktemp -d -p /dev/shm 2> /dev/null) || memory=
 trap 'rm -rf -- "$folder" ${memory:+"$memory"}' EXIT
 # shellcheck source=scripts/sqlite3.bash
@@ -151,7 +153,7 @@ fi
 store_rows "$folder" 0 "in a file" >> "$measured.rows" || give_up "the store was not measured"
 store_rows "$folder" "$((records / 10))" "in a file, one record in ten held" >> "$measured.rows" || give_up "the store was not measured"
 # Captures in flight, in memory and in files, and the memory that sixty-four of them take.
-if ! "$(beside_program measures)" captures "$capture_rounds" "$folder/captures" >> "$measured.rows"; then
+if ! "$(trial_program measures)" captures "$capture_rounds" "$folder/captures" >> "$measured.rows"; then
     give_up "captures were not measured"
 fi
 {
@@ -159,4 +161,4 @@ fi
     echo
     table < "$measured.rows"
 } > "$measured" || give_up "the table was not made"
-show "$measured" ./bench "${1-}"
+show "$measured" "./test speed" "${1-}"
