@@ -121,7 +121,13 @@ proofs_fit() {
     ! grep -v '"' "$work/said"
 }
 
+# Whether the edits that the gate tries change code alone.
+gate_edits_are_of_code() {
+    ! grep -r -E '^file: (specs|proofs)/' crates/*/must-fail
+}
+
 layout() {
+    count "must-fail edits of the gate that change code alone" gate_edits_are_of_code
     count "lines of code of at most 100 characters" lines_fit
     count "lines of proofs of at most 150 characters" proofs_fit
     group layout
