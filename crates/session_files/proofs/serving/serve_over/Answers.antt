@@ -15,7 +15,8 @@ returns-clause-served g c clean heard said =
     let same = c.into_connection.ensures ∙ ap (λ (s : Store g.row.S.Denot). s.conn) c.into_store.ensures.store in
     let serve = c.serve-session in
     let law = c.sessions_refine_states.ensures in
-    let told = desk_told keeper serve.result _ _ _ _ _ (serve.ensures.ok heard said) (serve.ensures.unheard heard said) (serve.ensures.unsaid heard said) in
+    let told = desk_told keeper serve.result _ _ _ _ _
+    (serve.ensures.ok heard said) (serve.ensures.unheard heard said) (serve.ensures.unsaid heard said) in
     let led = told_refines keeper law.served law.answered law.cut_in_answer law.cut_in_ending
     serve.result _ _ _ _ _ told (clean_alike g.S.Store _ _ same clean) in (
       c.in-Ok.ensures.clean led.0,

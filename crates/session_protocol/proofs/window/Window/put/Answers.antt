@@ -1,10 +1,10 @@
 use Rattle.std.proofs.Common.{◌≡◌, ◌≤◌, ◌++◌, ◌∙◌, ap, arith, length, take}
 use Rattle.std.proofs.lemmas.Grind.{common_steps}
-use Rattle.session_protocol.proofs.HeldLemmas.{held_more}
-use Rattle.session_protocol.proofs.held.Held.hold.Goals as goal
+use Rattle.session_protocol.proofs.WindowLemmas.{part_more}
+use Rattle.session_protocol.proofs.window.Window.put.Goals as goal
 
-pub returns-clause-held : goal.returns-clause-held
-returns-clause-held c =
+pub returns-clause-added : goal.returns-clause-added
+returns-clause-added g c =
     let octets = c.self.inside.octets in
     let start = c.self.inside.start in
     let end = c.self.inside.end in
@@ -14,4 +14,4 @@ returns-clause-held c =
     let size : length put ≡ count = grind (arith, common_steps) in
     let below : start ≤ end = c.self.invariant.0 in
     let within : end ≤ length octets = grind (arith, common_steps) in
-    held_more octets put start end count _ below within size ∙ ap (λ s. s ++ put) c.self.view_is ∙ ap (λ s. c.args.self.now ++ s) copied
+    part_more octets put start end count _ below within size ∙ ap (λ s. s ++ put) c.self.view_is ∙ ap (λ s. c.args.self.now ++ s) copied
