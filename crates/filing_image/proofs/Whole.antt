@@ -44,10 +44,6 @@ with_rest rest v = Some (v, rest)
 
 mark_takes : (octets : List ℕ) (x : Version × List ℕ) → IsBytes octets → version_and_rest octets ≡ Some x → Takes octets (mark x.0) x.1
 unfolding version_and_rest
-mark_takes [] x fits e = absurd cc
-mark_takes (a ∷ []) x fits e = absurd cc
-mark_takes (a ∷ b ∷ []) x fits e = absurd cc
-mark_takes (a ∷ b ∷ c ∷ []) x fits e = absurd cc
 mark_takes (a ∷ b ∷ c ∷ d ∷ octets) x fits e =
     let g = kept (eqb a 0x53 && (eqb b 0x46 && eqb c 0x49)) (version_of_octet d >>= with_rest octets) x e in
     let g0 = and_parts (eqb a 0x53) (eqb b 0x46 && eqb c 0x49) g.0 in
@@ -66,6 +62,7 @@ mark_takes (a ∷ b ∷ c ∷ d ∷ octets) x fits e =
     } in
     let made : Version × List ℕ = (v.0, octets) in
     subst (λ (y : Version × List ℕ). Takes (a ∷ b ∷ c ∷ d ∷ octets) (mark y.0) y.1) (some_is made x v.2) here
+mark_takes octets x fits e = absurd cc
 
 mark_again : (v : Version) (rest : List ℕ) → version_and_rest (mark v ++ rest) ≡ Some (v, rest)
 unfolding version_and_rest
