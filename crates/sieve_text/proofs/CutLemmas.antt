@@ -1,18 +1,15 @@
 -- The tokens that are read, and the gaps before them, make the script.
-use Rattle.std.proofs.Common.{◌≡◌, ℕ, ◌+◌, ◌≤◌, List, [], ◌∷◌, ◌++◌, length, drop, Option, Some, None, Result, Ok, refl, append-nil}
-use Rattle.std.proofs.Common.{sym, ap, subst, ◌∙◌, arith, inl, inr, length-append}
-use Rattle.std.proofs.lemmas.Bool.{lt-ltb, cases_lt}
+use Rattle.std.proofs.Common.{◌≡◌, ℕ, ◌+◌, ◌≤◌, List, [], ◌∷◌, ◌++◌, length, drop, Some, None, Ok, append-nil}
+use Rattle.std.proofs.Common.{sym, ap, subst, ◌∙◌, arith, length-append}
 use Rattle.std.proofs.lemmas.List.{length-drop, nil_from_length}
 use Rattle.sieve_syntax.specs.declared.token.Token.{Token}
 use Rattle.sieve_syntax.specs.declared.token.TokenKind.{TokenKind}
-use Rattle.sieve_text.specs.declared.fault.ScanRefusal.{ScanRefusal}
 use Rattle.sieve_text.specs.Gaps.{gap_len}
 use Rattle.sieve_text.specs.Tokens.{kind_at, token_at, Reads}
 use Rattle.sieve_text.specs.TokenGrammar.{Gap, IsToken, IsFirst, IsCut}
 use Rattle.sieve_text.proofs.GapLemmas.{drop_more}
 use Rattle.sieve_text.proofs.GapGrammar.{gap_sound, dropped}
 use Rattle.sieve_text.proofs.KindGrammar.{kind_sound}
-use Rattle.sieve_text.proofs.KindLemmas.{read_as, bound_parts}
 use Rattle.sieve_text.proofs.Longest.{lexeme_short, kind_apart}
 use Rattle.sieve_text.proofs.WithinLemmas.{token_parts, ends_at}
 

@@ -32,13 +32,7 @@ mark_octet b m =
 
 pub octet_mark : (m : Mark) → mark_of (octet_of m) ≡ Some m
 octet_mark Semicolon = refl
-octet_mark OpenBrace = refl
-octet_mark CloseBrace = refl
-octet_mark OpenParen = refl
-octet_mark CloseParen = refl
-octet_mark OpenBracket = refl
-octet_mark CloseBracket = refl
-octet_mark Comma = refl
+octet_mark m = refl
 
 either : (b m n : ℕ) → ((b == m) || (b == n)) ≡ true → (b ≡ m) ⊎ (b ≡ n)
 either b m n h = elim (or_cases (b == m) (b == n) h) [

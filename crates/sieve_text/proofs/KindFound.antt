@@ -11,8 +11,7 @@ use Rattle.std.proofs.lemmas.List.{append-nil, length-map, take-append-drop, len
 use Rattle.std.proofs.lemmas.List.Folds.{list_all-append}
 use Rattle.std.proofs.Math.Seq.{take-append_seam, drop-append_seam, drop-append-add}
 use Rattle.sieve_syntax.specs.declared.token.Mark.{Mark}
-use Rattle.sieve_syntax.specs.declared.token.Mark.TheVariants.{Semicolon, OpenBrace, CloseBrace, OpenParen, CloseParen}
-use Rattle.sieve_syntax.specs.declared.token.Mark.TheVariants.{OpenBracket, CloseBracket, Comma}
+use Rattle.sieve_syntax.specs.declared.token.Mark.TheVariants.{Semicolon}
 use Rattle.sieve_syntax.specs.declared.token.TokenKind.{TokenKind}
 use Rattle.sieve_syntax.specs.declared.token.TokenKind.TheVariants as kinds
 use Rattle.sieve_text.specs.declared.fault.ScanRefusal.{ScanRefusal}
@@ -454,13 +453,7 @@ multi_line_found octets value following h =
 mark_found : (m : Mark) (bs : List ℕ) → kind_at (octet_of m ∷ bs) ≡ Ok (kinds.Mark m, 1)
 unfolding kind_at
 mark_found Semicolon bs = refl
-mark_found OpenBrace bs = refl
-mark_found CloseBrace bs = refl
-mark_found OpenParen bs = refl
-mark_found CloseParen bs = refl
-mark_found OpenBracket bs = refl
-mark_found CloseBracket bs = refl
-mark_found Comma bs = refl
+mark_found m bs = refl
 
 -- ANY TOKEN
 

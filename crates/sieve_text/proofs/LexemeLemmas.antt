@@ -2,7 +2,7 @@
 use Rattle.std.proofs.Common.{◌≡◌, ℕ, zero, suc, ◌+◌, ◌<◌, ◌≤◌, ◌⊎◌, Bool, true, false, List, [], ◌∷◌, length, drop}
 use Rattle.std.proofs.Common.{nat_lt, Option, Some, None, Result, Ok, Err, refl, sym, ap, ◌∙◌, arith, inl, inr}
 use Rattle.std.specs.Prelude.{if◌then◌else◌}
-use Rattle.std.proofs.lemmas.Bool.{ltb-false, ltb-true}
+use Rattle.std.proofs.lemmas.Bool.{ltb-true}
 use Rattle.std.proofs.lemmas.List.{length-drop, drop_all}
 use Rattle.sieve_syntax.specs.declared.token.Token.{Token}
 use Rattle.sieve_syntax.specs.declared.token.TokenKind.{TokenKind}
@@ -13,7 +13,7 @@ use Rattle.sieve_text.specs.Grammar.{kinds}
 use Rattle.sieve_text.specs.Lexemes.{first_and, kinds_within, kinds_in, left_after, left_within, left_in}
 use Rattle.sieve_text.specs.Tokens.{kind_at, token_at, Reads, IsSound, IsScan, IsFaulty, ◌>>=◌}
 use Rattle.sieve_text.proofs.ScanLemmas.{some_verdict, sound_once}
-use Rattle.sieve_text.proofs.KindLemmas.{read_as, tested, bound_parts}
+use Rattle.sieve_text.proofs.KindLemmas.{read_as}
 use Rattle.sieve_text.proofs.GapLemmas.{drop_more}
 use Rattle.sieve_text.proofs.WithinLemmas.{kind_within, token_parts, token_within, ends_at}
 

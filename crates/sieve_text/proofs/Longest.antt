@@ -1,11 +1,11 @@
 -- A token by the grammar is no longer than what is read in its place.
 use Rattle.std.proofs.Common.{◌≡◌, ℕ, suc, ◌+◌, ◌<◌, ◌≤◌, ◌⊎◌, Bool, true, false, List, [], ◌∷◌, ◌++◌, length, map}
-use Rattle.std.proofs.Common.{take, drop, nat_le, Ok, refl, sym, ap, ◌∙◌, arith, inl, inr, length-append, append_assoc}
+use Rattle.std.proofs.Common.{take, drop, Ok, refl, sym, ap, ◌∙◌, arith, inl, inr, length-append, append_assoc}
 use Rattle.std.specs.Prelude.{◌==◌, ◌||◌, codes}
 use Rattle.std.specs.List.{prefix_len, list_all}
 use Rattle.std.specs.Char.{is_ascii_digit, to_ascii_lowercase}
 use Rattle.std.proofs.lemmas.Bool.{false≢true, true≢false, both_ways, cases_Bool, cases_lt, eqb-true, eq-eqb, ne_eqb}
-use Rattle.std.proofs.lemmas.Bool.{lt-ltb, le-ltb, leb-true, lt-leb, and_parts, and_from}
+use Rattle.std.proofs.lemmas.Bool.{lt-ltb, le-ltb, lt-leb, and_parts, and_from}
 use Rattle.std.proofs.lemmas.List.{length-map}
 use Rattle.std.proofs.lemmas.List.Folds.{list_all-append}
 use Rattle.std.proofs.Math.Seq.{drop-append_seam, drop-append-add}
@@ -424,7 +424,4 @@ name_apart (b ∷ bs) following n h e t = elim (cases_Bool (begins_with 58 follo
 pub kind_apart : (kind : TokenKind) (octets following : List ℕ) → Lexeme kind octets following → (n : ℕ)
     → kind_at (octets ++ following) ≡ Ok (kind, n) → IsApart kind following
 kind_apart (kinds.Identifier xs) octets following h n e = name_apart xs following n h.1 (rw h.0 at e)
-kind_apart (kinds.Tag xs) octets following h n e = tt
-kind_apart (kinds.Number m) octets following h n e = tt
-kind_apart (kinds.StringValue value) octets following h n e = tt
-kind_apart (kinds.Mark mark) octets following h n e = tt
+kind_apart kind octets following h n e = tt
