@@ -1,7 +1,6 @@
 -- A class and the file, by what each part reads.
-use Rattle.std.proofs.Common.{◌≡◌, ℕ, Bool, true, false, not, ◌&&◌, ◌<◌, ◌≤◌, ◌+◌, List, [], ◌∷◌, ◌++◌, length, drop}
-use Rattle.std.proofs.Common.{get_or, Option, Some, None, option_map, option_and_then, refl, ap, ◌∙◌, sym}
-use Rattle.std.proofs.Common.{append_assoc, append-nil, cond}
+use Rattle.std.proofs.Common.{◌≡◌, ℕ, Bool, true, false, not, ◌&&◌, ◌<◌, ◌≤◌, ◌+◌, List, [], ◌∷◌, ◌++◌, length, drop, get_or, Option, Some, None}
+use Rattle.std.proofs.Common.{option_map, option_and_then, refl, ap, ◌∙◌, sym, append_assoc, append-nil, cond}
 use Rattle.std.proofs.lemmas.List.{drop_all}
 use Rattle.std.specs.Str.{bytes_eq}
 use Rattle.toml.specs.Data.{Data, Members, as_table}

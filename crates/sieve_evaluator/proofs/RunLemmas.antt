@@ -49,17 +49,8 @@ module _ (facts : Facts) (inc : Included) (name : List ℕ) (args : List Argumen
       (run_branches facts inc (branches_of more) f) (run facts inc (program_of more)) ∙ told more)
   branch_leads words.ElsIf true opens is part told more = rw is (and_then-if (truth facts (only_in inner)) (run facts inc (block_in finish) f)
       (run_branches facts inc (branches_of more) f) (run facts inc (program_of more)) ∙ told more)
-  branch_leads words.ElsIf false opens is part told more = cc
   branch_leads words.Else true opens is part told more = cc
-  branch_leads words.Else false opens is part told more = cc
-  branch_leads words.Require is_open opens is part told more = cc
-  branch_leads words.Stop is_open opens is part told more = cc
-  branch_leads words.Keep is_open opens is part told more = cc
-  branch_leads words.Discard is_open opens is part told more = cc
-  branch_leads words.Return is_open opens is part told more = cc
-  branch_leads words.FileInto is_open opens is part told more = cc
-  branch_leads words.Include is_open opens is part told more = cc
-  branch_leads words.Other is_open opens is part told more = cc
+  branch_leads word is_open opens is part told more = cc
 
   -- an open `else`
   pub otherwise_leads : (word : CommandWord) (is_open : Bool) → command_word name ≡ word → part_of word is_open ≡ Otherwise
@@ -67,17 +58,9 @@ module _ (facts : Facts) (inc : Included) (name : List ℕ) (args : List Argumen
   unfolding runs_from
   otherwise_leads words.Else true is part told more = rw (is, told, block_in-commands finish) refl
   otherwise_leads words.Else false is part told more = cc
-  otherwise_leads words.If is_open is part told more = cc
   otherwise_leads words.ElsIf true is part told more = cc
   otherwise_leads words.ElsIf false is part told more = cc
-  otherwise_leads words.Require is_open is part told more = cc
-  otherwise_leads words.Stop is_open is part told more = cc
-  otherwise_leads words.Keep is_open is part told more = cc
-  otherwise_leads words.Discard is_open is part told more = cc
-  otherwise_leads words.Return is_open is part told more = cc
-  otherwise_leads words.FileInto is_open is part told more = cc
-  otherwise_leads words.Include is_open is part told more = cc
-  otherwise_leads words.Other is_open is part told more = cc
+  otherwise_leads word is_open is part told more = cc
 
   -- any other command
   pub plain_leads : (word : CommandWord) (is_open : Bool) → command_word name ≡ word → part_of word is_open ≡ Plain
@@ -85,25 +68,9 @@ module _ (facts : Facts) (inc : Included) (name : List ℕ) (args : List Argumen
   unfolding runs_from
   plain_leads words.If is_open is part told more = cc
   plain_leads words.ElsIf true is part told more = cc
-  plain_leads words.ElsIf false is part told more = rw is (told tt (only_in inner) (block_in finish) (branches_of more) (program_of more))
   plain_leads words.Else true is part told more = cc
-  plain_leads words.Else false is part told more = rw is (told tt (only_in inner) (block_in finish) (branches_of more) (program_of more))
-  plain_leads words.Require true is part told more = rw is (told tt (only_in inner) (block_in finish) (branches_of more) (program_of more))
-  plain_leads words.Require false is part told more = rw is (told tt (only_in inner) (block_in finish) (branches_of more) (program_of more))
-  plain_leads words.Stop true is part told more = rw is (told tt (only_in inner) (block_in finish) (branches_of more) (program_of more))
-  plain_leads words.Stop false is part told more = rw is (told tt (only_in inner) (block_in finish) (branches_of more) (program_of more))
-  plain_leads words.Keep true is part told more = rw is (told tt (only_in inner) (block_in finish) (branches_of more) (program_of more))
-  plain_leads words.Keep false is part told more = rw is (told tt (only_in inner) (block_in finish) (branches_of more) (program_of more))
-  plain_leads words.Discard true is part told more = rw is (told tt (only_in inner) (block_in finish) (branches_of more) (program_of more))
-  plain_leads words.Discard false is part told more = rw is (told tt (only_in inner) (block_in finish) (branches_of more) (program_of more))
-  plain_leads words.Return true is part told more = rw is (told tt (only_in inner) (block_in finish) (branches_of more) (program_of more))
-  plain_leads words.Return false is part told more = rw is (told tt (only_in inner) (block_in finish) (branches_of more) (program_of more))
-  plain_leads words.FileInto true is part told more = rw is (told tt (only_in inner) (block_in finish) (branches_of more) (program_of more))
-  plain_leads words.FileInto false is part told more = rw is (told tt (only_in inner) (block_in finish) (branches_of more) (program_of more))
-  plain_leads words.Include true is part told more = rw is (told tt (only_in inner) (block_in finish) (branches_of more) (program_of more))
-  plain_leads words.Include false is part told more = rw is (told tt (only_in inner) (block_in finish) (branches_of more) (program_of more))
-  plain_leads words.Other true is part told more = rw is (told tt (only_in inner) (block_in finish) (branches_of more) (program_of more))
-  plain_leads words.Other false is part told more = rw is (told tt (only_in inner) (block_in finish) (branches_of more) (program_of more))
+  plain_leads word true is part told more = rw is (told tt (only_in inner) (block_in finish) (branches_of more) (program_of more))
+  plain_leads word false is part told more = rw is (told tt (only_in inner) (block_in finish) (branches_of more) (program_of more))
 
 -- without commands the run goes on
 pub runs_from_none : (facts : Facts) (inc : Included) (is_open : Bool) (f : meaning.Filing)

@@ -1,11 +1,12 @@
 -- The arguments of a form, as the meaning reads them.
 use Rattle.sieve_laws.proofs.TagKinds.{AreOfKind, AreKinds, one_more, one_passed, each_once}
 use Rattle.std.proofs.Common.{◌≡◌, ℕ, Bool, true, false, List, [], ◌∷◌, Option, Some, None, refl, sym, ap, subst, ◌∙◌, ◌⊎◌, inl, inr}
-use Rattle.std.specs.Prelude.{◌||◌, ◌&&◌, codes, count_by, if◌then◌else◌}
+use Rattle.std.specs.Prelude.{◌||◌, codes, count_by, if◌then◌else◌}
 use Rattle.std.specs.List.{list_any, list_all}
 use Rattle.std.specs.Str.{bytes_eq, str_to_ascii_lowercase}
-use Rattle.std.proofs.lemmas.Slice.Eq.{bytes_eq-Decides}
 use Rattle.std.proofs.lemmas.Bool.{true≢false, cases_Bool, or_parts, or_left, or_right, and_from, not-false}
+use Rattle.std.proofs.Math.Bool.{or-false}
+use Rattle.sieve_check.proofs.Shaped.{lower_is}
 use Rattle.sieve_syntax.specs.Tree.{InnerTests}
 use Rattle.sieve_syntax.specs.declared.tree.StringList.{StringList}
 use Rattle.sieve_syntax.specs.declared.tree.StringList.TheVariants as string_list
@@ -21,10 +22,6 @@ use Rattle.sieve_check.specs.Shapes.{HasForm}
 use Rattle.sieve_meaning.specs.Reading.{has_tag, string_lists}
 use Rattle.sieve_meaning.specs.Words.{same_word}
 use Rattle.sieve_laws.specs.ReadingLaw.{is_named, is_tag_of, numbers_in, comparators_in, is_comparator, HasArguments}
-
-pub lower_is : (a b : List ℕ) → same_name a b ≡ true → str_to_ascii_lowercase a ≡ str_to_ascii_lowercase b
-unfolding same_name
-lower_is a b h = (bytes_eq-Decides (str_to_ascii_lowercase a) (str_to_ascii_lowercase b)).0 h
 
 -- names that are equal in any case of their letters are equal to the same words
 pub same_as : (a b c : List ℕ) → same_name a b ≡ true → same_word a c ≡ same_word b c
@@ -103,14 +100,10 @@ pub record IsPieced (names : List (List (List ℕ))) (tags : List TagWord) (args
   pub counted : (kind : List (List ℕ)) (k : TagKind) → AreOfKind kind k tags
       → count_by (is_named kind) args ≡ count_by (has_kind k) (pieces tags args)
 
-or_none : (b : Bool) → (b || false) ≡ b
-or_none true = refl
-or_none false = refl
-
 known_comparator : (w : Option TagWord) (s : List ℕ) → is_unknown_comparator (tagged w (Some s)) ≡ false → is_comparator (string_list.One s) ≡ true
 unfolding same_text
 known_comparator w s h =
-    ap (λ (b : Bool). bytes_eq s (codes "i;octet") || b) (sym (or_none (bytes_eq s (codes "i;ascii-casemap"))))
+    ap (λ (b : Bool). bytes_eq s (codes "i;octet") || b) (sym (or-false (bytes_eq s (codes "i;ascii-casemap"))))
     ∙ not-false (list_any (λ t. same_text s t) comparator_table) h
 
 -- a tag that names no comparator, and what follows it

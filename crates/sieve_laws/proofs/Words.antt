@@ -1,12 +1,11 @@
 -- What follows each name.
 use Rattle.std.proofs.Common.{◌≡◌, ℕ, Bool, true, false, List, [], ◌∷◌, Option, Some, None, refl, sym, ap, subst, ◌∙◌, ◌⊎◌, inl, inr}
-use Rattle.std.specs.Prelude.{◌||◌, not, codes, if◌then◌else◌}
+use Rattle.std.specs.Prelude.{not, codes, if◌then◌else◌}
 use Rattle.std.specs.List.{list_any}
 use Rattle.std.specs.Str.{bytes_eq, str_to_ascii_lowercase}
 use Rattle.std.proofs.lemmas.Bool.{not-false}
-use Rattle.sieve_syntax.specs.Tree.{TestTree, test, InnerTests, no_tests, one_test, listed_tests, TestRow, last_test}
-use Rattle.sieve_syntax.specs.Tree.{next_test, CommandTree, command, EndingTree, semicolon, block, CommandTrees}
-use Rattle.sieve_syntax.specs.Tree.{no_commands, command_then}
+use Rattle.sieve_syntax.specs.Tree.{TestTree, test, InnerTests, no_tests, one_test, listed_tests, TestRow, last_test, next_test, CommandTree, command}
+use Rattle.sieve_syntax.specs.Tree.{EndingTree, semicolon, block, CommandTrees, no_commands, command_then}
 use Rattle.sieve_syntax.specs.declared.tree.StringList.{StringList}
 use Rattle.sieve_syntax.specs.declared.tree.StringList.TheVariants as string_list
 use Rattle.sieve_syntax.specs.declared.tree.Argument.{Argument}
@@ -22,7 +21,7 @@ use Rattle.sieve_check.specs.Shapes.{TakesEach, HasEnding, HasForm, TestShape, I
 use Rattle.sieve_check.specs.Shapes.{CommandShape, EndingShape, CommandsShape}
 use Rattle.sieve_check.specs.Tables as tables
 use Rattle.sieve_check.specs.Tables.{WordForm, size_form}
-use Rattle.sieve_check.proofs.Shaped.{shape_law, one_string, one_number, two_lists}
+use Rattle.sieve_check.proofs.Shaped.{shape_law, one_string, one_number, two_lists, lower_is}
 use Rattle.sieve_meaning.specs.declared.words.CommandWord.{CommandWord}
 use Rattle.sieve_meaning.specs.declared.words.CommandWord.TheVariants as commands
 use Rattle.sieve_meaning.specs.declared.words.TestWord.{TestWord}
@@ -32,7 +31,7 @@ use Rattle.sieve_laws.specs.ReadingLaw.{header_tags, size_tags, fileinto_tags, i
 use Rattle.sieve_laws.specs.ReadingLaw.{TestReads, TestIsRead, InnerIsRead, RowIsRead, CommandReads, is_branch}
 use Rattle.sieve_laws.specs.ReadingLaw.{Follows, CommandIsRead, EndingIsRead, CommandsAreRead, ReadLaw}
 use Rattle.sieve_laws.proofs.TagKinds.{AreKinds, are_once}
-use Rattle.sieve_laws.proofs.Arguments.{lower_is, AreRead, form_read, limit_there}
+use Rattle.sieve_laws.proofs.Arguments.{AreRead, form_read, limit_there}
 
 -- WORDS
 
@@ -296,9 +295,11 @@ command_found follows name args inner finish r t = by t
     by (inr (inl (h, e))) =
         is (codes "if") commands.If command_names.if_is e h (reads_none [] (form e) tt tt refl, (form e).tests, ending e) tt refl
     by (inr (inr (inl (h, e)))) =
-        is (codes "elsif") commands.ElsIf command_names.elsif e h (reads_none [] (form e) tt tt refl, (form e).tests, ending e) (not-false follows (branch e)) refl
+        is (codes "elsif") commands.ElsIf command_names.elsif e h
+        (reads_none [] (form e) tt tt refl, (form e).tests, ending e) (not-false follows (branch e)) refl
     by (inr (inr (inr (inl (h, e))))) =
-        is (codes "else") commands.Else command_names.else_is e h (reads_none [] (form e) tt tt refl, (form e).tests, ending e) (not-false follows (branch e)) refl
+        is (codes "else") commands.Else command_names.else_is e h
+        (reads_none [] (form e) tt tt refl, (form e).tests, ending e) (not-false follows (branch e)) refl
     by (inr (inr (inr (inr (inl (h, e)))))) =
         is (codes "stop") commands.Stop command_names.stop e h (reads_none [] (form e) tt tt refl, (form e).tests, ending e) tt refl
     by (inr (inr (inr (inr (inr (inl (h, e))))))) =

@@ -80,7 +80,7 @@ multi_line_parts bs k e = bound_parts (opening_end_at (drop (prefix_len is_blank
 pub tag_parts : (bs : List ℕ) (k : TokenKind × ℕ) → tag_at bs ≡ Ok k → (begins is_start bs ≡ true)
     × ((kinds.Tag (take (prefix_len is_word bs) bs), suc (prefix_len is_word bs)) ≡ k)
 unfolding tag_at
-tag_parts bs k e = elim (tested (begins is_start bs) (Ok (kinds.Tag (take (prefix_len is_word bs) bs), suc (prefix_len is_word bs))) (Err NoToken) k e) [
+tag_parts bs k e = elim (tested (begins is_start bs) (Ok (kinds.Tag _, _)) (Err NoToken) k e) [
   | inl h ↦ (h.0, same_kind _ k h.1)
   | inr h ↦ absurd (no_kind NoToken k h.1)
 ]

@@ -73,12 +73,14 @@ returns-then-contains-clause-made c =
 pub returns-then-is_made-clause-made : goal.returns-then-is_made-clause-made
 returns-then-is_made-clause-made c =
     let at = goal.at.returns-then-is_made-clause-made c in
-    made_before (library_of (scripts_of c.args.reach.now.shelves)) (map procedure_of c.args.next.now.items) _ _ (is_entry at.In-Some) (was_made at.After-is_made ∙ c.if-is_made.true)
+    made_before (library_of (scripts_of c.args.reach.now.shelves)) (map procedure_of c.args.next.now.items) _ _
+    (is_entry at.In-Some) (was_made at.After-is_made ∙ c.if-is_made.true)
 
 pub returns-then-len-room-clause-made : goal.returns-then-len-room-clause-made
 returns-then-len-room-clause-made c =
     let at = goal.at.returns-then-len-room-clause-made c in
-    no_room (library_of (scripts_of c.args.reach.now.shelves)) (map procedure_of c.args.next.now.items) _ _ (is_entry at.In-Some) (was_made at.After-is_made
+    no_room (library_of (scripts_of c.args.reach.now.shelves)) (map procedure_of c.args.next.now.items) _ _
+    (is_entry at.In-Some) (was_made at.After-is_made
     ∙ c.if-is_made.false) c.args.room (omega (arith, length-map c.args.next.now.items procedure_of))
 
 pub returns-clause-each : goal.returns-clause-each
@@ -98,4 +100,5 @@ returns-clause-made c =
     ap (map procedure_of) c.in_ok-push.ensures.items
     ∙ map-append procedure_of c.args.next.now.items (c.in_ok-procedure.procedure ∷ [])
     ∙ ap (λ (q : Procedure). map procedure_of c.args.next.now.items ++ q ∷ []) (is_entered at.In_ok-procedure)
-    ∙ one_added (library_of (scripts_of c.args.reach.now.shelves)) (map procedure_of c.args.next.now.items) _ _ (is_entry at.In-Some) (was_made at.After-is_made ∙ c.if-is_made.false)
+    ∙ one_added (library_of (scripts_of c.args.reach.now.shelves)) (map procedure_of c.args.next.now.items) _ _
+    (is_entry at.In-Some) (was_made at.After-is_made ∙ c.if-is_made.false)

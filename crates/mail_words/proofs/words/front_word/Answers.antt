@@ -1,6 +1,7 @@
 use Rattle.std.proofs.Common.{sym, ◌∙◌}
 use Rattle.mail_words.specs.Unfolding.{without_line_ends}
-use Rattle.mail_words.proofs.FrontLemmas.{Opened, Lettered, front-not_open, front-not_encoding, front-not_closed, front-no_charset, front-no_text, front-is}
+use Rattle.mail_words.proofs.FrontLemmas.{Opened, Lettered, front-not_open, front-not_encoding, front-not_closed, front-no_charset}
+use Rattle.mail_words.proofs.FrontLemmas.{front-no_text, front-is}
 use Rattle.mail_words.proofs.words.front_word.Goals.{After-split_part, After-split_part-2}
 use Rattle.mail_words.proofs.words.front_word.Goals.{then-is_empty-via-then-is_empty, then-is_empty-via-else-is_empty+then-is_empty-2}
 use Rattle.mail_words.proofs.words.front_word.Goals as goal

@@ -6,8 +6,7 @@ use Rattle.class_plan.specs.Entries.{plan_of}
 use Rattle.class_plan.proofs.Documents.{document-not_utf8, document-text, text-none, text-shape, text-contents, text-smallest, text-made}
 use Rattle.class_plan.proofs.Listable.{contents-listable}
 use Rattle.class_plan.proofs.plans.Plan.from_toml.Goals as goal
-use Rattle.class_plan.proofs.plans.Plan.from_toml.Goals.{In-Ok-table_from_str, In-Some}
-use Rattle.class_plan.proofs.plans.Plan.from_toml.Goals.{then-is_memory, else-is_memory}
+use Rattle.class_plan.proofs.plans.Plan.from_toml.Goals.{In-Ok-table_from_str, In-Some, then-is_memory, else-is_memory}
 
 -- what the text says, where it is TOML
 document : (c : In-Ok-table_from_str) → document_of c.args.text.now ≡ Some (table_view c.in-Ok-table_from_str.table)

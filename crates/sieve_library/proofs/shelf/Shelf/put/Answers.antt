@@ -12,18 +12,19 @@ none c = let is : c.place.result ≡ None = search rules in sym c.place.ensures 
 
 pub invariant_of-self : goal.invariant_of-self
 invariant_of-self c =
-    location_replaced c.args.name.now c.self.inside.entries.items c.self.view_is (record { name = c.index_mut.result.now.name; script = c.args.script })
-    (sym c.place.ensures ∙ c.in-Some.is) c.index_mut.ensures.value refl c.self.invariant
+    location_replaced c.args.name.now c.self.inside.entries.items c.self.view_is
+    (record { name = c.index_mut.result.now.name; script = c.args.script }) (sym c.place.ensures ∙ c.in-Some.is)
+    c.index_mut.ensures.value refl c.self.invariant
 
 pub returns-in-Some-clause-ok : goal.returns-in-Some-clause-ok
 returns-in-Some-clause-ok c =
-    replaced c.args.name.now c.self.inside.entries.items c.self.view_is (record { name = c.index_mut.result.now.name; script = c.args.script })
-    (sym c.place.ensures ∙ c.in-Some.is) c.index_mut.ensures.value refl
+    replaced c.args.name.now c.self.inside.entries.items c.self.view_is
+    (record { name = c.index_mut.result.now.name; script = c.args.script }) (sym c.place.ensures ∙ c.in-Some.is) c.index_mut.ensures.value refl
 
 pub returns-in-Some-clause-found : goal.returns-in-Some-clause-found
 returns-in-Some-clause-found c =
-    found_replaced c.args.name.now c.self.inside.entries.items c.self.view_is (record { name = c.index_mut.result.now.name; script = c.args.script })
-    (sym c.place.ensures ∙ c.in-Some.is) c.index_mut.ensures.value refl
+    found_replaced c.args.name.now c.self.inside.entries.items c.self.view_is
+    (record { name = c.index_mut.result.now.name; script = c.args.script }) (sym c.place.ensures ∙ c.in-Some.is) c.index_mut.ensures.value refl
 
 pub returns-in-Some-clause-full : goal.returns-in-Some-clause-full
 returns-in-Some-clause-full c = (
@@ -60,10 +61,10 @@ invariant_of-self-2 c =
 
 pub returns-clause-ok : goal.returns-clause-ok
 returns-clause-ok c =
-    rw c.in_ok-push.ensures.items (added c.args.name.now c.self.inside.entries.items c.self.view_is (record { name = c.in_ok-name.name; script = c.args.script })
-    (none (goal.at.returns-clause-ok c).After-len) c.in_ok-name.ensures.items)
+    rw c.in_ok-push.ensures.items (added c.args.name.now c.self.inside.entries.items c.self.view_is
+    (record { name = c.in_ok-name.name; script = c.args.script }) (none (goal.at.returns-clause-ok c).After-len) c.in_ok-name.ensures.items)
 
 pub returns-clause-found : goal.returns-clause-found
 returns-clause-found c =
-    rw c.in_ok-push.ensures.items (found_added c.args.name.now c.self.inside.entries.items c.self.view_is (record { name = c.in_ok-name.name; script = c.args.script })
-    (none (goal.at.returns-clause-found c).After-len) c.in_ok-name.ensures.items)
+    rw c.in_ok-push.ensures.items (found_added c.args.name.now c.self.inside.entries.items c.self.view_is
+    (record { name = c.in_ok-name.name; script = c.args.script }) (none (goal.at.returns-clause-found c).After-len) c.in_ok-name.ensures.items)
