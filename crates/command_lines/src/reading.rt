@@ -3,6 +3,7 @@
 use crate::table::{Program, Word, command_of};
 use clap::error::ErrorKind;
 use clap::{ArgMatches, Command, Error};
+use jiff::civil::Date;
 use std::alloc::{AllocError, AllocFailed, Global};
 use std::fmt::Display;
 use std::{env, io};
@@ -106,4 +107,22 @@ pub(crate) fn values_of<'m, 'a>(asked: &'m ArgMatches<'a>, word: Word) -> Option
 /// Whether a flag is given.
 pub(crate) fn has_flag(asked: &ArgMatches<'_>, word: Word) -> bool {
     asked.get_flag(word.name)
+}
+
+/// The number of a word of exactly `count` decimal digits.
+fn digits(word: &str, count: usize) -> Option<i16> {
+    if word.len() != count || !word.bytes().all(|octet| octet.is_ascii_digit()) {
+        return None;
+    }
+    word.parse().ok()
+}
+
+/// The day of a text `YYYY-MM-DD`, of 1970 to 9999; none for any other text.
+pub(crate) fn day_of(text: &str) -> Option<Date> {
+    let (year, rest) = text.split_once('-')?;
+    let (month, day) = rest.split_once('-')?;
+    let year = digits(year, 4).filter(|year| *year >= 1970)?;
+    let month = i8::try_from(digits(month, 2)?).ok()?;
+    let day = i8::try_from(digits(day, 2)?).ok()?;
+    Date::new(year, month, day).ok()
 }

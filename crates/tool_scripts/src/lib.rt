@@ -6,7 +6,7 @@
 //! - `images`: the image of a script, for `compile`;
 //! - `dumps`: an image with all its parts, and whether it may run, for `dump`;
 //! - `places`: the instruction by which an image is refused;
-//! - `questions`: a message, a plan and a day that are asked about;
+//! - `questions`: a message, a plan and a moment that are asked about;
 //! - `runs`: why a message is filed where it is, for `why`;
 //! - `steps`: the fields that a message was read as, and the steps of a run over it;
 //! - `classes`: the classes of a run, with what filed the message in each.
@@ -29,5 +29,4 @@ mod steps;
 pub use checks::check_files;
 pub use dumps::dump_image;
 pub use images::compile_script;
-pub use questions::Asked;
 pub use runs::tell_why;
