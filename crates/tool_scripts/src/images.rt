@@ -38,26 +38,18 @@ fn image_with(
     }
 }
 
-/// The image of a script with what it includes from folders; none where something is refused, which is reported.
-fn image_among(
-    rt: &HostRuntime,
-    script: &ScriptFile,
-    folders: Folders<'_>,
-) -> Result<Option<Verified>, Failure> {
-    match read_library(rt, folders)? {
-        Some(library) => image_with(rt, script, folders, &library),
-        None => Ok(None),
-    }
-}
-
-/// The image of the script of a file; none where something is refused, which is reported.
+/// The image of the script of a file with what it includes from folders; none where something is refused, which is
+/// reported.
 fn image_of(
     rt: &HostRuntime,
     path: &str,
     folders: Folders<'_>,
 ) -> Result<Option<Verified>, Failure> {
-    match read_script(rt, path, Location::Personal)? {
-        Some(script) => image_among(rt, &script, folders),
+    let Some(script) = read_script(rt, path, Location::Personal)? else {
+        return Ok(None);
+    };
+    match read_library(rt, folders)? {
+        Some(library) => image_with(rt, &script, folders, &library),
         None => Ok(None),
     }
 }
