@@ -99,6 +99,18 @@ entered_then n0 n1 n2 n3 part number next all at first then last whole =
     ∙ ap (λ (k : ℕ). node_entries n0 ++ with_inside part k inside) at
     ∙ ap (λ (es : List PartWithEnd). node_entries n0 ++ es) (sym whole)
 
+-- some nodes, and then others
+pub followed : (n0 n1 n2 : List Node) (first : List PartWithEnd) (next : ℕ → List PartWithEnd) → node_entries n1 ≡ node_entries n0 ++ first
+    → node_entries n2 ≡ node_entries n1 ++ next (length n1)
+    → node_entries n2 ≡ node_entries n0 ++ followed_by (length n0) first next
+followed n0 n1 n2 first next one then =
+    let long : length n1 ≡ length n0 + length first =
+    sym (length-map n1 node_entry) ∙ ap length one ∙ length-append (node_entries n0) first
+    ∙ ap (λ (k : ℕ). k + length first) (length-map n0 node_entry) in
+    then ∙ ap (λ (k : ℕ). node_entries n1 ++ next k) long
+    ∙ ap (λ (es : List PartWithEnd). es ++ next (length n0 + length first)) one
+    ∙ append_assoc (node_entries n0) first (next (length n0 + length first))
+
 -- the next one of a row
 pub followed_more : (n0 n1 : List Node) (all first : List PartWithEnd) (next : ℕ → List PartWithEnd) → node_entries n1 ≡ node_entries n0 ++ first
     → node_entries n0 ++ followed_by (length n0) first next ≡ all → node_entries n1 ++ next (length n1) ≡ all
@@ -110,12 +122,6 @@ followed_more n0 n1 all first next one before =
     ∙ ap (λ (es : List PartWithEnd). es ++ next (length n0 + length first)) one
     ∙ append_assoc (node_entries n0) first (next (length n0 + length first))
     ∙ before
-
--- some nodes, and then others
-pub followed : (n0 n1 n2 : List Node) (first : List PartWithEnd) (next : ℕ → List PartWithEnd) → node_entries n1 ≡ node_entries n0 ++ first
-    → node_entries n2 ≡ node_entries n1 ++ next (length n1)
-    → node_entries n2 ≡ node_entries n0 ++ followed_by (length n0) first next
-followed n0 n1 n2 first next one then = then ∙ followed_more n0 n1 _ first next one refl
 
 -- the first one of a row
 pub row_begins : (n0 n1 : List Node) (t : TestTree) (row : TestRow) (i : InnerTests) → i ≡ listed_tests t row

@@ -1,5 +1,4 @@
-//! A report as JSON. Octets are texts as they are shown between quotation marks. The members of an object come in the
-//! order of their names.
+//! A report as JSON. Octets are texts as they are shown between quotation marks.
 
 ghost use Rattle.tool_report.specs.Reports.{IsOfMessage};
 
@@ -10,170 +9,143 @@ use crate::narrator::{Row, Told};
 use crate::nodes::{Node, Thing};
 use crate::report::{Digest, Report};
 use crate::room::Room;
-use crate::schedules::{due_date, push_stated, schedule_words, stated_by};
+use crate::schedules::{StatedBy, due_date, push_stated, schedule_words, stated_by};
 use crate::verdict::{Reason, reason_of};
 use crate::way::push_told;
 use crate::words::words_at;
 use class_plan::{Date, Schedule, day_of};
-use serde::Serialize;
-use serde_json::to_string;
+use serde_json::{Map, Number, Value, push, put};
 use sieve_evaluator::BorrowedField;
 use sieve_meaning::RunFault;
 use std::alloc::{AllocError, Global};
 use tool_texts::{escaped, fault_text};
 
-/// A command or a test. It has a script and a place where the book knows them.
-#[derive(Drop, Serialize)]
-struct MarkData {
-    #[serde(skip_serializing_if = "Option::is_none")]
-    column: Option<usize>,
-    #[serde(skip_serializing_if = "Option::is_none")]
-    line: Option<usize>,
-    #[serde(skip_serializing_if = "Option::is_none")]
-    script: Option<String>,
-    words: String,
-}
-
-#[derive(Drop, Serialize)]
-struct FaultData {
-    by: Option<MarkData>,
-    number: u8,
-    /// The includes that the faulty command was run by.
-    run_by: Vec<MarkData>,
-    text: &'static str,
-}
-
-/// A class of the outcome. It has a date, which is null for never, a schedule and an origin where it has a schedule.
-#[derive(Drop, Serialize)]
-struct ClassData {
-    by: Option<MarkData>,
-    class: String,
-    #[serde(skip_serializing_if = "Option::is_none")]
-    due: Option<Option<String>>,
-    reason: &'static str,
-    #[serde(skip_serializing_if = "Option::is_none")]
-    schedule: Option<String>,
-    #[serde(skip_serializing_if = "Option::is_none")]
-    stated: Option<String>,
-}
-
-#[derive(Drop, Serialize)]
-struct FieldData {
-    name: String,
-    /// From 1.
-    number: usize,
-    value: String,
-}
-
-#[derive(Drop, Serialize)]
-struct MessageData {
-    fields: Vec<FieldData>,
-    /// The parts of the header that are no fields.
-    passed_over: Vec<String>,
-    size: u64,
-}
-
-/// What a command or a test came to: a test's answer and what it was decided by, or a command's words.
-#[derive(Drop, Serialize)]
-struct RowData {
-    #[serde(skip_serializing_if = "Option::is_none")]
-    answer: Option<bool>,
-    #[serde(skip_serializing_if = "Option::is_none")]
-    by: Option<Vec<String>>,
-    #[serde(skip_serializing_if = "Option::is_none")]
-    column: Option<usize>,
-    depth: usize,
-    #[serde(skip_serializing_if = "Option::is_none")]
-    line: Option<usize>,
-    #[serde(skip_serializing_if = "Option::is_none")]
-    script: Option<String>,
-    #[serde(skip_serializing_if = "Option::is_none")]
-    told: Option<String>,
-    words: String,
-}
-
-#[derive(Drop, Serialize)]
-struct FileData {
-    file: String,
-    sha256: String,
-}
-
-#[derive(Drop, Serialize)]
-struct ReportData {
-    canceller: Option<MarkData>,
-    classes: Vec<ClassData>,
-    day: Option<String>,
-    fault: Option<FaultData>,
-    files: Vec<FileData>,
-    message: MessageData,
-    way: Vec<RowData>,
-}
-
-/// The script of a mark; none where there is no such page.
-fn script_of(alloc: Global, book: &Book<'_>, mark: Mark) -> Result<Option<String>, AllocError> {
-    match book.pages.get(mark.page) {
-        Some(page) => Ok(Some(escaped(alloc, page.label)?)),
-        None => Ok(None),
-    }
-}
-
-fn mark_data(alloc: Global, book: &Book<'_>, mark: Mark) -> Result<MarkData, AllocError> {
-    let place = book.place(mark);
-    Ok(MarkData {
-        column: place.map(|place| place.column),
-        line: place.map(|place| place.line),
-        script: script_of(alloc, book, mark)?,
-        words: words_at(alloc, book, mark)?,
-    })
-}
-
-fn mark_if(
+/// An object that is made member by member.
+#[derive(Drop)]
+struct Members {
     alloc: Global,
-    book: &Book<'_>,
-    mark: Option<Mark>,
-) -> Result<Option<MarkData>, AllocError> {
-    match mark {
-        Some(mark) => Ok(Some(mark_data(alloc, book, mark)?)),
-        None => Ok(None),
+    map: Map<String, Value>,
+}
+
+impl Members {
+    fn new(alloc: Global) -> Members {
+        Members {
+            alloc,
+            map: Map::new(alloc),
+        }
     }
+
+    fn value(&mut self, key: &str, value: Value) -> Result<(), AllocError> {
+        put(&mut self.map, self.alloc, key, value)
+    }
+
+    fn text(&mut self, key: &str, text: String) -> Result<(), AllocError> {
+        self.value(key, Value::String(text))
+    }
+
+    fn words(&mut self, key: &str, words: &str) -> Result<(), AllocError> {
+        let text = String::from_str(self.alloc, words)?;
+        self.text(key, text)
+    }
+
+    fn octets(&mut self, key: &str, octets: &[u8]) -> Result<(), AllocError> {
+        let text = escaped(self.alloc, octets)?;
+        self.text(key, text)
+    }
+
+    fn count(&mut self, key: &str, count: usize) -> Result<(), AllocError> {
+        self.value(key, Value::Number(Number::from(count)))
+    }
+
+    /// Adds a date as text, or null.
+    fn date(&mut self, key: &str, date: Option<Date>) -> Result<(), AllocError> {
+        let value = date_data(self.alloc, date)?;
+        self.value(key, value)
+    }
+
+    /// Adds what a mark is of, or null.
+    fn mark(&mut self, key: &str, book: &Book<'_>, mark: Option<Mark>) -> Result<(), AllocError> {
+        let value = mark_if(self.alloc, book, mark)?;
+        self.value(key, value)
+    }
+
+    fn into_value(self) -> Value {
+        Value::Object(self.map)
+    }
+}
+
+/// Adds the script, the place and the words of a mark.
+fn add_mark(members: &mut Members, book: &Book<'_>, mark: Mark) -> Result<(), AllocError> {
+    if let Some(page) = book.pages.get(mark.page) {
+        members.octets("script", page.label)?;
+    }
+    if let Some(place) = book.place(mark) {
+        members.count("line", place.line)?;
+        members.count("column", place.column)?;
+    }
+    let words = words_at(members.alloc, book, mark)?;
+    members.text("words", words)
+}
+
+fn mark_data(alloc: Global, book: &Book<'_>, mark: Mark) -> Result<Value, AllocError> {
+    let mut members = Members::new(alloc);
+    add_mark(&mut members, book, mark)?;
+    Ok(members.into_value())
+}
+
+/// A mark, or null.
+fn mark_if(alloc: Global, book: &Book<'_>, mark: Option<Mark>) -> Result<Value, AllocError> {
+    match mark {
+        Some(mark) => mark_data(alloc, book, mark),
+        None => Ok(Value::Null),
+    }
+}
+
+fn lines_data(alloc: Global, lines: Vec<String>) -> Result<Value, AllocError> {
+    let mut values = Vec::new(alloc);
+    for line in lines {
+        push(&mut values, Value::String(line))?;
+    }
+    Ok(Value::Array(values))
 }
 
 /// The includes that a faulty command was run by.
-fn includes_data(alloc: Global, report: &Report<'_, '_, '_>) -> Result<Vec<MarkData>, AllocError> {
+fn includes_data(alloc: Global, report: &Report<'_, '_, '_>) -> Result<Value, AllocError> {
     let mut includes = Vec::new(alloc);
     for mark in report.narration.by_way_of.as_slice() {
-        includes.push(mark_data(alloc, report.book, *mark)?)?;
+        push(&mut includes, mark_data(alloc, report.book, *mark)?)?;
     }
-    Ok(includes)
+    Ok(Value::Array(includes))
 }
 
-fn fault_data(
-    alloc: Global,
+/// Adds the number and the text of a fault, and the command that it is of.
+fn add_fault(
+    members: &mut Members,
     report: &Report<'_, '_, '_>,
     fault: RunFault,
-) -> Result<FaultData, AllocError> {
-    let number = fault.number();
-    Ok(FaultData {
-        by: mark_if(alloc, report.book, report.narration.culprit)?,
-        number,
-        run_by: includes_data(alloc, report)?,
-        text: fault_text(number).unwrap_or(""),
-    })
+) -> Result<(), AllocError> {
+    members.count("number", usize::from(fault.number()))?;
+    members.words("text", fault_text(fault.number()).unwrap_or(""))?;
+    members.mark("by", report.book, report.narration.culprit)?;
+    let includes = includes_data(members.alloc, report)?;
+    members.value("run_by", includes)
 }
 
-/// The fault of a run, if it ended with one.
-fn fault_if(alloc: Global, report: &Report<'_, '_, '_>) -> Result<Option<FaultData>, AllocError> {
-    match report.outcome.fault {
-        Some(fault) => Ok(Some(fault_data(alloc, report, fault)?)),
-        None => Ok(None),
-    }
+/// The fault of a run, or null.
+fn fault_data(alloc: Global, report: &Report<'_, '_, '_>) -> Result<Value, AllocError> {
+    let Some(fault) = report.outcome.fault else {
+        return Ok(Value::Null);
+    };
+    let mut members = Members::new(alloc);
+    add_fault(&mut members, report, fault)?;
+    Ok(members.into_value())
 }
 
-/// A date as text; none for none.
-fn date_text(alloc: Global, date: Option<Date>) -> Result<Option<String>, AllocError> {
+/// A date as text, or null.
+fn date_data(alloc: Global, date: Option<Date>) -> Result<Value, AllocError> {
     match date {
-        Some(date) => Ok(Some(format!(in alloc; "{date}")?)),
-        None => Ok(None),
+        Some(date) => Ok(Value::String(format!(in alloc; "{date}")?)),
+        None => Ok(Value::Null),
     }
 }
 
@@ -187,71 +159,123 @@ fn reason_word(report: &Report<'_, '_, '_>, path: &[u8]) -> (&'static str, Optio
     }
 }
 
-/// A class of the plan with its reason, as if it had no schedule.
-fn unscheduled(
-    alloc: Global,
+/// Adds a class and its reason.
+fn add_reason(
+    members: &mut Members,
     report: &Report<'_, '_, '_>,
     path: &[u8],
-) -> Result<ClassData, AllocError> {
-    let (reason, mark) = reason_word(report, path);
-    Ok(ClassData {
-        by: mark_if(alloc, report.book, mark)?,
-        class: escaped(alloc, path)?,
-        due: None,
-        reason,
-        schedule: None,
-        stated: None,
-    })
+) -> Result<(), AllocError> {
+    let (word, mark) = reason_word(report, path);
+    members.octets("class", path)?;
+    members.words("reason", word)?;
+    members.mark("by", report.book, mark)
 }
 
-/// A class of the outcome, given all classes of the plan in order.
+/// Where a schedule comes from, in words.
+fn stated_words(alloc: Global, stated: StatedBy<'_>) -> Result<String, AllocError> {
+    let mut text = String::new(alloc);
+    push_stated(alloc, &mut text, stated)?;
+    Ok(text)
+}
+
+/// Adds the schedule of a class, where that comes from, and when a record of the moment is due; nothing where it has none.
+fn add_schedule(
+    members: &mut Members,
+    report: &Report<'_, '_, '_>,
+    classes: &[(&[u8], bool, Option<Schedule>)],
+    path: &[u8],
+) -> Result<(), AllocError> {
+    let Some(schedule) = schedule_words(members.alloc, report.plan, path)? else {
+        return Ok(());
+    };
+    members.text("schedule", schedule)?;
+    let stated = stated_words(members.alloc, stated_by(classes, path))?;
+    members.text("stated", stated)?;
+    members.date("due", due_date(report.plan, path, report.moment))
+}
+
 fn class_data(
     alloc: Global,
     report: &Report<'_, '_, '_>,
     classes: &[(&[u8], bool, Option<Schedule>)],
     path: &[u8],
-) -> Result<ClassData, AllocError> {
-    let mut data = unscheduled(alloc, report, path)?;
-    data.schedule = schedule_words(alloc, report.plan, path)?;
-    if data.schedule.is_some() {
-        let mut stated = String::new(alloc);
-        push_stated(alloc, &mut stated, stated_by(classes, path))?;
-        data.stated = Some(stated);
-        data.due = Some(date_text(alloc, due_date(report.plan, path, report.moment))?);
-    }
-    Ok(data)
+) -> Result<Value, AllocError> {
+    let mut members = Members::new(alloc);
+    add_reason(&mut members, report, path)?;
+    add_schedule(&mut members, report, classes, path)?;
+    Ok(members.into_value())
 }
 
-fn classes_data(alloc: Global, report: &Report<'_, '_, '_>) -> Result<Vec<ClassData>, AllocError> {
-    let classes = report.plan.classes(alloc)?;
-    let mut data = Vec::new(alloc);
+/// The classes of an outcome, given all classes of the plan in order.
+fn outcome_data(
+    alloc: Global,
+    report: &Report<'_, '_, '_>,
+    classes: &[(&[u8], bool, Option<Schedule>)],
+) -> Result<Value, AllocError> {
+    let mut values = Vec::new(alloc);
     for path in report.outcome.classes.as_slice() {
-        data.push(class_data(alloc, report, classes.as_slice(), path.as_slice())?)?;
+        push(
+            &mut values,
+            class_data(alloc, report, classes, path.as_slice())?,
+        )?;
     }
-    Ok(data)
+    Ok(Value::Array(values))
 }
 
-fn fields_data(alloc: Global, fields: &[BorrowedField<'_>]) -> Result<Vec<FieldData>, AllocError> {
-    let mut data = Vec::new(alloc);
+fn classes_data(alloc: Global, report: &Report<'_, '_, '_>) -> Result<Value, AllocError> {
+    let classes = report.plan.classes(alloc)?;
+    outcome_data(alloc, report, classes.as_slice())
+}
+
+/// Adds a field of a message, with its number from 1.
+fn add_field(
+    members: &mut Members,
+    place: usize,
+    field: &BorrowedField<'_>,
+) -> Result<(), AllocError> {
+    members.count("number", place.saturating_add(1))?;
+    members.octets("name", field.name)?;
+    members.octets("value", field.value.as_slice())
+}
+
+fn field_data(alloc: Global, place: usize, field: &BorrowedField<'_>) -> Result<Value, AllocError> {
+    let mut members = Members::new(alloc);
+    add_field(&mut members, place, field)?;
+    Ok(members.into_value())
+}
+
+fn fields_data(alloc: Global, fields: &[BorrowedField<'_>]) -> Result<Value, AllocError> {
+    let mut values = Vec::new(alloc);
     for (place, field) in fields.iter().enumerate() {
-        data.push(FieldData {
-            name: escaped(alloc, field.name)?,
-            number: place.saturating_add(1),
-            value: escaped(alloc, field.value.as_slice())?,
-        })?;
+        push(&mut values, field_data(alloc, place, field)?)?;
     }
-    Ok(data)
+    Ok(Value::Array(values))
 }
 
 /// The parts of a header that are no fields, but for those without octets.
-fn parts_data(alloc: Global, message: &[u8]) -> Result<Vec<String>, AllocError> {
-    let mut data = Vec::new(alloc);
-    for part in passed_over(alloc, message)?.as_slice() {
+fn parts_data(alloc: Global, parts: &[&[u8]]) -> Result<Value, AllocError> {
+    let mut values = Vec::new(alloc);
+    for part in parts {
         if !part.is_empty() {
-            data.push(escaped(alloc, part)?)?;
+            push(&mut values, Value::String(escaped(alloc, part)?))?;
         }
     }
-    Ok(data)
+    Ok(Value::Array(values))
+}
+
+/// Adds the size of the message in octets, its fields, and the parts of its header that are no fields.
+fn add_message(members: &mut Members, report: &Report<'_, '_, '_>) -> Result<(), AllocError> {
+    let alloc = members.alloc;
+    members.value("size", Value::Number(Number::from(report.case.size)))?;
+    members.value("fields", fields_data(alloc, report.case.fields.as_slice())?)?;
+    let parts = passed_over(alloc, report.message)?;
+    members.value("passed_over", parts_data(alloc, parts.as_slice())?)
+}
+
+fn message_data(alloc: Global, report: &Report<'_, '_, '_>) -> Result<Value, AllocError> {
+    let mut members = Members::new(alloc);
+    add_message(&mut members, report)?;
+    Ok(members.into_value())
 }
 
 /// What a command or a test came to, in words.
@@ -264,22 +288,42 @@ fn told_words(
 ) -> Result<String, AllocError> {
     let mut text = String::new(alloc);
     push_told(alloc, &mut text, book, node, told, next)?;
-    String::from_str(alloc, text.as_str().strip_prefix(": ").unwrap_or(""))
+    Ok(text)
 }
 
-/// A command or a test that the run came to.
-fn reached(alloc: Global, book: &Book<'_>, row: Row) -> Result<RowData, AllocError> {
-    let mark = mark_data(alloc, book, row.mark)?;
-    Ok(RowData {
-        answer: None,
-        by: None,
-        column: mark.column,
-        depth: row.depth,
-        line: mark.line,
-        script: mark.script,
-        told: None,
-        words: mark.words,
-    })
+/// Adds what a command or a test came to: a test's answer and what it was decided by, or a command's words.
+fn add_told(
+    members: &mut Members,
+    report: &Report<'_, '_, '_>,
+    node: Node<'_>,
+    row: Row,
+    next: Option<&Row>,
+    room: &mut Room,
+) -> Result<(), AllocError> {
+    let alloc = members.alloc;
+    if let (Thing::Test(test), Told::Answered(answer)) = (node.thing, row.told) {
+        members.value("answer", Value::Bool(answer))?;
+        let lines = detail_lines(alloc, report.case, test, answer, room)?;
+        return members.value("by", lines_data(alloc, lines)?);
+    }
+    let words = told_words(alloc, report.book, node, row.told, next)?;
+    members.words("told", words.as_str().strip_prefix(": ").unwrap_or(""))
+}
+
+/// Adds what a row says.
+fn add_row(
+    members: &mut Members,
+    report: &Report<'_, '_, '_>,
+    row: Row,
+    next: Option<&Row>,
+    room: &mut Room,
+) -> Result<(), AllocError> {
+    add_mark(members, report.book, row.mark)?;
+    members.count("depth", row.depth)?;
+    match report.book.node(row.mark) {
+        Some(node) => add_told(members, report, node, row, next, room),
+        None => Ok(()),
+    }
 }
 
 fn row_data(
@@ -288,63 +332,61 @@ fn row_data(
     row: Row,
     next: Option<&Row>,
     room: &mut Room,
-) -> Result<RowData, AllocError> {
-    let mut data = reached(alloc, report.book, row)?;
-    let Some(node) = report.book.node(row.mark) else {
-        return Ok(data);
-    };
-    if let (Thing::Test(test), Told::Answered(answer)) = (node.thing, row.told) {
-        data.answer = Some(answer);
-        data.by = Some(detail_lines(alloc, report.case, test, answer, room)?);
-    } else {
-        data.told = Some(told_words(alloc, report.book, node, row.told, next)?);
-    }
-    Ok(data)
+) -> Result<Value, AllocError> {
+    let mut members = Members::new(alloc);
+    add_row(&mut members, report, row, next, room)?;
+    Ok(members.into_value())
 }
 
-fn way_data(alloc: Global, report: &Report<'_, '_, '_>) -> Result<Vec<RowData>, AllocError> {
+fn way_data(alloc: Global, report: &Report<'_, '_, '_>) -> Result<Value, AllocError> {
     let rows = report.narration.rows.as_slice();
     let mut room = Room::new();
-    let mut data = Vec::new(alloc);
+    let mut values = Vec::new(alloc);
     for (index, row) in rows.iter().enumerate() {
         let next = rows.get(index.saturating_add(1));
-        data.push(row_data(alloc, report, *row, next, &mut room)?)?;
+        push(&mut values, row_data(alloc, report, *row, next, &mut room)?)?;
     }
-    Ok(data)
+    Ok(Value::Array(values))
 }
 
-fn files_data(alloc: Global, digests: &[Digest]) -> Result<Vec<FileData>, AllocError> {
-    let mut data = Vec::new(alloc);
+/// Adds a digest and the path of its file.
+fn add_digest(members: &mut Members, digest: &Digest) -> Result<(), AllocError> {
+    members.octets("sha256", digest.sha256.as_bytes())?;
+    members.octets("file", digest.path.as_bytes())
+}
+
+fn digest_data(alloc: Global, digest: &Digest) -> Result<Value, AllocError> {
+    let mut members = Members::new(alloc);
+    add_digest(&mut members, digest)?;
+    Ok(members.into_value())
+}
+
+fn digests_data(alloc: Global, digests: &[Digest]) -> Result<Value, AllocError> {
+    let mut values = Vec::new(alloc);
     for digest in digests {
-        data.push(FileData {
-            file: escaped(alloc, digest.path.as_bytes())?,
-            sha256: escaped(alloc, digest.sha256.as_bytes())?,
-        })?;
+        push(&mut values, digest_data(alloc, digest)?)?;
     }
-    Ok(data)
+    Ok(Value::Array(values))
 }
 
-fn report_data(alloc: Global, report: &Report<'_, '_, '_>) -> Result<ReportData, AllocError> {
-    Ok(ReportData {
-        canceller: mark_if(alloc, report.book, report.narration.canceller)?,
-        classes: classes_data(alloc, report)?,
-        day: date_text(alloc, day_of(report.moment))?,
-        fault: fault_if(alloc, report)?,
-        files: files_data(alloc, report.digests)?,
-        message: MessageData {
-            fields: fields_data(alloc, report.case.fields.as_slice())?,
-            passed_over: parts_data(alloc, report.message)?,
-            size: report.case.size,
-        },
-        way: way_data(alloc, report)?,
-    })
+/// Adds the parts of a report.
+fn add_report(members: &mut Members, report: &Report<'_, '_, '_>) -> Result<(), AllocError> {
+    let alloc = members.alloc;
+    members.date("day", day_of(report.moment))?;
+    members.value("fault", fault_data(alloc, report)?)?;
+    members.value("classes", classes_data(alloc, report)?)?;
+    members.mark("canceller", report.book, report.narration.canceller)?;
+    members.value("message", message_data(alloc, report)?)?;
+    members.value("way", way_data(alloc, report)?)?;
+    members.value("files", digests_data(alloc, report.digests)?)
 }
 
-/// The report as one line of JSON, with the members `canceller`, `classes`, `day`, `fault`, `files`, `message` and
-/// `way`. The only error is out of memory.
+/// The report as one line of JSON, with the members `day`, `fault`, `classes`, `canceller`, `message`, `way` and
+/// `files`. The only error is out of memory.
 pub fn report_json(alloc: Global, report: &Report<'_, '_, '_>) -> Result<String, AllocError>
     requires { IsOfMessage report.now }
 {
-    let data = report_data(alloc, report)?;
-    to_string(alloc, &data).map_err(|_| AllocError)
+    let mut members = Members::new(alloc);
+    add_report(&mut members, report)?;
+    members.into_value().to_string(alloc)
 }
