@@ -1,7 +1,8 @@
 //! Scripts of files, and of folders of scripts that can be included.
 
+use command_lines::tools::Folders;
 use sieve_meaning::Location;
-use tool_checks::{Folders, SCRIPT_ENDING, read_good_script};
+use tool_checks::{SCRIPT_ENDING, read_good_script};
 use tool_console::{Failure, paths_in, write_refusal};
 use tool_inquiry::{InquiryFault, ScriptFile, script_of};
 

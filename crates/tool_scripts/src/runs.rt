@@ -1,56 +1,48 @@
 //! Why a message is filed in its classes.
 
-use crate::questions::{Asked, Question, read_question};
+use crate::classes::show_classes;
+use crate::dumps::read_image;
+use crate::questions::{Question, read_question};
 use crate::scripts::{read_folders, read_script, unless_full};
+use crate::steps::{show_fields, show_steps};
+use command_lines::tools::{Folders, Format, Rules, Why};
 use filing_machine::{Trace, trace_run};
 use filing_verify::Verified;
-use image_views::{read_image, show_classes, show_fields, show_steps};
 use mail_case::Case;
 use sieve_meaning::{Location, Outcome, RunFault};
-use tool_checks::Folders;
 use tool_console::{Failure, Verdict, tell, write, write_refusal};
 use tool_inquiry::{
     Answer, Form, Inquiry, ScriptFile, Scripts, answer_to, compiled, open_case, outcome_text,
 };
 
-/// A script with those of the folders; none where one of these is refused, which is reported.
-fn scripts_with(
+/// A script and those of the folders; none where one is refused, which is reported.
+fn read_scripts(
     rt: &HostRuntime,
-    main: ScriptFile,
+    path: &str,
     folders: Folders<'_>,
 ) -> Result<Option<Scripts>, Failure> {
+    let Some(main) = read_script(rt, path, Location::Personal)? else {
+        return Ok(None);
+    };
     match read_folders(rt, folders)? {
         Some(others) => unless_full(rt, Scripts::new(rt.alloc(), main, others)),
         None => Ok(None),
     }
 }
 
-/// The scripts that are asked about; none where one is refused, which is reported.
-fn read_scripts(rt: &HostRuntime, asked: &Asked<'_>) -> Result<Option<Scripts>, Failure> {
-    match read_script(rt, asked.script, Location::Personal)? {
-        Some(main) => scripts_with(rt, main, asked.folders),
-        None => Ok(None),
-    }
-}
-
 /// Says on standard error where to look for what a run that ended with a fault has missed.
-fn tell_lack(rt: &HostRuntime, asked: &Asked<'_>, fault: Option<RunFault>) {
-    match fault {
+fn tell_lack(rt: &HostRuntime, asked: &Why<'_>, fault: Option<RunFault>) {
+    let place = match fault {
         Some(RunFault::ClassNotOpen) if asked.plan.is_none() => {
-            tell(rt, "no --plan is given, so unfiled is the only class")
+            "no --plan is given, so unfiled is the only class"
         }
-        Some(RunFault::ClassNotOpen) => {
-            tell(
-                rt,
-                "check --plan says whether the class is missing or closed",
-            )
+        Some(RunFault::ClassNotOpen) => "check --plan says whether the class is missing or closed",
+        Some(RunFault::ScriptMissing) => {
+            "the scripts to include are those in the folders of --personal and --global"
         }
-        Some(RunFault::ScriptMissing) => tell(
-            rt,
-            "the scripts to include are those in the folders of --personal and --global",
-        ),
-        _ => {}
-    }
+        _ => return,
+    };
+    tell(rt, place);
 }
 
 /// Writes an outcome in the lines of a session.
@@ -69,12 +61,8 @@ fn write_answer(rt: &HostRuntime, answer: &Answer, form: Form) -> Result<(), Fai
 }
 
 /// What is asked of scripts.
-fn inquiry_of<'q>(
-    asked: &Asked<'q>,
-    scripts: &'q Scripts,
-    question: &'q Question<'q>,
-) -> Inquiry<'q> {
-    let plan_text = match (asked.plan, &question.plan.text) {
+fn inquiry_of<'q>(scripts: &'q Scripts, question: &'q Question<'q>) -> Inquiry<'q> {
+    let plan_text = match (question.asked.plan, &question.plan.text) {
         (Some(path), Some(text)) => Some((path, text.as_slice())),
         _ => None,
     };
@@ -82,7 +70,7 @@ fn inquiry_of<'q>(
         scripts,
         plan: &question.plan.plan,
         plan_text,
-        message_name: question.path,
+        message_name: question.asked.message,
         message: question.message.as_slice(),
         moment: question.moment,
     }
@@ -91,21 +79,16 @@ fn inquiry_of<'q>(
 /// Writes a report on the run of a script.
 fn report_run(
     rt: &HostRuntime,
-    asked: &Asked<'_>,
     scripts: &Scripts,
     question: &Question<'_>,
+    form: Form,
 ) -> Result<Verdict, Failure> {
-    let form = if asked.is_json {
-        Form::Json
-    } else {
-        Form::Lines
-    };
-    let inquiry = inquiry_of(asked, scripts, question);
+    let inquiry = inquiry_of(scripts, question);
     let Some(answer) = unless_full(rt, answer_to(rt.alloc(), &inquiry, form))? else {
         return Ok(Verdict::Refused);
     };
     write_answer(rt, &answer, form)?;
-    tell_lack(rt, asked, answer.outcome.fault);
+    tell_lack(rt, question.asked, answer.outcome.fault);
     Ok(Verdict::Good)
 }
 
@@ -124,17 +107,6 @@ fn show_run<C: Case>(
     write_outcome(rt, &run.outcome)
 }
 
-/// Runs an image in a case, and shows the run.
-fn show_run_in<C: Case>(
-    rt: &HostRuntime,
-    program: &Verified,
-    question: &Question<'_>,
-    case: &C,
-) -> Result<(), Failure> {
-    let run = trace_run(rt.alloc(), program, case)?;
-    show_run(rt, program, question, case, &run)
-}
-
 /// Runs an image over the message, and shows the run.
 fn run_image(
     rt: &HostRuntime,
@@ -145,7 +117,8 @@ fn run_image(
     let Some(case) = unless_full(rt, open_case(rt.alloc(), message, plan))? else {
         return Ok(Verdict::Refused);
     };
-    show_run_in(rt, program, question, &case)?;
+    let run = trace_run(rt.alloc(), program, &case)?;
+    show_run(rt, program, question, &case, &run)?;
     Ok(Verdict::Good)
 }
 
@@ -168,16 +141,14 @@ fn run_compiled(
 /// Says why a script files the message.
 fn tell_script(
     rt: &HostRuntime,
-    asked: &Asked<'_>,
+    scripts: &Scripts,
     question: &Question<'_>,
+    format: Format,
 ) -> Result<Verdict, Failure> {
-    let Some(scripts) = read_scripts(rt, asked)? else {
-        return Ok(Verdict::Refused);
-    };
-    if asked.is_by_steps {
-        run_compiled(rt, &scripts, question)
-    } else {
-        report_run(rt, asked, &scripts, question)
+    match format {
+        Format::Steps => run_compiled(rt, scripts, question),
+        Format::Json => report_run(rt, scripts, question, Form::Json),
+        Format::Lines => report_run(rt, scripts, question, Form::Lines),
     }
 }
 
@@ -192,12 +163,19 @@ fn tell_image(rt: &HostRuntime, path: &str, question: &Question<'_>) -> Result<V
 /// Writes why a message is filed where it is: by a script a report on its run, or the steps of its image where these
 /// are asked for; by an image its steps. What is refused is reported on standard output: the plan, a script, or the
 /// image.
-pub fn tell_why(rt: &HostRuntime, asked: &Asked<'_>) -> Result<Verdict, Failure> {
+pub fn tell_why(rt: &HostRuntime, asked: &Why<'_>) -> Result<Verdict, Failure> {
     let Some(question) = read_question(rt, asked)? else {
         return Ok(Verdict::Refused);
     };
-    match asked.image {
-        Some(path) => tell_image(rt, path, &question),
-        None => tell_script(rt, asked, &question),
+    match asked.by {
+        Rules::Image(path) => tell_image(rt, path, &question),
+        Rules::Script {
+            path,
+            folders,
+            format,
+        } => match read_scripts(rt, path, folders)? {
+            Some(scripts) => tell_script(rt, &scripts, &question, format),
+            None => Ok(Verdict::Refused),
+        },
     }
 }

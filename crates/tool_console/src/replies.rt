@@ -1,9 +1,11 @@
 //! Replies with texts after their numbers.
 
+use crate::failure::Failure;
+use crate::files::{lines_of, read_file, read_line};
+use crate::output::write;
 use std::alloc::{AllocError, Global};
-use std::io::{BufRead, BufReader};
+use std::io::BufRead;
 use std::str;
-use tool_console::{Failure, read_file, read_line, write};
 use tool_findings::judge;
 use tool_texts::{Payload, fault_text, line_at, place_of, refusal_text};
 
@@ -33,14 +35,6 @@ fn read_refusal(words: &str) -> Option<Reply> {
     }
 }
 
-/// Reads the number of a fault from what follows its first word.
-fn read_fault(words: &str) -> Reply {
-    match words.parse() {
-        Ok(number) => Reply::Fault(number),
-        Err(_) => Reply::Other,
-    }
-}
-
 /// Reads a line, which comes without its LF.
 fn read_reply(line: &[u8]) -> Reply {
     let Ok(text) = str::from_utf8(line) else {
@@ -49,10 +43,9 @@ fn read_reply(line: &[u8]) -> Reply {
     if let Some(words) = text.strip_prefix("refused ") {
         return read_refusal(words).unwrap_or(Reply::Other);
     }
-    match text.strip_prefix("fault ") {
-        Some(words) => read_fault(words),
-        None => Reply::Other,
-    }
+    text.strip_prefix("fault ")
+        .and_then(|words| words.parse().ok())
+        .map_or(Reply::Other, Reply::Fault)
 }
 
 /// Adds blanks as wide as a part of a line: a tab for a tab, and a space for each other character.
@@ -86,12 +79,6 @@ fn shown_place(alloc: Global, script: Script<'_>, at: usize) -> Result<Vec<u8>, 
     Ok(shown)
 }
 
-/// Shows the line of an offset of a script, with a mark below the place.
-fn show_place(rt: &HostRuntime, script: Script<'_>, at: usize) -> Result<(), Failure> {
-    let shown = shown_place(rt.alloc(), script, at)?;
-    write(rt, &shown)
-}
-
 /// The place of a refusal in its script: the offset that the reply gives, or for 30 to 41 the place where the script is
 /// refused by that number. None where neither is known.
 fn place_of_refusal(
@@ -122,8 +109,7 @@ fn explained(alloc: Global, line: &[u8], text: Option<&str>) -> Result<Vec<u8>, 
 
 /// Writes a line, which comes without its LF, and the text of its number.
 fn write_explained(rt: &HostRuntime, line: &[u8], text: Option<&str>) -> Result<(), Failure> {
-    let explained = explained(rt.alloc(), line, text)?;
-    write(rt, &explained)
+    write(rt, &explained(rt.alloc(), line, text)?)
 }
 
 /// Shows the place of a refusal in its script, where it is known.
@@ -134,7 +120,7 @@ fn show_refusal(
     told: Option<usize>,
 ) -> Result<(), Failure> {
     match place_of_refusal(rt.alloc(), script, number, told)? {
-        Some(at) => show_place(rt, script, at),
+        Some(at) => write(rt, &shown_place(rt.alloc(), script, at)?),
         None => Ok(()),
     }
 }
@@ -171,28 +157,17 @@ fn explain_all<R: BufRead>(
     Ok(())
 }
 
-/// Reads replies from standard input to its end, and writes each with its text.
-fn explain_input(rt: &HostRuntime, script: Option<Script<'_>>) -> Result<(), Failure> {
-    match BufReader::new(rt.alloc(), rt.stdin()) {
-        Ok(mut reader) => explain_all(rt, &mut reader, script),
-        Err(_) => Err(Failure::NoMemory),
-    }
-}
-
-/// Writes each reply that comes on standard input with the text of its number after it.
-pub fn explain_replies(rt: &HostRuntime) -> Result<(), Failure> {
-    explain_input(rt, None)
-}
-
-/// Writes replies as `explain_replies` does, and for each refusal its place in the script of this file, where it is
-/// known.
-pub fn explain_by_script(rt: &HostRuntime, path: &str) -> Result<(), Failure> {
+/// Writes each reply that comes on standard input with the text of its number after it. Where the script of a file was
+/// refused, the place of each refusal in it follows, where it is known.
+pub fn explain(rt: &HostRuntime, script: Option<&str>) -> Result<(), Failure> {
+    let mut replies = lines_of(rt.alloc(), rt.stdin())?;
+    let Some(path) = script else {
+        return explain_all(rt, &mut replies, None);
+    };
     let text = read_file(rt, path, Payload::Script.limit())?;
-    explain_input(
-        rt,
-        Some(Script {
-            path,
-            text: text.as_slice(),
-        }),
-    )
+    let script = Script {
+        path,
+        text: text.as_slice(),
+    };
+    explain_all(rt, &mut replies, Some(script))
 }

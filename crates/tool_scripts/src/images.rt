@@ -1,12 +1,12 @@
 //! The image of a script.
 
 use crate::scripts::{read_folders, read_script, unless_full};
+use command_lines::tools::Folders;
 use filing_gen::{GenFault, compile};
 use filing_image::encode;
 use filing_verify::Verified;
 use sieve_library::Library;
 use sieve_meaning::Location;
-use tool_checks::Folders;
 use tool_console::{Failure, Verdict, write_file, write_line, write_refusal};
 use tool_inquiry::{ScriptFile, library_of, script_name};
 
@@ -27,10 +27,7 @@ fn image_with(
     library: &Library,
 ) -> Result<Option<Verified>, Failure> {
     let path = script.path.as_str();
-    let known_as = match folders.personal {
-        Some(_) => Some(script_name(path)),
-        None => None,
-    };
+    let known_as = folders.personal.map(|_| script_name(path));
     match compile(rt.alloc(), &script.script, known_as, library) {
         Ok(program) => Ok(Some(program)),
         Err(GenFault::NoMemory) => Err(Failure::NoMemory),
@@ -41,26 +38,18 @@ fn image_with(
     }
 }
 
-/// The image of a script with what it includes from folders; none where something is refused, which is reported.
-fn image_among(
-    rt: &HostRuntime,
-    script: &ScriptFile,
-    folders: Folders<'_>,
-) -> Result<Option<Verified>, Failure> {
-    match read_library(rt, folders)? {
-        Some(library) => image_with(rt, script, folders, &library),
-        None => Ok(None),
-    }
-}
-
-/// The image of the script of a file; none where something is refused, which is reported.
+/// The image of the script of a file with what it includes from folders; none where something is refused, which is
+/// reported.
 fn image_of(
     rt: &HostRuntime,
     path: &str,
     folders: Folders<'_>,
 ) -> Result<Option<Verified>, Failure> {
-    match read_script(rt, path, Location::Personal)? {
-        Some(script) => image_among(rt, &script, folders),
+    let Some(script) = read_script(rt, path, Location::Personal)? else {
+        return Ok(None);
+    };
+    match read_library(rt, folders)? {
+        Some(library) => image_with(rt, &script, folders, &library),
         None => Ok(None),
     }
 }

@@ -3,7 +3,7 @@
 use filing_image::{Image, Operation};
 use filing_machine::{Step, Top, Trace};
 use mail_case::Case;
-use mail_head::{Field, read_head};
+use mail_head::read_head;
 use std::alloc::{AllocError, Global};
 use tool_console::{Failure, push_named, push_quoted, write_line};
 
@@ -13,12 +13,6 @@ fn push_value<C: Case>(line: &mut String, case: &C, field: usize) -> Result<(), 
         return push_quoted(line, case.value(field));
     }
     Ok(())
-}
-
-/// Writes the size of a message.
-fn show_size(rt: &HostRuntime, line: &mut String, size: u64) -> Result<(), Failure> {
-    write!(line, "message of {size} octets")?;
-    write_line(rt, line)
 }
 
 /// Writes a field by its index, and its value.
@@ -37,25 +31,17 @@ fn show_field<C: Case>(
     write_line(rt, line)
 }
 
-/// Writes fields, a line each.
-fn show_each<C: Case>(
-    rt: &HostRuntime,
-    line: &mut String,
-    case: &C,
-    fields: &[Field<'_>],
-) -> Result<(), Failure> {
-    for (index, field) in fields.iter().enumerate() {
-        show_field(rt, line, case, index, field.name())?;
-    }
-    Ok(())
-}
-
 /// Writes the size of a message, and the fields that it was read as, a line each, numbered from 1.
 pub fn show_fields<C: Case>(rt: &HostRuntime, message: &[u8], case: &C) -> Result<(), Failure> {
+    let size = case.size();
     let mut line = String::new(rt.alloc());
-    show_size(rt, &mut line, case.size())?;
+    write!(line, "message of {size} octets")?;
+    write_line(rt, &mut line)?;
     let head = read_head(rt.alloc(), message)?;
-    show_each(rt, &mut line, case, head.fields())
+    for (index, field) in head.fields().iter().enumerate() {
+        show_field(rt, &mut line, case, index, field.name())?;
+    }
+    Ok(())
 }
 
 /// Adds a truth that a step left, with the field that matched, if there is one.
@@ -141,20 +127,6 @@ fn show_step<C: Case>(
     write_line(rt, line)
 }
 
-/// Writes steps, a line each.
-fn show_all<C: Case>(
-    rt: &HostRuntime,
-    shown: Shown<'_>,
-    case: &C,
-    steps: &[Step],
-) -> Result<(), Failure> {
-    let mut line = String::new(rt.alloc());
-    for index in 0..steps.len() {
-        show_step(rt, &mut line, shown, case, steps, index)?;
-    }
-    Ok(())
-}
-
 /// The lines of the instructions of an image that is shown, each by its place.
 fn instruction_lines(alloc: Global, shown: &str) -> Result<Vec<&str>, AllocError> {
     let mut lines = Vec::new(alloc);
@@ -179,5 +151,9 @@ pub fn show_steps<C: Case>(
         code: image.code(),
         lines: lines.as_slice(),
     };
-    show_all(rt, shown, case, run.steps.as_slice())
+    let mut line = String::new(rt.alloc());
+    for index in 0..run.steps.len() {
+        show_step(rt, &mut line, shown, case, run.steps.as_slice(), index)?;
+    }
+    Ok(())
 }

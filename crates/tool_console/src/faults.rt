@@ -1,7 +1,8 @@
 //! What is wrong with a command, in words.
 
+use crate::failure::Failure;
+use crate::lines::{push_named, push_quoted};
 use std::alloc::{AllocError, Global};
-use tool_console::{Failure, push_named, push_quoted};
 use tool_texts::{LineFault, slots};
 
 /// Adds what the words after the name of a command are, with commas between them.
@@ -49,10 +50,7 @@ fn push_wrong_word(
     word: &[u8],
 ) -> Result<(), AllocError> {
     let number = place.saturating_add(1);
-    let form = match slots(name).get(place) {
-        Some(slot) => slot.text(),
-        None => "",
-    };
+    let form = slots(name).get(place).map_or("", |slot| slot.text());
     write!(text, "word {number} of ")?;
     push_named(text, name)?;
     write!(text, " must be {form}, and not ")?;
@@ -77,8 +75,6 @@ fn push_fault(text: &mut String, line: &[u8], fault: LineFault) -> Result<(), Al
 /// The failure of a line, which comes without its LF.
 pub fn failure_of(alloc: Global, line: &[u8], fault: LineFault) -> Failure {
     let mut text = String::new(alloc);
-    match push_fault(&mut text, line, fault) {
-        Ok(()) => Failure::Message(text),
-        Err(_) => Failure::NoMemory,
-    }
+    let done = push_fault(&mut text, line, fault);
+    Failure::of(done.map(|()| text))
 }

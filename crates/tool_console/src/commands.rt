@@ -1,18 +1,22 @@
 //! Commands with the paths of files in place of lengths.
 
+use crate::clock::now;
+use crate::failure::Failure;
 use crate::faults::failure_of;
+use crate::files::{lines_of, open, read_file, read_line};
+use crate::output::{copy_to_output, write};
 use std::alloc::{AllocError, Global};
-use std::io::{BufRead, BufReader};
+use std::io::BufRead;
 use std::str;
-use tool_console::{Failure, copy_to_output, now, open, read_file, read_line, write};
 use tool_texts::{Framed, LinePart, Payload, framed_line, line_fault, parts, path_of};
 
 /// The octets of a payload's file, whose path is given as typed.
 fn read_payload(rt: &HostRuntime, kind: Payload, typed: &[u8]) -> Result<Vec<u8>, Failure> {
-    match str::from_utf8(path_of(typed)) {
-        Ok(path) => read_file(rt, path, kind.limit()),
-        Err(_) => Err(Failure::told(rt.alloc(), "a path is not UTF-8")),
-    }
+    let path = str::from_utf8(path_of(typed)).map_err(|_| Failure::told(
+        rt.alloc(),
+        "a path is not UTF-8",
+    ))?;
+    read_file(rt, path, kind.limit())
 }
 
 /// What replaces a part of a command in a session.
@@ -69,24 +73,12 @@ fn sound_line(alloc: Global, words: &[Framed<'_>]) -> Result<Vec<u8>, Failure> {
     Ok(line)
 }
 
-/// Refuses a command by its words before its files are read.
-fn judge_parts(alloc: Global, parts: &[LinePart<'_>]) -> Result<(), Failure> {
-    let outline = outline(alloc, parts)?;
-    let line = framed_line(alloc, &outline)?;
-    judge_line(alloc, &line)
-}
-
 /// The words of a command, with its files read. Nothing is read for a line that is refused.
 fn framed_words<'a>(rt: &HostRuntime, line: &'a [u8]) -> Result<Vec<Framed<'a>>, Failure> {
     let parts = parts(rt.alloc(), line)?;
-    judge_parts(rt.alloc(), &parts)?;
+    let outline = outline(rt.alloc(), &parts)?;
+    sound_line(rt.alloc(), &outline)?;
     read_words(rt, &parts)
-}
-
-/// Writes the line of a command.
-fn write_command(rt: &HostRuntime, words: &[Framed<'_>]) -> Result<(), Failure> {
-    let line = sound_line(rt.alloc(), words)?;
-    write(rt, &line)
 }
 
 /// Writes the octets that follow a line for one of its words.
@@ -108,7 +100,7 @@ fn write_words<R: BufRead>(
     words: &[Framed<'_>],
     reader: &mut R,
 ) -> Result<(), Failure> {
-    write_command(rt, words)?;
+    write(rt, &sound_line(rt.alloc(), words)?)?;
     for word in words.iter() {
         write_octets(rt, word, reader)?;
     }
@@ -126,10 +118,7 @@ fn at_line(alloc: Global, number: u64, failure: Failure) -> Failure {
     let Failure::Message(text) = failure else {
         return failure;
     };
-    match format!(in alloc; "line {number}: {text}") {
-        Ok(text) => Failure::Message(text),
-        Err(_) => Failure::NoMemory,
-    }
+    Failure::of(format!(in alloc; "line {number}: {text}"))
 }
 
 /// Frames the commands of a reader up to its end. A last line without LF is no command, and is written as it is.
@@ -150,19 +139,11 @@ fn frame_all<R: BufRead>(rt: &HostRuntime, reader: &mut R) -> Result<(), Failure
     Ok(())
 }
 
-/// Frames the commands of a file: each is written to standard output as a session takes it. A failure at a command has
-/// the number of its line.
-pub fn frame_file(rt: &HostRuntime, path: &str) -> Result<(), Failure> {
-    match BufReader::new(rt.alloc(), open(rt, path)?) {
-        Ok(mut reader) => frame_all(rt, &mut reader),
-        Err(_) => Err(Failure::NoMemory),
-    }
-}
-
-/// Frames the commands of standard input, as `frame_file` does.
-pub fn frame_input(rt: &HostRuntime) -> Result<(), Failure> {
-    match BufReader::new(rt.alloc(), rt.stdin()) {
-        Ok(mut reader) => frame_all(rt, &mut reader),
-        Err(_) => Err(Failure::NoMemory),
+/// Frames the commands of a file, or of standard input where none is named: each is written to standard output as a
+/// session takes it. A failure at a command has the number of its line.
+pub fn frame(rt: &HostRuntime, file: Option<&str>) -> Result<(), Failure> {
+    match file {
+        Some(path) => frame_all(rt, &mut lines_of(rt.alloc(), open(rt, path)?)?),
+        None => frame_all(rt, &mut lines_of(rt.alloc(), rt.stdin())?),
     }
 }

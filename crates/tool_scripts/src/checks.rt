@@ -1,6 +1,7 @@
 //! Scripts and plans, judged as they are named.
 
-use tool_checks::{Folders, Surroundings, check_plan, check_script, read_plan};
+use command_lines::tools::Check;
+use tool_checks::{Surroundings, check_plan, check_script, read_plan};
 use tool_console::{Failure, Verdict};
 use tool_inquiry::script_name;
 
@@ -37,18 +38,15 @@ fn check_each(
     Ok(verdict)
 }
 
-/// Judges the scripts and plans of files, one after the other; a plan's path ends with `.toml`. The path of the present
-/// plan may be given, and the folders of scripts that can be included. The verdict is `Refused` where one of the files,
-/// or the present plan, is refused. A warning changes no verdict.
-pub fn check_files(
-    rt: &HostRuntime,
-    paths: &[&str],
-    plan: Option<&str>,
-    folders: Folders<'_>,
-) -> Result<Verdict, Failure> {
-    let Some(present) = read_plan(rt, plan)? else {
+/// Judges the scripts and plans of files, one after the other; a plan's path ends with `.toml`. The verdict is `Refused`
+/// where one of the files, or the present plan, is refused. A warning changes no verdict.
+pub fn check_files(rt: &HostRuntime, asked: &Check<'_>) -> Result<Verdict, Failure> {
+    let Some(present) = read_plan(rt, asked.plan)? else {
         return Ok(Verdict::Refused);
     };
-    let plan = plan.map(|_| &present.plan);
-    check_each(rt, paths, &Surroundings { plan, folders })
+    let around = Surroundings {
+        plan: asked.plan.map(|_| &present.plan),
+        folders: asked.folders,
+    };
+    check_each(rt, asked.files.as_slice(), &around)
 }

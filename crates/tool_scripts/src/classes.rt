@@ -46,12 +46,11 @@ fn first_filing(image: &Image, steps: &[Step], path: &[u8]) -> Option<Filing> {
 
 /// The first step that kept the message, by its number from 1.
 fn keeping_step(image: &Image, steps: &[Step]) -> Option<usize> {
-    for (index, step) in steps.iter().enumerate() {
-        if matches!(image.code().get(step.place), Some(Operation::Keep)) {
-            return Some(index.saturating_add(1));
-        }
-    }
-    None
+    let index = steps.iter().position(|step| matches!(
+        image.code().get(step.place),
+        Some(Operation::Keep)
+    ))?;
+    Some(index.saturating_add(1))
 }
 
 /// Adds the step that filed a message in the class of a path, and its command.
