@@ -1,5 +1,5 @@
 -- The arguments of a form, as the meaning reads them.
-use Rattle.sieve_laws.proofs.TagKinds.{AreOfKind, AreKinds, one_more, one_passed, each_once}
+use Rattle.promises.proofs.TagKinds.{AreOfKind, AreKinds, one_more, one_passed, each_once}
 use Rattle.std.proofs.Common.{◌≡◌, ℕ, Bool, true, false, List, [], ◌∷◌, Option, Some, None, refl, sym, ap, subst, ◌∙◌, ◌⊎◌, inl, inr}
 use Rattle.std.specs.Prelude.{◌||◌, codes, count_by, if◌then◌else◌}
 use Rattle.std.specs.List.{list_any, list_all}
@@ -21,7 +21,7 @@ use Rattle.sieve_check.specs.Rules.{is_unknown_tag, tag_after, has_kind, same_ki
 use Rattle.sieve_check.specs.Shapes.{HasForm}
 use Rattle.sieve_meaning.specs.Reading.{has_tag, string_lists}
 use Rattle.sieve_meaning.specs.Words.{same_word}
-use Rattle.sieve_laws.specs.ReadingLaw.{is_named, is_tag_of, numbers_in, comparators_in, is_comparator, HasArguments}
+use Rattle.promises.specs.ReadingLaw.{is_named, is_tag_of, numbers_in, comparators_in, is_comparator, HasArguments}
 
 -- names that are equal in any case of their letters are equal to the same words
 pub same_as : (a b c : List ℕ) → same_name a b ≡ true → same_word a c ≡ same_word b c

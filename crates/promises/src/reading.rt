@@ -1,6 +1,6 @@
-//! The law, as the contract of a function that does nothing.
+//! What the checker accepts is read by the meaning of scripts, which does not depend on it.
 
-ghost use Rattle.sieve_laws.specs.ReadingLaw.{ReadLaw};
+ghost use Rattle.promises.specs.ReadingLaw.{ReadLaw};
 
 /// In a script that the checker does not refuse, each name is one that has a meaning. Its tags, strings, numbers,
 /// comparators, tests and block are those that its meaning reads, and no others, and no two of the tags are of one kind

@@ -27,11 +27,11 @@ use Rattle.sieve_meaning.specs.declared.words.CommandWord.TheVariants as command
 use Rattle.sieve_meaning.specs.declared.words.TestWord.{TestWord}
 use Rattle.sieve_meaning.specs.declared.words.TestWord.TheVariants as tests
 use Rattle.sieve_meaning.specs.Words.{command_word, test_word}
-use Rattle.sieve_laws.specs.ReadingLaw.{header_tags, size_tags, fileinto_tags, include_tags, HasArguments, HasString}
-use Rattle.sieve_laws.specs.ReadingLaw.{TestReads, TestIsRead, InnerIsRead, RowIsRead, CommandReads, is_branch}
-use Rattle.sieve_laws.specs.ReadingLaw.{Follows, CommandIsRead, EndingIsRead, CommandsAreRead, ReadLaw}
-use Rattle.sieve_laws.proofs.TagKinds.{AreKinds, are_once}
-use Rattle.sieve_laws.proofs.Arguments.{AreRead, form_read, limit_there}
+use Rattle.promises.specs.ReadingLaw.{header_tags, size_tags, fileinto_tags, include_tags, HasArguments, HasString}
+use Rattle.promises.specs.ReadingLaw.{TestReads, TestIsRead, InnerIsRead, RowIsRead, CommandReads, is_branch}
+use Rattle.promises.specs.ReadingLaw.{Follows, CommandIsRead, EndingIsRead, CommandsAreRead, ReadLaw}
+use Rattle.promises.proofs.TagKinds.{AreKinds, are_once}
+use Rattle.promises.proofs.ReadArguments.{AreRead, form_read, limit_there}
 
 -- WORDS
 

@@ -11,7 +11,7 @@ use Rattle.sieve_check.specs.Tables.{TagWord, WordForm}
 use Rattle.sieve_check.specs.Pieces.{PieceWord, pieces}
 use Rattle.sieve_check.specs.Rules.{has_kind, same_kind, stands_twice, has_tag_twice}
 use Rattle.sieve_meaning.specs.Words.{same_word}
-use Rattle.sieve_laws.specs.ReadingLaw.{is_named}
+use Rattle.promises.specs.ReadingLaw.{is_named}
 
 -- these are the names of the tags of this kind in the table
 abbrev pub AreOfKind : List (List ℕ) → TagKind → List TagWord → Type 0
