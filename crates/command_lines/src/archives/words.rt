@@ -217,7 +217,7 @@ const COPY: Subcommand = Subcommand {
 
 const CHECK: Subcommand = Subcommand {
     name: "check",
-    about: "Judges a whole store, and says what it holds",
+    about: "Checks a whole store, and prints its totals",
     example: "Example: mailfile-store check --store records.db",
     words: &[STORE],
 };
