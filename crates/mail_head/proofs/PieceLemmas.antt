@@ -1,12 +1,12 @@
 -- The header of a message that comes in pieces.
 use Rattle.std.proofs.Common.{◌≡◌, ℕ, zero, suc, ◌+◌, ◌-◌, ◌≤◌, Bool, true, false, cond, eqb, List, [], ◌∷◌, ◌++◌}
 use Rattle.std.proofs.Common.{length, take, refl, sym, ap, ◌∙◌, arith, get_or, ◌⊎◌, inl, inr, append_assoc, eqb-true}
-use Rattle.std.proofs.lemmas.List.{append-nil, length-append, take_at, get_or_at, length-take}
+use Rattle.std.proofs.lemmas.List.{append-nil, length-append, length-take}
 use Rattle.std.specs.Prelude.{nat_lt, ◌&&◌}
 use Rattle.std.specs.List.{concat}
 use Rattle.std.proofs.Math.Bool.{and-false}
-use Rattle.mail_head.proofs.SpanLemmas.{less_one, without_lf}
-use Rattle.mail_head.specs.Lines.{raw_lines, without_last, without_end, header_lines, header_of, line_len}
+use Rattle.mail_head.proofs.SpanLemmas.{without_lf}
+use Rattle.mail_head.specs.Lines.{raw_lines, without_end, header_lines, header_of, line_len}
 
 -- no octet is an LF
 abbrev pub NoEnd : List ℕ → Type 0

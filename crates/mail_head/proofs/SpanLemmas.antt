@@ -1,7 +1,6 @@
 -- The computed fields of a message are those of the spans that it is cut into.
-use Rattle.std.proofs.Common.{◌≡◌, ℕ, suc, ◌+◌, ◌-◌, ◌<◌, Bool, true, false, cond, eqb, List, [], ◌∷◌, ◌++◌, length}
-use Rattle.std.proofs.Common.{take, drop, refl, sym, ap, ◌∙◌, subst, arith, inl, inr, ◌⊎◌, Option, Some, None}
-use Rattle.std.proofs.Common.{append_assoc, eqb-true, eq-eqb, lt-ltb, ltb-true}
+use Rattle.std.proofs.Common.{◌≡◌, ℕ, suc, ◌+◌, ◌-◌, ◌<◌, Bool, true, false, cond, eqb, List, [], ◌∷◌, ◌++◌, length, take, drop, refl, sym, ap, ◌∙◌}
+use Rattle.std.proofs.Common.{subst, arith, inl, inr, ◌⊎◌, Option, Some, None, append_assoc, eqb-true, eq-eqb, lt-ltb, ltb-true}
 use Rattle.std.proofs.Math.Seq.{take-append_seam, drop-append_seam}
 use Rattle.std.proofs.lemmas.List.{append-nil, length-append, take-append-drop}
 use Rattle.std.proofs.lemmas.List.Folds.{concat-append, length-prefix_len}
@@ -10,9 +9,8 @@ use Rattle.std.specs.Prelude.{nat_lt, slice_index, not, ◌&&◌, ◌==◌}
 use Rattle.std.specs.List.{list_all, concat, prefix_len, filter_map, cons_option}
 use Rattle.mail_head.specs.Lines.{is_blank, into_first, raw_lines, without_last, without_end, header_lines, begins_blank, logical_from, logical_lines}
 use Rattle.mail_head.specs.Fields.{is_name_octet, begins_with, field_of, fields_of}
-use Rattle.mail_head.specs.Spans.{not_lf, LinesOf, no_lines, last_line, whole_line, has_octets, begins_empty, IsHeader}
-use Rattle.mail_head.specs.Spans.{begins_anew, LogicalOf, no_logical, logical, EndsIn, IsEnd, IsField, FieldsAmong}
-use Rattle.mail_head.specs.Spans.{no_fields, field, passed, AreFields, FieldsLaw}
+use Rattle.mail_head.specs.Spans.{not_lf, LinesOf, no_lines, last_line, whole_line, has_octets, begins_empty, IsHeader, begins_anew, LogicalOf}
+use Rattle.mail_head.specs.Spans.{no_logical, logical, EndsIn, IsEnd, IsField, FieldsAmong, no_fields, field, passed, AreFields, FieldsLaw}
 
 -- lines
 
