@@ -99,7 +99,8 @@ make_commands() {
     local name
     mkdir -p -- "$work/archives" "$work/bin" || return
     for name in mailfile mailfile-store mailfile-tool; do
-        printf '#!/bin/sh\nexec timeout --foreground 60 "%s" "$@"\n' "$root/$name" > "$work/bin/$name" && chmod +x "$work/bin/$name"
+        printf "#!/bin/sh\nexec timeout --foreground 60 '%s' \"\$@\"\n" "${root//\'/\'\\\'\'}/$name" > "$work/bin/$name" &&
+            chmod +x "$work/bin/$name"
     done
 }
 

@@ -2,8 +2,7 @@
 use Rattle.std.proofs.Common.{◌≡◌, List, [], ◌∷◌, ◌++◌, map, Bool, true, ◌||◌, refl, sym, ap, ◌∙◌, subst}
 use Rattle.std.specs.List.{list_any}
 use Rattle.std.proofs.lemmas.List.{map-append}
-use Rattle.sieve_meaning.specs.Program.{Include, Command, require, keep, discard, stop, return, file_into, branch, include, Commands, no_command}
-use Rattle.sieve_meaning.specs.Program.{command_then, Branches, no_branch, otherwise, if_then}
+use Rattle.sieve_meaning.specs.Program.{Include, Command, branch, Commands, no_command, command_then, Branches, no_branch, otherwise, if_then}
 use Rattle.sieve_meaning.specs.Meaning.{Library, ScriptName, script_named, same_script}
 use Rattle.sieve_meaning.specs.Procedures.{includes_of, includes_in, branch_includes}
 use Rattle.sieve_meaning.proofs.SharingLemmas.{same_is}

@@ -6,9 +6,7 @@ use Rattle.std.specs.List.{count_by}
 use Rattle.std.proofs.lemmas.Bool.{cases_lt}
 use Rattle.filing_image.specs.Program.{Program, first_places, firsts_of}
 use Rattle.filing_image.specs.declared.instruction.Operation.{Operation}
-use Rattle.filing_image.specs.declared.instruction.Operation.TheVariants.{PushTrue, PushFalse, Not, Values, Join, Match, Pop, Exists, Size, Number}
-use Rattle.filing_image.specs.declared.instruction.Operation.TheVariants.{Less, Jump, JumpIf, JumpUnless, Marked, Mark, File, Keep, Discard, Stop}
-use Rattle.filing_image.specs.declared.instruction.Operation.TheVariants.{Fault, Call, Return}
+use Rattle.filing_image.specs.declared.instruction.Operation.TheVariants.{Not, Join, Match, Pop, Less, Jump, JumpIf, JumpUnless, Call, Return}
 use Rattle.filing_verify.specs.declared.kind.Kind.{Kind}
 use Rattle.filing_verify.specs.declared.kind.Kind.TheVariants.{Truth, Texts, Count}
 use Rattle.filing_verify.specs.declared.fault.VerifyFault.{VerifyFault}

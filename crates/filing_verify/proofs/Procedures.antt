@@ -28,7 +28,7 @@ some_procedures (Some firsts) e = refl
 
 -- ---- how many numbers are at most p
 
-pub begun : ℕ → List ℕ → ℕ
+unfoldable pub begun : ℕ → List ℕ → ℕ
 begun p [] = 0
 begun p (f ∷ fs) = cond (leb f p) (1 + begun p fs) (begun p fs)
 

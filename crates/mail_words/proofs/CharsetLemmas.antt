@@ -1,7 +1,7 @@
 -- Octets in a charset.
 use Rattle.std.proofs.Common.{◌≡◌, ℕ, ◌+◌, ◌-◌, ◌<◌, ◌≤◌, get_or, take, Bool, true, false, cond, List, [], ◌∷◌, ◌++◌, option_map, length, drop, refl}
 use Rattle.std.proofs.Common.{sym, ap, subst, ◌∙◌, append_assoc, Option, Some, None, Result, Ok, Err}
-use Rattle.std.proofs.lemmas.List.{append-nil, drop_at, take_more, take_all, take_rest}
+use Rattle.std.proofs.lemmas.List.{append-nil, take_more, take_all, take_rest}
 use Rattle.std.specs.Prelude.{option_and_then}
 use Rattle.std.specs.Char.{encode_utf8}
 use Rattle.std.proofs.lemmas.Str.{IsUtf8-from_is_utf8, is_utf8-from_IsUtf8}

@@ -1,6 +1,6 @@
 -- The computed meaning of a word is what the word means.
 use Rattle.std.proofs.Common.{◌≡◌, ℕ, zero, suc, ◌+◌, ◌*◌, ◌<◌, ◌≤◌, Bool, true, false, cond, eqb, List, [], ◌∷◌, refl, sym, ap, ◌∙◌, subst, arith}
-use Rattle.std.proofs.Common.{inl, inr, Option, Some, None, ◌↔◌, eqb-true, eq-eqb, ne_eqb, leb-true}
+use Rattle.std.proofs.Common.{inl, inr, Option, Some, None, ◌↔◌, eqb-true, ne_eqb, leb-true}
 use Rattle.std.proofs.lemmas.Bool.{cases_Bool, and_parts, eqb-false, true≢false}
 use Rattle.std.specs.Prelude.{option_map, option_and_then, nat_le, not, ◌==◌}
 use Rattle.std.specs.List.{list_all}

@@ -10,9 +10,9 @@ use Rattle.std.specs.Cmp.{both_ways}
 use Rattle.sieve_meaning.specs.declared.run_fault.RunFault.TheVariants.{NestingTooDeep}
 use Rattle.sieve_meaning.specs.Case.{Facts}
 use Rattle.sieve_meaning.specs.Truth.{truth}
-use Rattle.sieve_meaning.specs.Program.{Include, Command, require, keep, discard, stop, return, file_into, branch, include, Commands, no_command}
+use Rattle.sieve_meaning.specs.Program.{Include, Command, branch, include, Commands, no_command}
 use Rattle.sieve_meaning.specs.Program.{command_then, Branches, no_branch, otherwise, if_then}
-use Rattle.sieve_meaning.specs.Meaning.{ScriptName, script_named, same_bool, same_script, is_among, Library, Filing, Ending, GoesOn, Returns, Stops}
+use Rattle.sieve_meaning.specs.Meaning.{ScriptName, script_named, same_bool, same_script, is_among, Library, Filing, Ending, GoesOn}
 use Rattle.sieve_meaning.specs.Meaning.{Faults, Included, and_then, run, run_one, run_branches, inclusion_within, inclusion, ending_of_include}
 use Rattle.sieve_meaning.specs.Meaning.{with_entry, unless_entered, unless_missing, unless_active}
 use Rattle.sieve_meaning.specs.Weight as weights
