@@ -1,17 +1,15 @@
 -- The days and due days that are counted by number are those of the calendar.
-use Rattle.std.proofs.Common.{◌≡◌, ℕ, zero, suc, ◌+◌, ◌-◌, ◌*◌, ◌/◌, ◌%◌, ◌<◌, ◌≤◌, ◌⊎◌, inl, inr, min, nat_lt, true}
-use Rattle.std.proofs.Common.{false, refl, sym, ap, subst, ◌∙◌, arith, ℤ, pos, negsuc, ◌+ℤ◌, ◌<ℤ◌, ◌≤ℤ◌, unsigned_abs}
-use Rattle.std.proofs.Common.{List, Option, Some, None, MatchOption, option_map, option_and_then}
+use Rattle.std.proofs.Common.{◌≡◌, ℕ, zero, suc, ◌+◌, ◌-◌, ◌/◌, ◌%◌, ◌≤◌, inl, inr, min, nat_lt, true, false, refl, sym, ap, subst, ◌∙◌, arith, ℤ}
+use Rattle.std.proofs.Common.{pos, negsuc, ◌+ℤ◌, ◌≤ℤ◌, unsigned_abs, List, Option, Some, None, MatchOption, option_map, option_and_then}
 use Rattle.std.proofs.lemmas.Bool.{cases_order}
 use Rattle.std.proofs.lemmas.Bool.Decides.{nat_tests}
+use Rattle.class_plan.proofs.Days.{year_pos}
 use Rattle.jiff.specs.Words.{epoch_day, days_in_month, days_in_year}
 use Rattle.jiff_core.specs.declared.civil.date.Date.{Date}
 use Rattle.jiff_core.specs.Calendar.{day_count, days_from_civil, IsYear, IsCivilDate}
 use Rattle.jiff_core.proofs.SignedLemmas.{signed_arith}
-use Rattle.jiff_core.proofs.CalendarLemmas.{day_count-epoch, days_from_civil-day_count, days_in_month_bounds}
-use Rattle.jiff_core.proofs.CalendarLemmas.{day_count-day, day_count-next_month, day_count-next_year}
-use Rattle.jiff_core.proofs.CalendarLemmas.{day_count-later_year, day_count-lt_month, day_count-day_of_year}
-use Rattle.jiff_core.proofs.CalendarLemmas.{day_of_year_bound}
+use Rattle.jiff_core.proofs.CalendarLemmas.{day_count-epoch, days_from_civil-day_count, days_in_month_bounds, day_count-day, day_count-next_month}
+use Rattle.jiff_core.proofs.CalendarLemmas.{day_count-next_year, day_count-later_year, day_count-lt_month, day_count-day_of_year, day_of_year_bound}
 use Rattle.jiff_core.proofs.DateLemmas.{civil as date_civil}
 use Rattle.class_plan.specs.declared.schedules.Unit.{Unit as TimeUnit}
 use Rattle.class_plan.specs.declared.schedules.Unit.TheVariants.{Days, Months, Years}
@@ -93,17 +91,13 @@ from_year_is (suc k) y n later m d civil le few counted = elim (cases_order y la
   | inr (inr more) ↦ absurd (omega (arith, more))
 ]
 
-year_is : (z : ℤ) → pos 1970 ≤ℤ z → z ≡ pos (unsigned_abs z)
-year_is (pos n) h = refl
-year_is (negsuc n) h = absurd (omega (arith, signed_arith))
-
 abbrev parts : Date → Civil
 parts d = record { year = unsigned_abs d.year; month = d.month; day = d.day }
 
 -- the date with a day number is that of the calendar
 pub civil_is : (d : Date) (n : ℕ) → pos 1970 ≤ℤ d.year → epoch_day d ≡ pos n → civil n ≡ parts d
 civil_is d n year is =
-    let same = year_is d.year year in
+    let same = year_pos d.year year in
     let here : IsCivilDate (pos (unsigned_abs d.year)) d.month d.day = subst (λ z. IsCivilDate z d.month d.day) same (date_civil d) in
     let counted = days_from_civil-day_count d.year d.month d.day in
     let count : day_count d.year d.month d.day ≡ day_count (pos 1970) 1 1 + n = omega (arith, signed_arith, day_count-epoch, counted, is) in
@@ -122,7 +116,7 @@ period_is d n k Months e year is h =
     sym (from ∙ (λ i. unsigned_abs (days_from_civil (sym h.year i) (sym h.month i) (sym day i))))
 period_is d n k Years e year is h =
     let from : period_after n k Years ≡ number_of (years_after (parts d) k) = ap (λ c. number_of (years_after c k)) (civil_is d n year is) in
-    let at : e.year ≡ pos (unsigned_abs d.year + k) = h.year ∙ ap (λ z. z +ℤ pos k) (year_is d.year year) in
+    let at : e.year ≡ pos (unsigned_abs d.year + k) = h.year ∙ ap (λ z. z +ℤ pos k) (year_pos d.year year) in
     let day : e.day ≡ min d.day (days_in_month (pos (unsigned_abs d.year + k)) d.month) = h.day
     ∙ (λ i. min d.day (days_in_month (at i) (h.month i))) in
     sym (from ∙ (λ i. unsigned_abs (days_from_civil (sym at i) (sym h.month i) (sym day i))))
@@ -141,7 +135,7 @@ year_end_is : (e f : Date) → pos 1970 ≤ℤ e.year → pos 0 ≤ℤ epoch_day
     → number_of_day f ≡ number_of (last_of_year (civil (number_of_day e)))
 year_end_is e f year low h =
     let same = civil_is e (number_of_day e) year (number_pos (epoch_day e) low) in
-    let at : f.year ≡ pos (unsigned_abs e.year) = h.year ∙ year_is e.year year in
+    let at : f.year ≡ pos (unsigned_abs e.year) = h.year ∙ year_pos e.year year in
     (λ i. unsigned_abs (days_from_civil (at i) (h.month i) (h.day i))) ∙ sym (ap (λ c. number_of (last_of_year c)) same)
 
 -- the due date by a schedule has the number that the definition counts

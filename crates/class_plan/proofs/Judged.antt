@@ -32,25 +32,11 @@ index NoMemory = 49
 
 at-index : (g : PlanFault) → at (index g) ≡ g
 at-index NotToml = refl
-at-index BadShape = refl
-at-index BadPath = refl
-at-index ParentMissing = refl
-at-index PathTwice = refl
-at-index BadSchedule = refl
-at-index TooManyClasses = refl
-at-index PathDropped = refl
-at-index NoMemory = refl
+at-index f = refl
 
 number-index : (g : PlanFault) → number_of g ≡ 50 + index g
 number-index NotToml = refl
-number-index BadShape = refl
-number-index BadPath = refl
-number-index ParentMissing = refl
-number-index PathTwice = refl
-number-index BadSchedule = refl
-number-index TooManyClasses = refl
-number-index PathDropped = refl
-number-index NoMemory = refl
+number-index f = refl
 
 -- no fault among the first n holds
 abbrev FreeBelow : (PlanFault → Bool) → ℕ → Type 0

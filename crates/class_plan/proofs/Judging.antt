@@ -42,7 +42,7 @@ test-parent xs rs is =
 above : (n : ℕ) → 4096 < n → nat_lt 4096 n ≡ true
 above n h = grind (arith, nat_tests)
 
-within : (n : ℕ) → n ≤ 4096 → nat_lt 4096 n ≡ false
+pub within : (n : ℕ) → n ≤ 4096 → nat_lt 4096 n ≡ false
 within n h = grind (arith, nat_tests)
 
 pub test-many : (es : List Entry) (rs : List Row) → comes_again [] es ≡ false → rs ≡ with_unfiled (rows_from [] es)
@@ -52,6 +52,12 @@ test-many es rs twice is h = let e = ap length is ∙ length-listing es twice in
 pub test-few : (es : List Entry) (rs : List Row) → comes_again [] es ≡ false → rs ≡ with_unfiled (rows_from [] es)
     → length rs ≤ 4096 → nat_lt 4096 (class_count_of es) ≡ false
 test-few es rs twice is h = let e = ap length is ∙ length-listing es twice in within (class_count_of es) (omega arith)
+
+-- no path is bad, lacks its parent or comes again
+pub record HasGoodPaths (h : PlanFault → Bool) : Type 0 where
+  pub path : h BadPath ≡ false
+  pub parent : h ParentMissing ≡ false
+  pub twice : h PathTwice ≡ false
 
 -- the ends of a judgement after the text and its shape passed
 module _ {A : Type 0} (h : PlanFault → Bool) (a : A) (toml : h NotToml ≡ false) (shape : h BadShape ≡ false) where
@@ -64,13 +70,11 @@ module _ {A : Type 0} (h : PlanFault → Bool) (a : A) (toml : h NotToml ≡ fal
   pub end-twice : h BadPath ≡ false → h ParentMissing ≡ false → h PathTwice ≡ true → verdict h a ≡ Err PathTwice
   end-twice p q t = rw (toml, shape, p, q, t)
 
-  pub end-schedule : h BadPath ≡ false → h ParentMissing ≡ false → h PathTwice ≡ false → h BadSchedule ≡ true → verdict h a ≡ Err BadSchedule
-  end-schedule p q t s = rw (toml, shape, p, q, t, s)
+  pub end-schedule : HasGoodPaths h → h BadSchedule ≡ true → verdict h a ≡ Err BadSchedule
+  end-schedule g s = rw (toml, shape, g.path, g.parent, g.twice, s)
 
-  pub end-many : h BadPath ≡ false → h ParentMissing ≡ false → h PathTwice ≡ false → h BadSchedule ≡ false
-      → h TooManyClasses ≡ true → verdict h a ≡ Err TooManyClasses
-  end-many p q t s m = rw (toml, shape, p, q, t, s, m)
+  pub end-many : HasGoodPaths h → h BadSchedule ≡ false → h TooManyClasses ≡ true → verdict h a ≡ Err TooManyClasses
+  end-many g s m = rw (toml, shape, g.path, g.parent, g.twice, s, m)
 
-  pub end-well : h BadPath ≡ false → h ParentMissing ≡ false → h PathTwice ≡ false → h BadSchedule ≡ false
-      → h TooManyClasses ≡ false → h PathDropped ≡ false → verdict h a ≡ Ok a
-  end-well p q t s m d = rw (toml, shape, p, q, t, s, m, d)
+  pub end-well : HasGoodPaths h → h BadSchedule ≡ false → h TooManyClasses ≡ false → h PathDropped ≡ false → verdict h a ≡ Ok a
+  end-well g s m d = rw (toml, shape, g.path, g.parent, g.twice, s, m, d)

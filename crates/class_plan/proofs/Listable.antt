@@ -1,10 +1,10 @@
 -- What a file lists has its schedules in range, and `unfiled` open.
 use Rattle.std.proofs.Common.{◌≡◌, ℕ, ◌≤◌, nat_le, Bool, true, false, not, ◌&&◌, if◌then◌else◌, List, [], ◌∷◌, codes}
-use Rattle.std.proofs.Common.{Option, Some, None, option_map, option_and_then, refl, sym, subst, ◌∙◌, arith}
-use Rattle.std.proofs.lemmas.Bool.Decides.{nat_tests}
+use Rattle.std.proofs.Common.{Option, Some, None, option_map, option_and_then, refl, sym, subst, ◌∙◌}
 use Rattle.std.proofs.lemmas.List.Elements.{All-from_recursion}
 use Rattle.std.specs.Str.{bytes_eq}
 use Rattle.std.specs.List.{AllByRecursion}
+use Rattle.class_plan.proofs.Periods.{low_of, high_of}
 use Rattle.toml.specs.Data.{Data, Items, no_items, item, Members, get_member, as_str, as_table, as_array}
 use Rattle.class_paths.specs.Path.{unfiled}
 use Rattle.class_plan.specs.declared.schedules.Unit.{Unit as TimeUnit}
@@ -23,12 +23,6 @@ range_if : (b : Bool) (n : ℕ) (u : TimeUnit) (x : Action × Bool) (s : Schedul
     → Some s ≡ (if b then Some (After n u x.0 x.1) else None) → IsInRange s
 range_if true n u x s h e = let is : After n u x.0 x.1 ≡ s = cc in subst IsInRange is (h refl)
 range_if false n u x s h e = absurd (cc)
-
-low_of : (n m : ℕ) → (nat_le 1 n && nat_le n m) ≡ true → 1 ≤ n
-low_of n m e = grind (arith, nat_tests)
-
-high_of : (n m : ℕ) → (nat_le 1 n && nat_le n m) ≡ true → n ≤ m
-high_of n m e = grind (arith, nat_tests)
 
 period_range : (o : Option ℕ) (u : Option TimeUnit) (x : Option (Action × Bool)) (a b c : List ℕ) (s : Schedule)
     → o ≡ count_of a → u ≡ unit_of b → x ≡ ending_of c → Some s ≡ period_of a b c → IsInRange s

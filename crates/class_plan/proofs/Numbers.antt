@@ -1,8 +1,7 @@
 -- Counts, digit by digit.
-use Rattle.std.proofs.Common.{◌≡◌, ℕ, ◌+◌, ◌-◌, ◌*◌, ◌<◌, nat_le, false, ◌&&◌, List, [], ◌∷◌, length, drop, get_or, None, arith}
+use Rattle.std.proofs.Common.{◌≡◌, ℕ, ◌+◌, ◌-◌, ◌*◌, ◌<◌, nat_le, false, ◌&&◌, List, [], ◌∷◌, length, drop, get_or, None, arith, inl, inr}
 use Rattle.std.proofs.lemmas.List.{drop_more}
 use Rattle.std.proofs.lemmas.Bool.{cases_Bool}
-use Rattle.std.proofs.Common.{inl, inr}
 use Rattle.class_plan.specs.Texts.{count_from, IsLargeOrNone}
 
 pub number-bad : (cs : List ℕ) (i n : ℕ) → i < length cs → (nat_le 48 (get_or cs i 0) && nat_le (get_or cs i 0) 57)

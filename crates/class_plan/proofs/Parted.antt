@@ -1,11 +1,11 @@
 -- Parts that are judged: whether `unfiled` is closed, and schedules in range.
-use Rattle.std.proofs.Common.{◌≡◌, ◌≢◌, ℕ, ◌≤◌, nat_le, Bool, true, false, not, ◌&&◌, ◌||◌, if◌then◌else◌, List, []}
-use Rattle.std.proofs.Common.{◌∷◌, map, Option, Some, None, option_map, Ok, Err, refl, ap, sym, arith}
-use Rattle.std.proofs.lemmas.Bool.Decides.{nat_tests}
+use Rattle.std.proofs.Common.{◌≡◌, ◌≢◌, Bool, true, false, not, ◌&&◌, ◌||◌, if◌then◌else◌, List, []}
+use Rattle.std.proofs.Common.{◌∷◌, map, Option, Some, None, option_map, Ok, Err, refl, ap, sym}
 use Rattle.std.proofs.lemmas.List.Elements.{All-from_recursion}
 use Rattle.std.proofs.lemmas.Bool.{or_parts}
 use Rattle.std.specs.Str.{bytes_eq}
 use Rattle.std.specs.List.{AllByRecursion, list_any}
+use Rattle.class_plan.proofs.Periods.{low_of, high_of}
 use Rattle.class_paths.specs.Path.{unfiled}
 use Rattle.class_plan.specs.declared.faults.PlanFault.{PlanFault}
 use Rattle.class_plan.specs.declared.faults.PlanFault.TheVariants.{NotToml, BadShape, BadPath, ParentMissing, PathTwice}
@@ -35,12 +35,6 @@ parts-made f p e = (judged-made (parts_faults f) _ p (sym e)).1
 pub closed-shown : (xs : List Listed) → list_any (λ c. is_closed_unfiled (entry_view c)) xs ≡ list_any is_closed_unfiled (map entry_view xs)
 closed-shown [] = refl
 closed-shown (x ∷ xs) = ap (λ b. is_closed_unfiled (entry_view x) || b) (closed-shown xs)
-
-low_of : (n m : ℕ) → (nat_le 1 n && nat_le n m) ≡ true → 1 ≤ n
-low_of n m e = grind (arith, nat_tests)
-
-high_of : (n m : ℕ) → (nat_le 1 n && nat_le n m) ≡ true → n ≤ m
-high_of n m e = grind (arith, nat_tests)
 
 pub in-range : (s : Schedule) → in_range s ≡ true → IsInRange s
 in-range Permanent e = tt

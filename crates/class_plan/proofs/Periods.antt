@@ -4,6 +4,7 @@ use Rattle.std.proofs.lemmas.List.{drop_all}
 use Rattle.std.proofs.lemmas.Bool.Decides.{nat_tests}
 use Rattle.std.specs.Str.{bytes_eq}
 use Rattle.std.specs.List.{before_first, after_first, position_or_len}
+use Rattle.std.specs.Prelude.{nat_le, ◌&&◌}
 use Rattle.class_plan.specs.declared.schedules.Unit.{Unit as TimeUnit}
 use Rattle.class_plan.specs.declared.schedules.Unit.TheVariants.{Days, Months, Years}
 use Rattle.class_plan.specs.declared.schedules.Action.{Action}
@@ -55,6 +56,13 @@ pub period-above : (a b c : List ℕ) (n : ℕ) (u : TimeUnit) (x : Action × Bo
     → Some u ≡ unit_of b → Some x ≡ ending_of c → most u < n → None ≡ period_of a b c
 unfolding period_of
 period-above a b c n u x d e f high = rw (d, ← e, ← f) (grind (arith, nat_tests))
+
+-- a count that passes is in its range
+pub low_of : (n m : ℕ) → (nat_le 1 n && nat_le n m) ≡ true → 1 ≤ n
+low_of n m e = grind (arith, nat_tests)
+
+pub high_of : (n m : ℕ) → (nat_le 1 n && nat_le n m) ≡ true → n ≤ m
+high_of n m e = grind (arith, nat_tests)
 
 pub most-small : (u : TimeUnit) → most u ≤ 366000
 most-small Days = omega arith

@@ -1,7 +1,6 @@
 -- The text of a schedule in range reads back.
-use Rattle.std.proofs.Common.{◌≡◌, ℕ, ◌+◌, ◌-◌, ◌*◌, ◌/◌, ◌%◌, ◌^◌, ◌<◌, ◌≤◌, ◌==◌, nat_le, Bool, true, false, not}
-use Rattle.std.proofs.Common.{◌&&◌, List, [], ◌∷◌, ◌++◌, take, drop, length, codes, Some, None, inl, inr, refl, ap, sym}
-use Rattle.std.proofs.Common.{◌∙◌, arith, append_assoc, length-append}
+use Rattle.std.proofs.Common.{◌≡◌, ℕ, ◌+◌, ◌-◌, ◌*◌, ◌/◌, ◌%◌, ◌^◌, ◌<◌, ◌≤◌, ◌==◌, nat_le, Bool, true, false, not, ◌&&◌, List, [], ◌∷◌, ◌++◌, take}
+use Rattle.std.proofs.Common.{drop, length, codes, Some, None, inl, inr, refl, ap, sym, ◌∙◌, arith, append_assoc, length-append}
 use Rattle.std.proofs.lemmas.Bool.{cases_Bool}
 use Rattle.std.proofs.lemmas.Bool.Decides.{nat_tests}
 use Rattle.std.proofs.lemmas.Fmt.{decimal_by_steps}
@@ -12,7 +11,7 @@ use Rattle.std.specs.List.{list_all, position_or_len, before_first, after_first}
 use Rattle.class_plan.specs.declared.schedules.Unit.{Unit as TimeUnit}
 use Rattle.class_plan.specs.declared.schedules.Unit.TheVariants.{Days, Months, Years}
 use Rattle.class_plan.specs.declared.schedules.Action.{Action}
-use Rattle.class_plan.specs.declared.schedules.Action.TheVariants.{Review, Transfer, Destroy}
+use Rattle.class_plan.specs.declared.schedules.Action.TheVariants.{Review}
 use Rattle.class_plan.specs.declared.schedules.Schedule.{Schedule}
 use Rattle.class_plan.specs.declared.schedules.Schedule.TheVariants.{Permanent, After}
 use Rattle.class_plan.specs.Schedules.{most, IsInRange}
@@ -115,21 +114,17 @@ after_space ds r e =
 
 unit_reads : (u : TimeUnit) → Some u ≡ unit_of (unit_word u)
 unit_reads Days = refl
-unit_reads Months = refl
-unit_reads Years = refl
+unit_reads u = refl
 
 unit_no_space : (u : TimeUnit) → has_no_space (unit_word u) ≡ true
 unit_no_space Days = refl
-unit_no_space Months = refl
-unit_no_space Years = refl
+unit_no_space u = refl
 
 ending_reads : (x : Action) (y : Bool) → Some (x, y) ≡ ending_of (action_word x ++ year_end_text y)
 ending_reads Review false = refl
 ending_reads Review true = refl
-ending_reads Transfer false = refl
-ending_reads Transfer true = refl
-ending_reads Destroy false = refl
-ending_reads Destroy true = refl
+ending_reads action false = refl
+ending_reads action true = refl
 
 not_p : (c : ℕ) → is_digit c ≡ true → (c == 112) ≡ false
 not_p c e = grind (arith, nat_tests)

@@ -24,7 +24,7 @@ use Rattle.class_plan.specs.Entries.{comes_again, class_count_of, contents_fault
 use Rattle.class_plan.specs.Parts.{Part, in_range, if_in_range, part_entry, part_row, parts_contents, is_closed_unfiled, plan_of_parts}
 use Rattle.class_plan.proofs.Opened.{path_cmp}
 use Rattle.class_plan.proofs.Twice.{again, again-none, has-listing, length-listing}
-use Rattle.class_plan.proofs.Judging.{first-same, end-well}
+use Rattle.class_plan.proofs.Judging.{HasGoodPaths, first-same, end-well, within}
 use Rattle.class_plan.proofs.Parted.{parts-open}
 
 -- ---- sorted classes, put one by one
@@ -134,9 +134,6 @@ faulty_in : (o : Option Schedule) → IsInRangeIfAny o → is_faulty (stated_if 
 faulty_in None h = refl
 faulty_in (Some s) h = ap (λ x. is_faulty (stated_if (Some x))) (ranged_in s h)
 
-few_count : (n : ℕ) → n ≤ 4096 → nat_lt 4096 n ≡ false
-few_count n h = grind (arith, nat_tests)
-
 -- the classes that such parts list show those rows
 rows_listed : (R : List Row) (ps : List Part) → AllByRecursion (IsClass R) (map part_row ps) → map row_of (map part_entry ps) ≡ map part_row ps
 rows_listed R [] h = refl
@@ -206,6 +203,7 @@ parts-same p root ps plan same_root shows =
     let stated = none_any (λ e. is_faulty e.stated) es (entries_stated p.rows ps classes) in
     let schedules : (not (is_some (if_in_range root)) || list_any (λ e. is_faulty e.stated) es) ≡ false = rw (ranged_root, stated) in
     let count : length p.rows ≡ class_count_of es = ap length (sym listed) ∙ length-listing es twice in
-    let few : nat_lt 4096 (class_count_of es) ≡ false = rw (← count) (few_count (length p.rows) plan.few) in
+    let few : nat_lt 4096 (class_count_of es) ≡ false = rw (← count) (within (length p.rows) plan.few) in
     let made : listing_of f ≡ p = made_listing p root (if_in_range root) (with_unfiled (rows_from [] es)) ranged_root same_root listed in
-    parts-open f closed ∙ end-well (contents_faults f) (listing_of f) refl refl paths parents twice schedules few refl ∙ ap (λ x. Ok x) made
+    let good : HasGoodPaths (contents_faults f) = record { path = paths; parent = parents; twice = twice } in
+    parts-open f closed ∙ end-well (contents_faults f) (listing_of f) refl refl good schedules few refl ∙ ap (λ x. Ok x) made

@@ -1,9 +1,10 @@
 -- The definitions on worked rows.
-use Rattle.std.proofs.Common.{◌≡◌, true, false, [], ◌∷◌, codes, Some, None, Ok, Err, refl}
+use Rattle.std.proofs.Common.{◌≡◌, ℕ, Bool, true, false, List, [], ◌∷◌, map, codes, Option, Some, None, Ok, Err, refl}
 use Rattle.class_paths.specs.Path.{is_path, ancestors, unfiled}
 use Rattle.class_plan.specs.declared.faults.PlanFault.TheVariants.{BadPath, ParentMissing, PathTwice}
 use Rattle.class_plan.specs.declared.schedules.Unit.TheVariants.{Days, Months, Years}
 use Rattle.class_plan.specs.declared.schedules.Action.TheVariants.{Review, Destroy}
+use Rattle.class_plan.specs.declared.schedules.Schedule.{Schedule}
 use Rattle.class_plan.specs.declared.schedules.Schedule.TheVariants.{Permanent, After}
 use Rattle.class_plan.specs.declared.entries.Stated.TheVariants.{Nothing, Faulty}
 use Rattle.jiff_core.specs.Calendar.{days_from_civil, day_count, days_of_years, days_of_months}
@@ -13,69 +14,40 @@ use Rattle.class_plan.specs.Plans.{Listing, open_row, first_plan, schedule_at, o
 use Rattle.class_plan.specs.Changes.{addition}
 use Rattle.class_plan.specs.Entries.{Contents, plan_of}
 
--- paths
-path_one : is_path (codes "tax/audit-7") ≡ true
+-- each path, and whether it is well made
+abbrev paths : List (List ℕ × Bool)
+paths =
+    (codes "tax/audit-7", true) ∷
+    ([], false) ∷
+    (codes "A", false) ∷
+    (codes "a//b", false) ∷
+    (codes "1/2/3/4/5/6/7/8/9", false) ∷
+    []
+
+paths_are : map (λ r. is_path r.0) paths ≡ map (λ r. r.1) paths
 unfolding is_path
-path_one = refl
+paths_are = refl
 
-path_empty : is_path [] ≡ false
-unfolding is_path
-path_empty = refl
+ancestors_are : map ancestors (codes "a/b/c" ∷ codes "ab" ∷ []) ≡ (codes "a/b" ∷ codes "a" ∷ []) ∷ [] ∷ []
+ancestors_are = refl
 
-path_capital : is_path (codes "A") ≡ false
-unfolding is_path
-path_capital = refl
+-- each text, and its schedule, if it is well made
+abbrev texts : List (List ℕ × Option Schedule)
+texts =
+    (codes "10 days destroy", Some (After 10 Days Destroy false)) ∷
+    (codes "0 days review", None) ∷
+    (codes "01 days review", None) ∷
+    (codes "366001 days review", None) ∷
+    (codes "7 years destroy year-end", Some (After 7 Years Destroy true)) ∷
+    (codes "permanent year-end", None) ∷
+    (codes "7 years destroy ", None) ∷
+    (codes "7 years destroy year-end year-end", None) ∷
+    (codes "8 weeks review", None) ∷
+    []
 
-path_gap : is_path (codes "a//b") ≡ false
-unfolding is_path
-path_gap = refl
-
-path_nine : is_path (codes "1/2/3/4/5/6/7/8/9") ≡ false
-unfolding is_path
-path_nine = refl
-
-ancestors_three : ancestors (codes "a/b/c") ≡ codes "a/b" ∷ codes "a" ∷ []
-ancestors_three = refl
-
-ancestors_none : ancestors (codes "ab") ≡ []
-ancestors_none = refl
-
--- schedules
-text_days : schedule_of_bytes (codes "10 days destroy") ≡ Some (After 10 Days Destroy false)
+schedules_are : map (λ r. schedule_of_bytes r.0) texts ≡ map (λ r. r.1) texts
 unfolding schedule_of_bytes period_of
-text_days = refl
-
-text_zero : schedule_of_bytes (codes "0 days review") ≡ None
-unfolding schedule_of_bytes period_of
-text_zero = refl
-
-text_leading_zero : schedule_of_bytes (codes "01 days review") ≡ None
-unfolding schedule_of_bytes period_of
-text_leading_zero = refl
-
-text_above : schedule_of_bytes (codes "366001 days review") ≡ None
-unfolding schedule_of_bytes period_of
-text_above = refl
-
-text_year_end : schedule_of_bytes (codes "7 years destroy year-end") ≡ Some (After 7 Years Destroy true)
-unfolding schedule_of_bytes period_of
-text_year_end = refl
-
-text_permanent_year_end : schedule_of_bytes (codes "permanent year-end") ≡ None
-unfolding schedule_of_bytes period_of
-text_permanent_year_end = refl
-
-text_space : schedule_of_bytes (codes "7 years destroy ") ≡ None
-unfolding schedule_of_bytes period_of
-text_space = refl
-
-text_year_end_twice : schedule_of_bytes (codes "7 years destroy year-end year-end") ≡ None
-unfolding schedule_of_bytes period_of
-text_year_end_twice = refl
-
-text_weeks : schedule_of_bytes (codes "8 weeks review") ≡ None
-unfolding schedule_of_bytes period_of
-text_weeks = refl
+schedules_are = refl
 
 -- a plan: `a` with two years, `a/b` without a schedule of its own, `a/b/c` with ten days, and `ab`
 worked : Listing
@@ -89,21 +61,11 @@ worked = record {
       ∷ [];
 }
 
-inherited : schedule_at worked (codes "a/b") ≡ Some (After 2 Years Review false)
+-- inherited, its own, not inherited, and no class
+schedules_in : map (schedule_at worked) (codes "a/b" ∷ codes "a/b/c" ∷ codes "ab" ∷ codes "b" ∷ [])
+    ≡ Some (After 2 Years Review false) ∷ Some (After 10 Days Destroy false) ∷ Some Permanent ∷ None ∷ []
 unfolding worked
-inherited = refl
-
-own : schedule_at worked (codes "a/b/c") ≡ Some (After 10 Days Destroy false)
-unfolding worked
-own = refl
-
-not_inherited : schedule_at worked (codes "ab") ≡ Some Permanent
-unfolding worked
-not_inherited = refl
-
-no_class : schedule_at worked (codes "b") ≡ None
-unfolding worked
-no_class = refl
+schedules_in = refl
 
 opened : open_paths_of worked ≡ codes "a" ∷ codes "a/b/c" ∷ codes "ab" ∷ unfiled ∷ []
 unfolding worked
@@ -114,17 +76,9 @@ unfolding worked
 dropped = refl
 
 -- the smallest of two faults is answered
-add_orphan : addition worked (codes "x/Y") ≡ Err BadPath
+added : map (addition worked) (codes "x/Y" ∷ codes "a/b" ∷ codes "x/y" ∷ []) ≡ Err BadPath ∷ Err PathTwice ∷ Err ParentMissing ∷ []
 unfolding worked is_path
-add_orphan = refl
-
-add_again : addition worked (codes "a/b") ≡ Err PathTwice
-unfolding worked is_path
-add_again = refl
-
-add_below_missing : addition worked (codes "x/y") ≡ Err ParentMissing
-unfolding worked is_path
-add_below_missing = refl
+added = refl
 
 -- a file that lists `b` twice under a root that is no schedule
 listed_twice : Contents

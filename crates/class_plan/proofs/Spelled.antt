@@ -1,7 +1,6 @@
 -- What is read as a schedule is the schedule's text.
-use Rattle.std.proofs.Common.{◌≡◌, ℕ, ◌+◌, ◌-◌, ◌*◌, ◌/◌, ◌%◌, ◌^◌, ◌<◌, ◌≤◌, ◌==◌, ◌⊎◌, inl, inr, nat_le, Bool, true}
-use Rattle.std.proofs.Common.{false, not, ◌&&◌, if◌then◌else◌, List, [], ◌∷◌, ◌++◌, length, get_or, codes, Option, Some}
-use Rattle.std.proofs.Common.{None, refl, ap, sym, ◌∙◌, arith, append_assoc}
+use Rattle.std.proofs.Common.{◌≡◌, ℕ, ◌+◌, ◌-◌, ◌*◌, ◌/◌, ◌%◌, ◌^◌, ◌<◌, ◌≤◌, ◌==◌, ◌⊎◌, inl, inr, nat_le, Bool, true, false, not, ◌&&◌}
+use Rattle.std.proofs.Common.{if◌then◌else◌, List, [], ◌∷◌, ◌++◌, length, get_or, codes, Option, Some, None, refl, ap, sym, ◌∙◌, arith, append_assoc}
 use Rattle.std.proofs.lemmas.Bool.{cases_Bool, cases_order}
 use Rattle.std.proofs.lemmas.Bool.Decides.{nat_tests}
 use Rattle.std.proofs.lemmas.Fmt.{decimal_step, decimal_digit}
@@ -18,10 +17,9 @@ use Rattle.class_plan.specs.declared.schedules.Action.TheVariants.{Review, Trans
 use Rattle.class_plan.specs.declared.schedules.Schedule.{Schedule}
 use Rattle.class_plan.specs.declared.schedules.Schedule.TheVariants.{Permanent, After}
 use Rattle.class_plan.specs.Schedules.{most}
-use Rattle.class_plan.specs.Texts.{count_from, count_of, unit_of, action_of, year_end_of, from_space, ending_of}
-use Rattle.class_plan.specs.Texts.{unit_word, action_word, year_end_text, text_of, is_space, period_of}
-use Rattle.class_plan.specs.Texts.{schedule_of_bytes}
-use Rattle.class_plan.proofs.Periods.{after-none, most-small}
+use Rattle.class_plan.specs.Texts.{count_from, count_of, unit_of, action_of, year_end_of, from_space, ending_of, unit_word, action_word}
+use Rattle.class_plan.specs.Texts.{year_end_text, text_of, is_space, period_of, schedule_of_bytes}
+use Rattle.class_plan.proofs.Periods.{after-none, most-small, high_of}
 
 same_bytes : (xs ys : List ℕ) → bytes_eq xs ys ≡ true → ys ≡ xs
 same_bytes xs ys e = sym ((bytes_eq-Decides xs ys).0 e)
@@ -168,16 +166,13 @@ whole_is t n u x small c d e = elim (space_or_none t) [
   | inr none ↦ absurd (no_unit u (ap (λ r. unit_of (before_first is_space r)) none ∙ d))
 ]
 
-range_high : (n m : ℕ) → (nat_le 1 n && nat_le n m) ≡ true → n ≤ m
-range_high n m e = grind (arith, nat_tests)
-
 period_if : (g : Bool) (t : List ℕ) (n : ℕ) (u : TimeUnit) (x : Action × Bool) (s : Schedule)
     → (nat_le 1 n && nat_le n (most u)) ≡ g → count_of (before_first is_space t) ≡ Some n
     → unit_of (before_first is_space (after_first is_space t)) ≡ Some u
     → ending_of (after_first is_space (after_first is_space t)) ≡ Some x → (if g then Some (After n u x.0 x.1) else None) ≡ Some s → text_of s ≡ t
 period_if true t n u x s g c d e h =
     let is : After n u x.0 x.1 ≡ s = cc in
-    let high = range_high n (most u) g in
+    let high = high_of n (most u) g in
     let top = most-small u in
     ap text_of (sym is) ∙ whole_is t n u x (omega arith) c d e
 period_if false t n u x s g c d e h = absurd (cc)

@@ -8,7 +8,7 @@ use Rattle.filing_verify.specs.Flow.{first_place}
 use Rattle.sieve_meaning.specs.Case.{Facts}
 use Rattle.filing_table.specs.Machine.{Run, At, with_named, enter}
 use Rattle.filing_flow.specs.Structure.{Flow, block, size}
-use Rattle.filing_flow.specs.Effect.{FlowState, Exit, FallsThrough, Leaves, EndsRun, Stuck, call_exit, and_then, effect}
+use Rattle.filing_flow.specs.Effect.{FlowState, Exit, FallsThrough, EndsRun, call_exit, and_then, effect}
 use Rattle.filing_flow.specs.Procedures.{called_by, RunsAsItsProcedures}
 use Rattle.filing_flow.specs.Whole.{nothing_done}
 use Rattle.filing_flow.proofs.Follow.{on, Comes, then, by_one, stepped, Arrives, arrives_later, CallsRun, flow_runs}
@@ -20,10 +20,8 @@ module _ (p : Program) (c : Facts) where
   goes_back : (calls : List ℕ) (x : Exit) (next end : ℕ) (ends : List ℕ) (y : Run) → slice_get p.code end ≡ Some Return
       → Arrives p c (next ∷ calls) x end [] y → Arrives p c calls (call_exit x) next ends y
   goes_back calls (FallsThrough f []) next end ends y at a = then p c a (by_one p c (stepped p c (next ∷ calls) f end [] Return at))
-  goes_back calls (FallsThrough f (e ∷ es)) next end ends y at a = tt
-  goes_back calls (Leaves n f es) next end ends y at a = tt
   goes_back calls (EndsRun k f) next end ends y at a = a
-  goes_back calls Stuck next end ends y at a = tt
+  goes_back calls x next end ends y at a = tt
 
   enters : (calls : List ℕ) (b first pc : ℕ) (f : FlowState) → slice_get p.code pc ≡ Some (Call b)
       → first_place p b ≡ Some first → Comes p c (At (on calls f pc [])) (At (on ((pc + 1) ∷ calls) f first []))
@@ -73,10 +71,8 @@ module _ (p : Program) (c : Facts) where
       → Arrives p c [] (and_then (call_exit x) (λ f es. EndsRun None f)) end [] y
   last_returns (FallsThrough f []) end y at a =
       record { pc = end; stack = []; calls = []; comes = then p c a (by_one p c (stepped p c [] f end [] Return at)) }
-  last_returns (FallsThrough f (e ∷ es)) end y at a = tt
-  last_returns (Leaves n f es) end y at a = tt
   last_returns (EndsRun k f) end y at a = a
-  last_returns Stuck end y at a = tt
+  last_returns x end y at a = tt
 
 pub procedures_end : RunsAsItsProcedures
 procedures_end p c [] fault f are sound means = absurd (cc means)

@@ -4,19 +4,17 @@ use Rattle.std.proofs.Common.{Some, None, refl, sym, ap, ◌∙◌, subst, arith
 use Rattle.std.specs.Prelude.{slice_get, nat_eq, max}
 use Rattle.std.proofs.lemmas.Option.{slice_get_past}
 use Rattle.filing_image.specs.declared.instruction.Operation.{Operation}
-use Rattle.filing_image.specs.declared.instruction.Operation.TheVariants.{PushTrue, PushFalse, Not, Values, Join, Match}
-use Rattle.filing_image.specs.declared.instruction.Operation.TheVariants.{Pop, Exists, Size, Number, Less, Jump, JumpIf}
-use Rattle.filing_image.specs.declared.instruction.Operation.TheVariants.{JumpUnless, Marked, Mark, File, Keep, Discard}
-use Rattle.filing_image.specs.declared.instruction.Operation.TheVariants.{Stop, Fault, Call, Return}
+use Rattle.filing_image.specs.declared.instruction.Operation.TheVariants.{PushTrue, PushFalse, Not, Values, Join, Match, Pop, Exists, Size, Number}
+use Rattle.filing_image.specs.declared.instruction.Operation.TheVariants.{Less, Jump, JumpIf, JumpUnless, Marked, Mark, File, Keep, Discard, Stop}
+use Rattle.filing_image.specs.declared.instruction.Operation.TheVariants.{Fault, Call, Return}
 use Rattle.filing_image.specs.Program.{Program}
 use Rattle.filing_verify.specs.Flow.{first_place, target, goes_on, Follows}
 use Rattle.filing_verify.specs.Well.{is_call, together, next_cost, target_cost, cost_by}
 use Rattle.filing_verify.proofs.Spending.{same_cost}
 use Rattle.sieve_meaning.specs.RunFaults.{number_of}
-use Rattle.filing_flow.specs.Structure.{Action, Push, Negate, ValuesOf, JoinTwo, MatchKey, Drop, HasField, PushSize}
-use Rattle.filing_flow.specs.Structure.{PushNumber, IsLess, IsMarked, SetMark, FileInto, SetKept, SetCancelled, End}
-use Rattle.filing_flow.specs.Structure.{Fail, CallTo, Flow, nothing, action, sequence, block, leave, leave_if, size}
-use Rattle.filing_flow.specs.Structure.{Bounds, IsSoundAction, IsSound}
+use Rattle.filing_flow.specs.Structure.{Action, Push, Negate, ValuesOf, JoinTwo, MatchKey, Drop, HasField, PushSize, PushNumber, IsLess, IsMarked}
+use Rattle.filing_flow.specs.Structure.{SetMark, FileInto, SetKept, SetCancelled, End, Fail, CallTo, Flow, nothing, action, sequence, block, leave}
+use Rattle.filing_flow.specs.Structure.{leave_if, size, Bounds, IsSoundAction, IsSound}
 use Rattle.filing_flow.specs.Code.{places_in, IsWritten, Stands, end_at, jump_when}
 use Rattle.filing_flow.specs.Types.{Shape, shape_at, HasType}
 use Rattle.filing_flow.specs.Procedures.{action_steps, flow_steps, steps_by, AreTyped}

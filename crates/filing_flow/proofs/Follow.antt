@@ -15,10 +15,9 @@ use Rattle.sieve_meaning.specs.Case.{Facts}
 use Rattle.sieve_meaning.specs.Truth.{has_field}
 use Rattle.filing_table.specs.Machine.{values_of, Entry, T, L, N, State, Run, At, Over, Trap, with_named, comparison_holds, on_stack, at_place, step}
 use Rattle.filing_table.specs.Machine as table
-use Rattle.filing_flow.specs.Structure.{Action, Push, Negate, ValuesOf, JoinTwo, MatchKey, Drop, HasField, PushSize}
-use Rattle.filing_flow.specs.Structure.{PushNumber, IsLess, IsMarked, SetMark, FileInto, SetKept, SetCancelled, End}
-use Rattle.filing_flow.specs.Structure.{Fail, CallTo, Flow, nothing, action, sequence, block, leave, leave_if, size}
-use Rattle.filing_flow.specs.Structure.{Bounds, IsSoundAction, IsSound}
+use Rattle.filing_flow.specs.Structure.{Action, Push, Negate, ValuesOf, JoinTwo, MatchKey, Drop, HasField, PushSize, PushNumber, IsLess, IsMarked}
+use Rattle.filing_flow.specs.Structure.{SetMark, FileInto, SetKept, SetCancelled, End, Fail, CallTo, Flow, nothing, action, sequence, block, leave}
+use Rattle.filing_flow.specs.Structure.{leave_if, size, Bounds, IsSoundAction, IsSound}
 use Rattle.filing_flow.specs.Code.{places_in, IsWritten, Stands, end_at, jump_when}
 use Rattle.filing_flow.specs.Effect.{FlowState, Exit, FallsThrough, Leaves, EndsRun, Stuck, with_stack, file_exit}
 use Rattle.filing_flow.specs.Effect.{CallEffects, call_exit, action_effect, and_then, caught, jump_exit, effect}
@@ -151,20 +150,14 @@ module _ (p : Program) (c : Facts) (calls : List ℕ) where
       → Gives (action_effect called c x f es) (pc + 1) (on_stack p c o (on calls f pc es) es)
   action_gives called bounds slots (Push true) f pc es o is_step ok w = rw w (stacked f pc es (T true ∷ es))
   action_gives called bounds slots (Push false) f pc es o is_step ok w = rw w (stacked f pc es (T false ∷ es))
-  action_gives called bounds slots Negate f pc [] o is_step ok w = tt
   action_gives called bounds slots Negate f pc (T b ∷ es) o is_step ok w = rw w (stacked f pc (T b ∷ es) (T (not b) ∷ es))
-  action_gives called bounds slots Negate f pc (L b ∷ es) o is_step ok w = tt
-  action_gives called bounds slots Negate f pc (N b ∷ es) o is_step ok w = tt
   action_gives called bounds slots (ValuesOf name) f pc es o is_step ok (b, is, t) =
       rw is (named (with_stack f (L (values_of c name) ∷ es)) (pc + 1) _ name _ t (stacked f pc es (L (values_of c name)
       ∷ es)))
   action_gives called bounds slots JoinTwo f pc (L ys ∷ L xs ∷ es) o is_step ok w = rw w (stacked f pc (L ys ∷ L xs ∷ es) (L (xs ++ ys) ∷ es))
-  action_gives called bounds slots JoinTwo f pc _ o is_step ok w = tt
   action_gives called bounds slots (MatchKey a key) f pc (L xs ∷ es) o is_step ok (b, is, t) =
       rw is (rw (le_is a 5 ok) (named (with_stack f (T (list_any (comparison_holds a key) xs) ∷ L xs ∷ es)) (pc + 1) _
       key _ t (stacked f pc (L xs ∷ es) (T (list_any (comparison_holds a key) xs) ∷ L xs ∷ es))))
-  action_gives called bounds slots (MatchKey a key) f pc _ o is_step ok w = tt
-  action_gives called bounds slots Drop f pc [] o is_step ok w = tt
   action_gives called bounds slots Drop f pc (e ∷ es) o is_step ok w = rw w (stacked f pc (e ∷ es) es)
   action_gives called bounds slots (HasField name) f pc es o is_step ok (b, is, t) =
       rw is (named (with_stack f (T (has_field c name) ∷ es)) (pc + 1) _ name _ t (stacked f pc es (T (has_field c name)
@@ -173,7 +166,6 @@ module _ (p : Program) (c : Facts) (calls : List ℕ) where
   action_gives called bounds slots (PushNumber n) f pc es o is_step ok (b, is, t) =
       rw is (named (with_stack f (N n ∷ es)) (pc + 1) _ n _ t (stacked f pc es (N n ∷ es)))
   action_gives called bounds slots IsLess f pc (N y ∷ N x ∷ es) o is_step ok w = rw w (stacked f pc (N y ∷ N x ∷ es) (T (nat_lt x y) ∷ es))
-  action_gives called bounds slots IsLess f pc _ o is_step ok w = tt
   action_gives called bounds slots (IsMarked b) f pc es o is_step ok w =
       rw w (rw (lt_is b p.slots (omega (arith, ok, slots))) (stacked f pc es (T (slice_index_or f.marks b false) ∷ es)))
   action_gives called bounds slots (SetMark b) f pc es o is_step ok w = rw w (rw (lt_is b p.slots (omega (arith, ok, slots))) refl)
@@ -185,6 +177,7 @@ module _ (p : Program) (c : Facts) (calls : List ℕ) where
   action_gives called bounds slots (Fail fault) f pc es o is_step ok w =
       (pc, es, rw w (rw (le_is 2 (number_of fault) ok, fault_of_number fault) refl))
   action_gives called bounds slots (CallTo b) f pc es o is_step ok w = absurd is_step
+  action_gives called bounds slots x f pc es o is_step ok w = tt
 
   leaves_if : (t : Bool) (n : ℕ) (ends : List ℕ) (pc : ℕ) (f : FlowState) (es : List Entry)
       → slice_get p.code pc ≡ Some (jump_when t (end_at ends n))

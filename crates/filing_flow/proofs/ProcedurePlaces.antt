@@ -1,8 +1,7 @@
 -- Where the procedures of a program begin, and which of them a place is in.
-use Rattle.std.proofs.Common.{◌≡◌, ℕ, zero, suc, ◌+◌, ◌<◌, ◌≤◌, cond, leb, List, [], ◌∷◌, length, get_or, refl, sym, ap, subst, arith}
-use Rattle.std.specs.List.{count_by}
-use Rattle.std.proofs.lemmas.List.Recursion.{is_count_by}
+use Rattle.std.proofs.Common.{◌≡◌, ℕ, zero, suc, ◌+◌, ◌<◌, ◌≤◌, List, [], ◌∷◌, length, get_or, refl, sym, ap, subst, arith}
 use Rattle.std.proofs.lemmas.Bool.{le-leb, lt-leb}
+use Rattle.filing_verify.proofs.Procedures.{begun}
 use Rattle.filing_verify.specs.Well.{Ascends, AreFirstPlaces}
 use Rattle.filing_flow.specs.Structure.{Flow, size}
 use Rattle.filing_flow.specs.Procedures.{places_from, whole_size}
@@ -10,15 +9,6 @@ use Rattle.filing_flow.specs.Procedures.{places_from, whole_size}
 pub places_long : (place : ℕ) (procedures : List Flow) → length (places_from place procedures) ≡ length procedures
 places_long place [] = refl
 places_long place (a ∷ later) = ap suc (places_long (place + size a + 1) later)
-
--- how many numbers are at most r
-pub begun : ℕ → List ℕ → ℕ
-begun r [] = 0
-begun r (f ∷ fs) = cond (leb f r) (1 + begun r fs) (begun r fs)
-
-pub begun_is : (r : ℕ) (fs : List ℕ) → begun r fs ≡ count_by (λ f. leb f r) fs
-unfolding begun
-begun_is r fs = is_count_by (begun r) (λ f. leb f r) refl (λ x xs. refl) fs
 
 -- a procedure that begins at or before r, and those after it
 pub begun_first : (r place : ℕ) (a : Flow) (later : List Flow) → place ≤ r

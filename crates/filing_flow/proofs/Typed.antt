@@ -4,19 +4,17 @@ use Rattle.std.proofs.Common.{None, refl, sym, ap, ◌∙◌, subst, arith, inl,
 use Rattle.std.specs.Prelude.{slice_get}
 use Rattle.std.proofs.lemmas.Bool.{cases_lt}
 use Rattle.filing_image.specs.declared.instruction.Operation.{Operation}
-use Rattle.filing_image.specs.declared.instruction.Operation.TheVariants.{PushTrue, PushFalse, Not, Values, Join, Match}
-use Rattle.filing_image.specs.declared.instruction.Operation.TheVariants.{Pop, Exists, Size, Number, Less, Jump, JumpIf}
-use Rattle.filing_image.specs.declared.instruction.Operation.TheVariants.{JumpUnless, Marked, Mark, File, Keep, Discard}
-use Rattle.filing_image.specs.declared.instruction.Operation.TheVariants.{Stop, Fault, Call}
+use Rattle.filing_image.specs.declared.instruction.Operation.TheVariants.{PushTrue, PushFalse, Not, Values, Join, Match, Pop, Exists, Size, Number}
+use Rattle.filing_image.specs.declared.instruction.Operation.TheVariants.{Less, Jump, JumpIf, JumpUnless, Marked, Mark, File, Keep, Discard, Stop}
+use Rattle.filing_image.specs.declared.instruction.Operation.TheVariants.{Fault, Call}
 use Rattle.filing_verify.specs.declared.kind.Kind.TheVariants.{Truth, Texts, Count}
 use Rattle.filing_image.specs.Program.{Program}
 use Rattle.filing_verify.specs.Flow.{first_place, target, Follows}
 use Rattle.filing_verify.specs.Shapes as shapes
 use Rattle.sieve_meaning.specs.RunFaults.{number_of}
-use Rattle.filing_flow.specs.Structure.{Action, Push, Negate, ValuesOf, JoinTwo, MatchKey, Drop, HasField, PushSize}
-use Rattle.filing_flow.specs.Structure.{PushNumber, IsLess, IsMarked, SetMark, FileInto, SetKept, SetCancelled, End}
-use Rattle.filing_flow.specs.Structure.{Fail, CallTo, Flow, nothing, action, sequence, block, leave, leave_if, size}
-use Rattle.filing_flow.specs.Structure.{Bounds, IsSoundAction, IsSound}
+use Rattle.filing_flow.specs.Structure.{Action, Push, Negate, ValuesOf, JoinTwo, MatchKey, Drop, HasField, PushSize, PushNumber, IsLess, IsMarked}
+use Rattle.filing_flow.specs.Structure.{SetMark, FileInto, SetKept, SetCancelled, End, Fail, CallTo, Flow, nothing, action, sequence, block, leave}
+use Rattle.filing_flow.specs.Structure.{leave_if, size, Bounds, IsSoundAction, IsSound}
 use Rattle.filing_flow.specs.Code.{places_in, IsWritten, Stands, end_at, jump_when}
 use Rattle.filing_flow.specs.Types.{Shape, action_after, shape_at, HasType}
 
@@ -30,8 +28,6 @@ shapes_of (leave n) es i o d = i ∷ []
 shapes_of (leave_if t n) es i o d = i ∷ []
 
 pub shapes_long : (a : Flow) (es : List Shape) (i o : Shape) (d : HasType a es i o) → length (shapes_of a es i o d) ≡ size a
-shapes_long nothing es i o d = refl
-shapes_long (action x) es i o d = refl
 shapes_long (sequence a b) es i o d = omega (
   arith,
   length-append (shapes_of a es i d.0 d.1) (shapes_of b es d.0 o d.2),
@@ -39,8 +35,7 @@ shapes_long (sequence a b) es i o d = omega (
   shapes_long b es d.0 o d.2,
 )
 shapes_long (block a) es i o d = shapes_long a (o ∷ es) i o d
-shapes_long (leave n) es i o d = refl
-shapes_long (leave_if t n) es i o d = refl
+shapes_long a es i o d = refl
 
 -- the assignment has these from here on
 abbrev pub ShapedAt : (ℕ → Shape) → ℕ → List Shape → Type 0

@@ -13,7 +13,7 @@ use Rattle.filing_verify.specs.Flow.{first_place, goes_on, IsReached, procedure_
 use Rattle.filing_verify.specs.Shapes as shapes
 use Rattle.filing_verify.specs.Well.{InRange, HasProcedures, AreInRange, greatest_budget, Suffices, IsWell}
 use Rattle.filing_verify.specs.Passes.{RunsOn}
-use Rattle.filing_verify.proofs.Procedures.{jump_is, stays}
+use Rattle.filing_verify.proofs.Procedures.{jump_is, stays, begun, begun_is}
 use Rattle.filing_flow.specs.Structure.{Flow, block, size, Bounds}
 use Rattle.filing_flow.specs.Types.{Shape}
 use Rattle.filing_flow.specs.Procedures.{places_from, whole_size, AreProceduresOf, AreSound, AreTyped, steps_by, TypedProceduresAreWell}
@@ -22,7 +22,7 @@ use Rattle.filing_flow.proofs.Typed.{shapes_of, shapes_long, ShapedAt, shaped_fr
 use Rattle.filing_flow.proofs.Within.{Within, flow_within}
 use Rattle.filing_flow.proofs.Well.{deep, shaped_from}
 use Rattle.filing_flow.proofs.Costs.{AreExact, costs, costs_are, procedures_cost}
-use Rattle.filing_flow.proofs.ProcedurePlaces.{places_long, begun, begun_is, begun_first, none_begun, are_procedures}
+use Rattle.filing_flow.proofs.ProcedurePlaces.{places_long, begun_first, none_begun, are_procedures}
 
 -- the shapes before each operation
 abbrev all_shapes : (procedures : List Flow) → AreTyped procedures → List Shape

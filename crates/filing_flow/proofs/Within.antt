@@ -4,18 +4,16 @@ use Rattle.std.specs.Prelude.{slice_get}
 use Rattle.std.proofs.lemmas.Bool.{cases_lt}
 use Rattle.std.proofs.lemmas.Option.{slice_get_within}
 use Rattle.filing_image.specs.declared.instruction.Operation.{Operation}
-use Rattle.filing_image.specs.declared.instruction.Operation.TheVariants.{PushTrue, PushFalse, Not, Values, Join, Match}
-use Rattle.filing_image.specs.declared.instruction.Operation.TheVariants.{Pop, Exists, Size, Number, Less, Jump, Marked}
-use Rattle.filing_image.specs.declared.instruction.Operation.TheVariants.{Mark, File, Keep, Discard, Stop, Fault, Call}
+use Rattle.filing_image.specs.declared.instruction.Operation.TheVariants.{PushTrue, PushFalse, Not, Values, Join, Match, Pop, Exists, Size, Number}
+use Rattle.filing_image.specs.declared.instruction.Operation.TheVariants.{Less, Jump, Marked, Mark, File, Keep, Discard, Stop, Fault, Call}
 use Rattle.filing_image.specs.Program.{Program, first_places}
 use Rattle.filing_verify.specs.Flow.{jump_target}
 use Rattle.filing_verify.specs.Well.{InRange}
 use Rattle.sieve_meaning.specs.RunFaults.{number_of}
 use Rattle.sieve_meaning.proofs.RunFaultLemmas.{number_at_most_five}
-use Rattle.filing_flow.specs.Structure.{Action, Push, Negate, ValuesOf, JoinTwo, MatchKey, Drop, HasField, PushSize}
-use Rattle.filing_flow.specs.Structure.{PushNumber, IsLess, IsMarked, SetMark, FileInto, SetKept, SetCancelled, End}
-use Rattle.filing_flow.specs.Structure.{Fail, CallTo, Flow, nothing, action, sequence, block, leave, leave_if, size}
-use Rattle.filing_flow.specs.Structure.{Bounds, IsSoundAction, IsSound}
+use Rattle.filing_flow.specs.Structure.{Action, Push, Negate, ValuesOf, JoinTwo, MatchKey, Drop, HasField, PushSize, PushNumber, IsLess, IsMarked}
+use Rattle.filing_flow.specs.Structure.{SetMark, FileInto, SetKept, SetCancelled, End, Fail, CallTo, Flow, nothing, action, sequence, block, leave}
+use Rattle.filing_flow.specs.Structure.{leave_if, size, Bounds, IsSoundAction, IsSound}
 use Rattle.filing_flow.specs.Code.{places_in, IsWritten, Stands, end_at, jump_when}
 use Rattle.filing_flow.specs.Types.{Shape, shape_at, HasType}
 

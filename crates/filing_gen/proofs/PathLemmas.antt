@@ -2,12 +2,13 @@
 use Rattle.std.proofs.Common.{◌≡◌, ◌≤◌, ◌+◌, ℕ, zero, suc, List, [], ◌∷◌, Bool, true, false, Option, Some, None, inl}
 use Rattle.std.proofs.Common.{inr, refl, sym, ap, ◌∙◌, subst, arith}
 use Rattle.std.specs.Prelude.{slice_get, slice_index}
+use Rattle.std.proofs.lemmas.Option.{same_Some}
 use Rattle.sieve_meaning.specs.Program.{Include, Commands}
 use Rattle.sieve_meaning.specs.Meaning.{script_named, is_among, Library}
 use Rattle.sieve_meaning.specs.Weight.{weight, unless_missing, unless_active}
 use Rattle.sieve_meaning.specs.Procedures.{includes_of, Procedure, main_procedure, procedures, included_path, path_weight}
 use Rattle.sieve_meaning.proofs.SharingLemmas.{IsIn, SameAt, weight_alike, shared_path}
-use Rattle.sieve_meaning.proofs.ProcedureLemmas.{some_is, IsSomeEntered, FindsCalls, AllFind, AllOf, all_element}
+use Rattle.sieve_meaning.proofs.ProcedureLemmas.{IsSomeEntered, FindsCalls, AllFind, AllOf, all_element}
 use Rattle.sieve_meaning.proofs.ProcedureLemmas.{IsElement, named_once, shared_script, all_find, after_main}
 use Rattle.sieve_meaning.proofs.ProcedureLemmas.{procedures_are, after_main_entered}
 use Rattle.filing_procedures.specs.ProcedureCode.{number_of}
@@ -16,7 +17,7 @@ use Rattle.filing_gen.proofs.CallLemmas.{numbered, entered_there}
 
 pub got_element : {A : Type 0} (xs : List A) (n : ℕ) (x : A) → slice_get xs n ≡ Some x → IsElement x xs
 got_element [] n x h = absurd (cc h)
-got_element (y ∷ ys) zero x h = inl (sym (some_is y x h))
+got_element (y ∷ ys) zero x h = inl (sym (same_Some y x h))
 got_element (y ∷ ys) (suc n) x h = inr (got_element ys n x h)
 
 path_case : (o : Option Commands) (active : Bool) (e k : Commands → ℕ)
@@ -71,7 +72,7 @@ module _ (lib : Library) where
   paths_are [] finds all n q h = absurd (cc h)
   paths_are (p ∷ later) finds all zero q h =
       path_is later (path_weights lib later) (paths_are later finds.1 all.1) all.1 p finds.0
-      ∙ ap path_from (some_is p q h)
+      ∙ ap path_from (same_Some p q h)
   paths_are (p ∷ later) finds all (suc n) q h = paths_are later finds.1 all.1 n q h
 
   -- the main script's path weight stands first

@@ -3,6 +3,7 @@
 use Rattle.std.proofs.Common.{◌≡◌, ◌+◌, ◌≤◌, ℕ, zero, suc, List, [], ◌∷◌, Bool, cond, Option, Some, length, refl, sym, ap, ◌∙◌, subst, arith}
 use Rattle.std.specs.Prelude.{slice_get, nat_eq}
 use Rattle.std.proofs.lemmas.Bool.{eq-eqb, false_from_ne_true, eqb-true}
+use Rattle.std.proofs.lemmas.Option.{same_Some}
 use Rattle.filing_image.specs.Program.{Program}
 use Rattle.filing_table.specs.Ends.{HasOutcome}
 use Rattle.sieve_meaning.specs.Case.{Facts}
@@ -12,7 +13,7 @@ use Rattle.sieve_meaning.specs.Meaning.{inclusion_within, ending_of_include, ope
 use Rattle.sieve_meaning.specs.declared.outcome.Outcome.{Outcome}
 use Rattle.sieve_meaning.specs.Outcome.{outcome_of}
 use Rattle.sieve_meaning.specs.Procedures.{Procedure, main_procedure}
-use Rattle.sieve_meaning.proofs.ProcedureLemmas.{AllOf, AllFind, IsSomeEntered, all_element, some_is, all_find}
+use Rattle.sieve_meaning.proofs.ProcedureLemmas.{AllOf, AllFind, IsSomeEntered, all_element, all_find}
 use Rattle.sieve_meaning.proofs.ProcedureLemmas.{after_main, procedures_are, after_main_entered}
 use Rattle.filing_flow.specs.Structure.{CallTo, Flow, action, End}
 use Rattle.filing_flow.specs.Effect.{Exit, EndsRun, CallEffects, effect, caught, call_exit}
@@ -86,7 +87,7 @@ module _ (c : Facts) (lib : Library) (slot : Slots) (count : ℕ) (has : HasSlot
   are_meant : (own : ℕ) (ps : List Procedure) → AllFind lib ps → AllOf (IsSomeEntered lib) ps → AreMeant own ps
   are_meant own [] finds entered n q at = absurd (cc at)
   are_meant own (p ∷ later) finds entered zero q at =
-      subst (λ (r : Procedure). CallMeans (calls_of own (p ∷ later)) c lib slot count has main (action (CallTo (own + zero))) r) (some_is p q at)
+      subst (λ (r : Procedure). CallMeans (calls_of own (p ∷ later)) c lib slot count has main (action (CallTo (own + zero))) r) (same_Some p q at)
       (λ chain same within n f g r.
       let marking = MarksEntries lib slot main chain in
       let e = run c (inclusion_within c lib p.left chain) p.script f in

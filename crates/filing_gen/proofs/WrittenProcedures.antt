@@ -2,11 +2,11 @@
 use Rattle.std.proofs.Common.{◌≡◌, ℕ, zero, suc, ◌+◌, ◌≤◌, List, [], ◌∷◌, ◌++◌, Some, length, take, drop, sym, ap, ◌∙◌}
 use Rattle.std.proofs.Common.{subst, arith, append_assoc, length-append}
 use Rattle.std.specs.Prelude.{slice_get}
+use Rattle.std.proofs.lemmas.Option.{same_Some}
 use Rattle.filing_image.specs.declared.instruction.Operation.{Operation}
 use Rattle.filing_image.specs.declared.instruction.Operation.TheVariants.{Return}
 use Rattle.sieve_meaning.specs.Meaning.{ScriptName, Library}
 use Rattle.sieve_meaning.specs.Procedures.{Procedure}
-use Rattle.sieve_meaning.proofs.ProcedureLemmas.{some_is}
 use Rattle.filing_flow.specs.Structure.{Flow, block, size}
 use Rattle.filing_flow.specs.Code.{Operands, Stands}
 use Rattle.filing_flow.specs.Procedures.{ProceduresStand, places_from, whole_size}
@@ -23,7 +23,7 @@ use Rattle.filing_gen.proofs.Emitted.{same_front, put_at_end, still_stands, name
 
 pub take_next : {A : Type 0} (xs : List A) (i : ℕ) (x : A) → slice_get xs i ≡ Some x → take (suc i) xs ≡ take i xs ++ x ∷ []
 take_next [] i x at = absurd (cc at)
-take_next (y ∷ ys) zero x at = ap (λ (z : _). z ∷ []) (some_is y x at)
+take_next (y ∷ ys) zero x at = ap (λ (z : _). z ∷ []) (same_Some y x at)
 take_next (y ∷ ys) (suc i) x at = ap (λ (zs : List _). y ∷ zs) (take_next ys i x at)
 
 -- SIZES AND PLACES
@@ -41,7 +41,7 @@ places_append place (b ∷ done) a =
 
 pub whole_later : (flows : List Flow) (i : ℕ) (a : Flow) → slice_get flows i ≡ Some a → whole_size (take i flows) + (size a + 1) ≤ whole_size flows
 whole_later [] i a at = absurd (cc at)
-whole_later (b ∷ flows) zero a at = omega (arith, ap size (some_is b a at))
+whole_later (b ∷ flows) zero a at = omega (arith, ap size (same_Some b a at))
 whole_later (b ∷ flows) (suc i) a at = omega (arith, whole_later flows i a at)
 
 -- CODE
@@ -118,7 +118,7 @@ module _ (lib : Library) (slot : Slots) (main : List ScriptName) where
       ≡ Some (script_flow (calling_flow lib slot main (own + i) (drop (suc i) ps) p) p.script)
   flow_at own [] i p at = absurd (cc at)
   flow_at own (q ∷ ps) zero p at =
-      ap (λ (r : Procedure). Some (script_flow (calling_flow lib slot main own ps r) r.script)) (some_is q p at)
+      ap (λ (r : Procedure). Some (script_flow (calling_flow lib slot main own ps r) r.script)) (same_Some q p at)
       ∙ ap (λ (k : ℕ). Some (script_flow (calling_flow lib slot main k ps p) p.script)) (omega arith)
   flow_at own (q ∷ ps) (suc i) p at =
       flow_at (suc own) ps i p at ∙ ap (λ (k : ℕ). Some (script_flow (calling_flow lib slot main k (drop (suc i) ps) p) p.script)) (omega arith)

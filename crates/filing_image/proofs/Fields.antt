@@ -1,7 +1,6 @@
 -- A field that is read is the field that was written, and what was written is read again.
-use Rattle.std.proofs.Common.{◌≡◌, ℕ, ◌+◌, ◌^◌, ◌%◌, ◌<◌, ◌≤◌, Bool, true, false, cond, ltb, List, [], ◌∷◌, ◌++◌}
-use Rattle.std.proofs.Common.{length, get_or, take, drop, Option, Some, None, refl, sym, ap, subst, ◌∙◌, append_assoc}
-use Rattle.std.proofs.Common.{arith, inl, inr}
+use Rattle.std.proofs.Common.{◌≡◌, ℕ, ◌+◌, ◌^◌, ◌%◌, ◌<◌, ◌≤◌, Bool, true, false, cond, ltb, List, [], ◌∷◌, ◌++◌, length, get_or, take, drop, Option}
+use Rattle.std.proofs.Common.{Some, None, refl, sym, ap, subst, ◌∙◌, append_assoc, arith, inl, inr}
 use Rattle.std.specs.Int.{Width, w8, w16, w32, w64, byte_len, from_be_bytes, to_be_bytes}
 use Rattle.std.proofs.lemmas.Bool.{cases_lt, ltb-false, le-ltb}
 use Rattle.std.proofs.lemmas.List.{take_at, drop_at, take-append-drop, length-append, length-take, get_or-drop, get_or-take, get_or_past}
@@ -49,8 +48,8 @@ pub record Takes (octets taken rest : List ℕ) : Type 0 where
   pub parts : octets ≡ taken ++ rest
   pub rest_fits : IsBytes rest
 
-pub Takes-then : (a x b y c : List ℕ) → Takes a x b → Takes b y c → Takes a (x ++ y) c
-Takes-then a x b y c p q = record { parts = p.parts ∙ ap (λ (t : List ℕ). x ++ t) q.parts ∙ sym (append_assoc x y c); rest_fits = q.rest_fits }
+pub Takes-then : {a x b y c : List ℕ} → Takes a x b → Takes b y c → Takes a (x ++ y) c
+Takes-then {x = x} {y = y} {c} p q = record { parts = p.parts ∙ ap (λ t. x ++ t) q.parts ∙ sym (append_assoc x y c); rest_fits = q.rest_fits }
 
 -- ---- numbers
 
@@ -97,9 +96,9 @@ wide64 = record {
   below = λ octets fits. omega (arith, fits 0, fits 1, fits 2, fits 3, fits 4, fits 5, fits 6, fits 7);
 }
 
-pub number_takes : (w : Width) (limit : ℕ) (wide : IsWide w limit) (octets : List ℕ) (x : ℕ × List ℕ) → IsBytes octets
+pub number_takes : {w : Width} {limit : ℕ} (wide : IsWide w limit) (octets : List ℕ) (x : ℕ × List ℕ) → IsBytes octets
     → number_at w octets ≡ Some x → Takes octets (to_be_bytes w x.0) x.1 × (x.0 < limit)
-number_takes w limit wide octets x fits e =
+number_takes {w} wide octets x fits e =
     let g = guard_some (ltb (length octets) (byte_len w)) (from_be_bytes w (take (byte_len w) octets), drop (byte_len w) octets) x e in
     let long : byte_len w ≤ length octets = ltb-false _ _ g.0 in
     let n-is : from_be_bytes w (take (byte_len w) octets) ≡ x.0 = ap (λ (p : ℕ × List ℕ). p.0) g.1 in
@@ -115,9 +114,9 @@ number_takes w limit wide octets x fits e =
       rw (← n-is) (wide.below (take (byte_len w) octets) (IsBytes-take (byte_len w) octets fits)),
     )
 
-pub number_again : (w : Width) (limit : ℕ) (wide : IsWide w limit) (n : ℕ) (rest : List ℕ) → n < limit
+pub number_again : {w : Width} {limit : ℕ} (wide : IsWide w limit) (n : ℕ) (rest : List ℕ) → n < limit
     → number_at w (to_be_bytes w n ++ rest) ≡ Some (n, rest)
-number_again w limit wide n rest lt =
+number_again {w} wide n rest lt =
     let len = wide.len n in
     let long : ltb (length (to_be_bytes w n ++ rest)) (byte_len w) ≡ false = le-ltb _ _ (omega (arith, length-append (to_be_bytes w n) rest)) in
     rw (long, take_at (to_be_bytes w n) rest (byte_len w) len, drop_at (to_be_bytes w n) rest (byte_len w) len, wide.again n lt) refl
@@ -130,7 +129,7 @@ unfolding text_at
 text_takes octets x fits e =
     let b = bind_some (number_at w16 octets) (λ n. cond (ltb (length n.1) n.0) None (Some (take n.0 n.1, drop n.0 n.1))) x e in
     let n = b.0 in
-    let t = number_takes w16 (2 ^ 16) wide16 octets n fits b.1 in
+    let t = number_takes wide16 octets n fits b.1 in
     let g = guard_some (ltb (length n.1) n.0) (take n.0 n.1, drop n.0 n.1) x b.2 in
     let long : n.0 ≤ length n.1 = ltb-false _ _ g.0 in
     let len : length (take n.0 n.1) ≡ n.0 = omega (arith, length-take n.0 n.1) in
@@ -139,7 +138,7 @@ text_takes octets x fits e =
       rest_fits =
           IsBytes-drop n.0 n.1 t.0.rest_fits;
     } in
-    let both = Takes-then octets (to_be_bytes w16 n.0) n.1 (take n.0 n.1) (drop n.0 n.1) t.0 second in
+    let both = Takes-then t.0 second in
     let whole : Takes octets (text (take n.0 n.1)) (drop n.0 n.1) =
     subst (λ (k : ℕ). Takes octets (to_be_bytes w16 k ++ take n.0 n.1) (drop n.0 n.1)) (sym len) both in
     subst (λ (p : List ℕ × List ℕ). Takes octets (text p.0) p.1 × (length p.0 < 2 ^ 16)) g.1 (whole, omega (arith, t.1))
@@ -149,7 +148,7 @@ unfolding text_at
 text_again octets rest lt =
     let long : ltb (length (octets ++ rest)) (length octets) ≡ false = le-ltb _ _ (omega (arith, length-append octets rest)) in
     rw (
-      number_again w16 (2 ^ 16) wide16 (length octets) (octets ++ rest) lt,
+      number_again wide16 (length octets) (octets ++ rest) lt,
       long,
       take_at octets rest (length octets) refl,
       drop_at octets rest (length octets) refl,
@@ -173,14 +172,12 @@ instruction_takes octets x fits e =
     let op = bind_some (number_at w8 octets) with_op x e in
     let a = bind_some (number_at w8 op.0.1) (with_a op.0.0) x op.2 in
     let b = bind_some (number_at w16 a.0.1) (with_b op.0.0 a.0.0) x a.2 in
-    let t0 = number_takes w8 (2 ^ 8) wide8 octets op.0 fits op.1 in
-    let t1 = number_takes w8 (2 ^ 8) wide8 op.0.1 a.0 t0.0.rest_fits a.1 in
-    let t2 = number_takes w16 (2 ^ 16) wide16 a.0.1 b.0 t1.0.rest_fits b.1 in
-    let e12 = Takes-then op.0.1 (to_be_bytes w8 a.0.0) a.0.1 (to_be_bytes w16 b.0.0) b.0.1 t1.0 t2.0 in
-    let e02 = Takes-then octets (to_be_bytes w8 op.0.0) op.0.1 (to_be_bytes w8 a.0.0 ++ to_be_bytes w16 b.0.0) b.0.1 t0.0 e12 in
+    let t0 = number_takes wide8 octets op.0 fits op.1 in
+    let t1 = number_takes wide8 op.0.1 a.0 t0.0.rest_fits a.1 in
+    let t2 = number_takes wide16 a.0.1 b.0 t1.0.rest_fits b.1 in
     let made : Instruction × List ℕ = (record { op = op.0.0; a = a.0.0; b = b.0.0 }, b.0.1) in
     subst (λ (y : Instruction × List ℕ). Takes octets (instruction y.0) y.1
-    × FitsInstruction y.0) (some_is made x b.2) (e02, record { op = t0.1; a = t1.1; b = t2.1 })
+    × FitsInstruction y.0) (some_is made x b.2) (Takes-then t0.0 (Takes-then t1.0 t2.0), record { op = t0.1; a = t1.1; b = t2.1 })
 
 pub instruction_again : (i : Instruction) (rest : List ℕ) → FitsInstruction i → instruction_at (instruction i ++ rest) ≡ Some (i, rest)
 unfolding instruction_at
@@ -189,10 +186,10 @@ instruction_again i rest fits =
       i.op,
       to_be_bytes w8 i.a
           ++ (to_be_bytes w16 i.b ++ rest),
-    ) (number_again w8 (2 ^ 8) wide8 i.op (to_be_bytes w8 i.a
+    ) (number_again wide8 i.op (to_be_bytes w8 i.a
     ++ (to_be_bytes w16 i.b ++ rest)) fits.op)
     ∙ bind_is (number_at w8 (to_be_bytes w8 i.a ++ (to_be_bytes w16 i.b ++ rest))) (with_a i.op) (
       i.a,
       to_be_bytes w16 i.b ++ rest,
-    ) (number_again w8 (2 ^ 8) wide8 i.a (to_be_bytes w16 i.b ++ rest) fits.a)
-    ∙ bind_is (number_at w16 (to_be_bytes w16 i.b ++ rest)) (with_b i.op i.a) (i.b, rest) (number_again w16 (2 ^ 16) wide16 i.b rest fits.b)
+    ) (number_again wide8 i.a (to_be_bytes w16 i.b ++ rest) fits.a)
+    ∙ bind_is (number_at w16 (to_be_bytes w16 i.b ++ rest)) (with_b i.op i.a) (i.b, rest) (number_again wide16 i.b rest fits.b)

@@ -24,7 +24,7 @@ module _ {A : Type 0} (read : List ℕ → Option (A × List ℕ)) (spell : A �
       let b = bind_some (many_at read n a.0.1) (with_others a.0.0) x a.2 in
       let first = one octets a.0 fits a.1 in
       let second = many_takes one n a.0.1 b.0 first.0.rest_fits b.1 in
-      let both = Takes-then octets (spell a.0.0) a.0.1 (flat_map spell b.0.0) b.0.1 first.0 second.0 in
+      let both = Takes-then first.0 second.0 in
       let made : List A × List ℕ = (a.0.0 ∷ b.0.0, b.0.1) in
       subst (λ (y : List A × List ℕ). Takes octets (flat_map spell y.0) y.1 × (length y.0 ≡ suc n)
       × AllByRecursion Fine y.0) (some_is made x b.2) (rw flat_map-cons both, ap suc second.1, (first.1, second.2))

@@ -2,10 +2,9 @@
 use Rattle.std.proofs.Common.{◌≡◌, ℕ, cond, eqb, List, [], ◌∷◌, ◌++◌, map, Some, None, refl, sym, ap, subst, ◌∙◌}
 use Rattle.filing_image.specs.declared.instruction.Instruction.{Instruction}
 use Rattle.filing_image.specs.declared.instruction.Operation.{Operation}
-use Rattle.filing_image.specs.declared.instruction.Operation.TheVariants.{PushTrue, PushFalse, Not, Values, Join, Match}
-use Rattle.filing_image.specs.declared.instruction.Operation.TheVariants.{Pop, Exists, Size, Number, Less, Jump, JumpIf}
-use Rattle.filing_image.specs.declared.instruction.Operation.TheVariants.{JumpUnless, Marked, Mark, File, Keep, Discard}
-use Rattle.filing_image.specs.declared.instruction.Operation.TheVariants.{Stop, Fault, Call, Return}
+use Rattle.filing_image.specs.declared.instruction.Operation.TheVariants.{PushTrue, PushFalse, Not, Values, Join, Match, Pop, Exists, Size, Number}
+use Rattle.filing_image.specs.declared.instruction.Operation.TheVariants.{Less, Jump, JumpIf, JumpUnless, Marked, Mark, File, Keep, Discard, Stop}
+use Rattle.filing_image.specs.declared.instruction.Operation.TheVariants.{Fault, Call, Return}
 use Rattle.filing_image.specs.Program.{Program, Parts, parts, instruction_of}
 use Rattle.filing_image.specs.Spelling.{spelling, Fits}
 use Rattle.filing_image.specs.Reading.{parts_at, all_of}
@@ -25,28 +24,7 @@ operation i =
 operation_is : (o : Operation) → operation (instruction_of o) ≡ o
 unfolding operation
 operation_is PushTrue = refl
-operation_is PushFalse = refl
-operation_is Not = refl
-operation_is (Values b) = refl
-operation_is Join = refl
-operation_is (Match a b) = refl
-operation_is Pop = refl
-operation_is (Exists b) = refl
-operation_is Size = refl
-operation_is (Number b) = refl
-operation_is Less = refl
-operation_is (Jump b) = refl
-operation_is (JumpIf b) = refl
-operation_is (JumpUnless b) = refl
-operation_is (Marked b) = refl
-operation_is (Mark b) = refl
-operation_is (File a b) = refl
-operation_is Keep = refl
-operation_is Discard = refl
-operation_is Stop = refl
-operation_is (Fault a) = refl
-operation_is (Call b) = refl
-operation_is Return = refl
+operation_is o = refl
 
 operations_are : (code : List Operation) → map operation (map instruction_of code) ≡ code
 operations_are [] = refl

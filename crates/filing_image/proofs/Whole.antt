@@ -11,12 +11,10 @@ use Rattle.filing_image.specs.declared.version.Version.{Version}
 use Rattle.filing_image.specs.declared.version.Version.TheVariants.{One, Two}
 use Rattle.filing_image.specs.Program.{Parts, version_of, firsts_of}
 use Rattle.filing_image.specs.Spelling.{mark, text, instruction, procedure_count, procedures, spelling, FitsInstruction, FitsOctets}
-use Rattle.filing_image.specs.Reading.{◌>>=◌, number_at, text_at, instruction_at, many_at, version_of_octet}
-use Rattle.filing_image.specs.Reading.{version_and_rest, procedure_count_at, procedures_at, Counts, counts_at, parts_at}
-use Rattle.filing_image.specs.Reading.{all_of}
-use Rattle.filing_image.proofs.Fields.{IsBytes, bind_some, bind_is, some_is, Takes, Takes-then, wide16, wide32, wide64}
-use Rattle.filing_image.proofs.Fields.{number_takes, number_again, text_takes, text_again, instruction_takes}
-use Rattle.filing_image.proofs.Fields.{instruction_again}
+use Rattle.filing_image.specs.Reading.{◌>>=◌, number_at, text_at, instruction_at, many_at, version_of_octet, version_and_rest, procedure_count_at}
+use Rattle.filing_image.specs.Reading.{procedures_at, Counts, counts_at, parts_at, all_of}
+use Rattle.filing_image.proofs.Fields.{IsBytes, bind_some, bind_is, some_is, Takes, Takes-then, wide16, wide32, wide64, number_takes, number_again}
+use Rattle.filing_image.proofs.Fields.{text_takes, text_again, instruction_takes, instruction_again}
 use Rattle.filing_image.proofs.Many.{many_takes, many_again}
 
 -- ---- the mark
@@ -46,10 +44,6 @@ with_rest rest v = Some (v, rest)
 
 mark_takes : (octets : List ℕ) (x : Version × List ℕ) → IsBytes octets → version_and_rest octets ≡ Some x → Takes octets (mark x.0) x.1
 unfolding version_and_rest
-mark_takes [] x fits e = absurd cc
-mark_takes (a ∷ []) x fits e = absurd cc
-mark_takes (a ∷ b ∷ []) x fits e = absurd cc
-mark_takes (a ∷ b ∷ c ∷ []) x fits e = absurd cc
 mark_takes (a ∷ b ∷ c ∷ d ∷ octets) x fits e =
     let g = kept (eqb a 0x53 && (eqb b 0x46 && eqb c 0x49)) (version_of_octet d >>= with_rest octets) x e in
     let g0 = and_parts (eqb a 0x53) (eqb b 0x46 && eqb c 0x49) g.0 in
@@ -68,6 +62,7 @@ mark_takes (a ∷ b ∷ c ∷ d ∷ octets) x fits e =
     } in
     let made : Version × List ℕ = (v.0, octets) in
     subst (λ (y : Version × List ℕ). Takes (a ∷ b ∷ c ∷ d ∷ octets) (mark y.0) y.1) (some_is made x v.2) here
+mark_takes octets x fits e = absurd cc
 
 mark_again : (v : Version) (rest : List ℕ) → version_and_rest (mark v ++ rest) ≡ Some (v, rest)
 unfolding version_and_rest
@@ -108,7 +103,7 @@ procedure_count_takes One octets x fits e =
     × (version_with y.0 ≡ One)) (some_is made x e) (record { parts = refl; rest_fits = fits }, tt, refl)
 procedure_count_takes Two octets x fits e =
     let a = bind_some (number_at w16 octets) counted_procedures x e in
-    let t = number_takes w16 (2 ^ 16) wide16 octets a.0 fits a.1 in
+    let t = number_takes wide16 octets a.0 fits a.1 in
     let made : Option ℕ × List ℕ = (Some a.0.0, a.0.1) in
     subst (λ (y : Option ℕ × List ℕ). Takes octets (count_of y.0) y.1 × FitsCount y.0
     × (version_with y.0 ≡ Two)) (some_is made x a.2) (t.0, t.1, refl)
@@ -119,7 +114,7 @@ procedure_count_again None rest fits = refl
 procedure_count_again (Some n) rest fits = bind_is (number_at w16 (to_be_bytes w16 n ++ rest)) counted_procedures (
   n,
   rest,
-) (number_again w16 (2 ^ 16) wide16 n rest fits)
+) (number_again wide16 n rest fits)
 
 procedures_take : (n : Option ℕ) (octets : List ℕ) (x : Option (List ℕ) × List ℕ) → IsBytes octets
     → procedures_at n octets ≡ Some x → Takes octets (procedures x.0) x.1 × (length_of x.0 ≡ n)
@@ -135,7 +130,7 @@ procedures_take None octets x fits e =
     )
 procedures_take (Some n) octets x fits e =
     let a = bind_some (many_at (number_at w16) n octets) some_procedures x e in
-    let t = many_takes (number_at w16) (to_be_bytes w16) (λ k. k < 2 ^ 16) (number_takes w16 (2 ^ 16) wide16) n octets a.0 fits a.1 in
+    let t = many_takes (number_at w16) (to_be_bytes w16) (λ k. k < 2 ^ 16) (number_takes wide16) n octets a.0 fits a.1 in
     let made : Option (List ℕ) × List ℕ = (Some a.0.0, a.0.1) in
     subst (λ (y : Option (List ℕ) × List ℕ). Takes octets (procedures y.0) y.1 × (length_of y.0 ≡ Some n)
     × All (λ f. f < 2 ^ 16) (firsts_of y.0)) (some_is made x a.2) (
@@ -151,7 +146,7 @@ procedures_again None rest fits = refl
 procedures_again (Some firsts) rest fits =
     bind_is (many_at (number_at w16) (length firsts) (flat_map (to_be_bytes w16) firsts ++ rest)) some_procedures
     (firsts, rest) (many_again (number_at w16) (to_be_bytes w16) (λ k.
-    k < 2 ^ 16) (number_again w16 (2 ^ 16) wide16) firsts rest (recursion_from_All (λ k. k < 2 ^ 16) firsts fits))
+    k < 2 ^ 16) (number_again wide16) firsts rest (recursion_from_All (λ k. k < 2 ^ 16) firsts fits))
 
 count_is : (firsts : Option (List ℕ)) → procedure_count firsts ≡ count_of (length_of firsts)
 count_is None = refl
@@ -214,20 +209,15 @@ counts_take v octets x fits e =
     let c = bind_some (number_at w16 b.0.1) (after_slots v a.0.0 b.0.0) x b.2 in
     let p = bind_some (procedure_count_at v c.0.1) (after_procedures a.0.0 b.0.0 c.0.0) x c.2 in
     let d = bind_some (number_at w16 p.0.1) (counted a.0.0 b.0.0 c.0.0 p.0.0) x p.2 in
-    let t0 = number_takes w16 (2 ^ 16) wide16 octets a.0 fits a.1 in
-    let t1 = number_takes w16 (2 ^ 16) wide16 a.0.1 b.0 t0.0.rest_fits b.1 in
-    let t2 = number_takes w16 (2 ^ 16) wide16 b.0.1 c.0 t1.0.rest_fits c.1 in
+    let t0 = number_takes wide16 octets a.0 fits a.1 in
+    let t1 = number_takes wide16 a.0.1 b.0 t0.0.rest_fits b.1 in
+    let t2 = number_takes wide16 b.0.1 c.0 t1.0.rest_fits c.1 in
     let t3 = procedure_count_takes v c.0.1 p.0 t2.0.rest_fits p.1 in
-    let t4 = number_takes w16 (2 ^ 16) wide16 p.0.1 d.0 t3.0.rest_fits d.1 in
-    let e34 = Takes-then c.0.1 (count_of p.0.0) p.0.1 (to_be_bytes w16 d.0.0) d.0.1 t3.0 t4.0 in
-    let e24 = Takes-then b.0.1 (to_be_bytes w16 c.0.0) c.0.1 (count_of p.0.0 ++ to_be_bytes w16 d.0.0) d.0.1 t2.0 e34 in
-    let e14 = Takes-then a.0.1 (to_be_bytes w16 b.0.0) b.0.1 (to_be_bytes w16 c.0.0 ++ (count_of p.0.0 ++ to_be_bytes w16 d.0.0)) d.0.1 t1.0 e24 in
-    let e04 = Takes-then octets (to_be_bytes w16 a.0.0) a.0.1 (to_be_bytes w16 b.0.0
-    ++ (to_be_bytes w16 c.0.0 ++ (count_of p.0.0 ++ to_be_bytes w16 d.0.0))) d.0.1 t0.0 e14 in
+    let t4 = number_takes wide16 p.0.1 d.0 t3.0.rest_fits d.1 in
     let made : Counts × List ℕ = (record { texts = a.0.0; numbers = b.0.0; slots = c.0.0; procedures = p.0.0; instructions = d.0.0 }, d.0.1) in
     subst (λ (y : Counts × List ℕ). Takes octets (counts y.0) y.1 × FitsCounts y.0
     × (version_with y.0.procedures ≡ v)) (some_is made x d.2) (
-      e04,
+      Takes-then t0.0 (Takes-then t1.0 (Takes-then t2.0 (Takes-then t3.0 t4.0))),
       record { texts = t0.1; numbers = t1.1; slots = t2.1; procedures = t3.1; instructions = t4.1 },
       t3.2,
     )
@@ -241,13 +231,11 @@ counts_again x rest fits =
     let r2 : List ℕ = to_be_bytes w16 x.slots ++ r3 in
     let r1 : List ℕ = to_be_bytes w16 x.numbers ++ r2 in
     let r0 : List ℕ = to_be_bytes w16 x.texts ++ r1 in
-    let regrouped : counts x ++ rest ≡ r0 = ap (λ (r : List ℕ). to_be_bytes w16 x.texts
-    ++ (to_be_bytes w16 x.numbers ++ (to_be_bytes w16 x.slots ++ r)))
-    (append_assoc (count_of x.procedures) (to_be_bytes w16 x.instructions) rest) in
+    let regrouped : counts x ++ rest ≡ r0 = simp append_assoc in
     ap (counts_at v) regrouped
-    ∙ bind_is (number_at w16 r0) (after_text_count v) (x.texts, r1) (number_again w16 (2 ^ 16) wide16 x.texts r1 fits.texts)
-    ∙ bind_is (number_at w16 r1) (after_number_count v x.texts) (x.numbers, r2) (number_again w16 (2 ^ 16) wide16 x.numbers r2 fits.numbers)
-    ∙ bind_is (number_at w16 r2) (after_slots v x.texts x.numbers) (x.slots, r3) (number_again w16 (2 ^ 16) wide16 x.slots r3 fits.slots)
+    ∙ bind_is (number_at w16 r0) (after_text_count v) (x.texts, r1) (number_again wide16 x.texts r1 fits.texts)
+    ∙ bind_is (number_at w16 r1) (after_number_count v x.texts) (x.numbers, r2) (number_again wide16 x.numbers r2 fits.numbers)
+    ∙ bind_is (number_at w16 r2) (after_slots v x.texts x.numbers) (x.slots, r3) (number_again wide16 x.slots r3 fits.slots)
     ∙ bind_is (procedure_count_at v r3) (after_procedures x.texts x.numbers x.slots) (
       x.procedures,
       r4,
@@ -255,7 +243,7 @@ counts_again x rest fits =
     ∙ bind_is (number_at w16 r4) (counted x.texts x.numbers x.slots x.procedures) (
       x.instructions,
       rest,
-    ) (number_again w16 (2 ^ 16) wide16 x.instructions rest fits.instructions)
+    ) (number_again wide16 x.instructions rest fits.instructions)
 
 -- ---- the parts
 
@@ -312,31 +300,9 @@ counts_of p = record {
 counts_are : (c : Counts) (p : Parts) → c.texts ≡ length p.texts → c.numbers ≡ length p.numbers → c.slots ≡ p.slots
     → c.procedures ≡ length_of p.procedures → c.instructions ≡ length p.instructions → c ≡ counts_of p
 counts_are c p a b s f d =
-    ap (λ (k : ℕ). record { texts = k; numbers = c.numbers; slots = c.slots; procedures = c.procedures; instructions = c.instructions }) a
-    ∙ ap (λ (k : ℕ). record { texts = length p.texts; numbers = k; slots = c.slots; procedures = c.procedures; instructions = c.instructions }) b
-    ∙ ap (λ (k : ℕ). record {
-      texts = length p.texts;
-      numbers = length p.numbers;
-      slots = k;
-      procedures = c.procedures;
-      instructions = c.instructions;
-    }) s
-    ∙ ap (λ (k : Option ℕ). record {
-      texts = length p.texts;
-      numbers = length p.numbers;
-      slots = p.slots;
-      procedures =
-          k;
-      instructions = c.instructions;
-    }) f
-    ∙ ap (λ (k : ℕ). record {
-      texts = length p.texts;
-      numbers = length p.numbers;
-      slots = p.slots;
-      procedures =
-          length_of p.procedures;
-      instructions = k;
-    }) d
+    let parts : (c.texts, c.numbers, c.slots, c.procedures, c.instructions)
+    ≡ (length p.texts, length p.numbers, p.slots, length_of p.procedures, length p.instructions) = cc in
+    ap (λ (t : ℕ × ℕ × ℕ × Option ℕ × ℕ). record { texts = t.0; numbers = t.1; slots = t.2; procedures = t.3; instructions = t.4 }) parts
 
 -- the spelling of parts, whose count of procedures is by cases
 spelling_by : (firsts : Option (List ℕ)) (budget texts numbers slots instructions rest : List ℕ)
@@ -366,22 +332,15 @@ parts_take octets x fits e =
     let f = bind_some (procedures_at c.0.0.procedures n.0.1) (after_firsts b.0.0 c.0.0 t.0.0 n.0.0) x n.2 in
     let i = bind_some (many_at instruction_at c.0.0.instructions f.0.1) (made_of b.0.0 c.0.0 t.0.0 n.0.0 f.0.0) x f.2 in
     let t0 = mark_takes octets m.0 fits m.1 in
-    let t1 = number_takes w32 (2 ^ 32) wide32 m.0.1 b.0 t0.rest_fits b.1 in
+    let t1 = number_takes wide32 m.0.1 b.0 t0.rest_fits b.1 in
     let t2 = counts_take v b.0.1 c.0 t1.0.rest_fits c.1 in
     let t3 = many_takes text_at text (λ s. length s < 2 ^ 16) text_takes c.0.0.texts c.0.1 t.0 t2.0.rest_fits t.1 in
     let t4 = many_takes (number_at w64) (to_be_bytes w64) (λ k.
-    k < 2 ^ 64) (number_takes w64 (2 ^ 64) wide64) c.0.0.numbers t.0.1 n.0 t3.0.rest_fits n.1 in
+    k < 2 ^ 64) (number_takes wide64) c.0.0.numbers t.0.1 n.0 t3.0.rest_fits n.1 in
     let t5 = procedures_take c.0.0.procedures n.0.1 f.0 t4.0.rest_fits f.1 in
     let t6 = many_takes instruction_at instruction FitsInstruction instruction_takes c.0.0.instructions f.0.1 i.0 t5.0.rest_fits i.1 in
-    let e56 = Takes-then n.0.1 (procedures f.0.0) f.0.1 (flat_map instruction i.0.0) i.0.1 t5.0 t6.0 in
-    let e46 = Takes-then t.0.1 (flat_map (to_be_bytes w64) n.0.0) n.0.1 (procedures f.0.0 ++ flat_map instruction i.0.0) i.0.1 t4.0 e56 in
-    let e36 = Takes-then c.0.1 (flat_map text t.0.0) t.0.1 (flat_map (to_be_bytes w64) n.0.0
-    ++ (procedures f.0.0 ++ flat_map instruction i.0.0)) i.0.1 t3.0 e46 in
-    let e26 = Takes-then b.0.1 (counts c.0.0) c.0.1 (body t.0.0 n.0.0 f.0.0 i.0.0) i.0.1 t2.0 e36 in
-    let e16 = Takes-then m.0.1 (to_be_bytes w32 b.0.0) b.0.1 (counts c.0.0 ++ body t.0.0 n.0.0 f.0.0 i.0.0) i.0.1 t1.0 e26 in
     let e06 : Takes octets (spelled v b.0.0 c.0.0 t.0.0 n.0.0 f.0.0 i.0.0) i.0.1 =
-    Takes-then octets (mark v) m.0.1 (to_be_bytes w32 b.0.0
-    ++ (counts c.0.0 ++ body t.0.0 n.0.0 f.0.0 i.0.0)) i.0.1 t0 e16 in
+    Takes-then t0 (Takes-then t1.0 (Takes-then t2.0 (Takes-then t3.0 (Takes-then t4.0 (Takes-then t5.0 t6.0))))) in
     let made : Parts
     × List ℕ = (
       record {
@@ -430,22 +389,8 @@ parts_again p rest fits =
     let r3 : List ℕ = flat_map text p.texts ++ r4 in
     let r2 : List ℕ = counts c ++ r3 in
     let r1 : List ℕ = to_be_bytes w32 p.budget ++ r2 in
-    let tail : body p.texts p.numbers p.procedures p.instructions ++ rest ≡ r3 =
-    append_assoc (flat_map text p.texts) (flat_map (to_be_bytes w64) p.numbers
-    ++ (procedures p.procedures ++ flat_map instruction p.instructions)) rest
-    ∙ ap (λ (t : List ℕ). flat_map text p.texts
-    ++ t) (append_assoc (flat_map (to_be_bytes w64) p.numbers) (procedures p.procedures
-    ++ flat_map instruction p.instructions) rest)
-    ∙ ap (λ (t : List ℕ). flat_map text p.texts
-    ++ (flat_map (to_be_bytes w64) p.numbers
-    ++ t)) (append_assoc (procedures p.procedures) (flat_map instruction p.instructions) rest) in
     let whole : (mark v ++ (to_be_bytes w32 p.budget ++ (counts c ++ body p.texts p.numbers p.procedures p.instructions))) ++ rest ≡ mark v ++ r1 =
-    append_assoc (mark v) (to_be_bytes w32 p.budget ++ (counts c ++ body p.texts p.numbers p.procedures p.instructions)) rest
-    ∙ ap (λ (t : List ℕ). mark v ++ t) (append_assoc (to_be_bytes w32 p.budget) (counts c ++ body p.texts p.numbers p.procedures p.instructions) rest)
-    ∙ ap (λ (t : List ℕ). mark v
-    ++ (to_be_bytes w32 p.budget
-    ++ t)) (append_assoc (counts c) (body p.texts p.numbers p.procedures p.instructions) rest)
-    ∙ ap (λ (t : List ℕ). mark v ++ (to_be_bytes w32 p.budget ++ (counts c ++ t))) tail in
+    simp append_assoc in
     let regrouped : spelling p ++ rest ≡ mark v ++ r1 = ap (λ (s : List ℕ). s ++ rest) (spelling_is p) ∙ whole in
     let fits_counts : FitsCounts c = record {
       texts = fits.short.text_count;
@@ -458,7 +403,7 @@ parts_again p rest fits =
     } in
     ap parts_at regrouped
     ∙ bind_is (version_and_rest (mark v ++ r1)) after_mark (v, r1) (mark_again v r1)
-    ∙ bind_is (number_at w32 r1) (after_budget v) (p.budget, r2) (number_again w32 (2 ^ 32) wide32 p.budget r2 fits.budget)
+    ∙ bind_is (number_at w32 r1) (after_budget v) (p.budget, r2) (number_again wide32 p.budget r2 fits.budget)
     ∙ bind_is (counts_at v r2) (after_counts p.budget) (c, r3) (counts_again c r3 fits_counts)
     ∙ bind_is (many_at text_at (length p.texts) r3) (after_texts p.budget c) (
       p.texts,
@@ -468,7 +413,7 @@ parts_again p rest fits =
     ∙ bind_is (many_at (number_at w64) (length p.numbers) r4) (after_numbers p.budget c p.texts) (
       p.numbers,
       r5,
-    ) (many_again (number_at w64) (to_be_bytes w64) (λ k. k < 2 ^ 64) (number_again w64 (2 ^ 64) wide64) p.numbers
+    ) (many_again (number_at w64) (to_be_bytes w64) (λ k. k < 2 ^ 64) (number_again wide64) p.numbers
     r5 (recursion_from_All (λ k. k < 2 ^ 64) p.numbers fits.numbers))
     ∙ bind_is (procedures_at (length_of p.procedures) r5) (after_firsts p.budget c p.texts p.numbers) (
       p.procedures,

@@ -1,6 +1,6 @@
 -- Lists of places, in two parts, and their fields.
 use Rattle.std.proofs.Common.{◌≡◌, ℕ, ◌+◌, ◌-◌, ◌<◌, ◌≤◌, true, false, cond, List, [], ◌∷◌, ◌++◌, length, get_or, take}
-use Rattle.std.proofs.Common.{map, refl, sym, ap, subst, ◌∙◌, arith, append_assoc}
+use Rattle.std.proofs.Common.{map, sym, ap, subst, ◌∙◌, append_assoc}
 use Rattle.std.proofs.lemmas.List.Elements.{All-push, All-append, filter_more}
 use Rattle.std.specs.List.{All, AllByRecursion, filter}
 use Rattle.sieve_meaning.specs.Case.{Facts, is_named}
@@ -8,16 +8,12 @@ use Rattle.mail_case.specs.Fields.{field_at}
 use Rattle.filing_machine.specs.declared.state.Item.{Item}
 use Rattle.filing_machine.specs.declared.state.Item.TheVariants.{Fields}
 use Rattle.filing_machine.specs.StateViews.{InCase}
-use Rattle.std.proofs.lemmas.List.{append-nil, map-append, get_or-append_right, get_or_append_left}
-
-nil_of : (ys : List ℕ) → length ys ≡ 0 → ys ≡ []
-nil_of [] h = refl
-nil_of (y ∷ ys) h = absurd (omega arith)
+use Rattle.std.proofs.lemmas.List.{append-nil, map-append, get_or-append_right, get_or_append_left, nil_from_length}
 
 -- a place added to either part
 pub pushed_narrow : (old xs ys new : List ℕ) (p : ℕ) → xs ++ ys ≡ old → length ys ≡ 0 → new ≡ xs ++ p ∷ [] → new ++ ys ≡ old ++ p ∷ []
 pushed_narrow old xs ys new p view none e =
-    let nil : ys ≡ [] = nil_of ys none in
+    let nil : ys ≡ [] = nil_from_length ys none in
     ap (λ zs. new ++ zs) nil ∙ append-nil new ∙ e ∙ ap (λ zs. zs ++ p ∷ []) (sym (append-nil xs) ∙ ap (λ zs. xs ++ zs) (sym nil) ∙ view)
 
 pub pushed_wide : (old xs ys new : List ℕ) (p : ℕ) → xs ++ ys ≡ old → new ≡ ys ++ p ∷ [] → xs ++ new ≡ old ++ p ∷ []
@@ -27,7 +23,7 @@ pushed_wide old xs ys new p view e = ap (λ zs. xs ++ zs) e ∙ sym (append_asso
 pub joined_narrow : (old xs ys more us vs xs' ys' : List ℕ) → xs ++ ys ≡ old → length ys ≡ 0 → us ++ vs ≡ more
     → xs' ≡ xs ++ us → ys' ≡ ys ++ vs → xs' ++ ys' ≡ old ++ more
 joined_narrow old xs ys more us vs xs' ys' view none other ex ey =
-    let nil : ys ≡ [] = nil_of ys none in
+    let nil : ys ≡ [] = nil_from_length ys none in
     let all : old ≡ xs = sym view ∙ ap (λ zs. xs ++ zs) nil ∙ append-nil xs in
     rw (ex, ey, nil, all, ← other) (append_assoc xs us vs)
 

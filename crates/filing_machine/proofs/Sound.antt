@@ -1,16 +1,14 @@
 -- The run of a verified program never traps, and ends within its budget.
-use Rattle.std.proofs.Common.{◌≡◌, ◌≢◌, ℕ, zero, suc, ◌+◌, ◌<◌, ◌≤◌, List, [], ◌∷◌, ◌++◌, length, Bool, true, false}
-use Rattle.std.proofs.Common.{not, ◌||◌, cond, max, Option, Some, None, refl, sym, ap, ◌∙◌, subst, arith, inl, inr, ◌⊎◌}
-use Rattle.std.proofs.Common.{get_or}
+use Rattle.std.proofs.Common.{◌≡◌, ◌≢◌, ℕ, zero, suc, ◌+◌, ◌<◌, ◌≤◌, List, [], ◌∷◌, ◌++◌, length, Bool, true, false, not, ◌||◌, cond, max, Option}
+use Rattle.std.proofs.Common.{Some, None, refl, sym, ap, ◌∙◌, subst, arith, inl, inr, ◌⊎◌, get_or}
 use Rattle.std.specs.Prelude.{slice_get, nat_lt, nat_eq}
 use Rattle.std.proofs.lemmas.Bool.{le-ltb, lt-ltb, le-leb}
 use Rattle.std.proofs.lemmas.Option.{slice_get-get_or, same_Some}
 use Rattle.std.proofs.lemmas.List.Elements.{All-get_or}
 use Rattle.filing_image.specs.declared.instruction.Operation.{Operation}
-use Rattle.filing_image.specs.declared.instruction.Operation.TheVariants.{PushTrue, PushFalse, Not, Values, Join, Match}
-use Rattle.filing_image.specs.declared.instruction.Operation.TheVariants.{Pop, Exists, Size, Number, Less, Jump, JumpIf}
-use Rattle.filing_image.specs.declared.instruction.Operation.TheVariants.{JumpUnless, Marked, Mark, File, Keep, Discard}
-use Rattle.filing_image.specs.declared.instruction.Operation.TheVariants.{Stop, Fault, Call, Return}
+use Rattle.filing_image.specs.declared.instruction.Operation.TheVariants.{PushTrue, PushFalse, Not, Values, Join, Match, Pop, Exists, Size, Number}
+use Rattle.filing_image.specs.declared.instruction.Operation.TheVariants.{Less, Jump, JumpIf, JumpUnless, Marked, Mark, File, Keep, Discard, Stop}
+use Rattle.filing_image.specs.declared.instruction.Operation.TheVariants.{Fault, Call, Return}
 use Rattle.filing_image.specs.Program.{Program, first_places, firsts_of}
 use Rattle.filing_verify.specs.declared.kind.Kind.{Kind}
 use Rattle.filing_verify.specs.declared.kind.Kind.TheVariants.{Truth, Texts, Count}
@@ -25,9 +23,8 @@ use Rattle.sieve_meaning.specs.RunFaults.{fault_of}
 use Rattle.sieve_meaning.proofs.RunFaultLemmas.{fault_between}
 use Rattle.sieve_meaning.specs.Case.{Facts}
 use Rattle.sieve_meaning.specs.Truth.{has_field}
-use Rattle.filing_table.specs.Machine.{Entry, T, L, N, State, values_of, Run, At, Over, Trap, with_stack, with_named}
-use Rattle.filing_table.specs.Machine.{only_if, jump, file, enter, go_back, on_stack, act, at_place, start, step}
-use Rattle.filing_table.specs.Machine.{after_steps}
+use Rattle.filing_table.specs.Machine.{Entry, T, L, N, State, values_of, Run, At, Over, Trap, with_stack, with_named, only_if, jump, file, enter}
+use Rattle.filing_table.specs.Machine.{go_back, on_stack, act, at_place, start, step, after_steps}
 
 pub kind : Entry → Kind
 kind (T b) = Truth
@@ -132,49 +129,24 @@ acts : (p : Program) (c : Facts) (o : Operation) (s : State) (es : List Entry) (
 unfolding Does kinds kind
 acts p c PushTrue s es r same e fits range = stacked p PushTrue s (T true ∷ es) r refl refl e fits
 acts p c PushFalse s es r same e fits range = stacked p PushFalse s (T false ∷ es) r refl refl e fits
-acts p c Not s [] r same e fits range = absurd cc
 acts p c Not s (T b ∷ es) r same e fits range = stacked p Not s (T (not b) ∷ es) r refl refl e fits
-acts p c Not s (L b ∷ es) r same e fits range = absurd cc
-acts p c Not s (N b ∷ es) r same e fits range = absurd cc
 acts p c (Values b) s es r same e fits range =
     named p (Values b) s r p.texts b _ range (λ name.
     stacked p (Values b) s (L (values_of c name) ∷ es) r refl refl e fits)
 acts p c Join s (L ys ∷ L xs ∷ es) r same e fits range = stacked p Join s (L (xs ++ ys) ∷ es) r refl refl e fits
-acts p c Join s [] r same e fits range = absurd cc
-acts p c Join s (T b ∷ es) r same e fits range = absurd cc
-acts p c Join s (N b ∷ es) r same e fits range = absurd cc
-acts p c Join s (L b ∷ []) r same e fits range = absurd cc
-acts p c Join s (L b ∷ T d ∷ es) r same e fits range = absurd cc
-acts p c Join s (L b ∷ N d ∷ es) r same e fits range = absurd cc
 acts p c (Match a b) s (L xs ∷ es) r same e fits range =
     only p (Match a b) s r _ _ (le-leb _ _ range.0) (named p (Match a b) s r p.texts b _ range.1 (λ key.
     stacked p (Match a b) s (T _ ∷ L xs ∷ es) r refl refl e fits))
-acts p c (Match a b) s [] r same e fits range = absurd cc
-acts p c (Match a b) s (T d ∷ es) r same e fits range = absurd cc
-acts p c (Match a b) s (N d ∷ es) r same e fits range = absurd cc
 acts p c Pop s (d ∷ es) r same e fits range = stacked p Pop s es r refl refl e fits
-acts p c Pop s [] r same e fits range = absurd cc
 acts p c (Exists b) s es r same e fits range =
     named p (Exists b) s r p.texts b _ range (λ name.
     stacked p (Exists b) s (T (has_field c name) ∷ es) r refl refl e fits)
 acts p c Size s es r same e fits range = stacked p Size s (N c.size ∷ es) r refl refl e fits
 acts p c (Number b) s es r same e fits range = named p (Number b) s r p.numbers b _ range (λ n. stacked p (Number b) s (N n ∷ es) r refl refl e fits)
 acts p c Less s (N y ∷ N x ∷ es) r same e fits range = stacked p Less s (T (nat_lt x y) ∷ es) r refl refl e fits
-acts p c Less s [] r same e fits range = absurd cc
-acts p c Less s (T b ∷ es) r same e fits range = absurd cc
-acts p c Less s (L b ∷ es) r same e fits range = absurd cc
-acts p c Less s (N b ∷ []) r same e fits range = absurd cc
-acts p c Less s (N b ∷ T d ∷ es) r same e fits range = absurd cc
-acts p c Less s (N b ∷ L d ∷ es) r same e fits range = absurd cc
 acts p c (Jump b) s es r same e fits range = inl (record { follows = inr refl; kinds = same_Some _ _ e; calls = refl; plain = refl })
 acts p c (JumpIf b) s (T t ∷ es) r same e fits range = jumped p (JumpIf b) s es r b t refl refl refl e
-acts p c (JumpIf b) s [] r same e fits range = absurd cc
-acts p c (JumpIf b) s (L d ∷ es) r same e fits range = absurd cc
-acts p c (JumpIf b) s (N d ∷ es) r same e fits range = absurd cc
 acts p c (JumpUnless b) s (T t ∷ es) r same e fits range = jumped p (JumpUnless b) s es r b (not t) refl refl refl e
-acts p c (JumpUnless b) s [] r same e fits range = absurd cc
-acts p c (JumpUnless b) s (L d ∷ es) r same e fits range = absurd cc
-acts p c (JumpUnless b) s (N d ∷ es) r same e fits range = absurd cc
 acts p c (Marked b) s es r same e fits range = only p (Marked b) s r _ _ (lt-ltb _ _ range) (stacked p (Marked b) s (T _ ∷ es) r refl refl e fits)
 acts p c (Mark b) s es r same e fits range =
     only p (Mark b) s r _ _ (lt-ltb _ _ range) (inl (record {
@@ -195,9 +167,8 @@ acts p c Stop s es r same e fits range = tt
 acts p c (Fault a) s es r same e fits range = let (fault, is) = fault_between a range.0 range.1 in
     only p (Fault a) s r _ _ (le-leb _ _ range.0) (failed p (Fault a) s r (fault_of a) fault is)
 acts p c (Call b) s [] r same e fits range = entered p b s r (first_place p b) refl range same
-acts p c (Call b) s (d ∷ es) r same e fits range = absurd cc
 acts p c Return s [] r same e fits range = came_back p s r s.calls refl same
-acts p c Return s (d ∷ es) r same e fits range = absurd cc
+acts p c o s es r same e fits range = absurd cc
 
 -- ---- what a place costs
 

@@ -1,9 +1,9 @@
 -- What an include of a procedure enters, by what is found.
-use Rattle.std.proofs.Common.{◌≡◌, ℕ, zero, suc, ◌+◌, ◌-◌, ◌<◌, ◌≤◌, List, [], ◌∷◌, ◌++◌, length, map, filter}
-use Rattle.std.proofs.Common.{filter_map, flat_map, drop, get_or, Bool, true, false, not, cond, Option, Some, None}
-use Rattle.std.proofs.Common.{refl, sym, ap, ◌∙◌, arith, length-append}
+use Rattle.std.proofs.Common.{◌≡◌, ℕ, suc, ◌+◌, ◌-◌, ◌<◌, ◌≤◌, List, [], ◌∷◌, ◌++◌, length, map, filter, filter_map, flat_map, drop, get_or}
+use Rattle.std.proofs.Common.{Bool, true, false, not, cond, Option, Some, None, refl, sym, ap, ◌∙◌, arith, length-append}
 use Rattle.std.specs.List.{list_any, cons_option}
 use Rattle.std.proofs.lemmas.List.{get_or_default}
+use Rattle.sieve_check.proofs.Strings.{drop_at}
 use Rattle.sieve_meaning.specs.Program.{Commands}
 use Rattle.sieve_meaning.specs.Meaning.{ScriptName, is_among, Library}
 use Rattle.sieve_meaning.specs.Procedures.{holds_if_there, once, included_names, Procedure, is_shared, entered_if, entry, called_by}
@@ -52,13 +52,6 @@ same_procedure p q script left chain =
     ap (λ (t : Commands × ℕ × List ScriptName). record { script = t.0; left = t.1; chain = t.2 }) parts
 
 -- IN TURN
-
-pub drop_item : {A : Type 0} (xs : List A) (i : ℕ) (x : A) → i < length xs → x ≡ get_or xs i x → drop i xs ≡ x ∷ drop (i + 1) xs
-drop_item [] i x h is = absurd (omega (arith, h))
-drop_item (y ∷ ys) zero x h is = ap (λ z. z ∷ ys) (sym is)
-drop_item (y ∷ ys) (suc i) x h is =
-    let e : suc (i + 1) ≡ suc i + 1 = omega arith in
-    drop_item ys i x (omega (arith, h)) is ∙ ap (λ (n : ℕ). x ∷ drop n (y ∷ ys)) e
 
 module _ (lib : Library) where
   with_append : (ps es fs : List Procedure) → with_procedures lib ps (es ++ fs) ≡ with_procedures lib (with_procedures lib ps es) fs
@@ -113,7 +106,7 @@ module _ (lib : Library) where
       pub name_turn : with_procedures lib one_more (enters (map script_of (drop (i + 1) names))) ≡ all
       name_turn =
           sym (with_option ps (entry lib left chain (script_of name)) (enters (map script_of (drop (i + 1) names))))
-          ∙ ap (λ (ns : List code.ScriptName). with_procedures lib ps (enters (map script_of ns))) (sym (drop_item names i name below is)) ∙ before
+          ∙ ap (λ (ns : List code.ScriptName). with_procedures lib ps (enters (map script_of ns))) (sym (drop_at names i name below is)) ∙ before
 
       full_then : (room : ℕ) → room < length one_more → room < length all
       full_then room full = let more = longer one_more (enters (map script_of (drop (i + 1) names))) in omega (arith, full, more, ap length name_turn)
@@ -139,7 +132,7 @@ module _ (lib : Library) where
     caller_turn =
         sym (with_append ps (entered_by lib (procedure_of caller)) (enter_all (map procedure_of (drop (i + 1) callers))))
         ∙ ap (λ (qs : List made.Procedure). with_procedures lib ps (enter_all (map procedure_of qs)))
-        (sym (drop_item callers i caller below is)) ∙ before
+        (sym (drop_at callers i caller below is)) ∙ before
 
     pub caller_full : (room : ℕ) → room < length more → room < length all
     caller_full room full = let rest = longer more (enter_all (map procedure_of (drop (i + 1) callers))) in

@@ -2,9 +2,7 @@
 use Rattle.std.proofs.Common.{◌≡◌, List, [], ◌∷◌, ◌++◌, map, Bool, true, ◌||◌, refl, sym, ap, ◌∙◌, subst}
 use Rattle.std.specs.List.{list_any}
 use Rattle.std.proofs.lemmas.List.{map-append}
-use Rattle.sieve_meaning.specs.Program.{Include, Command, require, keep, discard, stop, return, file_into, branch}
-use Rattle.sieve_meaning.specs.Program.{include, Commands, no_command, command_then, Branches, no_branch, otherwise}
-use Rattle.sieve_meaning.specs.Program.{if_then}
+use Rattle.sieve_meaning.specs.Program.{Include, Command, branch, Commands, no_command, command_then, Branches, no_branch, otherwise, if_then}
 use Rattle.sieve_meaning.specs.Meaning.{Library, ScriptName, script_named, same_script}
 use Rattle.sieve_meaning.specs.Procedures.{includes_of, includes_in, branch_includes}
 use Rattle.sieve_meaning.proofs.SharingLemmas.{same_is}
@@ -36,14 +34,8 @@ module _ (lib : Library) where
         ∙ sym (joined (includes_in x) (includes_of xs) names)
 
     gathers_one : (x : Command) (names : List ScriptName) → with_one lib x names ≡ gathered names (names_of (includes_in x))
-    gathers_one require names = refl
-    gathers_one keep names = refl
-    gathers_one discard names = refl
-    gathers_one stop names = refl
-    gathers_one return names = refl
-    gathers_one (file_into copy path) names = refl
     gathers_one (branch bs) names = gathers_branches bs names
-    gathers_one (include i) names = refl
+    gathers_one x names = refl
 
     gathers_branches : (bs : Branches) (names : List ScriptName) → with_branches lib bs names ≡ gathered names (names_of (branch_includes bs))
     gathers_branches no_branch names = refl

@@ -1,14 +1,16 @@
 -- Keys tell procedures apart as the definition does.
-use Rattle.std.proofs.Common.{◌≡◌, ℕ, zero, suc, ◌<◌, List, [], ◌∷◌, Bool, true, false, ◌&&◌, ◌||◌, Option, Some, None}
-use Rattle.std.proofs.Common.{inl, inr, refl, sym, ap, ◌∙◌, subst}
+use Rattle.std.proofs.Common.{◌≡◌, ℕ, zero, suc, ◌<◌, List, [], ◌∷◌, Bool, true, ◌&&◌, ◌||◌, Option, Some, inl, inr, sym, ap, ◌∙◌, subst}
 use Rattle.std.specs.Prelude.{nat_eq, slice_get}
 use Rattle.std.specs.List.{list_any}
 use Rattle.std.proofs.lemmas.Bool.{and_parts, and_from, or_right, or_left, or_cases, eq-eqb, eqb-true}
+use Rattle.std.proofs.lemmas.Option.{same_Some}
+use Rattle.std.specs.Cmp.{both_ways}
+use Rattle.sieve_meaning.proofs.ReachLemmas.{there_of}
 use Rattle.sieve_meaning.specs.Program.{Commands}
 use Rattle.sieve_meaning.specs.Meaning.{ScriptName, same_script, is_among, Library}
 use Rattle.sieve_meaning.specs.Procedures.{included_names, holds_if_there, reaches_within, reaches, Procedure, are_among, is_shared}
 use Rattle.sieve_meaning.proofs.SharingLemmas.{same_is, same_self, among_those, shared_tests}
-use Rattle.sieve_meaning.proofs.ProcedureLemmas.{some_is, are_among_from, shared_from, first_is, first_from}
+use Rattle.sieve_meaning.proofs.ProcedureLemmas.{are_among_from, shared_from, first_is, first_from}
 use Rattle.sieve_library.specs.Libraries.{Scripts, library_of}
 use Rattle.filing_procedures.specs.declared.slot_set.SlotSet.{SlotSet}
 use Rattle.filing_procedures.specs.declared.key.Key.{Key}
@@ -17,15 +19,6 @@ use Rattle.filing_procedures.specs.IncludedScripts.{is_there}
 use Rattle.filing_procedures.specs.Slots.{slots_of, HasSlots}
 use Rattle.filing_procedures.specs.ReachTables.{has_at, ReachIs}
 use Rattle.filing_procedures.specs.Keys.{is_active, IsEnteredKey}
-
-pub same_tests : (a b : Bool) → (a ≡ true → b ≡ true) → (b ≡ true → a ≡ true) → a ≡ b
-same_tests true b h k = sym (h refl)
-same_tests false true h k = k refl
-same_tests false false h k = refl
-
-found_there : (o : Option Commands) (t : Commands → Bool) → holds_if_there o t ≡ true → (x : Commands) × (o ≡ Some x) × (t x ≡ true)
-found_there None t h = absurd (cc h)
-found_there (Some x) t h = (x, refl, h)
 
 some_any : {A : Type 0} (t : A → Bool) (xs : List A) → list_any t xs ≡ true → (x : A) × (t x ≡ true)
 some_any t [] h = absurd (cc h)
@@ -37,7 +30,7 @@ module _ (lib : Library) where
   reached_within zero x s h = absurd (cc h)
   reached_within (suc n) x s h =
       let t = some_any (λ t. holds_if_there (lib.find t) (λ y. same_script t s || reaches_within lib n y s)) (included_names x) h in
-      let f = found_there (lib.find t.0) (λ y. same_script t.0 s || reaches_within lib n y s) t.1 in
+      let f = there_of (lib.find t.0) (λ y. same_script t.0 s || reaches_within lib n y s) t.1 in
       elim (or_cases (same_script t.0 s) (reaches_within lib n f.0 s) f.2) [
         | inl is ↦ (f.0, ap (λ (u : ScriptName). lib.find u) (sym (same_is t.0 s is)) ∙ f.1)
         | inr later ↦ reached_within n f.0 s later
@@ -70,7 +63,7 @@ module _ (l : Scripts) (count : ℕ) (slots : HasSlots (library_of l) (slots_of 
   active_is (t ∷ ts) k h = elim (or_cases (is_there (library_of l) t && nat_eq (slots_of l t) k) (is_active l ts k) h) [
     | inl here ↦
         let parts = and_parts (is_there (library_of l) t) (nat_eq (slots_of l t) k) here in
-        let found = found_there ((library_of l).find t) (λ script. true) parts.0 in
+        let found = there_of ((library_of l).find t) (λ script. true) parts.0 in
         (t, found.0, found.1, eqb-true (slots_of l t) k parts.1, or_left (same_script t t) (is_among ts t) (same_self t))
     | inr later ↦ let s = active_is ts k later in (s.0, s.1, s.2, s.3, or_right (same_script s.0 t) (is_among ts s.0) s.4)
   ]
@@ -116,10 +109,10 @@ module _ (l : Scripts) (count : ℕ) (slots : HasSlots (library_of l) (slots_of 
         → ((k : ℕ) → k < 64 → (has a.active k && has_at (slice_get sets slot) k)
         ≡ (has b.active k && has_at (slice_get sets slot) k)) → is_shared (library_of l) p q ≡ true
     shared_from_keys slot sa sb left same =
-        let ea : slots_of l ka.name ≡ slot = some_is (slots_of l ka.name) slot (sym ka.slot ∙ sa) in
-        let eb : slots_of l kb.name ≡ slot = some_is (slots_of l kb.name) slot (sym kb.slot ∙ sb) in
+        let ea : slots_of l ka.name ≡ slot = same_Some (slots_of l ka.name) slot (sym ka.slot ∙ sa) in
+        let eb : slots_of l kb.name ≡ slot = same_Some (slots_of l kb.name) slot (sym kb.slot ∙ sb) in
         let one : ka.name ≡ kb.name = slots.own ka.name kb.name p.script q.script ka.there kb.there (ea ∙ sym eb) in
-        let script : p.script ≡ q.script = some_is p.script q.script (sym ka.there ∙ ap (λ (s : ScriptName). (library_of l).find s) one ∙ kb.there) in
+        let script : p.script ≡ q.script = same_Some _ _ (sym ka.there ∙ ap (λ (s : ScriptName). (library_of l).find s) one ∙ kb.there) in
         let here = side a b p q ka kb slot ea (λ k inside h.
         (and_parts (has b.active k) (has_at (slice_get sets slot) k) (sym (same k inside) ∙ h)).0) in
         let there = side b a q p kb ka slot eb (λ k inside h. (and_parts (has a.active k) (has_at (slice_get sets slot) k) (same k inside ∙ h)).0) in
@@ -138,13 +131,13 @@ module _ (l : Scripts) (count : ℕ) (slots : HasSlots (library_of l) (slots_of 
         let t = shared_tests (library_of l) p q shared in
         let one : ka.name ≡ kb.name = first_is (library_of l) p.chain q.chain ka.name kb.name ka.before kb.before ka.chain kb.chain t.0 in
         let slot : slots_of l ka.name ≡ slots_of l kb.name = ap (slots_of l) one in
-        let script : p.script ≡ q.script = some_is p.script q.script (sym ka.there ∙ ap (λ (s : ScriptName). (library_of l).find s) one ∙ kb.there) in
+        let script : p.script ≡ q.script = same_Some _ _ (sym ka.there ∙ ap (λ (s : ScriptName). (library_of l).find s) one ∙ kb.there) in
         let other = subst (λ (x : Commands). are_among (library_of l) x q.chain p.chain ≡ true) script t.3 in
         let R : ℕ → Bool = λ k. has_at (slice_get sets (slots_of l ka.name)) k in
         record {
           slot = slot;
           left = ka.of.left ∙ eqb-true p.left q.left t.1 ∙ sym kb.of.left;
-          active = λ k. same_tests (has a.active k && R k) (has b.active k && R k)
+          active = λ k. both_ways (has a.active k && R k) (has b.active k && R k)
               (λ h. and_from (has b.active k) (R k) (back a b p q ka kb t.2 k h) (and_parts (has a.active k) (R k) h).1)
               (λ h. and_from (has a.active k) (R k)
               (back b a q p kb ka other k (subst (λ (n : ℕ). (has b.active k && has_at (slice_get sets n) k)
@@ -154,6 +147,6 @@ module _ (l : Scripts) (count : ℕ) (slots : HasSlots (library_of l) (slots_of 
     pub agree_at : (slot : ℕ) → a.slot ≡ Some slot → is_shared (library_of l) p q ≡ true → (k : ℕ)
         → (has a.active k && has_at (slice_get sets slot) k) ≡ (has b.active k && has_at (slice_get sets slot) k)
     agree_at slot sa shared k =
-        let ea : slots_of l ka.name ≡ slot = some_is (slots_of l ka.name) slot (sym ka.slot ∙ sa) in
+        let ea : slots_of l ka.name ≡ slot = same_Some (slots_of l ka.name) slot (sym ka.slot ∙ sa) in
         subst (λ (n : ℕ). (has a.active k && has_at (slice_get sets n) k)
         ≡ (has b.active k && has_at (slice_get sets n) k)) ea ((keys_from_shared shared).active k)

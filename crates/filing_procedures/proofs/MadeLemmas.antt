@@ -4,6 +4,7 @@ use Rattle.std.proofs.Common.{false, cond, ◌||◌, Option, Some, None, option_
 use Rattle.std.specs.List.{list_any}
 use Rattle.std.proofs.lemmas.List.Folds.{list_any-append}
 use Rattle.std.proofs.lemmas.Grind.{common_steps}
+use Rattle.std.proofs.lemmas.Bool.{or_parts}
 use Rattle.sieve_meaning.specs.Meaning.{Library}
 use Rattle.sieve_meaning.specs.Procedures.{Procedure, is_shared}
 use Rattle.filing_procedures.specs.ProcedureCode.{procedure_of, number_of}
@@ -28,10 +29,6 @@ module _ {A : Type 0} (t : A → Bool) (xs : List A) (i : ℕ) where
 
 -- NUMBERS
 
-neither_before : (a b : Bool) → (a || b) ≡ false → (a ≡ false) × (b ≡ false)
-neither_before false b h = (refl, h)
-neither_before true b h = absurd (cc h)
-
 module _ (lib : Library) (e : Procedure) where
   abbrev shares : code.Procedure → Bool
   shares p = is_shared lib (procedure_of p) e
@@ -44,14 +41,14 @@ module _ (lib : Library) (e : Procedure) where
       ap (λ (b : Bool). cond b (Some 0) (option_map suc (number_of lib (map procedure_of ps) e)))
       (sym (ap shares (sym is) ∙ h))
   number_found (q ∷ ps) (suc i) p below is h none =
-      let parts = neither_before (shares q) (list_any shares (take i ps)) none in
+      let parts = or_parts (shares q) (list_any shares (take i ps)) none in
       ap (option_map suc) (number_found ps i p (omega (arith, below)) is h parts.1)
       ∙ ap (λ (b : Bool). cond b (Some 0) (option_map suc (number_of lib (map procedure_of ps) e))) (sym parts.0)
 
   pub no_number : (ps : List code.Procedure) → list_any shares ps ≡ false → None ≡ number_of lib (map procedure_of ps) e
   no_number [] none = refl
   no_number (q ∷ ps) none =
-      let parts = neither_before (shares q) (list_any shares ps) none in
+      let parts = or_parts (shares q) (list_any shares ps) none in
       ap (option_map suc) (no_number ps parts.1)
       ∙ ap (λ (b : Bool). cond b (Some 0) (option_map suc (number_of lib (map procedure_of ps) e))) (sym parts.0)
 

@@ -1,10 +1,9 @@
 -- Those of a list that are gathered from left to right, each unless one like it is among those before, are the first of
 -- those that are alike.
-use Rattle.std.proofs.Common.{◌≡◌, List, [], ◌∷◌, ◌++◌, filter, Bool, true, false, not, ◌&&◌, ◌||◌, cond, refl, sym, ap, ◌∙◌}
+use Rattle.std.proofs.Common.{◌≡◌, List, [], ◌∷◌, ◌++◌, filter, Bool, true, false, not, ◌&&◌, ◌||◌, cond, refl, sym, ap, ◌∙◌, append_assoc}
+use Rattle.std.proofs.Common.{append-nil, inl, inr}
 use Rattle.std.specs.List.{list_any}
-use Rattle.std.proofs.Common.{append_assoc, append-nil}
 use Rattle.std.proofs.lemmas.Bool.{or_right, or_left, or_cases}
-use Rattle.std.proofs.Common.{inl, inr}
 use Rattle.sieve_meaning.specs.Procedures.{once}
 use Rattle.sieve_meaning.proofs.ProcedureLemmas.{AllOf, all_append, all_once}
 

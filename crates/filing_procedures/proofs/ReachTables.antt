@@ -1,20 +1,17 @@
 -- The rounds of the tables of what scripts reach.
-use Rattle.std.proofs.Common.{◌≡◌, ◌⊎◌, ℕ, zero, suc, ◌+◌, ◌<◌, List, [], ◌∷◌, ◌++◌, map, filter, length, Bool, true}
-use Rattle.std.proofs.Common.{false, ◌||◌, cond, Option, Some, None, Result, Ok, Err, IfOk, Vec, Global, inl, inr, refl}
-use Rattle.std.proofs.Common.{sym, ap, ◌∙◌, subst, arith, length-append}
-use Rattle.std.specs.Prelude.{slice_get, nat_eq}
+use Rattle.std.proofs.Common.{◌≡◌, ◌⊎◌, ℕ, zero, suc, ◌+◌, ◌<◌, List, [], ◌∷◌, ◌++◌, map, filter, length, Bool, true, false, ◌||◌, cond, Option, Some}
+use Rattle.std.proofs.Common.{None, Result, Ok, Err, IfOk, Vec, Global, inl, inr, refl, sym, ap, ◌∙◌, subst, arith, length-append, get_or}
+use Rattle.std.specs.Prelude.{slice_get, nat_eq, take}
 use Rattle.std.specs.List.{list_any}
-use Rattle.std.specs.Prelude.{take}
-use Rattle.std.proofs.Common.{get_or}
 use Rattle.std.proofs.lemmas.List.{map-append}
 use Rattle.std.proofs.lemmas.List.Folds.{list_any-append}
 use Rattle.std.proofs.lemmas.Grind.{common_steps}
 use Rattle.std.proofs.lemmas.Bool.{eq-eqb, eqb-true}
+use Rattle.std.proofs.lemmas.Option.{same_Some}
 use Rattle.sieve_meaning.specs.Program.{Commands}
 use Rattle.sieve_meaning.specs.Meaning.{ScriptName, same_script, Library}
 use Rattle.sieve_meaning.specs.Procedures.{included_names, holds_if_there, reaches_within, reaches}
 use Rattle.sieve_meaning.proofs.SharingLemmas.{same_is, same_self}
-use Rattle.sieve_meaning.proofs.ProcedureLemmas.{some_is}
 use Rattle.sieve_library.specs.Libraries.{Scripts, library_of}
 use Rattle.filing_procedures.specs.declared.slot_set.SlotSet.{SlotSet}
 use Rattle.filing_procedures.specs.Sets.{has}
@@ -30,7 +27,7 @@ if_ok_more P Q (Err e) h k = k
 -- what stands in a list with one more at its end
 pub got_pushed : {A : Type 0} (xs : List A) (x y : A) (i : ℕ) → slice_get (xs ++ x ∷ []) i ≡ Some y
     → (slice_get xs i ≡ Some y) ⊎ ((i ≡ length xs) × (x ≡ y))
-got_pushed [] x y zero h = inr (refl, some_is x y h)
+got_pushed [] x y zero h = inr (refl, same_Some x y h)
 got_pushed [] x y (suc i) h = absurd (cc h)
 got_pushed (z ∷ xs) x y zero h = inl h
 got_pushed (z ∷ xs) x y (suc i) h = elim (got_pushed xs x y i h) [ inl here ↦ inl here | inr last ↦ inr (ap suc last.0, last.1) ]
@@ -43,7 +40,7 @@ item_more xs i x below is = grind (arith, common_steps)
 pub row_is : (l : Scripts) (slot : ℕ) (script : Commands) → IsAt l slot (Some script) → (row : List ℕ)
     → row ≡ map (slots_of l) (filter (is_there (library_of l)) (names_there (library_of l) script)) → IsRow l slot row
 row_is l slot script at row is s x h k =
-    is ∙ ap (λ (y : Commands). map (slots_of l) (filter (is_there (library_of l)) (names_there (library_of l) y))) (some_is script x (at s x h k))
+    is ∙ ap (λ (y : Commands). map (slots_of l) (filter (is_there (library_of l)) (names_there (library_of l) y))) (same_Some script x (at s x h k))
 
 pub no_row : (l : Scripts) (slot : ℕ) → IsAt l slot None → (row : List ℕ) → IsRow l slot row
 no_row l slot at row s x h k = absurd (cc (at s x h k))

@@ -1,5 +1,5 @@
 -- A program of version 1 runs as it did before there were procedures.
-use Rattle.std.proofs.Common.{◌≡◌, ℕ, zero, suc, ◌+◌, ◌<◌, ◌≤◌, Bool, true, false, not, ◌||◌, ◌&&◌, List, [], ◌∷◌, ◌++◌}
+use Rattle.std.proofs.Common.{◌≡◌, ℕ, zero, suc, ◌+◌, ◌<◌, ◌≤◌, Bool, true, false, not, ◌||◌, List, ◌∷◌, ◌++◌}
 use Rattle.std.proofs.Common.{length, map, get_or, Option, Some, None, refl, sym, ap, ◌∙◌, arith, slice_get, slice_set}
 use Rattle.std.specs.Prelude.{◌↔◌, if◌then◌else◌, nat_lt, nat_le, nat_eq, slice_index_or}
 use Rattle.std.specs.List.{list_any}
@@ -7,10 +7,8 @@ use Rattle.std.proofs.lemmas.List.{get_or-map, length-map}
 use Rattle.std.proofs.lemmas.Option.{slice_get_within, slice_get-get_or}
 use Rattle.filing_image.specs.declared.instruction.Instruction.{Instruction}
 use Rattle.filing_image.specs.declared.instruction.Operation.{Operation}
-use Rattle.filing_image.specs.declared.instruction.Operation.TheVariants.{PushTrue, PushFalse, Not, Values, Join, Match}
-use Rattle.filing_image.specs.declared.instruction.Operation.TheVariants.{Pop, Exists, Size, Number, Less, Jump, JumpIf}
-use Rattle.filing_image.specs.declared.instruction.Operation.TheVariants.{JumpUnless, Marked, Mark, File, Keep, Discard}
-use Rattle.filing_image.specs.declared.instruction.Operation.TheVariants.{Stop, Fault, Call, Return}
+use Rattle.filing_image.specs.declared.instruction.Operation.TheVariants.{PushTrue, PushFalse, Not, Values, Join, Match, Pop, Exists, Size, Number}
+use Rattle.filing_image.specs.declared.instruction.Operation.TheVariants.{Less, JumpIf, JumpUnless, Marked, Mark, File, Fault, Call, Return}
 use Rattle.filing_image.specs.Program.{Program, parts, instruction_of, version_of}
 use Rattle.filing_image.specs.Spelling.{IsOfVersion, last_operation}
 use Rattle.class_paths.specs.Paths.{insert_path}
@@ -20,9 +18,8 @@ use Rattle.sieve_meaning.specs.declared.run_fault.RunFault.TheVariants.{ClassNot
 use Rattle.sieve_meaning.specs.RunFaults.{fault_of}
 use Rattle.sieve_meaning.specs.Case.{Facts}
 use Rattle.sieve_meaning.specs.Truth.{has_field}
-use Rattle.filing_table.specs.Machine.{Entry, T, L, N, State, Run, At, Over, Trap, with_stack, values_of}
-use Rattle.filing_table.specs.Machine.{comparison_holds, with_named, only_if, file, on_stack, at_place, step}
-use Rattle.filing_table.specs.Machine.{after_steps}
+use Rattle.filing_table.specs.Machine.{Entry, T, L, N, State, Run, At, Over, Trap, with_stack, values_of, comparison_holds, with_named, only_if, file}
+use Rattle.filing_table.specs.Machine.{on_stack, at_place, step, after_steps}
 use Rattle.filing_table.specs.Ends.{HasOutcome}
 use Rattle.filing_table.specs.VersionOne as one
 
@@ -77,47 +74,21 @@ module _ (p : Program) (c : Facts) where
   acts : (o : Operation) (s : State) (es : List Entry) → IsOld o → forgotten (on_stack p c o s es) ≡ one.on_stack p c o (forget s) es
   acts PushTrue s es old = stack_is s (T true ∷ es)
   acts PushFalse s es old = stack_is s (T false ∷ es)
-  acts Not s [] old = refl
   acts Not s (T b ∷ es) old = stack_is s (T (not b) ∷ es)
-  acts Not s (L xs ∷ es) old = refl
-  acts Not s (N n ∷ es) old = refl
   acts (Values b) s es old = named_stack (slice_get p.texts b) s (λ name. L (values_of c name) ∷ es)
-  acts Join s [] old = refl
-  acts Join s (T b ∷ es) old = refl
-  acts Join s (N n ∷ es) old = refl
-  acts Join s (L ys ∷ []) old = refl
-  acts Join s (L ys ∷ T b ∷ es) old = refl
-  acts Join s (L ys ∷ N n ∷ es) old = refl
   acts Join s (L ys ∷ L xs ∷ es) old = stack_is s (L (xs ++ ys) ∷ es)
-  acts (Match a b) s [] old = refl
-  acts (Match a b) s (T t ∷ es) old = refl
-  acts (Match a b) s (N n ∷ es) old = refl
   acts (Match a b) s (L xs ∷ es) old =
       let es' : List ℕ → List Entry = λ key. T (list_any (comparison_holds a key) xs) ∷ L xs ∷ es in
       only_is (nat_le a 5) (with_named (slice_get p.texts b) (λ key. with_stack s (es' key)))
       (one.with_named (slice_get p.texts b) (λ key. one.with_stack (forget s) (es' key)))
       (named_stack (slice_get p.texts b) s es')
-  acts Pop s [] old = refl
   acts Pop s (e ∷ es) old = stack_is s es
   acts (Exists b) s es old = named_stack (slice_get p.texts b) s (λ name. T (has_field c name) ∷ es)
   acts Size s es old = stack_is s (N c.size ∷ es)
   acts (Number b) s es old = named_stack (slice_get p.numbers b) s (λ n. N n ∷ es)
-  acts Less s [] old = refl
-  acts Less s (T b ∷ es) old = refl
-  acts Less s (L xs ∷ es) old = refl
-  acts Less s (N y ∷ []) old = refl
-  acts Less s (N y ∷ T b ∷ es) old = refl
-  acts Less s (N y ∷ L xs ∷ es) old = refl
   acts Less s (N y ∷ N x ∷ es) old = stack_is s (T (nat_lt x y) ∷ es)
-  acts (Jump b) s es old = refl
-  acts (JumpIf b) s [] old = refl
   acts (JumpIf b) s (T t ∷ es) old = refl
-  acts (JumpIf b) s (L xs ∷ es) old = refl
-  acts (JumpIf b) s (N n ∷ es) old = refl
-  acts (JumpUnless b) s [] old = refl
   acts (JumpUnless b) s (T t ∷ es) old = refl
-  acts (JumpUnless b) s (L xs ∷ es) old = refl
-  acts (JumpUnless b) s (N n ∷ es) old = refl
   acts (Marked b) s es old =
       only_is (nat_lt b p.slots) (with_stack s (T (slice_index_or s.marks b false) ∷ es))
       (one.with_stack (forget s) (T (slice_index_or s.marks b false) ∷ es))
@@ -129,15 +100,13 @@ module _ (p : Program) (c : Facts) where
       only_is (nat_le a 1) (with_named (slice_get p.texts b) (file c s a))
       (one.with_named (slice_get p.texts b) (one.file c (forget s) a))
       (named_is (slice_get p.texts b) (file c s a) (one.file c (forget s) a) (file_is c s a))
-  acts Keep s es old = refl
-  acts Discard s es old = refl
-  acts Stop s es old = refl
   acts (Fault a) s es old =
       only_is (nat_le 2 a) (with_named (fault_of a) (λ fault. Over (Some fault) s))
       (one.with_named (fault_of a) (λ fault. one.Over (Some fault) (forget s))) (named_is (fault_of a) (λ fault.
       Over (Some fault) s) (λ fault. one.Over (Some fault) (forget s)) (λ fault. refl))
   acts (Call b) s es old = absurd old
   acts Return s es old = absurd old
+  acts o s es old = refl
 
   module _ (none : p.procedures ≡ None) (known : IsOfVersion (parts p)) where
     last_is : last_operation (version_of p.procedures) ≡ 21

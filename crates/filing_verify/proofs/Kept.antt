@@ -6,10 +6,7 @@ use Rattle.std.specs.List.{count_by}
 use Rattle.std.proofs.lemmas.Bool.{cases_lt}
 use Rattle.filing_image.specs.Program.{Program, first_places, firsts_of}
 use Rattle.filing_image.specs.declared.instruction.Operation.{Operation}
-use Rattle.filing_image.specs.declared.instruction.Operation.TheVariants.{PushTrue, PushFalse, Not, Values, Join, Match}
-use Rattle.filing_image.specs.declared.instruction.Operation.TheVariants.{Pop, Exists, Size, Number, Less, Jump, JumpIf}
-use Rattle.filing_image.specs.declared.instruction.Operation.TheVariants.{JumpUnless, Marked, Mark, File, Keep, Discard}
-use Rattle.filing_image.specs.declared.instruction.Operation.TheVariants.{Stop, Fault, Call, Return}
+use Rattle.filing_image.specs.declared.instruction.Operation.TheVariants.{Not, Join, Match, Pop, Less, Jump, JumpIf, JumpUnless, Call, Return}
 use Rattle.filing_verify.specs.declared.kind.Kind.{Kind}
 use Rattle.filing_verify.specs.declared.kind.Kind.TheVariants.{Truth, Texts, Count}
 use Rattle.filing_verify.specs.declared.fault.VerifyFault.{VerifyFault}
@@ -37,54 +34,16 @@ jump_is (JumpUnless b) = refl
 jump_is o = refl
 
 after_is : (o : Operation) (ks : List Kind) → IsOld o → after o ks ≡ one.after o ks
-after_is PushTrue ks old = refl
-after_is PushFalse ks old = refl
-after_is Not [] old = refl
 after_is Not (Truth ∷ ks) old = refl
-after_is Not (Texts ∷ ks) old = refl
-after_is Not (Count ∷ ks) old = refl
-after_is (Values b) ks old = refl
-after_is Join [] old = refl
-after_is Join (Truth ∷ ks) old = refl
-after_is Join (Count ∷ ks) old = refl
-after_is Join (Texts ∷ []) old = refl
-after_is Join (Texts ∷ Truth ∷ ks) old = refl
 after_is Join (Texts ∷ Texts ∷ ks) old = refl
-after_is Join (Texts ∷ Count ∷ ks) old = refl
-after_is (Match a b) [] old = refl
-after_is (Match a b) (Truth ∷ ks) old = refl
 after_is (Match a b) (Texts ∷ ks) old = refl
-after_is (Match a b) (Count ∷ ks) old = refl
-after_is Pop [] old = refl
 after_is Pop (k ∷ ks) old = refl
-after_is (Exists b) ks old = refl
-after_is Size ks old = refl
-after_is (Number b) ks old = refl
-after_is Less [] old = refl
-after_is Less (Truth ∷ ks) old = refl
-after_is Less (Texts ∷ ks) old = refl
-after_is Less (Count ∷ []) old = refl
-after_is Less (Count ∷ Truth ∷ ks) old = refl
-after_is Less (Count ∷ Texts ∷ ks) old = refl
 after_is Less (Count ∷ Count ∷ ks) old = refl
-after_is (Jump b) ks old = refl
-after_is (JumpIf b) [] old = refl
 after_is (JumpIf b) (Truth ∷ ks) old = refl
-after_is (JumpIf b) (Texts ∷ ks) old = refl
-after_is (JumpIf b) (Count ∷ ks) old = refl
-after_is (JumpUnless b) [] old = refl
 after_is (JumpUnless b) (Truth ∷ ks) old = refl
-after_is (JumpUnless b) (Texts ∷ ks) old = refl
-after_is (JumpUnless b) (Count ∷ ks) old = refl
-after_is (Marked b) ks old = refl
-after_is (Mark b) ks old = refl
-after_is (File a b) ks old = refl
-after_is Keep ks old = refl
-after_is Discard ks old = refl
-after_is Stop ks old = refl
-after_is (Fault a) ks old = refl
 after_is (Call b) ks old = absurd old
 after_is Return ks old = absurd old
+after_is o ks old = refl
 
 module _ (p : Program) (none : p.procedures ≡ None) where
   no_firsts : first_places p ≡ []

@@ -51,7 +51,7 @@ module _ (program : Program) (o : Operation) (p : ℕ) (costs : List ℕ) where
         ]
       ]
 
-module _ (program : Program) (i : ℕ) (costs : List ℕ) (forward : GoesOnward program) (so_far : Costs program (i + 1) costs) where
+module _ {program : Program} {i : ℕ} {costs : List ℕ} (forward : GoesOnward program) (so_far : Costs program (i + 1) costs) where
   onto : (p : ℕ) → i ≤ p → (i + 1 ≤ p) ⊎ (p ≡ i)
   onto p le = elim (cases_lt i p) [ inl a ↦ inl (omega arith) | inr b ↦ inr (omega arith) ]
 
@@ -64,7 +64,7 @@ module _ (program : Program) (i : ℕ) (costs : List ℕ) (forward : GoesOnward 
     attained = λ p le lt r. elim (onto p le) [ inl a ↦ so_far.attained p a lt r | inr e ↦ absurd (never (subst (IsReached program) e r)) ];
   }
 
-  module _ (o : Operation) (here : slice_get program.code i ≡ Some o) (reached : IsReached program i) where
+  module _ {o : Operation} (here : slice_get program.code i ≡ Some o) (reached : IsReached program i) where
     v : ℕ
     v = cost_at program o i costs
 
@@ -158,7 +158,7 @@ module _ (program : Program) (i : ℕ) (costs : List ℕ) (forward : GoesOnward 
     unfolding v
     set_cost = set_v
 
-module _ (program : Program) (costs : List ℕ) (all : Costs program 0 costs) where
+module _ {program : Program} {costs : List ℕ} (all : Costs program 0 costs) where
   along : (n q : ℕ) → Path program n q → q < length program.code → n + at costs q ≤ at costs 0
   along zero q e lt = rw e (omega arith)
   along (suc n) q (p, path, (o, here, f)) lt =

@@ -73,7 +73,7 @@ follows_made g t p ms q lt (inr e) =
 
 -- ---- the pass
 
-module _ (program : Program) (i : ℕ) (ms : List Bool) (so_far : Marks program i ms) where
+module _ {program : Program} {i : ℕ} {ms : List Bool} (so_far : Marks program i ms) where
   upto : (p : ℕ) → p < i + 1 → (p < i) ⊎ (p ≡ i)
   upto p lt = elim (cases_lt p i) [ inl a ↦ inl a | inr b ↦ inr (omega arith) ]
 
@@ -92,7 +92,7 @@ module _ (program : Program) (i : ℕ) (ms : List Bool) (so_far : Marks program 
     ];
   }
 
-  module _ (o : Operation) (at : slice_get program.code i ≡ Some o) (marked : IsMarked ms i) where
+  module _ {o : Operation} (at : slice_get program.code i ≡ Some o) (marked : IsMarked ms i) where
     module _ (ahead : (q : ℕ) → target program o ≡ Some q → i < q) where
       -- a mark at or before i was there
       old_mark : (p : ℕ) → p < i + 1 → IsMarked (with_next (goes_on o) i (with_target (target program o) ms)) p → IsMarked ms p
@@ -127,7 +127,7 @@ module _ (program : Program) (i : ℕ) (ms : List Bool) (so_far : Marks program 
         ];
       }
 
-module _ (program : Program) (ms : List Bool) (all : Marks program (length program.code) ms) where
+module _ {program : Program} {ms : List Bool} (all : Marks program (length program.code) ms) where
   pub complete : (n q : ℕ) → Path program n q → q < length program.code → IsMarked ms q
   complete zero q e lt = subst (λ (k : ℕ). IsMarked ms k) (sym e) (all.first (omega arith))
   complete (suc n) q (p, path, leads) lt =

@@ -1,7 +1,6 @@
 -- Procedures begin at places that ascend: which of them a place is in.
-use Rattle.std.proofs.Common.{◌≡◌, ℕ, zero, suc, ◌+◌, ◌-◌, ◌<◌, ◌≤◌, Bool, true, false, cond, eqb, leb, List, [], ◌∷◌}
-use Rattle.std.proofs.Common.{length, get_or, Option, Some, None, refl, sym, ap, eq-eqb, ◌∙◌, subst, arith, inl, inr}
-use Rattle.std.proofs.Common.{◌⊎◌}
+use Rattle.std.proofs.Common.{◌≡◌, ℕ, zero, suc, ◌+◌, ◌-◌, ◌<◌, ◌≤◌, Bool, true, false, cond, eqb, leb, List, [], ◌∷◌, length, get_or, Option, Some}
+use Rattle.std.proofs.Common.{None, refl, sym, ap, eq-eqb, ◌∙◌, subst, arith, inl, inr, ◌⊎◌}
 use Rattle.std.specs.Prelude.{slice_get}
 use Rattle.std.specs.List.{count_by}
 use Rattle.std.specs.List.Sorted.{IsPartitionedBy, IsPartitionPoint}
@@ -29,11 +28,11 @@ some_procedures (Some firsts) e = refl
 
 -- ---- how many numbers are at most p
 
-begun : ℕ → List ℕ → ℕ
+unfoldable pub begun : ℕ → List ℕ → ℕ
 begun p [] = 0
 begun p (f ∷ fs) = cond (leb f p) (1 + begun p fs) (begun p fs)
 
-begun_is : (p : ℕ) (fs : List ℕ) → begun p fs ≡ count_by (λ f. leb f p) fs
+pub begun_is : (p : ℕ) (fs : List ℕ) → begun p fs ≡ count_by (λ f. leb f p) fs
 unfolding begun
 begun_is p fs = is_count_by (begun p) (λ f. leb f p) refl (λ x xs. refl) fs
 

@@ -67,7 +67,7 @@ begins program costs n many long zero = record {
   are = λ cost from p le lt r. absurd (omega arith);
 }
 
-module _ (program : Program) (i : ℕ) (costs : List ℕ) (onward : GoesOnward program) (inside : LeadsInside program)
+module _ {program : Program} {i : ℕ} {costs : List ℕ} (onward : GoesOnward program) (inside : LeadsInside program)
     (so_far : Costing program (i + 1) costs) where
   onto : (p : ℕ) → i ≤ p → (i + 1 ≤ p) ⊎ (p ≡ i)
   onto p le = elim (cases_lt i p) [ inl a ↦ inl (omega arith) | inr b ↦ inr (omega arith) ]
@@ -92,7 +92,7 @@ module _ (program : Program) (i : ℕ) (costs : List ℕ) (onward : GoesOnward p
     ];
   }
 
-  module _ (o : Operation) (here : slice_get program.code i ≡ Some o) (reached : IsReached program i) where
+  module _ {o : Operation} (here : slice_get program.code i ≡ Some o) (reached : IsReached program i) where
     later : (p q : ℕ) (x : Operation) → i ≤ p → IsReached program p → slice_get program.code p ≡ Some x → Follows program x p q → i < q
     later p q x le r at (inl (g, e)) = omega arith
     later p q x le r at (inr to) = let lt : p < q = onward p q x r at to in omega arith
@@ -186,7 +186,7 @@ module _ (program : Program) (i : ℕ) (costs : List ℕ) (onward : GoesOnward p
 
 -- ---- the end
 
-module _ (program : Program) (costs : List ℕ) (all : Costing program 0 costs) where
+module _ {program : Program} {costs : List ℕ} (all : Costing program 0 costs) where
   pub there : (cost : ℕ → ℕ) × AreCosts program cost
   there = (all.there.0, λ p o r at. all.there.1 p o (omega arith) r at)
 

@@ -20,10 +20,10 @@ Table = List (Option (List Kind))
 
 -- ---- one place after another
 
-module _ (program : Program) (o : Operation) (p b : ℕ) (r : List Kind) (to : target program o
-    ≡ Some b) (old mid : Table) (first : Takes old (λ q. q ≡ b) r mid) where
-  pub takes_both : (new : Table) → Takes mid (λ q. (goes_on o ≡ true) × (q ≡ p + 1)) r new → Takes old (Follows program o p) r new
-  takes_both new second = record {
+module _ (program : Program) (o : Operation) (p : ℕ) {b : ℕ} {r : List Kind} {old mid : Table} (to : target program o ≡ Some b)
+    (first : Takes old (λ q. q ≡ b) r mid) where
+  pub takes_both : {new : Table} → Takes mid (λ q. (goes_on o ≡ true) × (q ≡ p + 1)) r new → Takes old (Follows program o p) r new
+  takes_both second = record {
     long = second.long ∙ first.long;
     offered = λ q f lt. elim f [
       | inl n ↦ second.offered q n (omega (arith, first.long))
@@ -38,7 +38,7 @@ module _ (program : Program) (o : Operation) (p b : ℕ) (r : List Kind) (to : t
 
 -- ---- the pass
 
-module _ (program : Program) (i : ℕ) (table : Table) (forward : GoesOnward program) (so_far : Shaping program i table) where
+module _ {program : Program} {i : ℕ} {table : Table} (forward : GoesOnward program) (so_far : Shaping program i table) where
   upto : (p : ℕ) → p < i + 1 → (p < i) ⊎ (p ≡ i)
   upto p lt = elim (cases_lt p i) [ inl a ↦ inl a | inr b ↦ inr (omega arith) ]
 
@@ -55,7 +55,7 @@ module _ (program : Program) (i : ℕ) (table : Table) (forward : GoesOnward pro
     ];
   }
 
-  module _ (ks : List Kind) (o : Operation) (here : Has table i ks) (at : slice_get program.code i ≡ Some o) where
+  module _ {ks : List Kind} {o : Operation} (here : Has table i ks) (at : slice_get program.code i ≡ Some o) where
     fine : (shape : ℕ → List Kind) (good : IsAssignment program shape) → IsFine program shape i o
     fine shape good = good.each i o (so_far.reached i ks here) at
 
@@ -66,7 +66,7 @@ module _ (program : Program) (i : ℕ) (table : Table) (forward : GoesOnward pro
     pub lacks : after o ks ≡ None → HasShapes program → ⊥
     lacks none (shape, good) = let e = then_is shape good in cc
 
-    module _ (r : List Kind) (finds : after o ks ≡ Some r) where
+    module _ {r : List Kind} (finds : after o ks ≡ Some r) where
       forced_after : (shape : ℕ → List Kind) (good : IsAssignment program shape) → (fine shape good).result ≡ r
       forced_after shape good = let e = then_is shape good in cc
 
@@ -82,7 +82,7 @@ module _ (program : Program) (i : ℕ) (table : Table) (forward : GoesOnward pro
           let within : d.place < length program.code = omega (arith, slice_get_within table d.place (Some d.other) d.there, so_far.long) in
           d.differs (sym (so_far.forced d.place d.other d.there shape good) ∙ f.passed_on d.place d.named within ∙ forced_after shape good)
 
-      module _ (shallow : length r ≤ 32) (new : Table) (takes : Takes table (Follows program o i) r new) where
+      module _ (shallow : length r ≤ 32) {new : Table} (takes : Takes table (Follows program o i) r new) where
         later : (q : ℕ) → Follows program o i q → i < q
         later q (inl (g, e)) = omega arith
         later q (inr to) = forward i q o (so_far.reached i ks here) at to
@@ -139,7 +139,7 @@ shape_at None = []
 shape_at (Some None) = []
 shape_at (Some (Some ks)) = ks
 
-module _ (program : Program) (table : Table) (all : Shaping program (length program.code) table) where
+module _ {program : Program} {table : Table} (all : Shaping program (length program.code) table) where
   has : (n q : ℕ) → Path program n q → q < length program.code → (ks : List Kind) × Has table q ks
   has zero q e lt = ([], subst (λ (k : ℕ). Has table k []) (sym e) (all.first (omega arith)))
   has (suc n) q (p, path, (o, at, f)) lt =

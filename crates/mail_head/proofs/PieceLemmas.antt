@@ -1,11 +1,12 @@
 -- The header of a message that comes in pieces.
 use Rattle.std.proofs.Common.{◌≡◌, ℕ, zero, suc, ◌+◌, ◌-◌, ◌≤◌, Bool, true, false, cond, eqb, List, [], ◌∷◌, ◌++◌}
 use Rattle.std.proofs.Common.{length, take, refl, sym, ap, ◌∙◌, arith, get_or, ◌⊎◌, inl, inr, append_assoc, eqb-true}
-use Rattle.std.proofs.lemmas.List.{append-nil, length-append, take_at, get_or_at, length-take}
+use Rattle.std.proofs.lemmas.List.{append-nil, length-append, length-take}
 use Rattle.std.specs.Prelude.{nat_lt, ◌&&◌}
 use Rattle.std.specs.List.{concat}
 use Rattle.std.proofs.Math.Bool.{and-false}
-use Rattle.mail_head.specs.Lines.{raw_lines, without_last, without_end, header_lines, header_of, line_len}
+use Rattle.mail_head.proofs.SpanLemmas.{without_lf}
+use Rattle.mail_head.specs.Lines.{raw_lines, without_end, header_lines, header_of, line_len}
 
 -- no octet is an LF
 abbrev pub NoEnd : List ℕ → Type 0
@@ -53,14 +54,8 @@ line_len_open (b ∷ t) h = rw (h.0, line_len_open t h.1) refl
 abbrev last_of : List ℕ → ℕ
 last_of bs = get_or bs (length bs - 1) 0
 
-length-last : (t : List ℕ) (x : ℕ) → length (t ++ x ∷ []) - 1 ≡ length t
-length-last t x = omega (arith, length-append t (x ∷ []))
-
 some-last : (t : List ℕ) (x : ℕ) → nat_lt 0 (length (t ++ x ∷ [])) ≡ true
 some-last t x = let long : length (t ++ x ∷ []) ≡ length t + 1 = length-append t (x ∷ []) in grind arith
-
-without_end-line : (t : List ℕ) → without_end (t ++ 10 ∷ []) ≡ without_last 13 t
-without_end-line t = rw (some-last t 10, length-last t 10, get_or_at t 10 [] 0 (length t) refl, take_at t (10 ∷ []) (length t) refl) refl
 
 length_cond : (t : Bool) (xs : List ℕ) → length xs - 1 ≤ length (cond t (take (length xs - 1) xs) xs)
 length_cond true xs = omega (arith, length-take (length xs - 1) xs)
@@ -73,7 +68,7 @@ HasText t = nat_lt 0 (length (without_end (t ++ 10 ∷ []))) ≡ true
 pub HasText-long : (b c : ℕ) (t : List ℕ) → HasText (b ∷ c ∷ t)
 HasText-long b c t =
     let most = length_cond (nat_lt 0 (length (b ∷ c ∷ t)) && eqb (last_of (b ∷ c ∷ t)) 13) (b ∷ c ∷ t) in
-    rw (without_end-line (b ∷ c ∷ t)) (grind (arith, most))
+    rw (without_lf (b ∷ c ∷ t)) (grind (arith, most))
 
 pub HasText-one : (b : ℕ) → eqb b 13 ≡ false → HasText (b ∷ [])
 HasText-one b h = rw h refl

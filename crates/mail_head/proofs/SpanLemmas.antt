@@ -1,21 +1,16 @@
 -- The computed fields of a message are those of the spans that it is cut into.
-use Rattle.std.proofs.Common.{◌≡◌, ℕ, suc, ◌+◌, ◌-◌, ◌<◌, Bool, true, false, cond, eqb, List, [], ◌∷◌, ◌++◌, length}
-use Rattle.std.proofs.Common.{take, drop, refl, sym, ap, ◌∙◌, subst, arith, inl, inr, ◌⊎◌, Option, Some, None}
-use Rattle.std.proofs.Common.{append_assoc, eqb-true, eq-eqb, lt-ltb, ltb-true}
-use Rattle.std.proofs.Math.Seq.{take-append_seam}
+use Rattle.std.proofs.Common.{◌≡◌, ℕ, suc, ◌+◌, ◌-◌, ◌<◌, Bool, true, false, cond, eqb, List, [], ◌∷◌, ◌++◌, length, take, drop, refl, sym, ap, ◌∙◌}
+use Rattle.std.proofs.Common.{subst, arith, inl, inr, ◌⊎◌, Option, Some, None, append_assoc, eqb-true, eq-eqb, lt-ltb, ltb-true}
+use Rattle.std.proofs.Math.Seq.{take-append_seam, drop-append_seam}
 use Rattle.std.proofs.lemmas.List.{append-nil, length-append, take-append-drop}
 use Rattle.std.proofs.lemmas.List.Folds.{concat-append, length-prefix_len}
-use Rattle.std.proofs.lemmas.Bool.{cases_Bool, and_parts, and_from, not-true}
+use Rattle.std.proofs.lemmas.Bool.{cases_Bool, and_parts, and_from, not-true, true≢false}
 use Rattle.std.specs.Prelude.{nat_lt, slice_index, not, ◌&&◌, ◌==◌}
 use Rattle.std.specs.List.{list_all, concat, prefix_len, filter_map, cons_option}
 use Rattle.mail_head.specs.Lines.{is_blank, into_first, raw_lines, without_last, without_end, header_lines, begins_blank, logical_from, logical_lines}
 use Rattle.mail_head.specs.Fields.{is_name_octet, begins_with, field_of, fields_of}
-use Rattle.mail_head.specs.Spans.{not_lf, LinesOf, no_lines, last_line, whole_line, has_octets, begins_empty, IsHeader}
-use Rattle.mail_head.specs.Spans.{begins_anew, LogicalOf, no_logical, logical, EndsIn, IsEnd, IsField, FieldsAmong}
-use Rattle.mail_head.specs.Spans.{no_fields, field, passed, AreFields, FieldsLaw}
-
-no_equation : true ≡ false → ⊥
-no_equation e = absurd cc
+use Rattle.mail_head.specs.Spans.{not_lf, LinesOf, no_lines, last_line, whole_line, has_octets, begins_empty, IsHeader, begins_anew, LogicalOf}
+use Rattle.mail_head.specs.Spans.{no_logical, logical, EndsIn, IsEnd, IsField, FieldsAmong, no_fields, field, passed, AreFields, FieldsLaw}
 
 -- lines
 
@@ -199,7 +194,7 @@ last_of [] = inl refl
 last_of (x ∷ bs) = inr (last_cons x bs (last_of bs))
 
 not_in : (c : ℕ) (bs : List ℕ) → test c bs ≡ false → EndsIn c bs → ⊥
-not_in c bs e (front, f) = no_equation (sym (eq-eqb c c refl) ∙ sym (test_at front c c) ∙ ap (test c) (sym f) ∙ e)
+not_in c bs e (front, f) = true≢false (sym (eq-eqb c c refl) ∙ sym (test_at front c c) ∙ ap (test c) (sym f) ∙ e)
 
 ends_or : (c : ℕ) (bs : List ℕ) → EndsIn c bs ⊎ (test c bs ≡ false)
 ends_or c bs = by (last_of bs)
@@ -255,17 +250,13 @@ run_passes p (b ∷ bs) = at (p b) refl (run_passes p bs)
     at true e h = let one : 1 + prefix_len p bs ≡ suc (prefix_len p bs) = omega arith in rw (one, e) h
     at false e h = refl
 
-drop_run : (xs ys : List ℕ) → drop (length xs) (xs ++ ys) ≡ ys
-drop_run [] ys = refl
-drop_run (x ∷ xs) ys = drop_run xs ys
-
 -- a blank and a colon are no octets of a name
 blank_is_no_name : (b : ℕ) → is_blank b ≡ true → is_name_octet b ≡ false
 blank_is_no_name b h = elim (cases_Bool (eqb b 32)) [
   | inl e ↦ ap is_name_octet (eqb-true b 32 e)
   | inr space ↦ elim (cases_Bool (eqb b 9)) [
     | inl e ↦ ap is_name_octet (eqb-true b 9 e)
-    | inr tab ↦ absurd (no_equation (sym h ∙ rw (space, tab) refl))
+    | inr tab ↦ absurd (true≢false (sym h ∙ rw (space, tab) refl))
   ]
 ]
 
@@ -283,9 +274,9 @@ field_written name blanks tail some h k =
     rw (
       name_run name blanks tail h k,
       take-append_seam name (blanks ++ 58 ∷ tail),
-      drop_run name (blanks ++ 58 ∷ tail),
+      drop-append_seam name (blanks ++ 58 ∷ tail),
       run_stops is_blank blanks 58 tail k refl,
-      drop_run blanks (58 ∷ tail),
+      drop-append_seam blanks (58 ∷ tail),
       named,
     ) refl
 

@@ -1,7 +1,6 @@
 -- B text, decoded sixteen groups of four at a time.
-use Rattle.std.proofs.Common.{◌≡◌, ℕ, zero, suc, ◌+◌, ◌*◌, ◌/◌, ◌<◌, ◌≤◌, Bool, true, false, cond, List, [], ◌∷◌, ◌++◌}
-use Rattle.std.proofs.Common.{length, take, drop, refl, sym, ap, subst, ◌∙◌, arith, inl, inr, ◌⊎◌, Option, Some, None}
-use Rattle.std.proofs.Common.{append_assoc}
+use Rattle.std.proofs.Common.{◌≡◌, ℕ, zero, suc, ◌+◌, ◌*◌, ◌/◌, ◌<◌, ◌≤◌, Bool, true, false, cond, List, [], ◌∷◌, ◌++◌, length, take, drop, refl, sym}
+use Rattle.std.proofs.Common.{ap, subst, ◌∙◌, arith, inl, inr, ◌⊎◌, Option, Some, None, append_assoc}
 use Rattle.std.proofs.lemmas.Bool.{cases_lt}
 use Rattle.std.proofs.lemmas.List.{append-nil, length-append, length-take, length-drop, length-replicate, take_at}
 use Rattle.std.proofs.lemmas.List.{drop_at, take_all, drop_all, take-append-drop}
@@ -15,7 +14,7 @@ use Rattle.mail_words.specs.declared.charset.Charset.{Charset}
 use Rattle.mail_words.specs.Charsets.{in_utf8, ArePut}
 use Rattle.mail_words.specs.Decoding.{b_octets}
 use Rattle.mail_words.specs.Unfolding.{is_nil, without_line_ends}
-use Rattle.mail_words.proofs.CharsetLemmas.{written-nil, written-append, ArePut-some, ArePut-none}
+use Rattle.mail_words.proofs.CharsetLemmas.{written-nil, written-append, ArePut-some, ArePut-none, option_map-nil}
 use Rattle.mail_words.proofs.EncodedLemmas.{b_law, bytes_nil, bytes_cons, bytes_append, bytes_take}
 
 bytes_drop : (n : ℕ) (xs : List ℕ) → IsBytes xs → IsBytes (drop n xs)
@@ -144,10 +143,6 @@ pub record Decoding (charset : Charset) (text rest old out : List ℕ) : Type 0 
   pub octets : List ℕ
   pub put : out ≡ old ++ in_utf8 charset octets
   pub same : option_map (λ more. octets ++ more) (b_octets rest) ≡ b_octets text
-
-option_map-nil : (o : Option (List ℕ)) → option_map (λ more. [] ++ more) o ≡ o
-option_map-nil None = refl
-option_map-nil (Some x) = refl
 
 pub Decoding-none : (charset : Charset) (text old : List ℕ) → IsBytes text → Decoding charset text text old old
 Decoding-none charset text old bytes = record { bytes = bytes; octets = []; put = written-nil charset old; same = option_map-nil (b_octets text) }

@@ -1,13 +1,13 @@
 -- Octets in a charset.
-use Rattle.std.proofs.Common.{◌≡◌, ℕ, ◌+◌, ◌-◌, ◌<◌, ◌≤◌, get_or, take, Bool, true, false, cond, List, [], ◌∷◌, ◌++◌}
-use Rattle.std.proofs.Common.{length, drop, refl, sym, ap, subst, ◌∙◌, append_assoc, Option, Some, None, Result, Ok}
-use Rattle.std.proofs.Common.{Err}
-use Rattle.std.proofs.lemmas.List.{append-nil, drop_at, take_more, take_all, take_rest}
+use Rattle.std.proofs.Common.{◌≡◌, ℕ, ◌+◌, ◌-◌, ◌<◌, ◌≤◌, get_or, take, Bool, true, false, cond, List, [], ◌∷◌, ◌++◌, option_map, length, drop, refl}
+use Rattle.std.proofs.Common.{sym, ap, subst, ◌∙◌, append_assoc, Option, Some, None, Result, Ok, Err}
+use Rattle.std.proofs.lemmas.List.{append-nil, take_more, take_all, take_rest}
 use Rattle.std.specs.Prelude.{option_and_then}
 use Rattle.std.specs.Char.{encode_utf8}
 use Rattle.std.proofs.lemmas.Str.{IsUtf8-from_is_utf8, is_utf8-from_IsUtf8}
 use Rattle.std.specs.Result.{MatchResult, is_ok}
 use Rattle.std.specs.Str.{IsUtf8, is_utf8, encode_utf8_all}
+use Rattle.std.proofs.Math.Seq.{drop-append_seam}
 use Rattle.mail_words.specs.declared.charset.Charset.{Charset}
 use Rattle.mail_words.specs.declared.charset.Charset.TheVariants.{Ascii, Latin1, Utf8}
 use Rattle.mail_words.specs.Words.{Word}
@@ -70,15 +70,16 @@ text_in-written Ascii octets = refl
 text_in-written Utf8 octets = refl
 text_in-written Latin1 octets = refl
 
-drop_run : (xs ys : List ℕ) → drop (length xs) (xs ++ ys) ≡ ys
-drop_run xs ys = drop_at xs ys (length xs) refl
+pub option_map-nil : (o : Option (List ℕ)) → option_map (λ more. [] ++ more) o ≡ o
+option_map-nil None = refl
+option_map-nil (Some x) = refl
 
 pub IsAppended-good : (charset : Charset) (old : List ℕ) (o : Option (List ℕ)) (new : List ℕ)
     → ArePut true charset old o new → is_text_in charset (drop (length old) new) ≡ true
     → IsAppended true old (option_and_then (text_in charset) o) new
 IsAppended-good charset old None new h good = absurd h
 IsAppended-good charset old (Some octets) new h good =
-    let tail : drop (length old) new ≡ in_utf8 charset octets = ap (drop (length old)) h ∙ drop_run old (in_utf8 charset octets) in
+    let tail : drop (length old) new ≡ in_utf8 charset octets = ap (drop (length old)) h ∙ drop-append_seam old (in_utf8 charset octets) in
     let read : is_text_in charset (in_utf8 charset octets) ≡ true = ap (is_text_in charset) (sym tail) ∙ good in
     let P : Option (List ℕ) → Type 0 = λ t. IsAppended true old t new in
     subst P (sym (text_in-written charset octets ∙ ap (λ t. cond t (Some (in_utf8 charset octets)) None) read)) h
@@ -88,7 +89,7 @@ pub IsAppended-unread : (charset : Charset) (old : List ℕ) (o : Option (List �
     → IsAppended false old (option_and_then (text_in charset) o) new
 IsAppended-unread charset old None new h bad = absurd h
 IsAppended-unread charset old (Some octets) new h bad =
-    let tail : drop (length old) new ≡ in_utf8 charset octets = ap (drop (length old)) h ∙ drop_run old (in_utf8 charset octets) in
+    let tail : drop (length old) new ≡ in_utf8 charset octets = ap (drop (length old)) h ∙ drop-append_seam old (in_utf8 charset octets) in
     let read : is_text_in charset (in_utf8 charset octets) ≡ false = ap (is_text_in charset) (sym tail) ∙ bad in
     let P : Option (List ℕ) → Type 0 = λ t. IsAppended false old t new in
     subst P (sym (text_in-written charset octets ∙ ap (λ t. cond t (Some (in_utf8 charset octets)) None) read)) (in_utf8 charset octets, h)

@@ -1,8 +1,7 @@
 -- The computed meaning of a word is what the word means.
-use Rattle.std.proofs.Common.{◌≡◌, ℕ, zero, suc, ◌+◌, ◌*◌, ◌<◌, ◌≤◌, Bool, true, false, cond, eqb, List, [], ◌∷◌, refl}
-use Rattle.std.proofs.Common.{sym, ap, ◌∙◌, subst, arith, inl, inr, Option, Some, None, ◌↔◌, eqb-true, eq-eqb, ne_eqb}
-use Rattle.std.proofs.Common.{leb-true}
-use Rattle.std.proofs.lemmas.Bool.{cases_Bool, and_parts}
+use Rattle.std.proofs.Common.{◌≡◌, ℕ, zero, suc, ◌+◌, ◌*◌, ◌<◌, ◌≤◌, Bool, true, false, cond, eqb, List, [], ◌∷◌, refl, sym, ap, ◌∙◌, subst, arith}
+use Rattle.std.proofs.Common.{inl, inr, Option, Some, None, ◌↔◌, eqb-true, ne_eqb, leb-true}
+use Rattle.std.proofs.lemmas.Bool.{cases_Bool, and_parts, eqb-false, true≢false}
 use Rattle.std.specs.Prelude.{option_map, option_and_then, nat_le, not, ◌==◌}
 use Rattle.std.specs.List.{list_all}
 use Rattle.base64.specs.GeneralPurpose.{IsBytes}
@@ -21,19 +20,13 @@ some_then : {A B : Type 0} (f : A → Option B) (o : Option A) (y : B) → optio
 some_then f None y e = absurd cc
 some_then f (Some x) y e = (x, refl, e)
 
-no_equation : true ≡ false → ⊥
-no_equation e = absurd cc
-
-other : (b c : ℕ) → eqb b c ≡ false → b ≡ c → ⊥
-other b c differs is = no_equation (sym (eq-eqb b c is) ∙ differs)
-
 -- Q text, read from the front
 
 itself_or_space : (b : ℕ) (text octets : List ℕ) (t : Bool) → eqb b 95 ≡ t → eqb b 61 ≡ false → QText text octets
     → QText (b ∷ text) (cond t 32 b ∷ octets)
 itself_or_space b text octets true space differs h = let P : ℕ → Type 0 = λ x. QText (x ∷ text) (32 ∷ octets) in
     subst P (sym (eqb-true b 95 space)) (q_space text octets h)
-itself_or_space b text octets false space differs h = q_itself b text octets (other b 61 differs) (other b 95 space) h
+itself_or_space b text octets false space differs h = q_itself b text octets (eqb-false b 61 differs) (eqb-false b 95 space) h
 
 plain_is : (b : ℕ) (text octets : List ℕ) → eqb b 61 ≡ false → q_octets Plain (b ∷ text) ≡ Some octets
     → ((more : List ℕ) → q_octets Plain text ≡ Some more → QText text more) → QText (b ∷ text) octets
@@ -120,7 +113,7 @@ by_letter P upper_b lower_b upper_q lower_q letter h = elim (cases_Bool (eqb 66 
       | inl c ↦ subst P (eqb-true 81 letter c) upper_q
       | inr not_c ↦ elim (cases_Bool (eqb 113 letter)) [
         | inl d ↦ subst P (eqb-true 113 letter d) lower_q
-        | inr not_d ↦ absurd (no_equation (sym h ∙ rw (not_a, not_b, not_c, not_d) refl))
+        | inr not_d ↦ absurd (true≢false (sym h ∙ rw (not_a, not_b, not_c, not_d) refl))
       ]
     ]
   ]
@@ -133,10 +126,10 @@ letter_law : (text octets : List ℕ) (letter : ℕ) → is_encoding letter ≡ 
 letter_law text octets letter h bytes =
     let b = b_law text octets bytes in
     by_letter (LetterLaw text octets)
-    (λ e. inl (refl, b.0 e), λ e. elim e [ inl f ↦ b.1 f.1 | inr f ↦ absurd (no_equation (sym f.0)) ])
-    (λ e. inl (refl, b.0 e), λ e. elim e [ inl f ↦ b.1 f.1 | inr f ↦ absurd (no_equation (sym f.0)) ])
-    (λ e. inr (refl, q_from text octets e), λ e. elim e [ inl f ↦ absurd (no_equation (sym f.0)) | inr f ↦ q_to f.1 ])
-    (λ e. inr (refl, q_from text octets e), λ e. elim e [ inl f ↦ absurd (no_equation (sym f.0)) | inr f ↦ q_to f.1 ])
+    (λ e. inl (refl, b.0 e), λ e. elim e [ inl f ↦ b.1 f.1 | inr f ↦ absurd (true≢false (sym f.0)) ])
+    (λ e. inl (refl, b.0 e), λ e. elim e [ inl f ↦ b.1 f.1 | inr f ↦ absurd (true≢false (sym f.0)) ])
+    (λ e. inr (refl, q_from text octets e), λ e. elim e [ inl f ↦ absurd (true≢false (sym f.0)) | inr f ↦ q_to f.1 ])
+    (λ e. inr (refl, q_from text octets e), λ e. elim e [ inl f ↦ absurd (true≢false (sym f.0)) | inr f ↦ q_to f.1 ])
     letter h
 
 octets_law : (w : Word) (octets : List ℕ) → IsWord w → (octets_of w ≡ Some octets) ↔ IsEncoding w.encoding w.text octets

@@ -6,7 +6,7 @@ use Rattle.mail_words.specs.declared.quoted.Place.{Place}
 use Rattle.mail_words.specs.declared.quoted.Place.TheVariants.{Plain, Escape, Digit}
 use Rattle.mail_words.specs.Charsets.{in_utf8}
 use Rattle.mail_words.specs.Decoding.{hex_value, q_octets}
-use Rattle.mail_words.proofs.CharsetLemmas.{written-nil, written-append}
+use Rattle.mail_words.proofs.CharsetLemmas.{written-nil, written-append, option_map-nil}
 
 -- a digit that was read is below sixteen
 abbrev pub IsSmall : Place → Type 0
@@ -20,10 +20,6 @@ pub record Decoded (charset : Charset) (text rest old out : List ℕ) (place : P
   pub octets : List ℕ
   pub put : out ≡ old ++ in_utf8 charset octets
   pub same : option_map (λ more. octets ++ more) (q_octets place rest) ≡ q_octets Plain text
-
-option_map-nil : (o : Option (List ℕ)) → option_map (λ more. [] ++ more) o ≡ o
-option_map-nil None = refl
-option_map-nil (Some x) = refl
 
 pub Decoded-none : (charset : Charset) (text old : List ℕ) → Decoded charset text text old old Plain
 Decoded-none charset text old = record { small = tt; octets = []; put = written-nil charset old; same = option_map-nil (q_octets Plain text) }

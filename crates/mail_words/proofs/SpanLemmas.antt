@@ -1,11 +1,11 @@
 -- The cut of a text has all words that stand in it, and no other.
-use Rattle.std.proofs.Common.{◌≡◌, ℕ, zero, suc, ◌<◌, ◌≤◌, Bool, true, false, cond, eqb, List, [], ◌∷◌, ◌++◌, length}
-use Rattle.std.proofs.Common.{take, drop, refl, sym, ap, ◌∙◌, subst, arith, Option, Some, None, append_assoc, eqb-true}
-use Rattle.std.proofs.Common.{get_or}
+use Rattle.std.proofs.Common.{◌≡◌, ℕ, zero, suc, ◌<◌, ◌≤◌, Bool, true, false, cond, eqb, List, [], ◌∷◌, ◌++◌, length, refl, sym, ap, ◌∙◌}
+use Rattle.std.proofs.Common.{subst, arith, Option, Some, None, append_assoc, eqb-true, get_or}
 use Rattle.std.proofs.lemmas.List.{append-nil, length-append, append_cancel_left}
 use Rattle.std.proofs.lemmas.Bool.{and_parts}
 use Rattle.std.specs.Prelude.{option_map, nat_lt, not, ◌==◌}
 use Rattle.std.specs.List.{list_all, prefix_len}
+use Rattle.std.proofs.Math.Seq.{drop-append_seam, take-append_seam}
 use Rattle.mail_words.specs.Words.{Word, spelling, IsWord, is_charset_octet, is_text_octet, is_encoding, precedes}
 use Rattle.mail_words.specs.Words.{can_follow, word_at, if_followed, followed_word_at, or_later, first_word}
 use Rattle.mail_words.specs.Value.{Cut, cut_at, cut_words}
@@ -18,14 +18,6 @@ run_stops p [] y ys h k = rw k refl
 run_stops p (x ∷ xs) y ys h k =
     let parts = and_parts (p x) (list_all p xs) h in
     rw (parts.0, run_stops p xs y ys parts.1 k) (omega arith)
-
-take_run : (xs ys : List ℕ) → take (length xs) (xs ++ ys) ≡ xs
-take_run [] ys = refl
-take_run (x ∷ xs) ys = ap (λ zs. x ∷ zs) (take_run xs ys)
-
-drop_run : (xs ys : List ℕ) → drop (length xs) (xs ++ ys) ≡ ys
-drop_run [] ys = refl
-drop_run (x ∷ xs) ys = drop_run xs ys
 
 some_length : (xs : List ℕ) → 0 < length xs → nat_lt 0 (length xs) ≡ true
 some_length xs h = grind arith
@@ -47,11 +39,11 @@ word_at-written w after h =
     let text : prefix_len is_text_octet tail ≡ length w.text = run_stops is_text_octet w.text 63 (61 ∷ after) h.text refl in
     rw (
       charset,
-      take_run w.charset (63 ∷ w.encoding ∷ 63 ∷ tail),
-      drop_run w.charset (63 ∷ w.encoding ∷ 63 ∷ tail),
+      take-append_seam w.charset (63 ∷ w.encoding ∷ 63 ∷ tail),
+      drop-append_seam w.charset (63 ∷ w.encoding ∷ 63 ∷ tail),
       text,
-      take_run w.text (63 ∷ 61 ∷ after),
-      drop_run w.text (63 ∷ 61 ∷ after),
+      take-append_seam w.text (63 ∷ 61 ∷ after),
+      drop-append_seam w.text (63 ∷ 61 ∷ after),
       some_length w.charset h.some_charset,
       some_length w.text h.some_text,
       h.encoding,

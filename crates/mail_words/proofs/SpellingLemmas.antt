@@ -1,16 +1,14 @@
 -- A word that is found is one that is written there.
-use Rattle.std.proofs.Common.{◌≡◌, ℕ, suc, ◌+◌, Bool, true, false, cond, eqb, List, [], ◌∷◌, ◌++◌, length, take, drop}
-use Rattle.std.proofs.Common.{refl, sym, ap, ◌∙◌, arith, Option, Some, None, append_assoc, eqb-true, ltb-true, subst}
-use Rattle.std.proofs.Common.{◌⊎◌, inl, inr}
+use Rattle.std.proofs.Common.{◌≡◌, ℕ, suc, ◌+◌, Bool, true, false, cond, eqb, List, [], ◌∷◌, ◌++◌, length, take, drop, refl, sym, ap, ◌∙◌, arith}
+use Rattle.std.proofs.Common.{Option, Some, None, append_assoc, eqb-true, ltb-true, subst, ◌⊎◌, inl, inr}
 use Rattle.std.proofs.lemmas.List.{take-append-drop}
 use Rattle.std.proofs.lemmas.List.Folds.{length-prefix_len}
 use Rattle.std.proofs.lemmas.Bool.{and_parts}
 use Rattle.std.specs.Prelude.{option_map, slice_index, nat_lt, ◌&&◌}
 use Rattle.std.specs.List.{list_all, prefix_len, take_while}
 use Rattle.mail_words.specs.Spans.{StandsIn}
-use Rattle.mail_words.specs.Words.{Word, spelling, IsWord, is_charset_octet, is_text_octet, is_encoding, precedes}
-use Rattle.mail_words.specs.Words.{can_follow, opens, closes, names_encoding, word_at, if_followed, followed_word_at}
-use Rattle.mail_words.specs.Words.{or_later, first_word}
+use Rattle.mail_words.specs.Words.{Word, spelling, IsWord, is_charset_octet, is_text_octet, is_encoding, precedes, can_follow, opens, closes}
+use Rattle.mail_words.specs.Words.{names_encoding, word_at, if_followed, followed_word_at, or_later, first_word}
 
 -- a prefix of octets that pass, and the rest
 run_joined : (p : ℕ → Bool) (bs : List ℕ) → bs ≡ take_while p bs ++ drop (length (take_while p bs)) bs

@@ -1,7 +1,6 @@
 -- Unfolding, one line after another.
-use Rattle.std.proofs.Common.{◌≡◌, ◌≢◌, ℕ, zero, suc, ◌-◌, ◌<◌, Bool, true, false, cond, eqb, List, [], ◌∷◌, ◌++◌}
-use Rattle.std.proofs.Common.{length, take, drop, refl, sym, ap, get_or, append_assoc, Some, None, ◌∙◌, arith, ne_eqb}
-use Rattle.std.proofs.Common.{eqb-true, eq-eqb}
+use Rattle.std.proofs.Common.{◌≡◌, ◌≢◌, ℕ, zero, suc, ◌-◌, ◌<◌, Bool, true, false, cond, eqb, List, [], ◌∷◌, ◌++◌, length, take, drop, refl, sym, ap}
+use Rattle.std.proofs.Common.{get_or, append_assoc, Some, None, ◌∙◌, arith, ne_eqb, eqb-true, eq-eqb}
 use Rattle.std.proofs.Math.Bool.{and-true, and-false}
 use Rattle.std.specs.Prelude.{nat_lt}
 use Rattle.memchr.specs.Find.{IsFirstByte, is_byte}

@@ -1,7 +1,6 @@
 -- The first word that stands in a folded text, looked for at each "=".
-use Rattle.std.proofs.Common.{◌≡◌, ◌≢◌, ℕ, zero, suc, ◌+◌, ◌-◌, ◌<◌, ◌≤◌, Bool, true, false, cond, eqb, List, [], ◌∷◌}
-use Rattle.std.proofs.Common.{◌++◌, length, take, drop, refl, sym, ap, ◌∙◌, arith, get_or, Option, Some, None}
-use Rattle.std.proofs.Common.{append_assoc, ne_eqb, eqb-true, eq-eqb}
+use Rattle.std.proofs.Common.{◌≡◌, ◌≢◌, ℕ, zero, suc, ◌+◌, ◌-◌, ◌<◌, ◌≤◌, Bool, true, false, cond, eqb, List, [], ◌∷◌, ◌++◌, length, take, drop, refl}
+use Rattle.std.proofs.Common.{sym, ap, ◌∙◌, arith, get_or, Option, Some, None, append_assoc, ne_eqb, eqb-true, eq-eqb}
 use Rattle.std.proofs.lemmas.List.{append-nil, drop_more, length-drop, drop-drop, get_or-drop, take_rest, take_more, take_all, take-append-drop}
 use Rattle.std.proofs.Math.Seq.{take-add}
 use Rattle.std.proofs.lemmas.Bool.{and_parts, not-true}

@@ -31,10 +31,8 @@ one_more n = omega arith
 after_turn : (b q : Bool) (p : PieceWord) (ps : List PieceWord)
     → ((b || (q && is_tagged p)) || after_from (q || not (is_tagged p)) ps) ≡ (b || after_from q (p ∷ ps))
 unfolding after_from
-after_turn true q p ps = refl
-after_turn false true p ps = refl
 after_turn false false (tagged w c) ps = ap (λ (n : ℕ). list_any is_tagged (drop n (tagged w c ∷ ps))) (one_more (prefix_len is_tagged ps))
-after_turn false false (positional a) ps = refl
+after_turn b q p ps = refl
 
 nothing_after : (b q : Bool) → b ≡ (b || after_from q [])
 unfolding after_from

@@ -11,9 +11,8 @@ use Rattle.sieve_check.specs.declared.table.Capability.{Capability}
 use Rattle.sieve_check.specs.declared.table.Capability.TheVariants.{Fileinto, Copy, Include, OctetComparator, CasemapComparator}
 use Rattle.sieve_check.specs.Context.{no_capabilities, has_of, set_with, set_and, set_after}
 use Rattle.sieve_check.specs.Lookup.{capability_named, is_capability, names, capability_place}
-use Rattle.sieve_check.specs.Rules.{PlacedCommand, role_of, is_require, strings_in, requires, named_by, has_begun}
-use Rattle.sieve_check.specs.Rules.{place_breaches, command_breaches, least, earlier, refusal_from, refusal_of}
-use Rattle.sieve_check.specs.Rules.{in_order}
+use Rattle.sieve_check.specs.Rules.{PlacedCommand, role_of, is_require, strings_in, requires, named_by, has_begun, place_breaches, command_breaches}
+use Rattle.sieve_check.specs.Rules.{least, earlier, refusal_from, refusal_of, in_order}
 use Rattle.sieve_check.specs.Tables.{CapabilityWord}
 use Rattle.sieve_check.specs.Walk.{start, after_command, context_after, breach_of, unless, walk}
 
@@ -116,10 +115,7 @@ walk_refuses before c (p ∷ ps) h =
 
 has_nothing : (k : Capability) → has_of no_capabilities k ≡ false
 has_nothing Fileinto = refl
-has_nothing Copy = refl
-has_nothing Include = refl
-has_nothing OctetComparator = refl
-has_nothing CasemapComparator = refl
+has_nothing capability = refl
 
 pub walk_is_refusal : (tree : CommandTrees) → refused (walk start (in_order false tree)) ≡ refusal_of tree
 unfolding refusal_of

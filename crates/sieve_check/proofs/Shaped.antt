@@ -10,9 +10,8 @@ use Rattle.sieve_syntax.specs.declared.tree.StringList.{StringList}
 use Rattle.sieve_syntax.specs.declared.tree.StringList.TheVariants as string_lists
 use Rattle.sieve_syntax.specs.declared.tree.Argument.{Argument}
 use Rattle.sieve_syntax.specs.declared.tree.Argument.TheVariants as arguments
-use Rattle.sieve_syntax.specs.Tree.{TestTree, test, InnerTests, no_tests, one_test, listed_tests, TestRow, last_test}
-use Rattle.sieve_syntax.specs.Tree.{next_test, CommandTree, command, EndingTree, semicolon, block, CommandTrees}
-use Rattle.sieve_syntax.specs.Tree.{no_commands, command_then}
+use Rattle.sieve_syntax.specs.Tree.{TestTree, test, InnerTests, no_tests, one_test, listed_tests, TestRow, last_test, next_test, CommandTree, command}
+use Rattle.sieve_syntax.specs.Tree.{EndingTree, semicolon, block, CommandTrees, no_commands, command_then}
 use Rattle.sieve_check.specs.declared.table.Capability.{Capability}
 use Rattle.sieve_check.specs.declared.table.Positional.{Positional}
 use Rattle.sieve_check.specs.declared.table.Positional.TheVariants as places
@@ -25,14 +24,12 @@ use Rattle.sieve_check.specs.Tables.{test_word, fileinto_form, header_form, size
 use Rattle.sieve_check.specs.Lookup.{same_name, row_where, command_named, test_named}
 use Rattle.sieve_check.specs.Pieces.{pieces, positional_arguments}
 use Rattle.sieve_check.specs.Rules
-use Rattle.sieve_check.specs.Rules.{PlacedCommand, Rule, breaches, least, lesser, earlier, form_breaches}
-use Rattle.sieve_check.specs.Rules.{test_form_breaches, place_breaches, test_breaches, inner_breaches, row_breaches}
-use Rattle.sieve_check.specs.Rules.{command_breaches, refusal_from, refusal_of, command_in_order, ending_in_order}
-use Rattle.sieve_check.specs.Rules.{in_order, is_block, is_branch, role_of, command_name, takes, has_wrong_tests}
-use Rattle.sieve_check.specs.Rules.{has_wrong_ending, lacks_branch, named_by, has_begun, place_rules}
-use Rattle.sieve_check.specs.Shapes.{Takes, TakesEach, HasTests, HasEnding, HasForm, HasTestRow, TestShape, InnerShape}
-use Rattle.sieve_check.specs.Shapes.{RowShape, CommandShape, EndingShape, CommandsShape, ShapeLaw, NameLaw, IfLaw}
-use Rattle.sieve_check.specs.Shapes.{FileintoLaw, HeaderLaw, SizeLaw}
+use Rattle.sieve_check.specs.Rules.{PlacedCommand, Rule, breaches, least, lesser, earlier, form_breaches, test_form_breaches, place_breaches}
+use Rattle.sieve_check.specs.Rules.{test_breaches, inner_breaches, row_breaches, command_breaches, refusal_from, refusal_of, command_in_order}
+use Rattle.sieve_check.specs.Rules.{ending_in_order, in_order, is_block, is_branch, role_of, command_name, takes, has_wrong_tests, has_wrong_ending}
+use Rattle.sieve_check.specs.Rules.{lacks_branch, named_by, has_begun, place_rules}
+use Rattle.sieve_check.specs.Shapes.{Takes, TakesEach, HasTests, HasEnding, HasForm, HasTestRow, TestShape, InnerShape, RowShape, CommandShape}
+use Rattle.sieve_check.specs.Shapes.{EndingShape, CommandsShape, ShapeLaw, NameLaw, IfLaw, FileintoLaw, HeaderLaw, SizeLaw}
 
 -- ---- nothing is broken
 
@@ -60,15 +57,9 @@ none_earlier (Some n) r h = absurd cc
 
 is_taken : (p : Positional) (a : Argument) → takes p a ≡ true → Takes p a
 is_taken places.OneString (arguments.Strings (string_lists.One s)) h = (s, refl)
-is_taken places.OneString (arguments.Strings (string_lists.Listed s ss)) h = absurd cc
-is_taken places.OneString (arguments.Number n) h = absurd cc
-is_taken places.OneString (arguments.Tag name) h = absurd cc
 is_taken places.StringList (arguments.Strings l) h = (l, refl)
-is_taken places.StringList (arguments.Number n) h = absurd cc
-is_taken places.StringList (arguments.Tag name) h = absurd cc
-is_taken places.OneNumber (arguments.Strings l) h = absurd cc
 is_taken places.OneNumber (arguments.Number n) h = (n, refl)
-is_taken places.OneNumber (arguments.Tag name) h = absurd cc
+is_taken p a h = absurd cc
 
 are_taken : (ps : List Positional) (given : List Argument) → pointwise takes ps given ≡ true → TakesEach ps given
 are_taken [] [] h = tt
@@ -78,14 +69,9 @@ are_taken (p ∷ ps) (a ∷ more) h = let b = and_parts (takes p a) (pointwise t
 
 has_tests : (f : TestsForm) (inner : InnerTests) → has_wrong_tests f inner ≡ false → HasTests f inner
 has_tests NoTest no_tests h = refl
-has_tests NoTest (one_test t) h = absurd cc
-has_tests NoTest (listed_tests t row) h = absurd cc
-has_tests OneTest no_tests h = absurd cc
 has_tests OneTest (one_test t) h = (t, refl)
-has_tests OneTest (listed_tests t row) h = absurd cc
-has_tests TestList no_tests h = absurd cc
-has_tests TestList (one_test t) h = absurd cc
 has_tests TestList (listed_tests t row) h = (t, row, refl)
+has_tests f inner h = absurd cc
 
 has_ending : (b : Bool) (finish : EndingTree) → has_wrong_ending b (is_block finish) ≡ false → HasEnding b finish
 has_ending true semicolon h = absurd cc
@@ -223,7 +209,7 @@ shape_law tree h = commands_shape false tree (each_fine [] (in_order false tree)
 
 -- ---- names
 
-lower_is : (a b : List ℕ) → same_name a b ≡ true → str_to_ascii_lowercase a ≡ str_to_ascii_lowercase b
+pub lower_is : (a b : List ℕ) → same_name a b ≡ true → str_to_ascii_lowercase a ≡ str_to_ascii_lowercase b
 unfolding same_name
 lower_is a b h = (bytes_eq-Decides (str_to_ascii_lowercase a) (str_to_ascii_lowercase b)).0 h
 
@@ -273,17 +259,17 @@ no_arguments (arguments.Strings l ∷ more) h k = absurd k
 no_arguments (arguments.Number n ∷ more) h k = absurd k
 no_arguments (arguments.Tag name ∷ more) h k = absurd cc
 
-one_string : (xs : List Argument) → TakesEach (places.OneString ∷ []) xs → (s : List ℕ) × (xs ≡ arguments.Strings (string_lists.One s) ∷ [])
+pub one_string : (xs : List Argument) → TakesEach (places.OneString ∷ []) xs → (s : List ℕ) × (xs ≡ arguments.Strings (string_lists.One s) ∷ [])
 one_string [] h = absurd h
 one_string (a ∷ []) h = (h.0.0, ap (λ (b : Argument). b ∷ []) h.0.1)
 one_string (a ∷ b ∷ more) h = absurd h.1
 
-one_number : (xs : List Argument) → TakesEach (places.OneNumber ∷ []) xs → (n : ℕ) × (xs ≡ arguments.Number n ∷ [])
+pub one_number : (xs : List Argument) → TakesEach (places.OneNumber ∷ []) xs → (n : ℕ) × (xs ≡ arguments.Number n ∷ [])
 one_number [] h = absurd h
 one_number (a ∷ []) h = (h.0.0, ap (λ (b : Argument). b ∷ []) h.0.1)
 one_number (a ∷ b ∷ more) h = absurd h.1
 
-two_lists : (xs : List Argument) → TakesEach (places.StringList ∷ places.StringList ∷ []) xs → (names : StringList)
+pub two_lists : (xs : List Argument) → TakesEach (places.StringList ∷ places.StringList ∷ []) xs → (names : StringList)
     × (keys : StringList) × (xs ≡ arguments.Strings names ∷ arguments.Strings keys ∷ [])
 two_lists [] h = absurd h
 two_lists (a ∷ []) h = absurd h.1

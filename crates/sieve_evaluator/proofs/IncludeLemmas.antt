@@ -5,9 +5,8 @@ use Rattle.std.specs.List.{list_any}
 use Rattle.sieve_meaning.specs.declared.run_fault.RunFault.TheVariants.{RecursiveInclude}
 use Rattle.sieve_meaning.specs.Case.{Facts}
 use Rattle.sieve_meaning.specs.Program.{Include, Commands}
-use Rattle.sieve_meaning.specs.Meaning.{ScriptName, script_named, same_script, is_among, Library, inclusion}
-use Rattle.sieve_meaning.specs.Meaning.{inclusion_within, unless_missing, unless_active, unless_entered, with_entry}
-use Rattle.sieve_meaning.specs.Meaning.{ending_of_include}
+use Rattle.sieve_meaning.specs.Meaning.{ScriptName, script_named, same_script, is_among, Library, inclusion, inclusion_within, unless_missing}
+use Rattle.sieve_meaning.specs.Meaning.{unless_active, unless_entered, with_entry, ending_of_include}
 use Rattle.sieve_meaning.specs.Meaning as meaning
 use Rattle.sieve_syntax.specs.Tree.{CommandTrees}
 use Rattle.sieve_meaning.specs.Reading.{program_of}

@@ -14,9 +14,7 @@ use Rattle.sieve_evaluator.specs.declared.filing.Ending.TheVariants as endings
 
 outcome_of_ending : (e : Ending) (f : Filing) → outcome_of (ending_at e f) ≡ outcome_at (fault_of e) f.filed f.kept f.cancelled
 outcome_of_ending endings.GoesOn f = refl
-outcome_of_ending endings.Returns f = refl
-outcome_of_ending endings.Stops f = refl
-outcome_of_ending (endings.Faults fault) f = refl
+outcome_of_ending e f = refl
 
 -- a run that began with nothing done
 pub outcome_of_run : (facts : Facts) (lib : Library) (known_as : Option (List ℕ)) (tree : CommandTrees)

@@ -35,99 +35,42 @@ and_then-if : (b : Bool) (x y : meaning.Ending) (go : meaning.Filing → meaning
 and_then-if true x y go = refl
 and_then-if false x y go = refl
 
--- an `if`, or an open `elsif`
-pub branch_leads : (facts : Facts) (inc : Included) (word : CommandWord) (is_open : Bool) (name : List ℕ)
-    (args : List Argument) (inner : InnerTests) (finish : EndingTree) (f : meaning.Filing) (e : meaning.Ending)
-    (opens : Bool) → command_word name ≡ word → part_of word is_open ≡ Branch
-    → BranchEnds facts inc (command name args inner finish) f e opens
-    → Ends facts inc is_open (command name args inner finish) f e opens
-unfolding runs_from
-branch_leads facts inc words.If true name args inner finish f e opens is part told more =
-    rw is (and_then-if (truth facts (only_in inner)) (run facts inc (block_in finish) f)
-    (run_branches facts inc (branches_of more) f) (run facts inc (program_of more)) ∙ told more)
-branch_leads facts inc words.If false name args inner finish f e opens is part told more =
-    rw is (and_then-if (truth facts (only_in inner)) (run facts inc (block_in finish) f)
-    (run_branches facts inc (branches_of more) f) (run facts inc (program_of more)) ∙ told more)
-branch_leads facts inc words.ElsIf true name args inner finish f e opens is part told more =
-    rw is (and_then-if (truth facts (only_in inner)) (run facts inc (block_in finish) f)
-    (run_branches facts inc (branches_of more) f) (run facts inc (program_of more)) ∙ told more)
-branch_leads facts inc words.ElsIf false name args inner finish f e opens is part told more = cc
-branch_leads facts inc words.Else true name args inner finish f e opens is part told more = cc
-branch_leads facts inc words.Else false name args inner finish f e opens is part told more = cc
-branch_leads facts inc words.Require is_open name args inner finish f e opens is part told more = cc
-branch_leads facts inc words.Stop is_open name args inner finish f e opens is part told more = cc
-branch_leads facts inc words.Keep is_open name args inner finish f e opens is part told more = cc
-branch_leads facts inc words.Discard is_open name args inner finish f e opens is part told more = cc
-branch_leads facts inc words.Return is_open name args inner finish f e opens is part told more = cc
-branch_leads facts inc words.FileInto is_open name args inner finish f e opens is part told more = cc
-branch_leads facts inc words.Include is_open name args inner finish f e opens is part told more = cc
-branch_leads facts inc words.Other is_open name args inner finish f e opens is part told more = cc
+-- a command before further ones
+module _ (facts : Facts) (inc : Included) (name : List ℕ) (args : List Argument) (inner : InnerTests) (finish : EndingTree)
+    (f : meaning.Filing) (e : meaning.Ending) where
+  -- an `if`, or an open `elsif`
+  pub branch_leads : (word : CommandWord) (is_open opens : Bool) → command_word name ≡ word → part_of word is_open ≡ Branch
+      → BranchEnds facts inc (command name args inner finish) f e opens
+      → Ends facts inc is_open (command name args inner finish) f e opens
+  unfolding runs_from
+  branch_leads words.If true opens is part told more = rw is (and_then-if (truth facts (only_in inner)) (run facts inc (block_in finish) f)
+      (run_branches facts inc (branches_of more) f) (run facts inc (program_of more)) ∙ told more)
+  branch_leads words.If false opens is part told more = rw is (and_then-if (truth facts (only_in inner)) (run facts inc (block_in finish) f)
+      (run_branches facts inc (branches_of more) f) (run facts inc (program_of more)) ∙ told more)
+  branch_leads words.ElsIf true opens is part told more = rw is (and_then-if (truth facts (only_in inner)) (run facts inc (block_in finish) f)
+      (run_branches facts inc (branches_of more) f) (run facts inc (program_of more)) ∙ told more)
+  branch_leads words.Else true opens is part told more = cc
+  branch_leads word is_open opens is part told more = cc
 
--- an open `else`
-pub otherwise_leads : (facts : Facts) (inc : Included) (word : CommandWord) (is_open : Bool) (name : List ℕ)
-    (args : List Argument) (inner : InnerTests) (finish : EndingTree) (f : meaning.Filing) (e : meaning.Ending)
-    → command_word name ≡ word → part_of word is_open ≡ Otherwise → e ≡ runs_from facts inc false (commands_in finish) f
-    → Ends facts inc is_open (command name args inner finish) f e false
-unfolding runs_from
-otherwise_leads facts inc words.Else true name args inner finish f e is part told more = rw (is, told, block_in-commands finish) refl
-otherwise_leads facts inc words.Else false name args inner finish f e is part told more = cc
-otherwise_leads facts inc words.If is_open name args inner finish f e is part told more = cc
-otherwise_leads facts inc words.ElsIf true name args inner finish f e is part told more = cc
-otherwise_leads facts inc words.ElsIf false name args inner finish f e is part told more = cc
-otherwise_leads facts inc words.Require is_open name args inner finish f e is part told more = cc
-otherwise_leads facts inc words.Stop is_open name args inner finish f e is part told more = cc
-otherwise_leads facts inc words.Keep is_open name args inner finish f e is part told more = cc
-otherwise_leads facts inc words.Discard is_open name args inner finish f e is part told more = cc
-otherwise_leads facts inc words.Return is_open name args inner finish f e is part told more = cc
-otherwise_leads facts inc words.FileInto is_open name args inner finish f e is part told more = cc
-otherwise_leads facts inc words.Include is_open name args inner finish f e is part told more = cc
-otherwise_leads facts inc words.Other is_open name args inner finish f e is part told more = cc
+  -- an open `else`
+  pub otherwise_leads : (word : CommandWord) (is_open : Bool) → command_word name ≡ word → part_of word is_open ≡ Otherwise
+      → e ≡ runs_from facts inc false (commands_in finish) f → Ends facts inc is_open (command name args inner finish) f e false
+  unfolding runs_from
+  otherwise_leads words.Else true is part told more = rw (is, told, block_in-commands finish) refl
+  otherwise_leads words.Else false is part told more = cc
+  otherwise_leads words.ElsIf true is part told more = cc
+  otherwise_leads words.ElsIf false is part told more = cc
+  otherwise_leads word is_open is part told more = cc
 
--- any other command
-pub plain_leads : (facts : Facts) (inc : Included) (word : CommandWord) (is_open : Bool) (name : List ℕ)
-    (args : List Argument) (inner : InnerTests) (finish : EndingTree) (f : meaning.Filing) (e : meaning.Ending)
-    → command_word name ≡ word → part_of word is_open ≡ Plain → (IsNoIf word → PlainlyEnds facts inc word args f e)
-    → Ends facts inc is_open (command name args inner finish) f e false
-unfolding runs_from
-plain_leads facts inc words.If is_open name args inner finish f e is part told more = cc
-plain_leads facts inc words.ElsIf true name args inner finish f e is part told more = cc
-plain_leads facts inc words.ElsIf false name args inner finish f e is part told more =
-    rw is (told tt (only_in inner) (block_in finish) (branches_of more) (program_of more))
-plain_leads facts inc words.Else true name args inner finish f e is part told more = cc
-plain_leads facts inc words.Else false name args inner finish f e is part told more =
-    rw is (told tt (only_in inner) (block_in finish) (branches_of more) (program_of more))
-plain_leads facts inc words.Require true name args inner finish f e is part told more =
-    rw is (told tt (only_in inner) (block_in finish) (branches_of more) (program_of more))
-plain_leads facts inc words.Require false name args inner finish f e is part told more =
-    rw is (told tt (only_in inner) (block_in finish) (branches_of more) (program_of more))
-plain_leads facts inc words.Stop true name args inner finish f e is part told more =
-    rw is (told tt (only_in inner) (block_in finish) (branches_of more) (program_of more))
-plain_leads facts inc words.Stop false name args inner finish f e is part told more =
-    rw is (told tt (only_in inner) (block_in finish) (branches_of more) (program_of more))
-plain_leads facts inc words.Keep true name args inner finish f e is part told more =
-    rw is (told tt (only_in inner) (block_in finish) (branches_of more) (program_of more))
-plain_leads facts inc words.Keep false name args inner finish f e is part told more =
-    rw is (told tt (only_in inner) (block_in finish) (branches_of more) (program_of more))
-plain_leads facts inc words.Discard true name args inner finish f e is part told more =
-    rw is (told tt (only_in inner) (block_in finish) (branches_of more) (program_of more))
-plain_leads facts inc words.Discard false name args inner finish f e is part told more =
-    rw is (told tt (only_in inner) (block_in finish) (branches_of more) (program_of more))
-plain_leads facts inc words.Return true name args inner finish f e is part told more =
-    rw is (told tt (only_in inner) (block_in finish) (branches_of more) (program_of more))
-plain_leads facts inc words.Return false name args inner finish f e is part told more =
-    rw is (told tt (only_in inner) (block_in finish) (branches_of more) (program_of more))
-plain_leads facts inc words.FileInto true name args inner finish f e is part told more =
-    rw is (told tt (only_in inner) (block_in finish) (branches_of more) (program_of more))
-plain_leads facts inc words.FileInto false name args inner finish f e is part told more =
-    rw is (told tt (only_in inner) (block_in finish) (branches_of more) (program_of more))
-plain_leads facts inc words.Include true name args inner finish f e is part told more =
-    rw is (told tt (only_in inner) (block_in finish) (branches_of more) (program_of more))
-plain_leads facts inc words.Include false name args inner finish f e is part told more =
-    rw is (told tt (only_in inner) (block_in finish) (branches_of more) (program_of more))
-plain_leads facts inc words.Other true name args inner finish f e is part told more =
-    rw is (told tt (only_in inner) (block_in finish) (branches_of more) (program_of more))
-plain_leads facts inc words.Other false name args inner finish f e is part told more =
-    rw is (told tt (only_in inner) (block_in finish) (branches_of more) (program_of more))
+  -- any other command
+  pub plain_leads : (word : CommandWord) (is_open : Bool) → command_word name ≡ word → part_of word is_open ≡ Plain
+      → (IsNoIf word → PlainlyEnds facts inc word args f e) → Ends facts inc is_open (command name args inner finish) f e false
+  unfolding runs_from
+  plain_leads words.If is_open is part told more = cc
+  plain_leads words.ElsIf true is part told more = cc
+  plain_leads words.Else true is part told more = cc
+  plain_leads word true is part told more = rw is (told tt (only_in inner) (block_in finish) (branches_of more) (program_of more))
+  plain_leads word false is part told more = rw is (told tt (only_in inner) (block_in finish) (branches_of more) (program_of more))
 
 -- without commands the run goes on
 pub runs_from_none : (facts : Facts) (inc : Included) (is_open : Bool) (f : meaning.Filing)

@@ -29,7 +29,7 @@ module _ (name : List ℕ) (es : List NamedScript) where
   pub not_there : Missing → IsSome (script_under name es) → ⊥
   not_there h some = cc (script_missing h, some)
 
-module _ (name : List ℕ) (items : List Entry) (es : List NamedScript) (view : map entry_of items ≡ es) where
+module _ (name : List ℕ) (items : List Entry) {es : List NamedScript} (view : map entry_of items ≡ es) where
   abbrev At : ℕ → Type 0
   At i = position (is_named name) es ≡ Some i
 
@@ -52,13 +52,13 @@ module _ (name : List ℕ) (items : List Entry) (es : List NamedScript) (view : 
       ∙ ap (option_map entry_of) (slice_get_read items (length items) i e refl (inside_items i h) is))
 
   -- what a look-up finds
-  pub script_at : (i : ℕ) (e : Entry) → At i → e ≡ get_or items i e → Some e.script.value.script ≡ script_under name es
-  script_at i e h is = sym (ap (option_map (λ (x : NamedScript). x.script)) (found_at i e h is))
+  pub script_at : {i : ℕ} {e : Entry} → At i → e ≡ get_or items i e → Some e.script.value.script ≡ script_under name es
+  script_at {i} {e} h is = sym (ap (option_map (λ (x : NamedScript). x.script)) (found_at i e h is))
 
   -- in the place of the one that has the name
-  pub replaced : (i : ℕ) (e x : Entry) → At i → e ≡ get_or items i e → x.name.items ≡ e.name.items
+  pub replaced : {i : ℕ} {e : Entry} (x : Entry) → At i → e ≡ get_or items i e → x.name.items ≡ e.name.items
       → map entry_of (set items i x) ≡ with_entry (with_script x) es
-  replaced i e x h is same =
+  replaced {i} {e} x h is same =
       let at = placed (is_named name) es i h in
       let named_so : entry_of x ≡ with_script x =
       ap (λ (n : List ℕ). record { name = n; script = x.script.value.script }) (same ∙ name_at i e h is) in
@@ -66,19 +66,19 @@ module _ (name : List ℕ) (items : List Entry) (es : List NamedScript) (view : 
       map-set entry_of items i x ∙ ap (λ l. set l i (entry_of x)) view ∙ ap (set es i) named_so
       ∙ ap (λ n. set es n (with_script x)) (sym at.0) ∙ sym (put_there (with_script x) es inside)
 
-  pub found_replaced : (i : ℕ) (e x : Entry) → At i → e ≡ get_or items i e → x.name.items ≡ e.name.items
+  pub found_replaced : {i : ℕ} {e : Entry} (x : Entry) → At i → e ≡ get_or items i e → x.name.items ≡ e.name.items
       → IsFoundIn (with_script x) es (map entry_of (set items i x))
-  found_replaced i e x h is same n = ap (script_under n) (replaced i e x h is same) ∙ named_put (with_script x) n es
+  found_replaced x h is same n = ap (script_under n) (replaced x h is same) ∙ named_put (with_script x) n es
 
-  pub location_replaced : (i : ℕ) (e x : Entry) → At i → e ≡ get_or items i e → x.name.items ≡ e.name.items
+  pub location_replaced : {i : ℕ} {e : Entry} (x : Entry) → At i → e ≡ get_or items i e → x.name.items ≡ e.name.items
       → IsLocation (map entry_of items) → IsLocation (map entry_of (set items i x))
-  location_replaced i e x h is same l =
+  location_replaced {i} x h is same l =
       let at = placed (is_named name) es i h in
       let inside : position_or_len (is_named name) es < length es = omega (arith, at.0, at.1) in
-      subst IsLocation (sym (replaced i e x h is same)) (location_there (with_script x) es inside (subst IsLocation view l))
+      subst IsLocation (sym (replaced x h is same)) (location_there (with_script x) es inside (subst IsLocation view l))
 
-  pub has_room : (i : ℕ) (e : Entry) → At i → e ≡ get_or items i e → HasNoRoom es name → ⊥
-  has_room i e h is full = cc (script_at i e h is, full.missing)
+  pub has_room : {i : ℕ} {e : Entry} → At i → e ≡ get_or items i e → HasNoRoom es name → ⊥
+  has_room h is full = cc (script_at h is, full.missing)
 
   -- after all others
   pub added : (x : Entry) → Missing name es → x.name.items ≡ name → map entry_of (items ++ x ∷ []) ≡ with_entry (with_script x) es

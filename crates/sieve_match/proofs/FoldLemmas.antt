@@ -1,5 +1,5 @@
 -- Octets as they are compared, and the two ways to ignore case.
-use Rattle.std.proofs.Common.{◌≡◌, ℕ, Bool, List, [], ◌∷◌, length, map, IsTrue, ◌↔◌, refl, sym, ap, ◌∙◌, arith}
+use Rattle.std.proofs.Common.{◌≡◌, ℕ, Bool, List, [], ◌∷◌, map, IsTrue, ◌↔◌, refl, sym, ap, ◌∙◌, arith}
 use Rattle.std.specs.Char.{to_ascii_lowercase}
 use Rattle.std.specs.Str.{bytes_eq}
 use Rattle.std.proofs.lemmas.Bool.Decides.{nat_tests, same_from_decides}
@@ -47,10 +47,6 @@ is_octet c key value r is e =
 pub is_casemap : (c : Comparator) (key value : List ℕ) (r : Bool) → c ≡ Casemap
     → IsTrue r ↔ (map to_ascii_lowercase key ≡ map to_ascii_lowercase value) → IsTrue r ↔ IsEqualUnder c key value
 is_casemap c key value r is h = let same = ignores_case key value in rw is (λ t. same.0 (h.0 t), λ q. h.1 (same.1 q))
-
-pub nil_from_length : (xs : List ℕ) → length xs ≡ 0 → xs ≡ []
-nil_from_length [] e = refl
-nil_from_length (x ∷ xs) e = absurd (omega arith)
 
 -- what an answer to `:contains` says of the test that computes it
 pub contains_test : (c : Comparator) (key value : List ℕ) (r : Bool) → IsTrue r ↔ Contains c key value → r ≡ contains c key value

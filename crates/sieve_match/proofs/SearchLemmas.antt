@@ -1,8 +1,7 @@
 -- The state of a search, and what each of its steps keeps.
-use Rattle.std.proofs.Common.{◌≡◌, ℕ, zero, suc, ◌+◌, ◌-◌, ◌*◌, ◌≤◌, ◌<◌, ◌^◌, Bool, true, false, cond, eqb, List, []}
-use Rattle.std.proofs.Common.{◌∷◌, length, drop, ◌⊎◌, inl, inr, add-one, Option, Some, None, refl, sym, ap, subst, ◌∙◌}
-use Rattle.std.proofs.Common.{arith}
-use Rattle.std.proofs.lemmas.List.{drop-drop}
+use Rattle.std.proofs.Common.{◌≡◌, ℕ, zero, suc, ◌+◌, ◌-◌, ◌*◌, ◌≤◌, ◌<◌, ◌^◌, Bool, true, false, cond, eqb, List, [], ◌∷◌, length, drop, ◌⊎◌, inl}
+use Rattle.std.proofs.Common.{inr, add-one, Option, Some, None, refl, sym, ap, subst, ◌∙◌, arith}
+use Rattle.std.proofs.lemmas.List.{drop-drop, nil_from_length}
 use Rattle.std.proofs.lemmas.Bool.{eqb-true, eqb-false, false_from_ne_true}
 use Rattle.std.proofs.Math.Nat.{mul-le-mul, mul-le-mul_left, mul-le-mul_right}
 use Rattle.std.proofs.Math.Seq.{drop-nil}
@@ -12,7 +11,6 @@ use Rattle.sieve_meaning.specs.declared.matching.Item.{Item}
 use Rattle.sieve_meaning.specs.declared.matching.Item.TheVariants.{Octet, One, Any}
 use Rattle.sieve_meaning.proofs.MatchingLemmas.{covers_to, covers_from}
 use Rattle.sieve_meaning.specs.Matching.{covers, fold_octet, item_of, items_from, items_of, Matches}
-use Rattle.sieve_match.proofs.FoldLemmas.{nil_from_length}
 use Rattle.sieve_match.specs.Steps.{compared_length, octet_count, Turn, ends, star, goes, stuck, turn_of}
 
 -- the items match the text from some place on
@@ -72,34 +70,28 @@ stuck_is c (Octet o ∷ is) (b ∷ bs) e m =
     not_same : (x y : ℕ) → eqb x y ≡ false → x ≡ y → ⊥
     not_same x y h k = eqb-false x y h k
 stuck_is c (One ∷ is) [] e m = m
-stuck_is c (One ∷ is) (b ∷ bs) e m = cc
-stuck_is c (Any ∷ is) text e m = cc
+stuck_is c items rest e m = cc
 
 pub ends_is : (c : Comparator) (items : List Item) (rest : List ℕ) → turn_of c items rest ≡ ends → (items ≡ []) × (rest ≡ [])
 ends_is c [] [] e = (refl, refl)
-ends_is c [] (b ∷ bs) e = absurd cc
-ends_is c (Octet o ∷ is) [] e = absurd cc
 ends_is c (Octet o ∷ is) (b ∷ bs) e =
     elim (chosen (eqb (fold_octet c o) (fold_octet c b)) (goes is bs) stuck ends e) [
       | inl h ↦ absurd cc
       | inr h ↦ absurd cc
     ]
 ends_is c (One ∷ is) [] e = absurd cc
-ends_is c (One ∷ is) (b ∷ bs) e = absurd cc
-ends_is c (Any ∷ is) text e = absurd cc
+ends_is c items rest e = absurd cc
 
 pub star_is : (c : Comparator) (items : List Item) (rest : List ℕ) (next : List Item) → turn_of c items rest ≡ star next → items ≡ Any ∷ next
 star_is c [] [] next e = absurd cc
-star_is c [] (b ∷ bs) next e = absurd cc
-star_is c (Octet o ∷ is) [] next e = absurd cc
 star_is c (Octet o ∷ is) (b ∷ bs) next e =
     elim (chosen (eqb (fold_octet c o) (fold_octet c b)) (goes is bs) stuck (star next) e) [
       | inl h ↦ absurd cc
       | inr h ↦ absurd cc
     ]
 star_is c (One ∷ is) [] next e = absurd cc
-star_is c (One ∷ is) (b ∷ bs) next e = absurd cc
 star_is c (Any ∷ is) text next e = cc
+star_is c items rest next e = absurd cc
 
 -- one octet further
 pub record Goes (c : Comparator) (items : List Item) (rest : List ℕ) (next : List Item) (following : List ℕ) : Type 0 where
@@ -151,8 +143,6 @@ moved c items rest a x b y g e = let s = same_goes a x b y e in rw (← s.0, ←
 goes_is : (c : Comparator) (items : List Item) (rest : List ℕ) (next : List Item) (following : List ℕ)
     → turn_of c items rest ≡ goes next following → Goes c items rest next following
 goes_is c [] [] next following e = absurd cc
-goes_is c [] (b ∷ bs) next following e = absurd cc
-goes_is c (Octet o ∷ is) [] next following e = absurd cc
 goes_is c (Octet o ∷ is) (b ∷ bs) next following e =
     elim (chosen (eqb (fold_octet c o) (fold_octet c b)) (goes is bs) stuck (goes next following) e) [
       | inl h ↦
@@ -161,7 +151,7 @@ goes_is c (Octet o ∷ is) (b ∷ bs) next following e =
     ]
 goes_is c (One ∷ is) [] next following e = absurd cc
 goes_is c (One ∷ is) (b ∷ bs) next following e = moved c (One ∷ is) (b ∷ bs) is next bs following (one_made c b is bs) e
-goes_is c (Any ∷ is) text next following e = absurd cc
+goes_is c items rest next following e = absurd cc
 
 -- no star has been met: what is left decides, and each comparison has used an item
 pub record Fresh (c : Comparator) (all : List Item) (value : List ℕ) (items : List Item) (rest : List ℕ) (count : ℕ) : Type 0 where

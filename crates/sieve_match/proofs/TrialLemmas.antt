@@ -2,13 +2,13 @@
 use Rattle.std.proofs.Common.{◌≡◌, ℕ, ◌+◌, Bool, true, false, cond, eqb, List, [], ◌∷◌, length, ◌⊎◌, inl, inr, Option}
 use Rattle.std.proofs.Common.{Some, None, refl, sym, subst, arith}
 use Rattle.std.specs.Borrow.{Bor}
+use Rattle.std.proofs.lemmas.List.{nil_from_length}
 use Rattle.sieve_meaning.specs.declared.matching.Comparator.{Comparator}
 use Rattle.sieve_meaning.specs.declared.matching.Item.{Item}
 use Rattle.sieve_meaning.specs.declared.matching.Item.TheVariants.{Octet, One, Any}
 use Rattle.sieve_meaning.specs.Matching.{fold_octet, items_of}
 use Rattle.sieve_match.specs.Search.{Trial, covered, to_star, misfit, trial, comparisons, Search, covers_all, at_star, at_front, at_end, next_place}
 use Rattle.sieve_match.specs.Steps.{compared_length, ends, star, goes, stuck, turn_of}
-use Rattle.sieve_match.proofs.FoldLemmas.{nil_from_length}
 use Rattle.sieve_match.proofs.SearchLemmas.{ends_is, star_is}
 
 -- what is tried if a try fails: nothing, or the items after the last `*`, one octet after the place of the last try
@@ -83,13 +83,11 @@ octet_goes c o b is next bs following false e f = absurd cc
 goes_on : (c : Comparator) (items : List Item) (rest : List ℕ) (next : List Item) (following : List ℕ)
     → turn_of c items rest ≡ goes next following → SameTry c items rest next following
 goes_on c [] [] next following e = absurd cc
-goes_on c [] (b ∷ bs) next following e = absurd cc
-goes_on c (Octet o ∷ is) [] next following e = absurd cc
 goes_on c (Octet o ∷ is) (b ∷ bs) next following e = octet_goes c o b is next bs following (eqb (fold_octet c o) (fold_octet c b)) refl e
 goes_on c (One ∷ is) [] next following e = absurd cc
 goes_on c (One ∷ is) (b ∷ bs) next following e = let i : is ≡ next = cc in let r : bs ≡ following = cc in
     rw (← i, ← r) (record { trial_is = refl; count_is = omega arith })
-goes_on c (Any ∷ is) text next following e = absurd cc
+goes_on c items rest next following e = absurd cc
 
 -- the end of a try
 record EndsTry (c : Comparator) (items : List Item) (rest : List ℕ) (t : Trial) : Type 0 where

@@ -1,15 +1,15 @@
 -- Each include of a procedure that enters a script has its procedure among those after the include's own.
-use Rattle.std.proofs.Common.{◌≡◌, ◌≤◌, ◌⊎◌, ℕ, zero, suc, List, [], ◌∷◌, ◌++◌, map, filter, flat_map, filter_map, Bool}
-use Rattle.std.proofs.Common.{true, false, not, ◌&&◌, ◌||◌, cond, Option, Some, None, inl, inr, refl, sym, ap, ◌∙◌}
-use Rattle.std.proofs.Common.{subst, arith}
+use Rattle.std.proofs.Common.{◌≡◌, ◌≤◌, ◌⊎◌, ℕ, zero, suc, List, [], ◌∷◌, ◌++◌, map, filter, flat_map, filter_map, Bool, true, false, not, ◌&&◌, ◌||◌}
+use Rattle.std.proofs.Common.{cond, Option, Some, None, inl, inr, refl, sym, ap, ◌∙◌, subst, arith}
 use Rattle.std.specs.Prelude.{nat_eq}
 use Rattle.std.specs.List.{list_any, cons_option}
-use Rattle.std.proofs.lemmas.Bool.{and_from, or_right, or_left, eq-eqb, false_from_ne_true}
+use Rattle.std.proofs.lemmas.Bool.{and_from, or_right, or_left, eq-eqb, false_from_ne_true, not-false}
+use Rattle.std.proofs.lemmas.Option.{same_Some}
 use Rattle.sieve_meaning.specs.Program.{Include, Commands}
 use Rattle.sieve_meaning.specs.Meaning.{ScriptName, script_named, same_script, is_among, Library}
 use Rattle.sieve_meaning.specs.Procedures.{includes_of, once, included_names, reaches, Procedure, same_first, are_among}
 use Rattle.sieve_meaning.specs.Procedures.{is_shared, entered_if, entry, called_by, led_to, main_procedure, procedures}
-use Rattle.sieve_meaning.proofs.SharingLemmas.{IsIn, same_is, same_self, not_false, or_else, kept_step, among_those, shared_tests}
+use Rattle.sieve_meaning.proofs.SharingLemmas.{IsIn, same_is, same_self, or_else, kept_step, among_those, shared_tests}
 
 -- LISTS
 
@@ -100,7 +100,7 @@ module _ {A : Type 0} (alike : A → A → Bool) (P : A → Type 0) (self : (x :
   kept_like x e [] px pe all other h = h
   kept_like x e (y ∷ ys) px pe all other h =
       kept_step (λ z. alike z e) y ys (filter (λ z. not (alike x z)) ys) (not (alike x y))
-      (λ dropped. false_from_ne_true (alike y e) (λ like. absurd (cc (along x y e px all.0 pe (not_false (alike x y) dropped) like, other))))
+      (λ dropped. false_from_ne_true (alike y e) (λ like. absurd (cc (along x y e px all.0 pe (not-false (alike x y) dropped) like, other))))
       (kept_like x e ys px pe all.1 other) h
 
   once_covers : (xs : List A) → AllOf P xs → (e : A) → IsElement e xs → list_any (λ y. alike y e) (once alike xs) ≡ true
@@ -156,9 +156,6 @@ pub record IsEntered (lib : Library) (left : ℕ) (p : Procedure) : Type 0 where
   pub there : lib.find name ≡ Some p.script
   pub left_is : p.left ≡ left
 
-pub some_is : {A : Type 0} (x y : A) → Some x ≡ Some y → x ≡ y
-some_is x y e = cc e
-
 suc_is : (m n : ℕ) → suc m ≡ suc n → m ≡ n
 suc_is m n e = omega (arith, e)
 
@@ -208,7 +205,7 @@ module _ (lib : Library) where
         let t = shared_tests lib p q shared in
         let names : (h : IsEntered lib left p) → (k : IsEntered lib left q) → h.name ≡ k.name = λ h k.
         first_is p.chain q.chain h.name k.name h.before k.before h.chain k.chain t.0 in
-        (some_is p.script q.script (sym h.there ∙ ap (λ (s : ScriptName). lib.find s) (names h k) ∙ k.there), names)
+        (same_Some p.script q.script (sym h.there ∙ ap (λ (s : ScriptName). lib.find s) (names h k) ∙ k.there), names)
 
     pub shared_along : (x y z : Procedure) → IsEntered lib left x → IsEntered lib left y → IsEntered lib left z
         → is_shared lib x y ≡ true → is_shared lib y z ≡ true → is_shared lib x z ≡ true
@@ -237,7 +234,7 @@ module _ (lib : Library) where
         go (Some x) at true k = absurd (cc k)
         go (Some x) at false k =
             let made : Procedure = record { script = x; left = left; chain = s ∷ chain } in
-            subst (IsEntered lib left) (some_is made e k) (record { name = s; before = chain; chain = refl; there = at; left_is = refl })
+            subst (IsEntered lib left) (same_Some made e k) (record { name = s; before = chain; chain = refl; there = at; left_is = refl })
 
     abbrev pub all_entered : List Procedure → List Procedure
     all_entered ps = flat_map (λ p. filter_map (entry lib left p.chain) (included_names p.script)) ps
@@ -264,7 +261,7 @@ module _ (lib : Library) where
       → e.chain ≡ s ∷ before → lib.find s ≡ Some e.script → is_shared lib q e ≡ true → q.script ≡ e.script
   shared_script q e left h s before chain at shared =
       let t = shared_tests lib q e shared in
-      some_is q.script e.script (sym h.there
+      same_Some q.script e.script (sym h.there
       ∙ ap (λ (u : ScriptName). lib.find u) (first_is q.chain e.chain h.name s h.before before h.chain chain t.0)
       ∙ at)
 

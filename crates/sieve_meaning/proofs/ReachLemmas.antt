@@ -3,13 +3,13 @@
 use Rattle.std.proofs.Common.{◌≡◌, ◌≤◌, ℕ, zero, suc, List, [], ◌∷◌, length, map, filter, Bool, true, false, not, ◌||◌}
 use Rattle.std.proofs.Common.{cond, Option, Some, None, inl, inr, refl, sym, ap, ◌∙◌, subst, arith}
 use Rattle.std.specs.List.{list_any}
-use Rattle.std.proofs.lemmas.Bool.{or_right, or_left, or_cases, false_from_ne_true}
+use Rattle.std.proofs.lemmas.Bool.{or_right, or_left, or_cases, false_from_ne_true, not-false}
+use Rattle.std.proofs.lemmas.Option.{same_Some}
 use Rattle.sieve_meaning.specs.Program.{Include, Commands}
 use Rattle.sieve_meaning.specs.Meaning.{ScriptName, script_named, same_script, is_among, Library}
 use Rattle.sieve_meaning.specs.Procedures.{includes_of, once, included_names, holds_if_there, reaches_within, reaches}
 use Rattle.sieve_meaning.specs.Sharing.{Includes, Reaches, at_once, over, ReachLaw}
-use Rattle.sieve_meaning.proofs.SharingLemmas.{IsIn, same_is, same_self, not_false, kept_any, reaches_more, reaches_named}
-use Rattle.sieve_meaning.proofs.ProcedureLemmas.{some_is}
+use Rattle.sieve_meaning.proofs.SharingLemmas.{IsIn, same_is, same_self, kept_any, reaches_more, reaches_named}
 
 -- NAMES
 
@@ -49,7 +49,7 @@ among_once s (t ∷ ts) h = elim (or_cases (same_script s t) (is_among (filter (
 ]
 
 -- a script that is there, of a test that holds if it is
-there_of : (o : Option Commands) (p : Commands → Bool) → holds_if_there o p ≡ true → (x : Commands) × (o ≡ Some x) × (p x ≡ true)
+pub there_of : (o : Option Commands) (p : Commands → Bool) → holds_if_there o p ≡ true → (x : Commands) × (o ≡ Some x) × (p x ≡ true)
 there_of None p h = absurd (cc h)
 there_of (Some x) p h = (x, refl, h)
 
@@ -88,7 +88,7 @@ still_among s names u differs h =
     (λ t dropped.
     false_from_ne_true (same_script u t) (λ same.
     absurd (cc (sym differs
-    ∙ ap (λ (v : ScriptName). same_script u v) (same_is s t (not_false (same_script s t) dropped)) ∙ same)))) h
+    ∙ ap (λ (v : ScriptName). same_script u v) (same_is s t (not-false (same_script s t) dropped)) ∙ same)))) h
 
 no_longer : (ws names : List ScriptName) → AreOnce ws → ((s : ScriptName) → is_among ws s ≡ true → is_among names s ≡ true) → length ws ≤ length names
 no_longer [] names each inside = omega arith
@@ -124,7 +124,7 @@ module _ (lib : Library) where
   cut s x at r y (q ∷ ws) t h each there = elim (or_cases (same_script s q) (is_among ws s) there) [
     | inl here ↦
         let same : s ≡ q = same_is s q here in
-        let script : h.0 ≡ x = some_is h.0 x (sym h.1.there ∙ ap (λ (v : ScriptName). lib.find v) (sym same) ∙ at) in
+        let script : h.0 ≡ x = same_Some h.0 x (sym h.1.there ∙ ap (λ (v : ScriptName). lib.find v) (sym same) ∙ at) in
         let on : OnWalk s x ws t = subst (λ (v : ScriptName). OnWalk v x ws t) (sym same) (subst (λ (z : Commands). OnWalk q z ws t) script h.2) in
         (ws, on, (ap (λ (v : ScriptName). is_among ws v) same ∙ each.0, each.1))
     | inr later ↦ cut s x at q h.0 ws t h.2 each.1 later

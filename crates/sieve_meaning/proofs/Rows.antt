@@ -1,11 +1,12 @@
 -- The definitions on small scripts and patterns with known answers: each line computes.
-use Rattle.std.proofs.Common.{◌≡◌, ℕ, List, [], ◌∷◌, true, false, Some, None, codes, refl}
+use Rattle.std.proofs.Common.{◌≡◌, ℕ, Bool, true, false, List, [], ◌∷◌, map, Some, None, codes, refl}
 use Rattle.std.specs.Str.{bytes_eq}
 use Rattle.sieve_syntax.specs.Tree.{test, no_tests, one_test, CommandTree, command, semicolon, block, CommandTrees}
 use Rattle.sieve_syntax.specs.Tree.{no_commands, command_then as tree_then}
 use Rattle.sieve_syntax.specs.declared.tree.StringList.TheVariants as string_lists
 use Rattle.sieve_syntax.specs.declared.tree.Argument.TheVariants as arguments
 use Rattle.class_paths.specs.Path.{unfiled}
+use Rattle.sieve_meaning.specs.declared.matching.Comparator.{Comparator}
 use Rattle.sieve_meaning.specs.declared.matching.Comparator.TheVariants as comparators
 use Rattle.sieve_meaning.specs.declared.outcome.Outcome.{Outcome}
 use Rattle.sieve_meaning.specs.declared.run_fault.RunFault.TheVariants.{ClassNotOpen}
@@ -18,23 +19,18 @@ use Rattle.sieve_meaning.specs.Weight.{linked_weight}
 use Rattle.sieve_meaning.specs.TooHeavy.{is_too_heavy}
 use Rattle.sieve_meaning.specs.Outcome.{outcome}
 
--- `*ab*ab` matches `abab` and not `ab`
-two_stars : covers comparators.Octet (items_of (codes "*ab*ab")) (codes "abab") ≡ true
-unfolding items_from suffixes covers
-two_stars = refl
+-- each comparator, pattern and text, and whether the pattern covers the text
+abbrev covered : List (Comparator × List ℕ × List ℕ × Bool)
+covered =
+    (comparators.Octet, codes "*ab*ab", codes "abab", true) ∷
+    (comparators.Octet, codes "*ab*ab", codes "ab", false) ∷
+    (comparators.Casemap, codes "a\\*b?c", codes "A*BXC", true) ∷
+    (comparators.Casemap, codes "a\\*b?c", codes "axbxc", false) ∷
+    []
 
-two_stars_short : covers comparators.Octet (items_of (codes "*ab*ab")) (codes "ab") ≡ false
+covered_are : map (λ r. covers r.0 (items_of r.1) r.2) covered ≡ map (λ r. r.3) covered
 unfolding items_from suffixes covers
-two_stars_short = refl
-
--- `a\*b?c` matches `A*BXC` where case is ignored, and not `axbxc`
-escaped_star : covers comparators.Casemap (items_of (codes "a\\*b?c")) (codes "A*BXC") ≡ true
-unfolding items_from suffixes covers
-escaped_star = refl
-
-escaped_star_other : covers comparators.Casemap (items_of (codes "a\\*b?c")) (codes "axbxc") ≡ false
-unfolding items_from suffixes covers
-escaped_star_other = refl
+covered_are = refl
 
 invoice : contains comparators.Casemap (codes "invoice") (codes "Your INVOICE") ≡ true
 unfolding contains suffixes

@@ -5,22 +5,20 @@ use Rattle.std.specs.Str.{bytes_eq}
 use Rattle.std.specs.List.{list_any}
 use Rattle.std.proofs.lemmas.Slice.Eq.{bytes_eq-Decides}
 use Rattle.std.specs.Prelude.{nat_eq}
-use Rattle.std.proofs.lemmas.Bool.{and_parts, and_from, or_right, or_left, or_cases, eqb-true}
+use Rattle.std.proofs.lemmas.Bool.{and_parts, and_from, or_right, or_left, or_cases, eqb-true, not-false}
+use Rattle.std.specs.Cmp.{both_ways}
 use Rattle.sieve_meaning.specs.declared.run_fault.RunFault.TheVariants.{NestingTooDeep}
 use Rattle.sieve_meaning.specs.Case.{Facts}
 use Rattle.sieve_meaning.specs.Truth.{truth}
-use Rattle.sieve_meaning.specs.Program.{Include, Command, require, keep, discard, stop, return, file_into, branch}
-use Rattle.sieve_meaning.specs.Program.{include, Commands, no_command, command_then, Branches, no_branch, otherwise}
-use Rattle.sieve_meaning.specs.Program.{if_then}
-use Rattle.sieve_meaning.specs.Meaning.{ScriptName, script_named, same_bool, same_script, is_among, Library, Filing}
-use Rattle.sieve_meaning.specs.Meaning.{Ending, GoesOn, Returns, Stops, Faults, Included, and_then, run, run_one}
-use Rattle.sieve_meaning.specs.Meaning.{run_branches, inclusion_within, inclusion, ending_of_include, with_entry}
-use Rattle.sieve_meaning.specs.Meaning.{unless_entered, unless_missing, unless_active}
+use Rattle.sieve_meaning.specs.Program.{Include, Command, branch, include, Commands, no_command}
+use Rattle.sieve_meaning.specs.Program.{command_then, Branches, no_branch, otherwise, if_then}
+use Rattle.sieve_meaning.specs.Meaning.{ScriptName, script_named, same_bool, same_script, is_among, Library, Filing, Ending, GoesOn}
+use Rattle.sieve_meaning.specs.Meaning.{Faults, Included, and_then, run, run_one, run_branches, inclusion_within, inclusion, ending_of_include}
+use Rattle.sieve_meaning.specs.Meaning.{with_entry, unless_entered, unless_missing, unless_active}
 use Rattle.sieve_meaning.specs.Weight as weights
 use Rattle.sieve_meaning.specs.Weight.{weight, weight_one, branches_weight}
-use Rattle.sieve_meaning.specs.Procedures.{includes_of, includes_in, branch_includes, once, included_names}
-use Rattle.sieve_meaning.specs.Procedures.{holds_if_there, reaches_within, reaches, Procedure, same_first, are_among}
-use Rattle.sieve_meaning.specs.Procedures.{is_shared, included_path}
+use Rattle.sieve_meaning.specs.Procedures.{includes_of, includes_in, branch_includes, once, included_names, holds_if_there, reaches_within, reaches}
+use Rattle.sieve_meaning.specs.Procedures.{Procedure, same_first, are_among, is_shared, included_path}
 use Rattle.sieve_meaning.specs.Sharing.{SharingLaw}
 
 -- NAMES
@@ -73,9 +71,7 @@ RunsAlike h k is = (i : Include) → IsIn i is → (f : Filing) → h i f ≡ k 
 
 then_alike : (e : Ending) (a b : Filing → Ending) → ((f : Filing) → a f ≡ b f) → and_then e a ≡ and_then e b
 then_alike (GoesOn f) a b h = h f
-then_alike (Returns f) a b h = refl
-then_alike (Stops f) a b h = refl
-then_alike (Faults fault f) a b h = refl
+then_alike e a b h = refl
 
 either_alike : {A : Type 0} (t : Bool) (a b x y : A) → a ≡ x → b ≡ y → cond t a b ≡ cond t x y
 either_alike true a b x y h k = h
@@ -90,14 +86,9 @@ module _ (c : Facts) (h k : Included) where
         ∙ then_alike (run_one c k x f) (run c h xs) (run c k xs) (run_alike xs (λ i is. same i (in_rest i (includes_in x) (includes_of xs) is)))
 
     one_alike : (x : Command) → RunsAlike h k (includes_in x) → (f : Filing) → run_one c h x f ≡ run_one c k x f
-    one_alike require same f = refl
-    one_alike keep same f = refl
-    one_alike discard same f = refl
-    one_alike stop same f = refl
-    one_alike return same f = refl
-    one_alike (file_into copy path) same f = refl
     one_alike (branch bs) same f = branches_alike bs same f
     one_alike (include i) same f = same i (inl refl) f
+    one_alike x same f = refl
 
     branches_alike : (bs : Branches) → RunsAlike h k (branch_includes bs) → (f : Filing) → run_branches c h bs f ≡ run_branches c k bs f
     branches_alike no_branch same f = refl
@@ -119,14 +110,9 @@ module _ (h k : Include → ℕ) where
         omega (arith, a, b)
 
     one_weighs : (x : Command) → SameAt h k (includes_in x) → weight_one h x ≡ weight_one k x
-    one_weighs require same = refl
-    one_weighs keep same = refl
-    one_weighs discard same = refl
-    one_weighs stop same = refl
-    one_weighs return same = refl
-    one_weighs (file_into copy path) same = refl
     one_weighs (branch bs) same = branches_weigh bs same
     one_weighs (include i) same = ap (λ (n : ℕ). 4 + n) (same i (inl refl))
+    one_weighs x same = refl
 
     branches_weigh : (bs : Branches) → SameAt h k (branch_includes bs) → branches_weight h bs ≡ branches_weight k bs
     branches_weigh no_branch same = refl
@@ -145,15 +131,6 @@ or_rest false b n e = e
 pub or_else : (a b d : Bool) → (a || b) ≡ true → (a ≡ false → b ≡ true → d ≡ true) → (a || d) ≡ true
 or_else true b d e h = refl
 or_else false b d e h = h refl e
-
-pub not_false : (b : Bool) → not b ≡ false → b ≡ true
-not_false true e = refl
-not_false false e = absurd (cc e)
-
-same_tests : (a b : Bool) → (a ≡ true → b ≡ true) → (b ≡ true → a ≡ true) → a ≡ b
-same_tests true b h k = sym (h refl)
-same_tests false true h k = k refl
-same_tests false false h k = refl
 
 -- REACHING
 
@@ -176,7 +153,7 @@ once_any : {A : Type 0} (alike : A → A → Bool) (p : A → Bool) (xs : List A
 once_any alike p [] r e = e
 once_any alike p (x ∷ xs) r e =
     or_else (p x) (list_any p xs) (list_any p (filter (λ y. not (alike x y)) (once alike xs))) e
-    (λ other some. kept_any p (λ y. not (alike x y)) (once alike xs) (λ y n. r x y (not_false (alike x y) n) other) (once_any alike p xs r some))
+    (λ other some. kept_any p (λ y. not (alike x y)) (once alike xs) (λ y n. r x y (not-false (alike x y) n) other) (once_any alike p xs r some))
 
 any_name : (p : ScriptName → Bool) (i : Include) (is : List Include) → IsIn i is → p (script_named i) ≡ true → list_any p (map script_named is) ≡ true
 any_name p i [] there h = absurd there
@@ -256,7 +233,7 @@ module _ (lib : Library) where
 
   pub same_reached : (x : Commands) (a b : List ScriptName) → are_among lib x a b ≡ true → are_among lib x b a ≡ true → SameFor lib 64 x a b
   unfolding reaches
-  same_reached x a b h k s r = same_tests (is_among a s) (is_among b s) (among_those x a b s h r) (among_those x b a s k r)
+  same_reached x a b h k s r = both_ways (is_among a s) (is_among b s) (among_those x a b s h r) (among_those x b a s k r)
 
 -- INCLUDES
 

@@ -9,11 +9,9 @@ use Rattle.sieve_syntax.specs.declared.tree.Argument.TheVariants as arguments
 use Rattle.sieve_syntax.specs.declared.token.Mark.TheVariants.{Semicolon, OpenBrace, CloseBrace, CloseParen, CloseBracket, Comma}
 use Rattle.sieve_syntax.specs.declared.token.TokenKind.{TokenKind}
 use Rattle.sieve_syntax.specs.declared.token.TokenKind.TheVariants as tokens
-use Rattle.sieve_syntax.specs.Tree.{TestTree, test, InnerTests, no_tests, one_test, listed_tests, TestRow, last_test}
-use Rattle.sieve_syntax.specs.Tree.{next_test, CommandTree, command, EndingTree, semicolon, block, CommandTrees}
-use Rattle.sieve_syntax.specs.Tree.{no_commands, command_then, other_string_tokens, argument_tokens, arguments_tokens}
-use Rattle.sieve_syntax.specs.Tree.{test_tokens, inner_tokens, row_tokens, command_tokens, ending_tokens}
-use Rattle.sieve_syntax.specs.Tree.{commands_tokens}
+use Rattle.sieve_syntax.specs.Tree.{TestTree, test, InnerTests, no_tests, one_test, listed_tests, TestRow, last_test, next_test, CommandTree, command}
+use Rattle.sieve_syntax.specs.Tree.{EndingTree, semicolon, block, CommandTrees, no_commands, command_then, other_string_tokens, argument_tokens}
+use Rattle.sieve_syntax.specs.Tree.{arguments_tokens, test_tokens, inner_tokens, row_tokens, command_tokens, ending_tokens, commands_tokens}
 use Rattle.sieve_syntax.specs.View.{row_of, commands_of}
 use Rattle.sieve_text.specs.declared.parser.stop.Misfit.{Misfit}
 use Rattle.sieve_text.specs.declared.parser.stop.Misfit.TheVariants.{Nesting}

@@ -1,55 +1,26 @@
 -- The tokens that are read, and the gaps before them, make the script.
-use Rattle.std.proofs.Common.{◌≡◌, ℕ, ◌+◌, ◌≤◌, List, [], ◌∷◌, ◌++◌, length, drop, Option, Some, None, Result, Ok, refl}
-use Rattle.std.proofs.Common.{sym, ap, subst, ◌∙◌, arith, inl, inr, length-append}
-use Rattle.std.proofs.lemmas.Bool.{lt-ltb, cases_lt}
-use Rattle.std.proofs.lemmas.List.{length-drop}
+use Rattle.std.proofs.Common.{◌≡◌, ℕ, ◌+◌, ◌≤◌, List, [], ◌∷◌, ◌++◌, length, drop, Some, None, Ok, append-nil}
+use Rattle.std.proofs.Common.{sym, ap, subst, ◌∙◌, arith, length-append}
+use Rattle.std.proofs.lemmas.List.{length-drop, nil_from_length}
 use Rattle.sieve_syntax.specs.declared.token.Token.{Token}
 use Rattle.sieve_syntax.specs.declared.token.TokenKind.{TokenKind}
-use Rattle.sieve_text.specs.declared.fault.ScanRefusal.{ScanRefusal}
 use Rattle.sieve_text.specs.Gaps.{gap_len}
 use Rattle.sieve_text.specs.Tokens.{kind_at, token_at, Reads}
 use Rattle.sieve_text.specs.TokenGrammar.{Gap, IsToken, IsFirst, IsCut}
 use Rattle.sieve_text.proofs.GapLemmas.{drop_more}
 use Rattle.sieve_text.proofs.GapGrammar.{gap_sound, dropped}
 use Rattle.sieve_text.proofs.KindGrammar.{kind_sound}
-use Rattle.sieve_text.proofs.KindLemmas.{read_as, bound_parts}
 use Rattle.sieve_text.proofs.Longest.{lexeme_short, kind_apart}
-use Rattle.sieve_text.proofs.WithinLemmas.{token_parts}
-
--- where no token follows, the gap goes on to the end
-at_end : (script : List ℕ) (at : ℕ) → token_at script at ≡ Ok None → length script ≤ at + gap_len 0 (drop at script)
-unfolding token_at
-at_end script at e = elim (cases_lt start (length script)) [
-  | inl h ↦ (let p = bound_parts (kind_at (drop start script)) made None (rw (lt-ltb start (length script) h) at e) in
-      absurd (some (record { kind = p.0.0; start = start; end = start + p.0.1 }) p.2))
-  | inr h ↦ h
-]
-  where
-    start : ℕ
-    start = at + gap_len 0 (drop at script)
-
-    made : TokenKind × ℕ → Result (Option Token) ScanRefusal
-    made k = Ok (Some (record { kind = k.0; start = start; end = start + k.1 }))
-
-    some : (t : Token) → read_as (Some t) ≡ Ok None → ⊥
-    some t e = cc
+use Rattle.sieve_text.proofs.WithinLemmas.{token_parts, ends_at}
 
 last_gap : (bs : List ℕ) → length bs ≤ gap_len 0 bs → Gap bs []
 last_gap bs h =
     let g = gap_sound bs in
     let l = ap length g.cut ∙ length-append g.gap g.rest in
     let long = g.long in
-    let none = empty g.rest (omega arith) in
-    let whole : g.gap ≡ bs = sym (g.cut ∙ ap (λ cs. g.gap ++ cs) none ∙ append_nil g.gap) in
+    let none = nil_from_length g.rest (omega arith) in
+    let whole : g.gap ≡ bs = sym (g.cut ∙ ap (λ cs. g.gap ++ cs) none ∙ append-nil g.gap) in
     subst (λ cs. Gap cs []) whole (subst (λ cs. Gap g.gap cs) none g.gap_is)
-  where
-    empty : (bs : List ℕ) → length bs ≡ 0 → bs ≡ []
-    empty [] e = refl
-    empty (b ∷ bs) e = absurd (omega arith)
-
-    append_nil : (bs : List ℕ) → bs ++ [] ≡ bs
-    append_nil [] = refl
-    append_nil (b ∷ bs) = ap (λ cs. b ∷ cs) (append_nil bs)
 
 -- one token, and the rest after it
 pub token_cut : (script : List ℕ) (at : ℕ) (t : Token) → token_at script at ≡ Ok (Some t) → IsFirst at (drop at script) t (drop t.end script)
@@ -82,7 +53,7 @@ token_cut script at t e =
 pub cut_from : (script : List ℕ) (at : ℕ) (ts : List Token) (end : ℕ) → Reads script at ts end
     → token_at script end ≡ Ok None → IsCut at (drop at script) ts
 cut_from script at [] end h e =
-    let l = at_end script at (rw h e) in
+    let l = ends_at script at (rw h e) in
     let d = length-drop at script in
     last_gap (drop at script) (omega arith)
 cut_from script at (t ∷ ts) end h e = (drop t.end script, token_cut script at t h.0, cut_from script t.end ts end h.1 e)

@@ -1,10 +1,10 @@
 -- Whether a tree is within a number of nested tests and a number of nested blocks, as a function that computes it.
 use Rattle.std.proofs.Common.{◌≡◌, ℕ, zero, suc, ◌≤◌, ◌<◌, Bool, true, false, refl, ◌⊎◌, inl, inr, arith}
 use Rattle.std.specs.Prelude.{◌&&◌}
-use Rattle.sieve_syntax.specs.Tree.{TestTree, test, InnerTests, no_tests, one_test, listed_tests, TestRow, last_test}
-use Rattle.sieve_syntax.specs.Tree.{next_test, CommandTree, command, EndingTree, semicolon, block, CommandTrees}
-use Rattle.sieve_syntax.specs.Tree.{no_commands, command_then, test_depth, inner_depth, row_depth, command_test_depth}
-use Rattle.sieve_syntax.specs.Tree.{ending_test_depth, commands_test_depth, command_block_depth, ending_block_depth}
+use Rattle.std.proofs.lemmas.Bool.{and_parts}
+use Rattle.sieve_syntax.specs.Tree.{TestTree, test, InnerTests, no_tests, one_test, listed_tests, TestRow, last_test, next_test, CommandTree, command}
+use Rattle.sieve_syntax.specs.Tree.{EndingTree, semicolon, block, CommandTrees, no_commands, command_then, test_depth, inner_depth, row_depth}
+use Rattle.sieve_syntax.specs.Tree.{command_test_depth, ending_test_depth, commands_test_depth, command_block_depth, ending_block_depth}
 use Rattle.sieve_syntax.specs.Tree.{commands_block_depth}
 
 abbrev mutual
@@ -38,10 +38,6 @@ both : (a b : Bool) → a ≡ true → b ≡ true → (a && b) ≡ true
 both true b p q = q
 both false b p q = absurd cc
 
-parts : (a b : Bool) → (a && b) ≡ true → (a ≡ true) × (b ≡ true)
-parts true b p = (refl, p)
-parts false b p = absurd cc
-
 mutual
   test_within : (t : TestTree) (d : ℕ) → test_depth t ≤ d → test_fits t d ≡ true
   test_within (test n args inner) zero h = absurd (omega arith)
@@ -65,7 +61,7 @@ mutual
   inner_depth-fits no_tests d h = omega arith
   inner_depth-fits (one_test t) d h = test_depth-fits t d h
   inner_depth-fits (listed_tests t row) d h =
-      let p = parts (test_fits t d) (row_fits row d) h in
+      let p = and_parts (test_fits t d) (row_fits row d) h in
       let k = test_depth-fits t d p.0 in
       let l = row_depth-fits row d p.1 in
       omega arith
@@ -73,7 +69,7 @@ mutual
   row_depth-fits : (r : TestRow) (d : ℕ) → row_fits r d ≡ true → row_depth r ≤ d
   row_depth-fits last_test d h = omega arith
   row_depth-fits (next_test t row) d h =
-      let p = parts (test_fits t d) (row_fits row d) h in
+      let p = and_parts (test_fits t d) (row_fits row d) h in
       let k = test_depth-fits t d p.0 in
       let l = row_depth-fits row d p.1 in
       omega arith
@@ -98,7 +94,7 @@ mutual
 mutual
   command_depth-fits : (c : CommandTree) (d b : ℕ) → command_fits c d b ≡ true → (command_test_depth c ≤ d) × (command_block_depth c ≤ b)
   command_depth-fits (command n args inner finish) d b h =
-      let p = parts (inner_fits inner d) (ending_fits finish d b) h in
+      let p = and_parts (inner_fits inner d) (ending_fits finish d b) h in
       let k = inner_depth-fits inner d p.0 in
       let l = ending_depth-fits finish d b p.1 in
       (omega arith, l.1)
@@ -111,7 +107,7 @@ mutual
   pub commands_depth-fit : (cs : CommandTrees) (d b : ℕ) → commands_fit cs d b ≡ true → (commands_test_depth cs ≤ d) × (commands_block_depth cs ≤ b)
   commands_depth-fit no_commands d b h = (omega arith, omega arith)
   commands_depth-fit (command_then c cs) d b h =
-      let p = parts (command_fits c d b) (commands_fit cs d b) h in
+      let p = and_parts (command_fits c d b) (commands_fit cs d b) h in
       let k = command_depth-fits c d b p.0 in
       let l = commands_depth-fit cs d b p.1 in
       (omega arith, omega arith)

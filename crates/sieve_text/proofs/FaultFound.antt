@@ -1,7 +1,6 @@
 -- A faulty place by the grammar is refused there.
-use Rattle.std.proofs.Common.{◌≡◌, ℕ, suc, ◌+◌, ◌<◌, ◌⊎◌, Bool, true, false, List, [], ◌∷◌, ◌++◌, length, take, drop}
-use Rattle.std.proofs.Common.{nat_lt, Option, Some, None, Ok, Err, refl, sym, ap, ◌∙◌, arith, inl, inr, length-append}
-use Rattle.std.proofs.Common.{append_assoc}
+use Rattle.std.proofs.Common.{◌≡◌, ℕ, suc, ◌+◌, ◌<◌, ◌⊎◌, Bool, true, false, List, [], ◌∷◌, ◌++◌, length, take, drop, nat_lt, Option, Some, None, Ok}
+use Rattle.std.proofs.Common.{Err, refl, sym, ap, ◌∙◌, arith, inl, inr, length-append, append_assoc}
 use Rattle.std.specs.Prelude.{if◌then◌else◌, ◌==◌, ◌&&◌, ◌||◌, codes}
 use Rattle.std.specs.List.{prefix_len, list_all}
 use Rattle.std.specs.Char.{is_ascii_digit, to_ascii_lowercase}
@@ -19,12 +18,10 @@ use Rattle.sieve_text.specs.Octets.{is_blank, is_white, is_start, not_lf, begins
 use Rattle.sieve_text.specs.Gaps.{bracketed_len, opens_bracketed, comment_len, gap_len}
 use Rattle.sieve_text.specs.Strings.{quoted_len, begins_as, begins_text, opening_end_at, is_last_line, lines_len}
 use Rattle.sieve_text.specs.Tokens.{mark_of, string_kind, quoted_at, lines_at, multi_line_at, tag_at, kind_at, either_place, text_len}
-use Rattle.sieve_text.specs.TokenGrammar.{IsNumber, QuotedText, quoted_end, quoted_plain, quoted_pair, IsLineEnd, Lines}
-use Rattle.sieve_text.specs.TokenGrammar.{no_lines, line, IsTextColon, IsHashComment, IsQuoted, IsMultiLine, octet_of}
-use Rattle.sieve_text.specs.TokenGrammar.{Lexeme, closes}
-use Rattle.sieve_text.specs.FaultGrammar.{IsNoBeginning, IsNoOpening, NoTokenAt, no_beginning, no_tag, no_opening}
-use Rattle.sieve_text.specs.FaultGrammar.{OpenString, open_quoted, open_escape, open_opening, open_lines, IsLargeNumber}
-use Rattle.sieve_text.specs.FaultGrammar.{IsLongString, IsFaultHere}
+use Rattle.sieve_text.specs.TokenGrammar.{IsNumber, QuotedText, quoted_end, quoted_plain, quoted_pair, IsLineEnd, Lines, no_lines, line, IsTextColon}
+use Rattle.sieve_text.specs.TokenGrammar.{IsHashComment, IsQuoted, IsMultiLine, octet_of, Lexeme, closes}
+use Rattle.sieve_text.specs.FaultGrammar.{IsNoBeginning, IsNoOpening, NoTokenAt, no_beginning, no_tag, no_opening, OpenString, open_quoted}
+use Rattle.sieve_text.specs.FaultGrammar.{open_escape, open_opening, open_lines, IsLargeNumber, IsLongString, IsFaultHere}
 use Rattle.sieve_text.proofs.GapFound.{exactly, closes_after, closes_rest}
 use Rattle.sieve_text.proofs.GapGrammar.{before}
 use Rattle.sieve_text.proofs.GapLemmas.{gap_none}

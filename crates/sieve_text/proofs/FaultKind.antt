@@ -1,7 +1,6 @@
 -- What is refused is a faulty place by the grammar.
-use Rattle.std.proofs.Common.{◌≡◌, ℕ, zero, suc, ◌+◌, ◌*◌, ◌<◌, ◌≤◌, ◌⊎◌, Bool, true, false, List, [], ◌∷◌, ◌++◌}
-use Rattle.std.proofs.Common.{length, take, drop, nat_lt, Option, Some, None, Result, Ok, Err, refl, sym, ap, subst}
-use Rattle.std.proofs.Common.{◌∙◌, arith, inl, inr, length-append, append_assoc}
+use Rattle.std.proofs.Common.{◌≡◌, ℕ, zero, suc, ◌+◌, ◌*◌, ◌<◌, ◌≤◌, ◌⊎◌, Bool, true, false, List, [], ◌∷◌, ◌++◌, length, take, drop, nat_lt, Option}
+use Rattle.std.proofs.Common.{Some, None, Result, Ok, Err, refl, sym, ap, subst, ◌∙◌, arith, inl, inr, length-append, append_assoc}
 use Rattle.std.specs.Prelude.{if◌then◌else◌, ◌==◌, codes}
 use Rattle.std.specs.List.{prefix_len, list_all}
 use Rattle.std.specs.Char.{is_ascii_digit}
@@ -19,9 +18,8 @@ use Rattle.sieve_text.specs.Gaps.{bracketed_len, opens_bracketed, comment_len, g
 use Rattle.sieve_text.specs.Strings.{quoted_len, quoted_value, begins_text, opening_end_at, is_last_line, lines_len, lines_value}
 use Rattle.sieve_text.specs.Tokens.{mark_of, mark_kind, string_kind, quoted_at, lines_at, multi_line_at, tag_at}
 use Rattle.sieve_text.specs.Tokens.{factor_at, number_at, identifier_at, kind_at, either_place, text_len, ◌>>=◌}
-use Rattle.sieve_text.specs.TokenGrammar.{IsNumber, QuotedText, quoted_end, quoted_plain, quoted_pair, IsLineEnd}
-use Rattle.sieve_text.specs.TokenGrammar.{is_dot, without_dot, Lines, no_lines, line, IsTextColon, IsHashComment}
-use Rattle.sieve_text.specs.TokenGrammar.{octet_of, closes}
+use Rattle.sieve_text.specs.TokenGrammar.{IsNumber, QuotedText, quoted_end, quoted_plain, quoted_pair, IsLineEnd, is_dot, without_dot, Lines}
+use Rattle.sieve_text.specs.TokenGrammar.{no_lines, line, IsTextColon, IsHashComment, octet_of, closes}
 use Rattle.sieve_text.specs.FaultGrammar.{no_beginning, no_tag, no_opening, OpenString, open_quoted, open_escape}
 use Rattle.sieve_text.specs.FaultGrammar.{open_opening, open_lines, IsLargeNumber, IsFaultHere}
 use Rattle.sieve_text.proofs.GapLemmas.{drop_more}

@@ -8,13 +8,13 @@ use Rattle.sieve_syntax.specs.declared.token.Mark.TheVariants.{OpenBracket, Clos
 use Rattle.sieve_text.specs.Tokens.{mark_of, factor_at}
 use Rattle.sieve_text.specs.TokenGrammar.{Quantifier, no_quantifier, kilo, mega, giga, octet_of}
 
-same_mark : (m n : Mark) → Some m ≡ Some n → m ≡ n
+pub same_mark : (m n : Mark) → Some m ≡ Some n → m ≡ n
 same_mark m n e = cc
 
-no_mark : (m : Mark) → ◌≡◌ {A = Option Mark} None (Some m) → ⊥
+pub no_mark : (m : Mark) → ◌≡◌ {A = Option Mark} None (Some m) → ⊥
 no_mark m e = cc
 
-chosen : (t : Bool) (x y : Option Mark) (m : Mark) → (if t then x else y) ≡ Some m → ((t ≡ true) × (x ≡ Some m)) ⊎ ((t ≡ false) × (y ≡ Some m))
+pub chosen : (t : Bool) (x y : Option Mark) (m : Mark) → (if t then x else y) ≡ Some m → ((t ≡ true) × (x ≡ Some m)) ⊎ ((t ≡ false) × (y ≡ Some m))
 chosen true x y m e = inl (refl, e)
 chosen false x y m e = inr (refl, e)
 
@@ -32,13 +32,7 @@ mark_octet b m =
 
 pub octet_mark : (m : Mark) → mark_of (octet_of m) ≡ Some m
 octet_mark Semicolon = refl
-octet_mark OpenBrace = refl
-octet_mark CloseBrace = refl
-octet_mark OpenParen = refl
-octet_mark CloseParen = refl
-octet_mark OpenBracket = refl
-octet_mark CloseBracket = refl
-octet_mark Comma = refl
+octet_mark m = refl
 
 either : (b m n : ℕ) → ((b == m) || (b == n)) ≡ true → (b ≡ m) ⊎ (b ≡ n)
 either b m n h = elim (or_cases (b == m) (b == n) h) [

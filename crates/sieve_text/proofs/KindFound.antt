@@ -1,7 +1,6 @@
 -- A token by the grammar, the longest that fits, is what is read in its place.
-use Rattle.std.proofs.Common.{◌≡◌, ℕ, suc, ◌+◌, ◌*◌, ◌<◌, ◌≤◌, ◌⊎◌, Bool, true, false, List, [], ◌∷◌, ◌++◌, length, map}
-use Rattle.std.proofs.Common.{take, drop, nat_lt, Result, Ok, Err, refl, sym, ap, subst, ◌∙◌, arith, inl, inr}
-use Rattle.std.proofs.Common.{length-append, append_assoc}
+use Rattle.std.proofs.Common.{◌≡◌, ℕ, suc, ◌+◌, ◌*◌, ◌<◌, ◌≤◌, ◌⊎◌, Bool, true, false, List, [], ◌∷◌, ◌++◌, length, map, take, drop, nat_lt, Result}
+use Rattle.std.proofs.Common.{Ok, Err, refl, sym, ap, subst, ◌∙◌, arith, inl, inr, length-append, append_assoc}
 use Rattle.std.specs.Prelude.{if◌then◌else◌, ◌==◌, ◌||◌, codes}
 use Rattle.std.specs.List.{prefix_len, list_all}
 use Rattle.std.specs.Char.{is_ascii_digit, to_ascii_lowercase}
@@ -12,8 +11,7 @@ use Rattle.std.proofs.lemmas.List.{append-nil, length-map, take-append-drop, len
 use Rattle.std.proofs.lemmas.List.Folds.{list_all-append}
 use Rattle.std.proofs.Math.Seq.{take-append_seam, drop-append_seam, drop-append-add}
 use Rattle.sieve_syntax.specs.declared.token.Mark.{Mark}
-use Rattle.sieve_syntax.specs.declared.token.Mark.TheVariants.{Semicolon, OpenBrace, CloseBrace, OpenParen, CloseParen}
-use Rattle.sieve_syntax.specs.declared.token.Mark.TheVariants.{OpenBracket, CloseBracket, Comma}
+use Rattle.sieve_syntax.specs.declared.token.Mark.TheVariants.{Semicolon}
 use Rattle.sieve_syntax.specs.declared.token.TokenKind.{TokenKind}
 use Rattle.sieve_syntax.specs.declared.token.TokenKind.TheVariants as kinds
 use Rattle.sieve_text.specs.declared.fault.ScanRefusal.{ScanRefusal}
@@ -30,9 +28,8 @@ use Rattle.sieve_text.proofs.GapLemmas.{drop_more}
 use Rattle.sieve_text.proofs.GrammarParts.{quantifier_taken, quantifier_counts}
 use Rattle.sieve_text.proofs.KindGrammar.{line_says}
 use Rattle.sieve_text.proofs.WithinLemmas.{factor_within}
-use Rattle.sieve_text.proofs.Longest.{lower_below, lower_above, lower_between, colon_only, t_starts, digit_no_t}
-use Rattle.sieve_text.proofs.Longest.{digit_no_start, no_word, quoted_whole, lines_whole, opening_whole, last_whole}
-use Rattle.sieve_text.proofs.Longest.{after_opening, begins_word}
+use Rattle.sieve_text.proofs.Longest.{lower_below, lower_above, lower_between, colon_only, t_starts, digit_no_t, digit_no_start, no_word}
+use Rattle.sieve_text.proofs.Longest.{quoted_whole, lines_whole, opening_whole, last_whole, after_opening, begins_word, apart, summed}
 
 -- NAMES
 
@@ -446,33 +443,17 @@ multi_line_found octets value following h =
     (length h.body + (1 + length h.last)))) (sym h.says)
     ∙ ap (λ m. string_kind value m) (long h.word h.blanks h.comment h.end h.body h.last five ∙ ap length (sym h.cut))
   where
-    apart : (word blanks comment end body last following : List ℕ)
-        → (word ++ (blanks ++ (comment ++ (end ++ (body ++ 46 ∷ last))))) ++ following ≡ word
-        ++ (blanks ++ (comment ++ (end ++ (body ++ 46 ∷ (last ++ following)))))
-    apart word blanks comment end body last following = simp append_assoc
-
     long : (word blanks comment end body last : List ℕ) → length word ≡ 5
         → 5 + (length blanks + (length comment + length end)) + (length body + (1 + length last)) ≡ length (word
         ++ (blanks ++ (comment ++ (end ++ (body ++ 46 ∷ last)))))
     long word blanks comment end body last five = let l = summed word blanks comment end body last in omega arith
-      where
-        summed : (word blanks comment end body last : List ℕ)
-            → length (word ++ (blanks ++ (comment ++ (end ++ (body ++ 46 ∷ last)))))
-            ≡ length word + (length blanks + (length comment + (length end + (length body + suc (length last)))))
-        summed word blanks comment end body last = simp length-append
 
 -- MARKS
 
 mark_found : (m : Mark) (bs : List ℕ) → kind_at (octet_of m ∷ bs) ≡ Ok (kinds.Mark m, 1)
 unfolding kind_at
 mark_found Semicolon bs = refl
-mark_found OpenBrace bs = refl
-mark_found CloseBrace bs = refl
-mark_found OpenParen bs = refl
-mark_found CloseParen bs = refl
-mark_found OpenBracket bs = refl
-mark_found CloseBracket bs = refl
-mark_found Comma bs = refl
+mark_found m bs = refl
 
 -- ANY TOKEN
 

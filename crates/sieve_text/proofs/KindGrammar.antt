@@ -1,7 +1,6 @@
 -- What is read is a token by the grammar.
-use Rattle.std.proofs.Common.{◌≡◌, ℕ, zero, suc, ◌+◌, ◌*◌, ◌<◌, ◌≤◌, ◌⊎◌, Bool, true, false, List, [], ◌∷◌, ◌++◌}
-use Rattle.std.proofs.Common.{length, map, take, drop, nat_lt, Ok, Err, refl, sym, ap, subst, ◌∙◌, arith, inl, inr}
-use Rattle.std.proofs.Common.{length-append, append_assoc}
+use Rattle.std.proofs.Common.{◌≡◌, ℕ, zero, suc, ◌+◌, ◌*◌, ◌<◌, ◌≤◌, ◌⊎◌, Bool, true, false, List, [], ◌∷◌, ◌++◌, length, map, take, drop, nat_lt, Ok}
+use Rattle.std.proofs.Common.{Err, refl, sym, ap, subst, ◌∙◌, arith, inl, inr, length-append, append_assoc}
 use Rattle.std.specs.Prelude.{if◌then◌else◌, ◌==◌, ◌&&◌, ◌||◌, codes}
 use Rattle.std.specs.List.{prefix_len, list_all}
 use Rattle.std.specs.Char.{is_ascii_digit, to_ascii_lowercase}
@@ -17,15 +16,13 @@ use Rattle.sieve_text.specs.Octets.{is_blank, is_start, is_word, not_lf, begins,
 use Rattle.sieve_text.specs.Strings.{quoted_len, without_escapes, quoted_value, begins_as, begins_text, opening_end_at}
 use Rattle.sieve_text.specs.Strings.{is_last_line, lines_len, without_stuffing, lines_value}
 use Rattle.sieve_text.specs.Tokens.{mark_of, lines_at, multi_line_at, factor_at, kind_at}
-use Rattle.sieve_text.specs.TokenGrammar.{IsName, QuotedText, quoted_end, quoted_plain, quoted_pair, IsLineEnd, is_dot}
-use Rattle.sieve_text.specs.TokenGrammar.{without_dot, Lines, no_lines, line, IsTextColon, IsHashComment, IsQuoted}
-use Rattle.sieve_text.specs.TokenGrammar.{IsMultiLine, Lexeme, IsWithinLimits}
+use Rattle.sieve_text.specs.TokenGrammar.{IsName, QuotedText, quoted_end, quoted_plain, quoted_pair, IsLineEnd, is_dot, without_dot, Lines, no_lines}
+use Rattle.sieve_text.specs.TokenGrammar.{line, IsTextColon, IsHashComment, IsQuoted, IsMultiLine, Lexeme, IsWithinLimits}
 use Rattle.sieve_text.proofs.GapLemmas.{drop_more}
 use Rattle.sieve_text.proofs.GrammarParts.{mark_octet, quantifier_taken}
 use Rattle.sieve_text.proofs.GapGrammar.{prefix_passes}
-use Rattle.sieve_text.proofs.KindLemmas.{tested, same_kind, no_kind, quoted_parts, lines_parts, multi_line_parts}
-use Rattle.sieve_text.proofs.KindLemmas.{tag_parts, number_parts, mark_parts, branch, lines, name, digits, colon, quote}
-use Rattle.sieve_text.proofs.KindLemmas.{one}
+use Rattle.sieve_text.proofs.KindLemmas.{tested, same_kind, no_kind, quoted_parts, lines_parts, multi_line_parts, tag_parts, number_parts, mark_parts}
+use Rattle.sieve_text.proofs.KindLemmas.{branch, lines, name, digits, colon, quote, one}
 use Rattle.sieve_text.proofs.WithinLemmas.{line_end_within, factor_within, one_more, nothing_here, text_within}
 
 -- a token that begins here, and the rest after it

@@ -40,30 +40,25 @@ bound_parts (Err refusal) f k e = absurd (no_kind refusal k e)
 
 pub string_parts : (value : List ℕ) (n : ℕ) (k : TokenKind × ℕ) → string_kind value n ≡ Ok k → (length value ≤ 65535)
     × ((kinds.StringValue value, n) ≡ k)
-string_parts value n k e = go (tested (nat_lt 65535 (length value)) (Err StringTooLong) (Ok (kinds.StringValue value, n)) k e)
-  where
-    go : ((nat_lt 65535 (length value) ≡ true) × (Err StringTooLong ≡ Ok k)) ⊎ ((nat_lt 65535 (length value) ≡ false)
-        × (read_as (kinds.StringValue value, n) ≡ Ok k)) → (length value ≤ 65535) × ((kinds.StringValue value, n) ≡ k)
-    go (inl h) = absurd (no_kind StringTooLong k h.1)
-    go (inr h) = (ltb-false 65535 (length value) h.0, same_kind (kinds.StringValue value, n) k h.1)
+string_parts value n k e = elim (tested (nat_lt 65535 (length value)) (Err StringTooLong) (Ok (kinds.StringValue value, n)) k e) [
+  | inl h ↦ absurd (no_kind StringTooLong k h.1)
+  | inr h ↦ (ltb-false 65535 (length value) h.0, same_kind (kinds.StringValue value, n) k h.1)
+]
+
+-- a string of n octets that ends in the text
+closed_string : (bs value : List ℕ) (n m : ℕ) (k : TokenKind × ℕ)
+    → (if nat_lt n (length bs) then string_kind value m else Err StringNotClosed) ≡ Ok k
+    → (n < length bs) × (length value ≤ 65535) × ((kinds.StringValue value, m) ≡ k)
+closed_string bs value n m k e = elim (tested (nat_lt n (length bs)) (string_kind value m) (Err StringNotClosed) k e) [
+  | inl h ↦ (let s = string_parts value m k h.1 in (ltb-true n (length bs) h.0, s.0, s.1))
+  | inr h ↦ absurd (no_kind StringNotClosed k h.1)
+]
 
 pub quoted_parts : (bs : List ℕ) (k : TokenKind × ℕ) → quoted_at bs ≡ Ok k → (quoted_len false bs < length bs)
     × (length (quoted_value (take (quoted_len false bs) bs)) ≤ 65535)
     × ((kinds.StringValue (quoted_value (take (quoted_len false bs) bs)), quoted_len false bs + 2) ≡ k)
 unfolding quoted_at
-quoted_parts bs k e = go (tested (nat_lt n (length bs)) (string_kind value (n + 2)) (Err StringNotClosed) k e)
-  where
-    n : ℕ
-    n = quoted_len false bs
-
-    value : List ℕ
-    value = quoted_value (take n bs)
-
-    go : ((nat_lt n (length bs) ≡ true) × (string_kind value (n + 2) ≡ Ok k)) ⊎ ((nat_lt n (length bs) ≡ false)
-        × (Err StringNotClosed ≡ Ok k)) → (n < length bs) × (length value ≤ 65535)
-        × ((kinds.StringValue value, n + 2) ≡ k)
-    go (inl h) = let s = string_parts value (n + 2) k h.1 in (ltb-true n (length bs) h.0, s.0, s.1)
-    go (inr h) = absurd (no_kind StringNotClosed k h.1)
+quoted_parts bs k e = closed_string bs _ (quoted_len false bs) _ k e
 
 pub lines_parts : (before : ℕ) (bs : List ℕ) (k : TokenKind × ℕ) → lines_at before bs ≡ Ok k
     → (lines_len true bs < length bs) × (length (lines_value (take (lines_len true bs) bs)) ≤ 65535)
@@ -72,21 +67,7 @@ pub lines_parts : (before : ℕ) (bs : List ℕ) (k : TokenKind × ℕ) → line
       before + (lines_len true bs + (1 + line_end_len (drop (lines_len true bs + 1) bs))),
     ) ≡ k)
 unfolding lines_at
-lines_parts before bs k e = go (tested (nat_lt n (length bs)) (string_kind value m) (Err StringNotClosed) k e)
-  where
-    n : ℕ
-    n = lines_len true bs
-
-    value : List ℕ
-    value = lines_value (take n bs)
-
-    m : ℕ
-    m = before + (n + (1 + line_end_len (drop (n + 1) bs)))
-
-    go : ((nat_lt n (length bs) ≡ true) × (string_kind value m ≡ Ok k)) ⊎ ((nat_lt n (length bs) ≡ false)
-        × (Err StringNotClosed ≡ Ok k)) → (n < length bs) × (length value ≤ 65535) × ((kinds.StringValue value, m) ≡ k)
-    go (inl h) = let s = string_parts value m k h.1 in (ltb-true n (length bs) h.0, s.0, s.1)
-    go (inr h) = absurd (no_kind StringNotClosed k h.1)
+lines_parts before bs k e = closed_string bs _ (lines_len true bs) _ k e
 
 -- a multi-line string: where its lines begin
 pub multi_line_parts : (bs : List ℕ) (k : TokenKind × ℕ) → multi_line_at bs ≡ Ok k → (n : ℕ)
@@ -99,18 +80,10 @@ multi_line_parts bs k e = bound_parts (opening_end_at (drop (prefix_len is_blank
 pub tag_parts : (bs : List ℕ) (k : TokenKind × ℕ) → tag_at bs ≡ Ok k → (begins is_start bs ≡ true)
     × ((kinds.Tag (take (prefix_len is_word bs) bs), suc (prefix_len is_word bs)) ≡ k)
 unfolding tag_at
-tag_parts bs k e = go (tested (begins is_start bs) (Ok (kinds.Tag name, suc n)) (Err NoToken) k e)
-  where
-    n : ℕ
-    n = prefix_len is_word bs
-
-    name : List ℕ
-    name = take n bs
-
-    go : ((begins is_start bs ≡ true) × (read_as (kinds.Tag name, suc n) ≡ Ok k)) ⊎ ((begins is_start bs ≡ false)
-        × (Err NoToken ≡ Ok k)) → (begins is_start bs ≡ true) × ((kinds.Tag name, suc n) ≡ k)
-    go (inl h) = (h.0, same_kind (kinds.Tag name, suc n) k h.1)
-    go (inr h) = absurd (no_kind NoToken k h.1)
+tag_parts bs k e = elim (tested (begins is_start bs) (Ok (kinds.Tag _, _)) (Err NoToken) k e) [
+  | inl h ↦ (h.0, same_kind _ k h.1)
+  | inr h ↦ absurd (no_kind NoToken k h.1)
+]
 
 pub number_parts : (bs : List ℕ) (k : TokenKind × ℕ) → number_at bs ≡ Ok k
     → (digits_value 10 (take (prefix_len is_ascii_digit bs) bs) * (factor_at (drop (prefix_len is_ascii_digit bs) bs)).0
@@ -121,22 +94,13 @@ pub number_parts : (bs : List ℕ) (k : TokenKind × ℕ) → number_at bs ≡ O
       prefix_len is_ascii_digit bs + (factor_at (drop (prefix_len is_ascii_digit bs) bs)).1,
     ) ≡ k)
 unfolding number_at
-number_parts bs k e = go (tested (nat_lt 9223372036854775807 value) (Err NumberTooLarge) (Ok (kinds.Number value, m)) k e)
-  where
-    n : ℕ
-    n = prefix_len is_ascii_digit bs
-
-    value : ℕ
-    value = digits_value 10 (take n bs) * (factor_at (drop n bs)).0
-
-    m : ℕ
-    m = n + (factor_at (drop n bs)).1
-
-    go : ((nat_lt 9223372036854775807 value ≡ true)
-        × (Err NumberTooLarge ≡ Ok k)) ⊎ ((nat_lt 9223372036854775807 value ≡ false)
-        × (read_as (kinds.Number value, m) ≡ Ok k)) → (value ≤ 9223372036854775807) × ((kinds.Number value, m) ≡ k)
-    go (inl h) = absurd (no_kind NumberTooLarge k h.1)
-    go (inr h) = (ltb-false 9223372036854775807 value h.0, same_kind (kinds.Number value, m) k h.1)
+number_parts bs k e =
+    let n = prefix_len is_ascii_digit bs in
+    let value = digits_value 10 (take n bs) * (factor_at (drop n bs)).0 in
+    elim (tested (nat_lt 9223372036854775807 value) (Err NumberTooLarge) (Ok (kinds.Number value, n + (factor_at (drop n bs)).1)) k e) [
+      | inl h ↦ absurd (no_kind NumberTooLarge k h.1)
+      | inr h ↦ (ltb-false 9223372036854775807 value h.0, same_kind _ k h.1)
+    ]
 
 pub mark_parts : (m : Option Mark) (k : TokenKind × ℕ) → mark_kind m ≡ Ok k → (mark : Mark) × (m ≡ Some mark) × ((kinds.Mark mark, 1) ≡ k)
 mark_parts None k e = absurd (no_kind NoToken k e)

@@ -2,7 +2,7 @@
 use Rattle.std.proofs.Common.{◌≡◌, ℕ, zero, suc, ◌+◌, ◌<◌, ◌≤◌, ◌⊎◌, Bool, true, false, List, [], ◌∷◌, length, drop}
 use Rattle.std.proofs.Common.{nat_lt, Option, Some, None, Result, Ok, Err, refl, sym, ap, ◌∙◌, arith, inl, inr}
 use Rattle.std.specs.Prelude.{if◌then◌else◌}
-use Rattle.std.proofs.lemmas.Bool.{ltb-false, ltb-true}
+use Rattle.std.proofs.lemmas.Bool.{ltb-true}
 use Rattle.std.proofs.lemmas.List.{length-drop, drop_all}
 use Rattle.sieve_syntax.specs.declared.token.Token.{Token}
 use Rattle.sieve_syntax.specs.declared.token.TokenKind.{TokenKind}
@@ -13,9 +13,9 @@ use Rattle.sieve_text.specs.Grammar.{kinds}
 use Rattle.sieve_text.specs.Lexemes.{first_and, kinds_within, kinds_in, left_after, left_within, left_in}
 use Rattle.sieve_text.specs.Tokens.{kind_at, token_at, Reads, IsSound, IsScan, IsFaulty, ◌>>=◌}
 use Rattle.sieve_text.proofs.ScanLemmas.{some_verdict, sound_once}
-use Rattle.sieve_text.proofs.KindLemmas.{read_as, tested, bound_parts}
+use Rattle.sieve_text.proofs.KindLemmas.{read_as}
 use Rattle.sieve_text.proofs.GapLemmas.{drop_more}
-use Rattle.sieve_text.proofs.WithinLemmas.{kind_within, token_parts, token_within}
+use Rattle.sieve_text.proofs.WithinLemmas.{kind_within, token_parts, token_within, ends_at}
 
 shorter_after : (bs : List ℕ) (k : TokenKind × ℕ) → kind_at bs ≡ Ok k → length (drop k.1 bs) < length bs
 shorter_after bs k e = let w = kind_within bs k e in let d = length-drop k.1 bs in omega arith
@@ -79,27 +79,6 @@ nothing_at_end script at h =
     let all : drop (gap_len 0 (drop at script)) (drop at script) ≡ [] =
     drop_all (gap_len 0 (drop at script)) (drop at script) (let d = length-drop at script in omega arith) in
     none_in (drop at script) NoToken (rw all no_kind_here)
-
--- where no token is found the script ends
-ends_at : (script : List ℕ) (at : ℕ) → token_at script at ≡ Ok None → length script ≤ at + gap_len 0 (drop at script)
-unfolding token_at
-ends_at script at e = go (tested (nat_lt start (length script)) (kind_at (drop start script) >>= made) (Ok None) None e)
-  where
-    start : ℕ
-    start = at + gap_len 0 (drop at script)
-
-    made : TokenKind × ℕ → Result (Option Token) ScanRefusal
-    made k = Ok (Some (record { kind = k.0; start = start; end = start + k.1 }))
-
-    clash : (t : Token) → read_as {A = Option Token} (Some t) ≡ Ok None → ⊥
-    clash t f = cc
-
-    go : ((nat_lt start (length script) ≡ true)
-        × ((kind_at (drop start script) >>= made) ≡ Ok None)) ⊎ ((nat_lt start (length script) ≡ false)
-        × (read_as {A = Option Token} None ≡ Ok None)) → length script ≤ start
-    go (inl h) = let p = bound_parts (kind_at (drop start script)) made None h.1 in
-        absurd (clash (record { kind = p.0.0; start = start; end = start + p.0.1 }) p.2)
-    go (inr h) = ltb-false start (length script) h.0
 
 same_list : (k : TokenKind) (j : TokenKind) (xs ys : List TokenKind) → j ≡ k → xs ≡ ys → j ∷ xs ≡ k ∷ ys
 same_list k j xs ys e f = cc

@@ -1,14 +1,15 @@
 -- A token by the grammar is no longer than what is read in its place.
 use Rattle.std.proofs.Common.{◌≡◌, ℕ, suc, ◌+◌, ◌<◌, ◌≤◌, ◌⊎◌, Bool, true, false, List, [], ◌∷◌, ◌++◌, length, map}
-use Rattle.std.proofs.Common.{take, drop, nat_le, Ok, refl, sym, ap, ◌∙◌, arith, inl, inr, length-append, append_assoc}
+use Rattle.std.proofs.Common.{take, drop, Ok, refl, sym, ap, ◌∙◌, arith, inl, inr, length-append, append_assoc}
 use Rattle.std.specs.Prelude.{◌==◌, ◌||◌, codes}
 use Rattle.std.specs.List.{prefix_len, list_all}
 use Rattle.std.specs.Char.{is_ascii_digit, to_ascii_lowercase}
 use Rattle.std.proofs.lemmas.Bool.{false≢true, true≢false, both_ways, cases_Bool, cases_lt, eqb-true, eq-eqb, ne_eqb}
-use Rattle.std.proofs.lemmas.Bool.{lt-ltb, le-ltb, leb-true, lt-leb, and_parts, and_from}
+use Rattle.std.proofs.lemmas.Bool.{lt-ltb, le-ltb, lt-leb, and_parts, and_from}
 use Rattle.std.proofs.lemmas.List.{length-map}
 use Rattle.std.proofs.lemmas.List.Folds.{list_all-append}
 use Rattle.std.proofs.Math.Seq.{drop-append_seam, drop-append-add}
+use Rattle.sieve_text.proofs.NumberLemmas.{digit_bounds}
 use Rattle.sieve_syntax.specs.declared.token.TokenKind.{TokenKind}
 use Rattle.sieve_syntax.specs.declared.token.TokenKind.TheVariants as kinds
 use Rattle.sieve_text.specs.Octets.{is_blank, is_start, is_word, not_lf, begins, begins_with, line_end_len}
@@ -35,9 +36,6 @@ ends_at : (k l : TokenKind × ℕ) → k ≡ l → k.1 ≡ l.1
 ends_at k l e = ap (λ (k : TokenKind × ℕ). k.1) e
 
 -- octets of one class are of no other
-digit_bounds : (b : ℕ) → is_ascii_digit b ≡ true → (48 ≤ b) × (b ≤ 57)
-digit_bounds b h = let p = and_parts (nat_le 48 b) (nat_le b 57) h in (leb-true 48 b p.0, leb-true b 57 p.1)
-
 pub lower_below : (b : ℕ) → b < 65 → to_ascii_lowercase b ≡ b
 lower_below b h = rw (lt-ltb b 65 h) refl
 
@@ -307,6 +305,12 @@ multi_line_whole blanks comment end body text last following k b c en ls la e =
     let within = l.1 in
     omega arith
 
+first : (a b : ℕ) (bs cs : List ℕ) → a ∷ bs ≡ b ∷ cs → a ≡ b
+first a b bs cs e = cc
+
+others : (a b : ℕ) (bs cs : List ℕ) → a ∷ bs ≡ b ∷ cs → bs ≡ cs
+others a b bs cs e = cc
+
 pub begins_word : (xs word rest : List ℕ) → map to_ascii_lowercase word ≡ xs → begins_as xs (word ++ rest) ≡ true
 begins_word [] word rest e = refl
 begins_word (x ∷ xs) [] rest e = cc
@@ -314,12 +318,6 @@ begins_word (x ∷ xs) (b ∷ word) rest e =
     let h : to_ascii_lowercase b ≡ x = first (to_ascii_lowercase b) x (map to_ascii_lowercase word) xs e in
     and_from (to_ascii_lowercase b == x) (begins_as xs (word ++ rest)) (eq-eqb (to_ascii_lowercase b) x h)
     (begins_word xs word rest (others (to_ascii_lowercase b) x (map to_ascii_lowercase word) xs e))
-  where
-    first : (a b : ℕ) (bs cs : List ℕ) → a ∷ bs ≡ b ∷ cs → a ≡ b
-    first a b bs cs e = cc
-
-    others : (a b : ℕ) (bs cs : List ℕ) → a ∷ bs ≡ b ∷ cs → bs ≡ cs
-    others a b bs cs e = cc
 
 word_short : (word from : List ℕ) (k : TokenKind × ℕ) (n : ℕ) → map to_ascii_lowercase word ≡ codes "text:"
     → ((k : TokenKind × ℕ) → multi_line_at from ≡ Ok k → 5 + n ≤ k.1) → kind_at (word ++ from) ≡ Ok k
@@ -345,6 +343,17 @@ word_short (a ∷ word) from k n w more e =
       | one x y c q m ↦ absurd (both_ways (is_start a) x s)
     ]
 
+-- the parts of a multi-line string
+pub apart : (word blanks comment end body last following : List ℕ)
+    → (word ++ (blanks ++ (comment ++ (end ++ (body ++ 46 ∷ last))))) ++ following ≡ word
+    ++ (blanks ++ (comment ++ (end ++ (body ++ 46 ∷ (last ++ following)))))
+apart word blanks comment end body last following = simp append_assoc
+
+pub summed : (word blanks comment end body last : List ℕ)
+    → length (word ++ (blanks ++ (comment ++ (end ++ (body ++ 46 ∷ last)))))
+    ≡ length word + (length blanks + (length comment + (length end + (length body + suc (length last)))))
+summed word blanks comment end body last = simp length-append
+
 multi_line_short : (octets value following : List ℕ) (k : TokenKind × ℕ) → IsMultiLine value octets following
     → kind_at (octets ++ following) ≡ Ok k → length octets ≤ k.1
 multi_line_short octets value following k h e =
@@ -360,16 +369,6 @@ multi_line_short octets value following k h e =
     h.body_is h.last_is m) (sym (ap kind_at whole) ∙ e) in
     let l : length octets ≡ length h.word + n = ap length h.cut ∙ summed h.word h.blanks h.comment h.end h.body h.last in
     omega arith
-  where
-    apart : (word blanks comment end body last following : List ℕ)
-        → (word ++ (blanks ++ (comment ++ (end ++ (body ++ 46 ∷ last))))) ++ following ≡ word
-        ++ (blanks ++ (comment ++ (end ++ (body ++ 46 ∷ (last ++ following)))))
-    apart word blanks comment end body last following = simp append_assoc
-
-    summed : (word blanks comment end body last : List ℕ)
-        → length (word ++ (blanks ++ (comment ++ (end ++ (body ++ 46 ∷ last)))))
-        ≡ length word + (length blanks + (length comment + (length end + (length body + suc (length last)))))
-    summed word blanks comment end body last = simp length-append
 
 -- any token
 pub lexeme_short : (kind : TokenKind) (octets following : List ℕ) (k : TokenKind × ℕ) → Lexeme kind octets following
@@ -399,12 +398,6 @@ word_begins (w ∷ ws) (x ∷ xs) following e h =
     and_from (to_ascii_lowercase x == w) (begins_as (ws ++ 58 ∷ []) (xs
     ++ following)) (eq-eqb (to_ascii_lowercase x) w (first (to_ascii_lowercase x) w (map to_ascii_lowercase xs) ws
     e)) (word_begins ws xs following (others (to_ascii_lowercase x) w (map to_ascii_lowercase xs) ws e) h)
-  where
-    first : (a b : ℕ) (bs cs : List ℕ) → a ∷ bs ≡ b ∷ cs → a ≡ b
-    first a b bs cs e = cc
-
-    others : (a b : ℕ) (bs cs : List ℕ) → a ∷ bs ≡ b ∷ cs → bs ≡ cs
-    others a b bs cs e = cc
 
 name_apart : (xs following : List ℕ) (n : ℕ) → IsName xs → kind_at (xs ++ following) ≡ Ok (kinds.Identifier xs, n)
     → map to_ascii_lowercase xs ≡ codes "text" → begins_with 58 following ≡ false
@@ -431,7 +424,4 @@ name_apart (b ∷ bs) following n h e t = elim (cases_Bool (begins_with 58 follo
 pub kind_apart : (kind : TokenKind) (octets following : List ℕ) → Lexeme kind octets following → (n : ℕ)
     → kind_at (octets ++ following) ≡ Ok (kind, n) → IsApart kind following
 kind_apart (kinds.Identifier xs) octets following h n e = name_apart xs following n h.1 (rw h.0 at e)
-kind_apart (kinds.Tag xs) octets following h n e = tt
-kind_apart (kinds.Number m) octets following h n e = tt
-kind_apart (kinds.StringValue value) octets following h n e = tt
-kind_apart (kinds.Mark mark) octets following h n e = tt
+kind_apart kind octets following h n e = tt

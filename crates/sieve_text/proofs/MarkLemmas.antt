@@ -1,11 +1,11 @@
 -- A mark that a text begins with is its first token.
-use Rattle.std.proofs.Common.{◌≡◌, ℕ, ◌⊎◌, Bool, true, false, List, ◌∷◌, drop, Option, Some, None, Ok, refl, sym, subst, inl, inr}
+use Rattle.std.proofs.Common.{◌≡◌, ℕ, List, ◌∷◌, drop, Option, Some, None, Ok, refl, sym, subst, inl, inr}
 use Rattle.std.specs.Prelude.{if◌then◌else◌, ◌==◌}
 use Rattle.std.proofs.lemmas.Bool.{eqb-true}
+use Rattle.sieve_text.proofs.GrammarParts.{same_mark, no_mark, chosen}
 use Rattle.sieve_syntax.specs.declared.token.Mark.{Mark}
 use Rattle.sieve_syntax.specs.declared.token.Mark.TheVariants.{Semicolon, OpenBrace, CloseBrace, OpenParen, CloseParen}
 use Rattle.sieve_syntax.specs.declared.token.Mark.TheVariants.{OpenBracket, CloseBracket, Comma}
-use Rattle.sieve_syntax.specs.declared.token.TokenKind.{TokenKind}
 use Rattle.sieve_syntax.specs.declared.token.TokenKind.TheVariants as kinds
 use Rattle.sieve_text.specs.Gaps.{gap_len, comment_len}
 use Rattle.sieve_text.specs.Lexemes.{kinds_in, left_in}
@@ -16,21 +16,11 @@ use Rattle.sieve_text.proofs.LexemeLemmas.{first_in, left_first}
 abbrev StandsFirst : ℕ → Mark → Type 0
 StandsFirst b m = (bs : List ℕ) → (gap_len 0 (b ∷ bs) ≡ 0) × (kind_at (b ∷ bs) ≡ Ok (kinds.Mark m, 1))
 
-some_is : (m n : Mark) → Some m ≡ Some n → m ≡ n
-some_is m n e = cc
-
-none_is : (m : Mark) → ◌≡◌ {A = Option Mark} None (Some m) → ⊥
-none_is m e = cc
-
-which : (t : Bool) (x y : Option Mark) (m : Mark) → (if t then x else y) ≡ Some m → ((t ≡ true) × (x ≡ Some m)) ⊎ ((t ≡ false) × (y ≡ Some m))
-which true x y m e = inl (refl, e)
-which false x y m e = inr (refl, e)
-
 -- the octet is this one, or one of the others
 or_other : (o : ℕ) (n : Mark) → StandsFirst o n → (b : ℕ) (m : Mark) (more : Option Mark)
     → (more ≡ Some m → StandsFirst b m) → (if b == o then Some n else more) ≡ Some m → StandsFirst b m
-or_other o n first b m more other e = elim (which (b == o) (Some n) more m e) [
-  | inl h ↦ subst (λ (c : ℕ). StandsFirst c m) (sym (eqb-true b o h.0)) (subst (λ (k : Mark). StandsFirst o k) (some_is n m h.1) first)
+or_other o n first b m more other e = elim (chosen (b == o) (Some n) more m e) [
+  | inl h ↦ subst (λ (c : ℕ). StandsFirst c m) (sym (eqb-true b o h.0)) (subst (λ (k : Mark). StandsFirst o k) (same_mark n m h.1) first)
   | inr h ↦ other h.1
 ]
 
@@ -44,7 +34,7 @@ mark_first b m =
     (or_other 41 CloseParen (λ bs. (refl, refl)) b m _
     (or_other 91 OpenBracket (λ bs. (refl, refl)) b m _
     (or_other 93 CloseBracket (λ bs. (refl, refl)) b m _
-    (or_other 44 Comma (λ bs. (refl, refl)) b m None (λ e. absurd (none_is m e)))))))))
+    (or_other 44 Comma (λ bs. (refl, refl)) b m None (λ e. absurd (no_mark m e)))))))))
 
 pub mark_in : (b : ℕ) (bs : List ℕ) (m : Mark) → mark_of b ≡ Some m → kinds_in (b ∷ bs) ≡ kinds.Mark m ∷ kinds_in bs
 mark_in b bs m e =

@@ -21,11 +21,11 @@ prefix_taken p (x ∷ xs) = elim (cases_Bool (p x)) [
 pub all_digits : (xs : List ℕ) → prefix_len is_ascii_digit (take (prefix_len is_ascii_digit xs) xs) ≡ length (take (prefix_len is_ascii_digit xs) xs)
 all_digits xs = prefix_taken is_ascii_digit xs ∙ sym (length-prefix_len is_ascii_digit xs)
 
-in_range : (c : ℕ) → is_ascii_digit c ≡ true → (48 ≤ c) × (c ≤ 57)
-in_range c h = let p = and_parts (nat_le 48 c) (nat_le c 57) h in (leb-true 48 c p.0, leb-true c 57 p.1)
+pub digit_bounds : (c : ℕ) → is_ascii_digit c ≡ true → (48 ≤ c) × (c ≤ 57)
+digit_bounds c h = let p = and_parts (nat_le 48 c) (nat_le c 57) h in (leb-true 48 c p.0, leb-true c 57 p.1)
 
 pub digit_at : (ds : List ℕ) (i : ℕ) → prefix_len is_ascii_digit ds ≡ length ds → i < length ds → (48 ≤ get_or ds i 0) × (get_or ds i 0 ≤ 57)
-digit_at ds i all h = in_range (get_or ds i 0) (prefix_len_passes is_ascii_digit ds i 0 (omega arith))
+digit_at ds i all h = digit_bounds (get_or ds i 0) (prefix_len_passes is_ascii_digit ds i 0 (omega arith))
 
 value_of_digit : (c : ℕ) → 48 ≤ c → c ≤ 57 → digit_value c ≡ c - 48
 value_of_digit c low high = rw (le-ltb c 48 low, lt-ltb c 58 (omega arith)) refl

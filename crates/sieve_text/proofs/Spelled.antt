@@ -10,16 +10,14 @@ use Rattle.sieve_syntax.specs.declared.token.Mark.TheVariants.{Semicolon, OpenBr
 use Rattle.sieve_syntax.specs.declared.token.Mark.TheVariants.{OpenBracket, CloseBracket, Comma}
 use Rattle.sieve_syntax.specs.declared.token.TokenKind.{TokenKind}
 use Rattle.sieve_syntax.specs.declared.token.TokenKind.TheVariants as tokens
-use Rattle.sieve_syntax.specs.Tree.{TestTree, test, InnerTests, no_tests, one_test, listed_tests, CommandTree, command}
-use Rattle.sieve_syntax.specs.Tree.{semicolon, block, CommandTrees, other_string_tokens, string_list_tokens}
-use Rattle.sieve_syntax.specs.Tree.{argument_tokens, arguments_tokens, test_tokens, inner_tokens, row_tokens}
-use Rattle.sieve_syntax.specs.Tree.{command_tokens, ending_tokens, commands_tokens}
+use Rattle.sieve_syntax.specs.Tree.{TestTree, test, InnerTests, no_tests, one_test, listed_tests, CommandTree, command, semicolon, block}
+use Rattle.sieve_syntax.specs.Tree.{CommandTrees, other_string_tokens, string_list_tokens, argument_tokens, arguments_tokens, test_tokens}
+use Rattle.sieve_syntax.specs.Tree.{inner_tokens, row_tokens, command_tokens, ending_tokens, commands_tokens}
 use Rattle.sieve_syntax.specs.View.{row_of, commands_of}
 use Rattle.sieve_text.specs.declared.parser.stop.Misfit.{Misfit}
-use Rattle.sieve_text.specs.Reading.{◌>>=◌, Reads, Tries, many_with, many_at, next_with, string_at, after_bracket}
-use Rattle.sieve_text.specs.Reading.{after_paren, after_brace, other_strings_at, string_list_at, argument_at}
-use Rattle.sieve_text.specs.Reading.{arguments_at, test_list_with, inner_with, test_with, refused_at, test_at}
-use Rattle.sieve_text.specs.Reading.{ending_with, command_with, commands_with, inside_at, whole_of, script_at}
+use Rattle.sieve_text.specs.Reading.{◌>>=◌, Reads, Tries, many_with, many_at, next_with, string_at, after_bracket, after_paren, after_brace}
+use Rattle.sieve_text.specs.Reading.{other_strings_at, string_list_at, argument_at, arguments_at, test_list_with, inner_with, test_with, refused_at}
+use Rattle.sieve_text.specs.Reading.{test_at, ending_with, command_with, commands_with, inside_at, whole_of, script_at}
 
 pub bind_ok : {A B : Type 0} (r : Result A Misfit) (f : A → Result B Misfit) (y : B) → (r >>= f) ≡ Ok y → (x : A) × (r ≡ Ok x) × (f x ≡ Ok y)
 bind_ok (Ok x) f y e = (x, refl, e)
@@ -68,31 +66,26 @@ many_sound {A} print read h (suc n) ts x e = let a = bind_ok (read ts) (many_wit
 
 next_sound : {A : Type 0} (print : A → List TokenKind) (read : Reads A) → IsSound print read
     → IsSoundTry (λ a. tokens.Mark Comma ∷ print a) (next_with read)
-next_sound print read h [] x e = absurd cc
 next_sound print read h (tokens.Mark Comma ∷ ts) x e =
     let a = bind_ok (read ts) (λ y. Ok (Some y)) (Some x) e in
     ap (λ (w : List TokenKind). tokens.Mark Comma ∷ w) (along_some print ts a.0 x a.2 (h ts a.0 a.1))
-next_sound print read h (t ∷ ts) x e = absurd cc
+next_sound print read h ts x e = absurd cc
 
 string_sound : IsSound (λ s. tokens.StringValue s ∷ []) string_at
-string_sound [] x e = absurd cc
 string_sound (tokens.StringValue s ∷ ts) x e = along (λ (s : List ℕ). tokens.StringValue s ∷ []) (tokens.StringValue s ∷ ts) (s, ts) x e refl
-string_sound (t ∷ ts) x e = absurd cc
+string_sound ts x e = absurd cc
 
 bracket_sound : (ts rest : List TokenKind) → after_bracket ts ≡ Ok rest → ts ≡ tokens.Mark CloseBracket ∷ rest
-bracket_sound [] rest e = absurd cc
 bracket_sound (tokens.Mark CloseBracket ∷ ts) rest e = ap (λ (w : List TokenKind). tokens.Mark CloseBracket ∷ w) (ok_is ts rest e)
-bracket_sound (t ∷ ts) rest e = absurd cc
+bracket_sound ts rest e = absurd cc
 
 paren_sound : (ts rest : List TokenKind) → after_paren ts ≡ Ok rest → ts ≡ tokens.Mark CloseParen ∷ rest
-paren_sound [] rest e = absurd cc
 paren_sound (tokens.Mark CloseParen ∷ ts) rest e = ap (λ (w : List TokenKind). tokens.Mark CloseParen ∷ w) (ok_is ts rest e)
-paren_sound (t ∷ ts) rest e = absurd cc
+paren_sound ts rest e = absurd cc
 
 brace_sound : (ts rest : List TokenKind) → after_brace ts ≡ Ok rest → ts ≡ tokens.Mark CloseBrace ∷ rest
-brace_sound [] rest e = absurd cc
 brace_sound (tokens.Mark CloseBrace ∷ ts) rest e = ap (λ (w : List TokenKind). tokens.Mark CloseBrace ∷ w) (ok_is ts rest e)
-brace_sound (t ∷ ts) rest e = absurd cc
+brace_sound ts rest e = absurd cc
 
 others_printed : (ss : List (List ℕ)) (rest : List TokenKind)
     → printed (λ s. tokens.Mark Comma ∷ tokens.StringValue s ∷ []) ss
@@ -121,7 +114,6 @@ string_list_sound ts x e =
 
 argument_sound : IsSoundTry argument_tokens argument_at
 unfolding argument_at
-argument_sound [] x e = absurd cc
 argument_sound (tokens.Tag name ∷ ts) x e = along_some argument_tokens (tokens.Tag name ∷ ts) (arguments.Tag name, ts) x e refl
 argument_sound (tokens.Number n ∷ ts) x e = along_some argument_tokens (tokens.Number n ∷ ts) (arguments.Number n, ts) x e refl
 argument_sound (tokens.StringValue s ∷ ts) x e =
@@ -129,7 +121,7 @@ argument_sound (tokens.StringValue s ∷ ts) x e =
 argument_sound (tokens.Mark OpenBracket ∷ ts) x e =
     let a = bind_ok (string_list_at ts) _ (Some x) e in
     along_some argument_tokens (tokens.Mark OpenBracket ∷ ts) (arguments.Strings a.0.0, a.0.1) x a.2 (string_list_sound ts a.0 a.1)
-argument_sound (t ∷ ts) x e = absurd cc
+argument_sound ts x e = absurd cc
 
 arguments_printed : (args : List Argument) → printed argument_tokens args ≡ arguments_tokens args
 unfolding printed
@@ -177,12 +169,10 @@ inner_sound read h (tokens.Mark OpenParen ∷ ts) x e = test_list_sound read h t
 inner_sound read h (t ∷ ts) x e = along inner_tokens (t ∷ ts) (no_tests, t ∷ ts) x e refl
 
 refused_sound : IsSound test_tokens refused_at
-refused_sound [] x e = absurd cc
 refused_sound (tokens.Identifier n ∷ ts) x e = absurd cc
-refused_sound (t ∷ ts) x e = absurd cc
+refused_sound ts x e = absurd cc
 
 test_with_sound : (read : Reads InnerTests) → IsSound inner_tokens read → IsSound test_tokens (test_with read)
-test_with_sound read h [] x e = absurd cc
 test_with_sound read h (tokens.Identifier n ∷ ts) x e =
     let a = bind_ok (arguments_at ts) _ x e in
     let b = bind_ok (read a.0.1) _ x a.2 in
@@ -190,7 +180,7 @@ test_with_sound read h (tokens.Identifier n ∷ ts) x e =
     (ap (λ (w : List TokenKind). tokens.Identifier n ∷ w)
     (arguments_sound ts a.0 a.1 ∙ ap (λ (w : List TokenKind). arguments_tokens a.0.0 ++ w) (h a.0.1 b.0 b.1)
     ∙ sym (append_assoc (arguments_tokens a.0.0) (inner_tokens b.0.0) b.0.1)))
-test_with_sound read h (t ∷ ts) x e = absurd cc
+test_with_sound read h ts x e = absurd cc
 
 test_sound : (d : ℕ) → IsSound test_tokens (test_at d)
 unfolding test_at
@@ -198,7 +188,6 @@ test_sound zero = refused_sound
 test_sound (suc d) = test_with_sound (inner_with (test_at d)) (inner_sound (test_at d) (test_sound d))
 
 ending_sound : (read : Reads CommandTrees) → IsSound commands_tokens read → IsSound ending_tokens (ending_with read)
-ending_sound read h [] x e = absurd cc
 ending_sound read h (tokens.Mark Semicolon ∷ ts) x e = along ending_tokens (tokens.Mark Semicolon ∷ ts) (semicolon, ts) x e refl
 ending_sound read h (tokens.Mark OpenBrace ∷ ts) x e =
     let a = bind_ok (read ts) _ x e in
@@ -208,10 +197,9 @@ ending_sound read h (tokens.Mark OpenBrace ∷ ts) x e =
     (ap (λ (w : List TokenKind). tokens.Mark OpenBrace ∷ w)
     (h ts a.0 a.1 ∙ ap (λ (w : List TokenKind). commands_tokens a.0.0 ++ w) last
     ∙ sym (append_assoc (commands_tokens a.0.0) (tokens.Mark CloseBrace ∷ []) b.0)))
-ending_sound read h (t ∷ ts) x e = absurd cc
+ending_sound read h ts x e = absurd cc
 
 command_sound : (depth : ℕ) (read : Reads CommandTrees) → IsSound commands_tokens read → IsSoundTry command_tokens (command_with depth read)
-command_sound depth read h [] x e = absurd cc
 command_sound depth read h (tokens.Identifier n ∷ ts) x e =
     let a = bind_ok (arguments_at ts) _ (Some x) e in
     let b = bind_ok (inner_with (test_at depth) a.0.1) _ (Some x) a.2 in
@@ -225,7 +213,7 @@ command_sound depth read h (tokens.Identifier n ∷ ts) x e =
     ∙ ap (λ (w : List TokenKind). inner ++ w) (ending_sound read h b.0.1 d.0 d.1)
     ∙ sym (append_assoc inner (ending_tokens d.0.0) d.0.1))
     ∙ sym (append_assoc args (inner ++ ending_tokens d.0.0) d.0.1)))
-command_sound depth read h (t ∷ ts) x e = absurd cc
+command_sound depth read h ts x e = absurd cc
 
 commands_printed : (cs : List CommandTree) → printed command_tokens cs ≡ commands_tokens (commands_of cs)
 unfolding printed

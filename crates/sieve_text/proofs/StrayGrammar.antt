@@ -1,20 +1,15 @@
 -- The first stray octet of a script.
-use Rattle.std.proofs.Common.{◌≡◌, ℕ, suc, ◌+◌, ◌<◌, Bool, true, false, List, [], ◌∷◌, ◌++◌, length, refl, sym, ap, ◌∙◌}
-use Rattle.std.proofs.Common.{arith, inl, inr, length-append}
+use Rattle.std.proofs.Common.{◌≡◌, ℕ, suc, ◌+◌, ◌<◌, true, false, List, [], ◌∷◌, ◌++◌, length, refl, ap, ◌∙◌, arith, inl, inr, length-append}
 use Rattle.std.specs.Prelude.{◌==◌, ◌&&◌, not}
-use Rattle.std.proofs.lemmas.Bool.{both_ways, cases_Bool, eqb-true, and_parts, or_cases}
+use Rattle.std.proofs.lemmas.Bool.{both_ways, cases_Bool, eqb-true, and_parts, or_cases, not-true}
 use Rattle.std.proofs.lemmas.List.{append-nil}
 use Rattle.sieve_text.specs.Octets.{begins_with, is_stray, stray_len}
 use Rattle.sieve_text.specs.FaultGrammar.{IsStray, IsClean, clean_end, clean_octet, IsStrayAt}
 
-not_flips : (b : Bool) → not b ≡ true → b ≡ false
-not_flips true h = sym h
-not_flips false h = refl
-
 stray_is : (b : ℕ) (bs : List ℕ) → is_stray b bs ≡ true → IsStray b bs
 stray_is b bs h = elim (or_cases (b == 0) ((b == 13) && not (begins_with 10 bs)) h) [
   | inl e ↦ inl (eqb-true b 0 e)
-  | inr e ↦ (let p = and_parts (b == 13) (not (begins_with 10 bs)) e in inr (eqb-true b 13 p.0, not_flips (begins_with 10 bs) p.1))
+  | inr e ↦ (let p = and_parts (b == 13) (not (begins_with 10 bs)) e in inr (eqb-true b 13 p.0, not-true (begins_with 10 bs) p.1))
 ]
 
 stray_told : (b : ℕ) (bs : List ℕ) → IsStray b bs → is_stray b bs ≡ true

@@ -1,10 +1,10 @@
 -- A token takes an octet at least, and ends within the script.
-use Rattle.std.proofs.Common.{◌≡◌, ℕ, suc, ◌+◌, ◌<◌, ◌≤◌, ◌⊎◌, Bool, true, false, List, [], ◌∷◌, length, drop, nat_lt}
+use Rattle.std.proofs.Common.{◌≡◌, ℕ, suc, ◌+◌, ◌<◌, ◌≤◌, Bool, true, false, List, [], ◌∷◌, length, drop, nat_lt}
 use Rattle.std.proofs.Common.{Option, Some, None, Result, Ok, Err, sym, ap, ◌∙◌, arith, inl, inr}
 use Rattle.std.specs.Prelude.{if◌then◌else◌, ◌==◌, ◌&&◌, ◌||◌, codes}
 use Rattle.std.specs.List.{prefix_len}
 use Rattle.std.specs.Char.{is_ascii_digit, to_ascii_lowercase}
-use Rattle.std.proofs.lemmas.Bool.{ltb-true, and_parts, or_left}
+use Rattle.std.proofs.lemmas.Bool.{ltb-true, and_parts, or_left, ltb-false}
 use Rattle.std.proofs.lemmas.List.{length-drop}
 use Rattle.std.proofs.lemmas.List.Sums.{prefix_len-le-length}
 use Rattle.sieve_syntax.specs.declared.token.Token.{Token}
@@ -15,9 +15,8 @@ use Rattle.sieve_text.specs.Octets.{is_blank, is_start, is_word, begins_with, no
 use Rattle.sieve_text.specs.Gaps.{gap_len}
 use Rattle.sieve_text.specs.Strings.{begins_as, begins_text, opening_end_at, lines_len}
 use Rattle.sieve_text.specs.Tokens.{text_len, mark_of, lines_at, multi_line_at, factor_at, kind_at, token_at, ◌>>=◌}
-use Rattle.sieve_text.proofs.KindLemmas.{read_as, tested, bound_parts, same_kind, no_kind, quoted_parts, lines_parts}
-use Rattle.sieve_text.proofs.KindLemmas.{multi_line_parts, tag_parts, number_parts, mark_parts, branch, lines, name}
-use Rattle.sieve_text.proofs.KindLemmas.{digits, colon, quote, one}
+use Rattle.sieve_text.proofs.KindLemmas.{read_as, tested, bound_parts, same_kind, no_kind, quoted_parts, lines_parts, multi_line_parts, tag_parts}
+use Rattle.sieve_text.proofs.KindLemmas.{number_parts, mark_parts, branch, lines, name, digits, colon, quote, one}
 
 -- a front that begins with a passing octet is not empty
 pub one_more : (p : ℕ → Bool) (b : ℕ) (bs : List ℕ) → p b ≡ true → 0 < prefix_len p (b ∷ bs)
@@ -137,7 +136,10 @@ pub record IsTokenAt (script : List ℕ) (at : ℕ) (t : Token) : Type 0 where
 
 pub token_parts : (script : List ℕ) (at : ℕ) (t : Token) → token_at script at ≡ Ok (Some t) → IsTokenAt script at t
 unfolding token_at
-token_parts script at t e = go (tested (nat_lt start (length script)) (kind_at (drop start script) >>= made) (Ok None) (Some t) e)
+token_parts script at t e = elim (tested (nat_lt start (length script)) (kind_at (drop start script) >>= made) (Ok None) (Some t) e) [
+  | inl h ↦ (let p = bound_parts (kind_at (drop start script)) made (Some t) h.1 in found p.0 p.1 p.2)
+  | inr h ↦ absurd (no_token t h.1)
+]
   where
     start : ℕ
     start = at + gap_len 0 (drop at script)
@@ -158,11 +160,23 @@ token_parts script at t e = go (tested (nat_lt start (length script)) (kind_at (
               sym (ap (λ (t : Token). t.end) same) ∙ ap (λ n. n + k.1) s;
         }
 
-    go : ((nat_lt start (length script) ≡ true)
-        × ((kind_at (drop start script) >>= made) ≡ Ok (Some t))) ⊎ ((nat_lt start (length script) ≡ false)
-        × (read_as None ≡ Ok (Some t))) → IsTokenAt script at t
-    go (inl h) = let p = bound_parts (kind_at (drop start script)) made (Some t) h.1 in found p.0 p.1 p.2
-    go (inr h) = absurd (no_token t h.1)
+-- where no token is found the script ends
+pub ends_at : (script : List ℕ) (at : ℕ) → token_at script at ≡ Ok None → length script ≤ at + gap_len 0 (drop at script)
+unfolding token_at
+ends_at script at e = elim (tested (nat_lt start (length script)) (kind_at (drop start script) >>= made) (Ok None) None e) [
+  | inl h ↦ (let p = bound_parts (kind_at (drop start script)) made None h.1 in
+      absurd (clash (record { kind = p.0.0; start = start; end = start + p.0.1 }) p.2))
+  | inr h ↦ ltb-false start (length script) h.0
+]
+  where
+    start : ℕ
+    start = at + gap_len 0 (drop at script)
+
+    made : TokenKind × ℕ → Result (Option Token) ScanRefusal
+    made k = Ok (Some (record { kind = k.0; start = start; end = start + k.1 }))
+
+    clash : (t : Token) → read_as {A = Option Token} (Some t) ≡ Ok None → ⊥
+    clash t f = cc
 
 pub token_within : (script : List ℕ) (at : ℕ) (t : Token) → at ≤ length script → token_at script at ≡ Ok (Some t)
     → (at ≤ t.start) × (t.start < t.end) × (t.end ≤ length script)

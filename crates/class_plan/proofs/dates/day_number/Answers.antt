@@ -1,9 +1,8 @@
 use Rattle.std.proofs.Common.{◌≡◌, pos, ◌*ℤ◌, arith, ◌∙◌}
 use Rattle.jiff.specs.Words.{epoch_day, signed_nanos}
 use Rattle.jiff.proofs.SpanFacts.{signed_arith}
-use Rattle.jiff_core.proofs.DateLemmas.{epoch_day_range}
+use Rattle.jiff_core.proofs.DateLemmas.{epoch_day_range, epoch_day-lt}
 use Rattle.class_plan.proofs.Days.{epoch_day-zero}
-use Rattle.jiff_core.proofs.DateLemmas.{epoch_day-lt}
 use Rattle.class_plan.proofs.Capture.{number-from_capture}
 use Rattle.class_plan.proofs.Due.{earlier-from_number}
 use Rattle.class_plan.proofs.dates.day_number.Goals as goal

@@ -1,21 +1,10 @@
-use Rattle.std.proofs.Common.{◌≡◌, sym, ◌∙◌, rules, true, false, string_bytes}
+use Rattle.std.proofs.Common.{◌≡◌, sym, ◌∙◌, rules, false, string_bytes}
 use Rattle.std.proofs.lemmas.Map.Iter.{rest_more, rest_all}
 use Rattle.std.specs.Map.Iter.{deref}
 use Rattle.std.specs.BTreeMap.{keys}
 use Rattle.class_plan.specs.Document.{is_class_key}
-use Rattle.class_plan.proofs.Steps.{has_only-keys, known-more, known-less, known-all}
+use Rattle.class_plan.proofs.Steps.{has_only-keys, known-less, known-all}
 use Rattle.class_plan.proofs.document.has_only_class_keys.Goals as goal
-
-pub loop-key-preserved : goal.loop-key-preserved
-loop-key-preserved c =
-    let rest = rest_more deref c.loop-key.key-iterator c.next.new.self c.next.result c.in-Some.key c.in-Some.is c.next.ensures.steps in
-    let fits : is_class_key (string_bytes c.in-Some.key.now) ≡ true = search rules in
-    record {
-      can = search rules;
-      finite = search rules;
-      known =
-          known-more is_class_key _ (keys c.args.table.now) _ _ rest c.loop-key.invariant.known fits;
-    }
 
 pub returns-then-not-fits_class : goal.returns-then-not-fits_class
 returns-then-not-fits_class c =

@@ -1,8 +1,7 @@
-use Rattle.std.proofs.Common.{◌≡◌, map, subst, sym, arith}
+use Rattle.std.proofs.Common.{◌≡◌, subst, sym, arith}
 use Rattle.std.proofs.lemmas.Result.{IfOk-weaker, err_from_is_err_and}
 use Rattle.filing_image.specs.declared.fault.FormFault.{FormFault}
 use Rattle.filing_image.specs.declared.fault.FormFault.TheVariants.{BadForm}
-use Rattle.filing_image.specs.Program.{Parts, list_in}
 use Rattle.filing_image.specs.Spelling.{IsShort, IsOfVersion}
 use Rattle.filing_image.specs.Reading.{all_of}
 use Rattle.filing_image.proofs.Loop.{Fails}
@@ -17,48 +16,18 @@ returns-in_err-written-clause-refused c = λ h p fits e.
 
 pub returns-clause-found : goal.returns-clause-found
 returns-clause-found c =
-    let w = c.in_ok-written.written in
-    let x : Parts = record {
-      budget = w.budget;
-      texts = map (λ t. t.items) w.texts.items;
-      numbers = w.numbers.items;
-      slots = w.slots;
-      procedures = list_in w.first_places;
-      instructions = w.instructions.items;
-    } in
-    IfOk-weaker c.of_instructions.result _ _ (λ i h.
-    is_found c.args.octets.now x i (λ k. omega (arith, c.type_inv.octets k)) c.in_ok-written.ensures h)
+    IfOk-weaker c.of_instructions.result _ _ (λ i h. is_found _ _ i (λ k. omega (arith, c.type_inv.octets k)) c.in_ok-written.ensures h)
     c.of_instructions.ensures.made
 
 pub returns-clause-only : goal.returns-clause-only
 returns-clause-only c =
-    let w = c.in_ok-written.written in
-    let x : Parts = record {
-      budget = w.budget;
-      texts = map (λ t. t.items) w.texts.items;
-      numbers = w.numbers.items;
-      slots = w.slots;
-      procedures = list_in w.first_places;
-      instructions = w.instructions.items;
-    } in
-    IfOk-weaker c.of_instructions.result _ _ (λ i h p fits e.
-    is_only c.args.octets.now x i p c.in_ok-written.ensures h fits e) c.of_instructions.ensures.made
+    IfOk-weaker c.of_instructions.result _ _ (λ i h p fits e. is_only _ _ i p c.in_ok-written.ensures h fits e) c.of_instructions.ensures.made
 
 pub returns-clause-refused : goal.returns-clause-refused
 returns-clause-refused c = λ h p fits e.
-    let w = c.in_ok-written.written in
-    let x : Parts = record {
-      budget = w.budget;
-      texts = map (λ t. t.items) w.texts.items;
-      numbers = w.numbers.items;
-      slots = w.slots;
-      procedures = list_in w.first_places;
-      instructions = w.instructions.items;
-    } in
-    let same = is_that c.args.octets.now x p c.in_ok-written.ensures fits e in
+    let same = is_that _ _ p c.in_ok-written.ensures fits e in
     c.of_instructions.ensures.refused h (subst IsShort (sym same) fits.octets.short) (record {
       program = p;
-      is =
-          sym same;
+      is = sym same;
       operations = subst IsOfVersion (sym same) fits.operations;
     })

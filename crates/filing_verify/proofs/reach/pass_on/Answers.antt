@@ -15,6 +15,5 @@ returns-clause-passed c = λ _.
       | in-Some+else-to-place w ↦ let e : w.in-Some.to ≡ q = cc (w.in-Some.is, to) in rw (← e) w.if-to-place.false
       | in_default w ↦ absurd (cc (w.in_default.is, to))
     ] in
-    rw c.mark_successors.ensures (passed_on c.args.image.now place c.args.marks.now c.requires.so_far
-    c.operation_at-operation.result c.operation_at-operation.ensures marked (λ q to.
-    ahead q (c.target.ensures ∙ to)))
+    rw c.mark_successors.ensures (passed_on c.requires.so_far c.operation_at-operation.ensures marked
+    (λ q to. ahead q (c.target.ensures ∙ to)))

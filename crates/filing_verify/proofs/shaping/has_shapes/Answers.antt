@@ -7,4 +7,4 @@ pub returns-clause-yes : goal.returns-clause-yes
 returns-clause-yes c = λ _.
     let end : c.loop-place.place ≡ length c.args.image.now.code = omega arith in
     let all : Shaping c.args.image.now (length c.args.image.now.code) c.loop-place.table.items = rw (← end) c.loop-place.invariant in
-    has_shapes c.args.image.now c.loop-place.table.items all
+    has_shapes all

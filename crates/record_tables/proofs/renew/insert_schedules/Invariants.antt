@@ -7,4 +7,5 @@ use Rattle.record_tables.proofs.renew.insert_schedules.Given as goal
 
 abbrev pub invariant-loop-schedule : goal.invariant-loop-schedule
 invariant-loop-schedule g l =
-    Writes {T = Unit} {E = Error} g.S.Store l.fn.tx.conn l.tx.conn (Ok tt) HasNoSchedules (with_schedules (map rule_of (take l.schedule-index l.schedules)))
+    Writes {T = Unit} {E = Error} g.S.Store l.fn.tx.conn l.tx.conn (Ok tt) HasNoSchedules
+    (with_schedules (map rule_of (take l.schedule-index l.schedules)))

@@ -11,8 +11,8 @@ pub run_command-returns-in_ok-ending-in-Otherwise : goal.run_command-returns-in_
 run_command-returns-in_ok-ending-in-Otherwise g t c =
     rw (command_of-fields c.args.command.now)
     (otherwise_leads (facts_of c.args.scope.now.case.now) (includes_at g.L.Level.depth c.args.scope.now)
-    c.command_word-word.result c.args.is_open _ _ _ _ (filing_of c.args.filing.now)
-    (ending_at c.in_ok-ending-in-Otherwise.ending c.run_block.new.filing)
+    _ _ _ _ (filing_of c.args.filing.now) (ending_at c.in_ok-ending-in-Otherwise.ending c.run_block.new.filing)
+    c.command_word-word.result c.args.is_open
     (ap (λ n. command_word n) (sym c.as_slice.ensures) ∙ sym c.command_word-word.ensures) (sym c.part_in.ensures
     ∙ c.in-Otherwise.is) c.in_ok-ending-in-Otherwise.ensures)
 
@@ -37,8 +37,8 @@ pub run_command-returns-in_ok-ending-in-Branch : goal.run_command-returns-in_ok-
 run_command-returns-in_ok-ending-in-Branch g t c =
     rw (command_of-fields c.args.command.now)
     (branch_leads (facts_of c.args.scope.now.case.now) (includes_at g.L.Level.depth c.args.scope.now)
-    c.command_word-word.result c.args.is_open _ _ _ _ (filing_of c.args.filing.now)
-    (ending_at c.in_ok-ending-in-Branch.ending c.run_branch.new.filing) c.in_ok-ending-in-Branch.opens
+    _ _ _ _ (filing_of c.args.filing.now) (ending_at c.in_ok-ending-in-Branch.ending c.run_branch.new.filing)
+    c.command_word-word.result c.args.is_open c.in_ok-ending-in-Branch.opens
     (ap (λ n. command_word n) (sym c.as_slice.ensures) ∙ sym c.command_word-word.ensures) (sym c.part_in.ensures
     ∙ c.in-Branch.is) (rw (command_of-fields c.args.command.now) at c.in_ok-ending-in-Branch.ensures))
 
@@ -46,8 +46,8 @@ pub run_command-returns-in_ok-ending-in-Plain : goal.run_command-returns-in_ok-e
 run_command-returns-in_ok-ending-in-Plain g t c =
     rw (command_of-fields c.args.command.now)
     (plain_leads (facts_of c.args.scope.now.case.now) (includes_at g.L.Level.depth c.args.scope.now)
-    c.command_word-word.result c.args.is_open _ _ _ _ (filing_of c.args.filing.now)
-    (ending_at c.in_ok-ending-in-Plain.ending c.run_plain.new.filing)
+    _ _ _ _ (filing_of c.args.filing.now) (ending_at c.in_ok-ending-in-Plain.ending c.run_plain.new.filing)
+    c.command_word-word.result c.args.is_open
     (ap (λ n. command_word n) (sym c.as_slice.ensures) ∙ sym c.command_word-word.ensures) (sym c.part_in.ensures
     ∙ c.in-Plain.is) (subst (λ args. IsNoIf c.command_word-word.result
     → PlainlyEnds (facts_of c.args.scope.now.case.now) (includes_at g.L.Level.depth c.args.scope.now)

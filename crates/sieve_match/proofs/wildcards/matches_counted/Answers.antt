@@ -1,9 +1,8 @@
-use Rattle.std.proofs.Common.{◌+◌, ◌^◌, ◌<◌, length, sym, ap, ◌∙◌, arith}
+use Rattle.std.proofs.Common.{◌+◌, ◌^◌, ◌<◌, length, sym, ap, ◌∙◌, arith, false}
 use Rattle.sieve_meaning.specs.Matching.{items_of}
 use Rattle.sieve_match.specs.Steps.{turn_view}
 use Rattle.sieve_match.proofs.SearchLemmas.{Fresh-first, State-goes, State-star, State-stuck, State-bound, State-ends}
 use Rattle.sieve_match.proofs.SearchLemmas.{State-least, Fresh-fails, Tried-fails, items-le, bound_fits}
-use Rattle.std.proofs.Common.{false}
 use Rattle.sieve_match.proofs.TrialLemmas.{again_of, Exact-first, Exact-goes, Exact-star, Exact-stuck, Exact-ends, Exact-fails, Exact-fails_at_end}
 use Rattle.sieve_match.proofs.wildcards.matches_counted.Goals as goal
 

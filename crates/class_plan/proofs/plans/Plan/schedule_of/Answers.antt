@@ -1,4 +1,4 @@
-use Rattle.std.proofs.Common.{◌≡◌, inl, inr, Some, None, sym, subst, ◌∙◌}
+use Rattle.std.proofs.Common.{◌≡◌, inr, Some, None, sym, subst, ◌∙◌}
 use Rattle.class_paths.specs.Path.{ancestors}
 use Rattle.class_plan.specs.Schedules.{IsInRange, IsInRangeIfAny}
 use Rattle.class_plan.specs.Plans.{Listing, row_at, own_at, IsFromAbove}
@@ -18,13 +18,6 @@ pub returns-in-None-clause-range : goal.returns-in-None-clause-range
 returns-in-None-clause-range c =
     let p : Listing = record { root = c.self.inside.root; rows = rows_in c.self.inside.classes } in
     subst IsInRange (sym c.inherited_schedule.ensures) (first-range p c.self.invariant (ancestors c.args.path.now))
-
-pub returns-in-Some-clause-nearest : goal.returns-in-Some-clause-nearest
-returns-in-Some-clause-nearest c =
-    let p : Listing = record { root = c.self.inside.root; rows = rows_in c.self.inside.classes } in
-    let own : Some c.in-Some.schedule ≡ own_at p.rows c.args.path.now = sym c.in-Some.is
-    ∙ own-found (row_at c.args.path.now p.rows) _ c.in_ok-class.ensures.schedule in
-    rw (← c.self.view_is) (inl (sym own))
 
 pub returns-in-None-clause-nearest : goal.returns-in-None-clause-nearest
 returns-in-None-clause-nearest c =
