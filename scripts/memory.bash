@@ -257,7 +257,7 @@ has_all_mail() {
 
 # Whether an intake that has ended early lost nothing: what was moved has its record, and so has what was told. At most one more has one,
 # the first in `new`; `twice` is set to that.
-is_between() {
+loses_nothing() {
     local moved records told
     records=$("$keeper" list --store "$here/store" --from 3 | wc -l)
     told=$(grep -c ': record ' "$here/said")
@@ -284,7 +284,7 @@ try_intake() {
     cp -r -- "$work/store" "$work/Maildir" "$here"
     take_mail "$1"
     count_allocations
-    if has_no_memory && is_between; then
+    if has_no_memory && loses_nothing; then
         run_again take_mail
         [[ $outcome != again || -z $twice ]] || outcome=twice
     elif ! has_done_all "$1"; then

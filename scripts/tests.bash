@@ -289,6 +289,14 @@ installs() {
     return "$status"
 }
 
+# Whether no two of the files that a script sources have a function of one name.
+has_no_namesakes() {
+    local parts
+    read -r -a parts < <(sed -n 's/^ *for part in \(.*\); do$/\1/p' "$1")
+    ((${#parts[@]} > 1)) && parts+=(build programs trials) &&
+        [[ -z $(cd -- scripts && grep -o -h -E '^[a-z_0-9]+\(\)' "${parts[@]/%/.bash}" | sort | uniq -d | tee /dev/stderr) ]]
+}
+
 # ---- all of these
 
 builds_of_programs() {
@@ -327,6 +335,7 @@ starts_from_dist() {
 }
 
 scripts() {
+    local script
     make_stage && make_kit
     builds_of_programs
     starts_from_dist
@@ -335,6 +344,9 @@ scripts() {
     count "a seed that is no number" gives_up 2 "^usage:" test hostile one
     count "an unknown word for ./test failing" gives_up 2 "^usage:" test failing memory some
     count "an unknown word for ./install" gives_up 2 "^usage:" install --nothing
+    for script in test scripts/failing.bash scripts/hostile.bash prove; do
+        count "functions of $script" has_no_namesakes "$script"
+    done
     if command -v shellcheck > "$work/said"; then
         count "shellcheck" shellcheck -x mailfile* test prove install .ci/run scripts/*.sh scripts/*.bash sessions/*.bash sessions/*/*.bash
     fi
