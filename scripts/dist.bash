@@ -34,18 +34,19 @@ is_dist_program() {
     gzip -d -c < "$root/dist/${1//_/-}.gz" | cmp - "$root/crates/$1/out/$1"
 }
 
-# Compares the programs that were built with those of dist/, where these are from the same sources and kit.
+# Compares the programs that were built with those of dist/, where these are from the same sources, by a kit of the same logic.
 compare_dist() {
-    local name sum
+    local name sum kit
+    kit=$(kit)
     for name in "${PROGRAMS[@]}"; do
         if ! { read_manifest "$name" && [[ -n $dist_sum ]]; }; then
             echo "$name is not compared: dist/ has none"
-        elif [[ $dist_kit != "$(kit)" ]]; then
-            echo "$name is not compared: dist/ has it by $dist_kit, and this is $(kit)"
+        elif [[ ${dist_kit#* } != "${kit#* }" ]]; then
+            echo "$name is not compared: dist/ has it by $dist_kit, and this is $kit"
         elif ! sum=$(sum_of "$name") || [[ $dist_sum != "$sum" ]]; then
             echo "$name is not compared: dist/ has it from other sources"
         else
-            count "$name is another than in dist/, from the same sources by the same kit" is_dist_program "$name"
+            count "$name is another by $kit than in dist/, where it is by $dist_kit, from the same sources" is_dist_program "$name"
         fi
     done
     group "programs that are those of dist/"

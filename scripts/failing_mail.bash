@@ -1,6 +1,6 @@
 # shellcheck shell=bash
 # shellcheck disable=SC2317 # count calls its checks by name
-# Sends mail to ./mailfile-store through a real mail server. ./failing sources this file.
+# Sends mail to ./mailfile-store through a real mail server. scripts/failing.bash sources this file.
 #
 # It is a Postfix with a configuration, a queue and data of its own, all below the folder of the tests. It listens on a port of the
 # loopback interface alone. It gives mail for records.example to `deliver`, one at a time, and mail for crowd.example many at a time.
@@ -361,7 +361,7 @@ gives_back_what_is_too_long() {
 mail_through_postfix() {
     local runs port
     if ! has_postfix "${1-}"; then
-        echo "no mail was sent: that takes the rights of root and Postfix, which ./failing mail installs"
+        echo "no mail was sent: that takes the rights of root and Postfix, which ./test failing mail installs"
         return
     fi
     ensure_program mailfile

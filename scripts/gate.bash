@@ -18,8 +18,7 @@ edits_in() {
 # Makes a copy of the tree in which the finer edits of some crates are with the others.
 copy_tree() {
     local name folder
-    mkdir -- "$work/tree" || exit 125
-    tar -c --exclude=./.git --exclude=./out --exclude='./crates/*/out' . | tar -x -C "$work/tree" || exit 125
+    copy_sources "$work/tree" || exit 125
     for name in "$@"; do
         folder=$work/tree/crates/$name
         if [[ -d $folder/must-fail-finer ]]; then
@@ -122,7 +121,13 @@ proofs_fit() {
     ! grep -v '"' "$work/said"
 }
 
+# Whether the edits that the gate tries change code alone.
+gate_edits_are_of_code() {
+    ! grep -r -E '^file: (specs|proofs)/' crates/*/must-fail
+}
+
 layout() {
+    count "must-fail edits of the gate that change code alone" gate_edits_are_of_code
     count "lines of code of at most 100 characters" lines_fit
     count "lines of proofs of at most 150 characters" proofs_fit
     group layout
@@ -136,25 +141,16 @@ with_tests() {
     grep -l -r -F '#[test]' crates/*/src | cut -d / -f 2 | sort -u | wc -l
 }
 
-# The memory counted for each check of the gate, in megabytes: the four largest take some 20,000 together.
+# The memory counted for each check of the gate, in megabytes: the four largest take some 20,000 together. Left to itself, rt counts more
+# than a check takes, and a fourth processor is idle half of the time.
 readonly CHECK_MEMORY=5000
-
-# How many checks the gate makes side by side: one for each processor, where memory holds them. Left to itself, rt counts more memory for
-# each check than it takes, and a fourth processor is idle half of the time.
-checks() {
-    local free processors
-    free=$(($(free_memory) / CHECK_MEMORY))
-    processors=$(nproc)
-    ((free > 0)) || free=1
-    echo $((free < processors ? free : processors))
-}
 
 # Runs the gate, with a group for each thing that it does. A failure that no group counts is a group of its own. The gate keeps on
 # this machine what it has proved, and says of a crate that it "is kept" where nothing that its proof reads has changed since. Tests
 # whose own proof fails do not run, so their group counts that too.
 gate() {
     local status=0 before=$failed
-    RT_JOBS=${RT_JOBS:-$(checks)} rt ci > "$work/gate" 2>&1 &
+    RT_JOBS=${RT_JOBS:-$(side_by_side "$CHECK_MEMORY" "$CHECK_MEMORY")} rt ci > "$work/gate" 2>&1 &
     wait "$!" || status=$?
     reported proofs "$(crates | wc -l)" "$work/gate" '^rt: [a-z0-9_]+ (proved$|is kept: )' '^rt: .* NOT PROVED'
     reported "must-fail edits" "$(edits_in crates/*/must-fail)" "$work/gate" \
@@ -175,6 +171,7 @@ gate() {
 prove() {
     local name
     local -A sums=()
+    begin_lanes
     for name in "${PROGRAMS[@]}"; do
         sums[$name]=$(sum_of "$name")
     done

@@ -1,7 +1,7 @@
 # shellcheck shell=bash
 # shellcheck disable=SC2317 # count calls its checks by name
 # Kills ./mailfile-store while it takes a Maildir over, and lets it find full disks, folders that can only be read, and a store that was
-# moved away; and lets it take over a Maildir of ten thousand messages. ./failing sources this file.
+# moved away; and lets it take over a Maildir of ten thousand messages. scripts/failing.bash sources this file.
 
 : "${work:?}"
 

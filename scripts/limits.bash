@@ -1,6 +1,6 @@
 # shellcheck shell=bash
 # shellcheck disable=SC2317,SC2034 # count calls its checks by their names, and variables are for what is sourced
-# Plays each command at its limits, in the cases of sessions/limits.bash. ./hostile sources this file after store_limits.bash.
+# Plays each command at its limits, in the cases of sessions/limits.bash. scripts/hostile.bash sources this file after store_limits.bash.
 
 : "${root:?}" "${work:?}"
 

@@ -1,7 +1,7 @@
 # shellcheck shell=bash
 # shellcheck disable=SC2317 # count and refuse_each call their checks and trials by name
 # Refuses the allocations of the built programs, one in each run: those of sessions of mailfile, and those of a delivery and of an intake
-# of mailfile-store. ./failing sources this file.
+# of mailfile-store. scripts/failing.bash sources this file.
 #
 # A trial is a function that runs a program with the allocation of a given number refused, and then does what is to be done after that,
 # with nothing refused. It works in the folder `here`. It sets `made` to the number of allocations of the first run, and `outcome` to a
@@ -54,7 +54,7 @@ read_session() {
     local word text
     commands=()
     wanted=()
-    ending=$(< "sessions/$1.expected")$'\n'
+    ending=$(cat -- sessions/*/"$1.expected")$'\n'
     while read -r word text; do
         if [[ $word == send ]]; then
             commands+=("$text")

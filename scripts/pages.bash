@@ -5,7 +5,7 @@
 
 : "${work:=$(mktemp -d)}"
 
-PAGES=(README.md docs/*.md sessions/README.md)
+PAGES=(README.md docs/*.md sessions/README.md sessions/*/README.md examples/archive/README.md)
 
 # The anchors of a page's headings.
 anchors_of() {
@@ -26,7 +26,7 @@ leads() {
 
 # The paths of files and scripts that a page names, from the top of the repository.
 paths_of() {
-    grep -o -E '`(\./[a-z-]+|(scripts|docs|crates|beside|examples|man|dist)/[A-Za-z0-9_./-]+)' "$1" | sed -E 's/^`(\.\/)?//' | sort -u
+    grep -o -E '`(\./[a-z-]+|(scripts|docs|crates|trials|examples|man|dist)/[A-Za-z0-9_./-]+)' "$1" | sed -E 's/^`(\.\/)?//' | sort -u
 }
 
 # The steps of the way of a capture, a line each.

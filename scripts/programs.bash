@@ -1,12 +1,11 @@
 # shellcheck shell=bash
-# Finds proved programs. A program is started only where it was proved from the present sources: it was built here, or it is the one
-# in dist/. A script that sources this file sets `root`, the folder of the repository, and `self`, the name in its messages. A status
-# of 125 or more is the script's own, and not the program's: 125 where there is no program, and 128 plus the number of the signal
-# after a signal.
+# Finds proved programs. A program is started only where it was proved from the present sources: it was built here, or it is the one in
+# dist/. A script that sources this file sets `root`, the folder of the repository, and `self`, the name in its messages. Where there is
+# no program, it ends with the status 125.
 #
-# dist/MANIFEST says of each program in dist/ from which sources it was made, and its sha256 and size; dist/COMMAND.gz has it. A start
-# unpacks it once, and notes the program that it found with the times and sizes of the sources. While these stay the same, later
-# starts take that program at once.
+# dist/MANIFEST says of each program in dist/ from which sources it was made, and its sha256 and size; dist/COMMAND.gz has it. The first
+# start unpacks it, and notes the program that it found with the times and sizes of the sources. While these stay the same, later starts
+# take that program at once (scripts/start.sh).
 
 : "${root:?}" "${self:?}"
 
@@ -14,20 +13,44 @@
 # shellcheck disable=SC2034 # for the scripts that source this file
 PROGRAMS=(mailfile mailfile_tool mailfile_store)
 
-# The folder of a program that nothing can keep, which is removed as it starts.
+# The folder of programs that nothing can keep. Who starts one removes it.
 private=
 
 # What dist/ says of a program: see read_manifest.
 dist_system='' dist_kit='' dist_sum='' dist_sha256='' dist_octets=''
+
+# The programs that were found.
+declare -A found=()
 
 give_up() {
     echo "$self: $1" >&2
     exit 125
 }
 
-# The libraries of the repository below a crate, each after those that it uses, and then the crate.
+# Ends with what the comment at the head of the script says.
+print_help() {
+    sed -n '2,/^[^#]/ s/^# \{0,1\}//p' "$0"
+    exit
+}
+
+# Ends a script that was given other words than it takes.
+usage() {
+    echo "usage: $1" >&2
+    exit 2
+}
+
+# Gives up on a program that is to be built first.
+give_up_unbuilt() {
+    give_up "$2; prove and build it from the sources: ./prove --build ${1//_/-}"
+}
+
+give_up_on_dist() {
+    give_up "$1; get dist/ again (git checkout -- dist), or prove and build from the sources (./prove --build)"
+}
+
+# The libraries of the repository below some crates, each after those that it uses, and then these crates.
 crates_below() {
-    awk -v top="$1" '
+    awk -v tops="$*" '
         function visit(name, words, count, i) {
             if (name in needs && !(name in seen)) {
                 seen[name] = 1
@@ -38,7 +61,7 @@ crates_below() {
         }
         { sub(/#.*/, "") }
         /:/ { needs[$1 ~ /:$/ ? substr($1, 1, length($1) - 1) : $1] = substr($0, index($0, ":") + 1) }
-        END { visit(top) }
+        END { count = split(tops, top); for (i = 1; i <= count; i++) visit(top[i]) }
     ' "$root/crates.txt"
 }
 
@@ -69,45 +92,39 @@ sum_of() {
 
 sha256_of() {
     sha256sum < "$1" | cut -d ' ' -f 1
-}
-
-# The time of the last change, the size and the name of each of the paths that come on standard input, each with a NUL after it. They
-# are absolute, or below the folder of the repository.
-states_of() {
-    (cd -- "$root" && LC_ALL=C exec xargs -0 stat -c '%.9Z %s %n')
 } 2> /dev/null
 
-# The folders in which a start may keep what it unpacks and notes: one in the checkout, and one of the user's for a checkout that
-# cannot be written.
-keeping_folders() {
-    local own=${XDG_CACHE_HOME:-${HOME:+$HOME/.cache}}
-    folders=("$root/out" ${own:+"$own/mailfile/${root//\//%}"})
-}
+# What `stat` says of paths, which are absolute or below the folder of the repository: as in scripts/start.sh.
+states_of() (
+    cd -- "$root" && LC_ALL=C exec stat -c '%.9Z %s' -- "$@"
+) 2> /dev/null
 
-# Whether a note still holds; sets `program`. A note is two files: NOTE.paths has the program and all that it was made from, and
-# NOTE.states has the states of these paths.
-is_noted() {
-    IFS= read -r -d '' program < "$1.paths" && states_of < "$1.paths" | cmp -s - "$1.states"
-} 2> /dev/null
-
-# Reads the sources of a program: sets `paths` to all of its files and folders, `states` to their states, and `sum` to the sum of the
-# files. The states are read first, so that an edit during a start is seen by the next one. A folder's state changes when a file comes
-# or goes.
+# Reads the sources of a program: sets `paths` to all of its files and folders, and `sum` to the sum of the files. It first sets `states`,
+# so that an edit during a start is seen by the next one. A folder's state changes when a file comes or goes.
 read_sources() {
-    local parts
+    local names parts
+    mapfile -t names < <(crates_below "$1")
     mapfile -t parts < <(source_folders "$1")
-    mapfile -d '' paths < <(cd -- "$root" && find "${parts[@]}" -print0 && crates_below "$1" | sed 's:^:crates/:' | tr '\n' '\0')
-    paths+=(crates.txt)
-    states=$(printf '%s\0' "${paths[@]}" | states_of)
+    mapfile -d '' paths < <(cd -- "$root" && find "${parts[@]}" -print0)
+    paths+=(crates.txt "${names[@]/#/crates/}")
+    states=$(states_of "${paths[@]}") || states=
     sum=$(sum_of "$1")
 }
 
-# Notes which program a start found. Nothing is noted where `stat` doesn't tell times in full.
+# A text as one word of a shell.
+quoted() {
+    printf "'%s'" "${1//\'/\'\\\'\'}"
+}
+
+# Writes a note of the program that was found: see scripts/start.sh. Nothing is noted where `stat` doesn't tell times in full, or a path
+# of a source has more than one line.
 note_program() {
-    local note=$1 time='^[0-9]+\.[0-9]{9} [0-9]+ '
-    [[ $states =~ $time ]] || return 0
-    printf '%s\0' "$program" "${paths[@]}" > "$note.paths.$$" && mv -f -- "$note.paths.$$" "$note.paths" || return
-    { printf '%s\0' "$program" | states_of && printf '%s\n' "$states"; } > "$note.states.$$" && mv -f -- "$note.states.$$" "$note.states"
+    local state lines time='^[0-9]+\.[0-9]{9} [0-9]+$'
+    state=$(states_of "$program")
+    lines=$(printf '%s\n' "${paths[@]}")
+    [[ $state =~ $time && -n $states && $(wc -l <<< "$lines") -eq ${#paths[@]} ]] || return 0
+    printf '%s=%s\n' program "$(quoted "$program")" paths "$(quoted "$lines")" states "$(quoted "$state"$'\n'"$states")" > "$1.$$" &&
+        mv -f -- "$1.$$" "$1"
 } 2> /dev/null
 
 # Whether a program was built here from the present sources.
@@ -132,35 +149,26 @@ read_manifest() {
     [[ -n $dist_system && -n $dist_kit ]]
 } 2> /dev/null
 
-# Whether dist/ has the program from the present sources, for this system; sets `reason` if not.
-is_in_dist() {
+# Gives up where dist/ does not have the program from the present sources, for this system.
+require_in_dist() {
     local system command=${1//_/-}
     system="$(uname -s) $(uname -m)"
     if [[ ! -e $root/dist ]]; then
-        reason="there is no dist/"
+        give_up_unbuilt "$1" "there is no dist/"
     elif ! read_manifest "$1"; then
         give_up_on_dist "dist/MANIFEST is missing or damaged"
     elif [[ -z $dist_sum ]]; then
-        reason="dist/ has no $command"
+        give_up_unbuilt "$1" "dist/ has no $command"
     elif [[ $dist_sum != "$sum" ]]; then
-        reason="dist/ has $command from other sources"
+        give_up_unbuilt "$1" "dist/ has $command from other sources"
     elif [[ $dist_system != "$system" ]]; then
-        reason="dist/ has programs for $dist_system, and this is $system"
-    else
-        return 0
+        give_up_unbuilt "$1" "dist/ has programs for $dist_system, and this is $system"
     fi
-    return 1
-}
-
-give_up_on_dist() {
-    give_up "$1; get dist/ again (git checkout -- dist), or prove and build from the sources (./prove --build)"
 }
 
 # Unpacks a program of dist/ into a file. A program other than the one in MANIFEST is reported, and never started.
 unpack_to() {
     local gz=dist/${1//_/-}.gz piped
-    command -v gzip > /dev/null ||
-        give_up "there is no gzip to unpack $gz; install the package gzip, or prove and build from the sources (./prove --build)"
     [[ -f $root/$gz ]] || give_up_on_dist "$gz is missing"
     gzip -d -c < "$root/$gz" 2> /dev/null | head -c $((dist_octets + 1)) > "$2"
     piped=("${PIPESTATUS[@]}")
@@ -169,104 +177,61 @@ unpack_to() {
         rm -f -- "$2"
         give_up_on_dist "$gz is damaged, or is another file than dist/MANIFEST says"
     fi
-    chmod +x -- "$2"
+    chmod -- +x "$2"
 }
 
-# Sets `kept` to the first folder that can keep what is unpacked and noted.
+# Sets `kept` to the first folder that can keep what is unpacked and noted: one in the checkout, or one of the user's for a checkout that
+# cannot be written.
 find_folder() {
-    local folder
-    keeping_folders
-    for folder in "${folders[@]}"; do
+    local folder own=${XDG_CACHE_HOME:-${HOME:+$HOME/.cache}}
+    for folder in "$root/out" ${own:+"$own/mailfile$root/out"}; do
         if mkdir -p -- "$folder" 2> /dev/null && [[ -w $folder ]]; then
             kept=$folder
             return
         fi
     done
-    return 1
 }
 
-# Takes a program from dist/, where it is the one from the present sources and starts on this system. Sets `program`, or `reason`.
-# Starts at the same time each unpack a file of their own, and the last one stays.
+# Takes a program from dist/, where it is the one from the present sources and starts on this system. Sets `program`. Starts at the same
+# time each unpack a file of their own, and the last one stays.
 take_from_dist() {
-    local said
-    is_in_dist "$1" || return
-    if ! find_folder; then
+    local said new
+    require_in_dist "$1"
+    if [[ -z $kept$private ]]; then
         private=$(mktemp -d) || give_up "there is no folder to unpack the program into"
     fi
     program=${kept:-$private}/$1
     if [[ ! -x $program || $(sha256_of "$program") != "$dist_sha256" ]]; then
-        unpack_to "$1" "$program.$$"
-        if ! said=$("$program.$$" --version 2>&1 < /dev/null); then
-            rm -rf -- "$program.$$" ${private:+"$private"}
-            reason="the program in dist/ does not start here (${said##*: })"
-            return 1
+        new=$program.$$
+        unpack_to "$1" "$new"
+        if ! said=$("$new" --version 2>&1 < /dev/null); then
+            rm -rf -- "$new" ${private:+"$private"}
+            give_up_unbuilt "$1" "the program in dist/ does not start here (${said##*: })"
         fi
-        mv -f -- "$program.$$" "$program" || give_up "$program cannot be written"
+        mv -f -- "$new" "$program" || give_up "$program cannot be written"
     fi
     program=${program#"$root/"}
 }
 
-# Finds the program that was proved from the present sources, and notes it. Sets `program`, as a path that is absolute or below the
-# folder of the repository. Fails where it is to be built first; `reason` says why.
-find_program() {
-    local paths states sum kept='' folders
-    reason=
-    for program in awk find sha256sum sort xargs; do
+# Makes sure that a program is there that was proved from the present sources, and notes it; otherwise gives up.
+ensure_program() {
+    local program paths states sum kept=
+    for program in awk find gzip sha256sum sort xargs; do
         command -v "$program" > /dev/null || give_up "there is no $program on the path, which a start takes"
     done
     read_sources "$1" || give_up "the sources of $1 cannot be read"
+    find_folder
     if is_built "$1"; then
         program=crates/$1/out/$1
-        find_folder
     else
-        take_from_dist "$1" || return
+        take_from_dist "$1"
     fi
-    [[ -z $kept ]] || note_program "$kept/$1"
-}
-
-# Answers --help or --version of a program that is not built; otherwise does nothing.
-answer_unbuilt() {
-    case $#${2-} in
-        2--version | 2-V)
-            source_folders "$1" | sed "s|^|$root/|" | xargs -d '\n' grep -r -h -o -E 'version(: |\()"[^"]*"' |
-                sed "s/.*\"\(.*\)\"/$self \1/"
-            ;;
-        2--help | 2-h)
-            echo "$self is not built: $reason."
-            echo "Any other start proves and builds it first; then --help lists its options."
-            ;;
-        *) return ;;
-    esac
-    exit 0
-}
-
-# Replaces this process by the program. A private folder is removed first: what is started is the open file.
-run_program() {
-    local file
+    [[ -z $kept ]] || note_program "$kept/$1.note"
     [[ $program == /* ]] || program=$root/$program
-    if [[ -n $private ]]; then
-        exec {file}< "$program" && rm -rf -- "$private"
-        program=/proc/self/fd/$file
-    fi
-    exec "$program" "$@"
+    found[$1]=$program
 }
 
-# Starts a program with its arguments.
-start() {
-    local name=$1 program folder folders
-    shift
-    keeping_folders
-    for folder in "${folders[@]}"; do
-        if is_noted "$folder/$name"; then
-            run_program "$@"
-        fi
-    done
-    if ! find_program "$name"; then
-        answer_unbuilt "$name" "$@"
-        # shellcheck source=scripts/build.bash
-        . "$root/scripts/build.bash" || exit 125
-        build "$name"
-        program=crates/$name/out/$name
-    fi
-    run_program "$@"
+# The path of a program that was found.
+program_of() {
+    echo "${found[$1]}"
 }

@@ -1,6 +1,6 @@
 # shellcheck shell=bash
 # shellcheck disable=SC2317 # count calls its checks by name
-# Reports in a browser: whether a name of an archive, or that of its file, becomes anything but text. ./failing sources this file. The
+# Reports in a browser: whether a name of an archive, or that of its file, becomes anything but text. scripts/failing.bash sources this file. The
 # browser is Chromium, from the packages of the system; where it is not installed, this is said and nothing is tried.
 
 : "${root:?}" "${work:?}"

@@ -60,14 +60,32 @@ sessions_in() {
     compgen -G "$1/*/1.session" | sed 's:/1\.session$::'
 }
 
-# Makes the sessions that are too large or too many for files, and plays all.
+# The names in the tables of a folder's README.md, and those of its sessions.
+names_shown() {
+    # shellcheck disable=SC2016 # these backticks are those of the page
+    sed -n -E 's/^\| `([a-z0-9-]+)` \| .+ \|$/\1/p' "$1/README.md" | sort
+}
+names_there() {
+    sessions_in "$1" | sed 's:.*/::; s:\.session$::' | sort
+}
+
+# Whether each session of a chapter has one line in its README.md, and each line has its session.
+has_titles() {
+    diff <(names_there "$1") <(names_shown "$1")
+}
+
+# Makes the sessions that are too large or too many for files, and plays all, from the top of the repository.
 all_sessions() {
     local folder sessions
-    if [[ -x $root/sessions/large.bash ]]; then
+    if [[ -x sessions/large.bash ]]; then
         mkdir -- "$work/large"
-        count "the large sessions are made" "$root/sessions/large.bash" "$work/large"
+        count "the large sessions are made" sessions/large.bash "$work/large"
     fi
-    mapfile -t sessions < <(for folder in "$root/examples" "$root/sessions" "$work/large"; do sessions_in "$folder"; done)
+    for folder in sessions/[0-9]*; do
+        count "each session of ${folder##*/} has its line in README.md" has_titles "$folder"
+    done
+    group "large sessions, and the titles of all"
+    mapfile -t sessions < <(for folder in examples sessions/[0-9]* "$work/large"; do sessions_in "$folder"; done)
     play_sessions
 }
 

@@ -1,6 +1,6 @@
 # shellcheck shell=bash
 # shellcheck disable=SC2317 # best calls its runs by their names
-# Times ./mailfile-store beside a session of ./mailfile over the same messages, beside the opening of the store, and beside `cp`. ./bench
+# Times ./mailfile-store beside a session of ./mailfile over the same messages, beside the opening of the store, and beside `cp`. scripts/speed.bash
 # sources this file.
 
 : "${folder:?}"

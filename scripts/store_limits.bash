@@ -1,11 +1,32 @@
 # shellcheck shell=bash
 # shellcheck disable=SC2154,SC2317,SC2015 # `here` and `status` come from limits.bash, which calls the functions `after_CASE` by their
 # names; and `|| shows_run` only reports
-# Asks mailfile-store of the stores that the sessions of some cases have left, by the helpers of store.bash and copies.bash. What it is
-# given and has to answer is in the folder of the case (sessions/limits/stores.bash). ./hostile sources this file; `here` is the folder
-# of the store.
+# Asks mailfile-store of the stores that the sessions of some cases have left. What it is given and has to answer is in the folder of the
+# case (sessions/limits/stores.bash). scripts/hostile.bash sources this file after store.bash; `here` is the folder of the store.
 
 : "${work:?}"
+
+# Whether the program does what its words say, and writes nothing to standard error.
+does() {
+    run "$@"
+    ((status == 0)) && [[ ! -s $work/error ]] || shows_run
+}
+
+# The program over the store of a case, with the other words of a subcommand.
+over() {
+    does "$1" --store "$here/store" "${@:2}"
+}
+
+# Whether it answers with exactly that text.
+over_says() {
+    over "${@:2}" && [[ $(cat -- "$work/said"; echo .) == "$1." ]] || shows_run
+}
+
+# Whether it ends with that status, has those words on standard error, and answers nothing. Its input is the caller's.
+over_refuses() {
+    run "$3" --store "$here/store" "${@:4}"
+    ((status == $1)) && [[ ! -s $work/said && $(< "$work/error") == *"$2"* ]] || shows_run
+}
 
 # Whether `list` and `check` answer of a store as a case says.
 tells() {
@@ -47,7 +68,7 @@ exports_messages() {
 
 # Copies the store, as a case says.
 copies_as_expected() {
-    copies_to "$here/copy" && cmp -- "$1/copied" "$work/said"
+    over copy "$here/copy" && cmp -- "$1/copied" "$work/said"
 }
 
 # Whether the copy, without its log, tells what the store told.

@@ -1,50 +1,47 @@
 # shellcheck shell=bash
-# shellcheck disable=SC2317,SC2034 # count calls its checks by their names, and variables are for what is sourced
+# shellcheck disable=SC2317,SC2034,SC2016 # count calls checks by names, variables are for what is sourced, and `$` is for inner shells
 # Tests what the scripts do around the programs, in a small tree with a substitute for rt. ./test sources this file.
 
 : "${work:?}"
 
-# Makes the tree, and the kit with the substitute.
+# Makes the tree. Its path has what means something to a shell, and to sed and awk.
 make_stage() {
-    stage=$work/stage
-    path=$stage/kit/bin:/usr/bin:/bin
-    mkdir -p -- "$stage"/kit/bin "$stage"/tree/{.git,docs,man,beside/measures/src}
-    mkdir -p -- "$stage"/tree/crates/{low,beside,one,two,three,middle,mailfile,mailfile_tool,apart}/src
-    cp -r -- mailfile bench hostile failing prove install scripts "$stage/tree/"
-    printf '%s\n' '# crates' low: beside: one: two: three: 'middle: low thiserror' \
-        'mailfile: beside one two three middle clap' 'mailfile_tool: low' 'apart: low' > "$stage/tree/crates.txt"
-    echo 'measures: low' > "$stage/tree/beside/measures/uses"
+    stage=$work/$'a|b&c \'d\' "e" $(f) \\1\n#g' && path=$stage/kit/bin:/usr/bin:/bin
+    mkdir -p -- "$stage"/kit/bin "$stage"/tree/{docs,man,trials/measures/src,crates/{low,one,two,middle,mailfile,mailfile_tool,apart}/src}
+    cp -r -- mailfile test prove install scripts "$stage/tree/"
+    printf '%s\n' '# crates' low: one: two: 'middle: low thiserror' 'mailfile: one two middle clap' 'mailfile_tool: low' 'apart: low' \
+        > "$stage/tree/crates.txt"
+    echo 'measures: low' > "$stage/tree/trials/measures/uses"
     echo low > "$stage/tree/crates/low/src/lib.rt"
-    echo tool > "$stage/tree/crates/mailfile_tool/src/main.rt"
-    echo 'Command::new("mailfile").version("1.2.3").about(' > "$stage/tree/crates/mailfile/src/command_line.rt"
+    touch "$stage/tree/crates/"{mailfile,mailfile_tool}/src/main.rt "$stage/tree/trials/measures/src/main.rt.txt"
     touch "$stage/tree/man/"{mailfile,mailfile-tool}.1
     sed -i 's/^PROGRAMS=.*/PROGRAMS=(mailfile mailfile_tool)/' "$stage/tree/scripts/programs.bash"
-    echo 'kit 1' > "$stage/kit/KIT-ID"
+}
+
+# Makes the substitute for rt.
+make_kit() {
+    echo 'kit-1 logic 1' > "$stage/kit/KIT-ID"
     cat > "$stage/kit/bin/rt" <<'RT'
 #!/usr/bin/env bash
 # Builds libraries, and programs that print their arguments and end with status 7, as the files of the stage ask. A program answers
 # --version unless the file `foreign` is there.
 stage=$(cd "$(dirname "$0")/../.." && pwd)
 name=${PWD##*/}
-echo "$* $name" >> "$stage/calls"
-if [[ -f $stage/slow-$1 ]]; then
+[[ $1 != version ]] || exec cat "$stage/kit/KIT-ID"
+[[ ! -f $stage/edit ]] || mv "$stage/edit" "$stage/tree/crates/low/src/lib.rt"
+if [[ -f $stage/slow ]]; then
     echo $$ >> "$stage/rt"
     exec sleep 60
 fi
+mkdir -p out
 if [[ $1 == run ]]; then
-    [[ ! -f $stage/edits ]] || cp "$stage/edits" ../low/src/lib.rt
-    printf '#!/bin/sh\n[ "$1" != --version ] || exec test ! -e %s\necho ran "$@"\n[ "$1" != wait ] || exec sleep 60\nexit 7\n' \
-        "$stage/foreign" > "out/$name"
+    printf '#!/bin/sh\n[ "$1" != --version ] || exec test ! -e ../foreign\necho ran "$@"\nexit 7\n' > "out/$name"
     chmod +x "out/$name"
     exit
 fi
-if [[ -f $stage/meets && ( $name == low || $name == beside ) ]]; then
+if [[ -f $stage/meets && $name == @(one|two) ]]; then
     touch "$stage/met-$name"
-    for _ in {1..500}; do
-        [[ -f $stage/met-low && -f $stage/met-beside ]] && break
-        sleep 0.02
-    done
-    [[ -f $stage/met-low && -f $stage/met-beside ]] || exit 1
+    timeout 10 bash -c 'until [[ -f $1/met-one && -f $1/met-two ]]; do sleep 0.02; done' - "$stage" || exit 1
 fi
 if [[ $name == middle && ! -f ../low/out/rlib/stamp || -f $stage/fails ]]; then
     echo "the reason"
@@ -58,186 +55,123 @@ RT
 
 # Starts a script of the stage with arguments, and keeps its output.
 start() {
-    local status=0
-    rm -f -- "$stage/calls"
-    PATH=$path "$stage/tree/$1" "${@:2}" > "$work/answer" 2> "$work/error" < /dev/null || status=$?
-    return "$status"
+    (cd -- "$stage/tree/docs" && PATH=$path exec "../$1" "${@:2}") > "$work/answer" 2> "$work/error" < /dev/null
 }
 
-# Whether a start builds the program and then runs it.
-builds() {
-    start mailfile "$@"
-    [[ $? -eq 7 && -s $stage/calls && $(< "$work/answer") == "ran${1+ $1}" ]] && grep -q "^mailfile: built in" "$work/error"
-}
-
-# Whether a start runs the program at once.
+# Whether a start runs the program.
 serves() {
     start mailfile "$@"
-    [[ $? -eq 7 && ! -e $stage/calls && $(< "$work/answer") == "ran${1+ $1}" && ! -s $work/error ]]
+    [[ $? -eq 7 && $(< "$work/answer") == "ran${1+ $1}" && ! -s $work/error ]]
 }
 
-# Whether a start of a script ends with a status and a line on standard error, and writes nothing to standard output.
+# Whether a start of a script ends with a status and one line on standard error, and writes nothing to standard output.
 gives_up() {
     start "${@:3}"
-    [[ $? -eq $1 && ! -s $work/answer ]] && grep -q -e "$2" "$work/error"
+    [[ $? -eq $1 && ! -s $work/answer && $(wc -l < "$work/error") -eq 1 ]] && grep -q -e "$2" "$work/error"
 }
 
-answers_unbuilt() {
-    start mailfile --version && [[ $(< "$work/answer") == "mailfile 1.2.3" && ! -e $stage/calls ]] &&
-        start mailfile --help && [[ -s $work/answer && ! -e $stage/calls ]]
+# Whether a start finds no program of the present sources, and says what makes it.
+needs_a_build() {
+    gives_up 125 "^mailfile: $1; prove and build it from the sources: ./prove --build mailfile$" mailfile a
 }
+
+# Whether the programs are built, with a line for each crate that is proved.
+builds() {
+    start prove --build && [[ ! -s $work/answer && ! -e $stage/tree/out/lanes ]] &&
+        [[ $(grep -c "^prove: proved" "$work/error") -eq $(sed -n 's/.*and building \([0-9]*\) crates.*/\1/p' "$work/error") ]]
+}
+
+edit_low() {
+    echo edited >> "$stage/tree/crates/low/src/lib.rt"
+}
+
+# Starts as in a fresh clone: nothing is built, unpacked or noted.
+fresh() {
+    rm -rf -- "$stage/tree/crates/"*/out "$stage/tree/out"
+}
+
+# ---- builds
 
 # Two libraries that don't use each other are built at the same time, and the one above them after them.
 builds_side_by_side() {
     touch "$stage/meets"
-    echo 'MemAvailable: 9000000 kB' > "$stage/memory"
-    MEMINFO=$stage/memory builds a && rm -- "$stage/meets" && [[ $(grep -c "proved [1-7] of 7: " "$work/error") -eq 7 ]] &&
-        [[ $(grep -o "proved 7 of 7: .*" "$work/error") == "proved 7 of 7: mailfile" && ! -e $stage/tree/.git/lanes ]]
-}
-
-builds_one_after_the_other() {
-    echo edited >> "$stage/tree/crates/low/src/lib.rt"
-    echo 'MemAvailable: 2000000 kB' > "$stage/memory"
-    MEMINFO=$stage/memory builds && grep -q "(provers at once: 1)" "$work/error"
-}
-
-builds_after_an_edit() {
-    echo edited >> "$stage/tree/crates/low/src/lib.rt"
-    builds && serves
-}
-
-builds_after_a_deletion() {
-    touch "$stage/tree/crates/low/src/more.rt"
-    builds && rm -- "$stage/tree/crates/low/src/more.rt" && builds && serves
-}
-
-serves_with_another_kit() {
-    echo 'kit 2' > "$stage/kit/KIT-ID"
-    serves
-}
-
-# A start sees a program that another one replaced.
-builds_after_another_program() {
-    echo other >> "$stage/tree/crates/mailfile/out/mailfile"
-    builds && serves
-}
-
-serves_without_a_kit() {
-    mv -- "$stage/kit" "$stage/away"
-    serves a && echo edited >> "$stage/tree/crates/low/src/lib.rt" && gives_up 125 "no command rt" mailfile
-    local status=$?
-    mv -- "$stage/away" "$stage/kit"
-    return "$status"
+    builds && rm -- "$stage/meets" && [[ $(grep -c "proved [1-6] of 6: " "$work/error") -eq 6 ]] && serves && serves a
 }
 
 # A source is edited while the program is built from its earlier text; the next start sees that.
 sees_an_edit_while_building() {
-    echo edited >> "$stage/tree/crates/low/src/lib.rt"
-    echo meanwhile > "$stage/edits"
-    builds && rm -- "$stage/edits" && builds && serves
+    edit_low && echo meanwhile > "$stage/edit" && builds && needs_a_build "there is no dist/" && builds && serves
 }
 
-serves_from_anywhere() (
-    ln -s -- "$stage/tree/mailfile" "$stage/link"
-    cd / && [[ $(CDPATH=$stage PATH=$path TMPDIR=/nowhere "$stage/link" a 2> "$work/error") == "ran a" ]]
-)
+# The next start sees a program that another one replaced.
+sees_another_program() {
+    echo other >> "$stage/tree/crates/mailfile/out/mailfile"
+    needs_a_build "there is no dist/" && builds && serves
+}
 
 goes_on_after_a_failure() {
-    echo edited >> "$stage/tree/crates/low/src/lib.rt"
-    touch "$stage/fails"
-    gives_up 125 "the reason" mailfile && grep -q "^mailfile: the program was not built" "$work/error" &&
-        rm -- "$stage/fails" && builds
+    edit_low && touch "$stage/fails"
+    ! start prove --build && grep -q "^the reason" "$work/error" && grep -q "^prove: [a-z]* was not built" "$work/error" &&
+        [[ -f $stage/tree/crates/low/out/rlib/stamp && ! -e $stage/tree/out/lanes ]] && rm -- "$stage/fails" && builds
 }
 
-# A start that was killed leaves its work in a lane, and the next start keeps it.
+# A build that was killed leaves its work in a lane, and the next one keeps it.
 goes_on_after_a_kill() {
-    local left=$stage/tree/.git/lanes/low/crates/low/out
-    echo edited >> "$stage/tree/crates/low/src/lib.rt"
-    mkdir -p -- "$left" && touch "$left/kept" && builds && [[ -f $stage/tree/crates/low/out/kept ]]
-}
-
-gives_up_without_memory() {
-    echo edited >> "$stage/tree/crates/low/src/lib.rt"
-    echo 'MemAvailable: 100000 kB' > "$stage/memory"
-    MEMINFO=$stage/memory gives_up 125 "only 97 megabytes of memory are free" mailfile
+    local left=$stage/tree/out/lanes/low/crates/low/out
+    edit_low && mkdir -p -- "$left" && touch "$left/kept" && builds && [[ -f $stage/tree/crates/low/out/kept ]]
 }
 
 gives_up_beside_another() {
-    local folder lock status=0
-    for folder in crates crates/low; do
-        exec {lock}< "$stage/tree/$folder"
-        flock -n "$lock" && gives_up 125 "^mailfile: another .*; start again when it is done" mailfile || status=1
-        exec {lock}<&-
-    done
+    local lock status=0
+    exec {lock}< "$stage/tree/crates"
+    edit_low && flock -n "$lock" && gives_up 125 "^prove: another build is at work" prove --build || status=1
+    exec {lock}<&-
     return "$status"
 }
 
-# Starts the program with a word, ends the start by a signal once a file has something, and gives its status.
-end_when() {
-    local script waits
-    rm -f -- "$1"
-    PATH=$path "$stage/tree/mailfile" "${@:2}" > "$work/answer" 2> "$work/error" &
-    script=$!
-    for ((waits = 0; waits < 1000; waits++)); do
-        [[ -s $1 ]] && break
-        sleep 0.02
-    done
-    kill "$script"
-    wait "$script"
-}
-
-# Whether a start that is ended while rt works ends each rt too, and the next start builds.
+# Whether a build that is ended by a signal ends each rt too, and leaves what was built before.
 ends_what_it_started() {
-    local process status=0
-    echo edited >> "$stage/tree/crates/low/src/lib.rt"
-    touch "$stage/slow-$1"
-    end_when "$stage/rt" || status=$?
-    rm -- "$stage/slow-$1"
+    local script process status=0
+    edit_low && touch "$stage/slow"
+    PATH=$path "$stage/tree/prove" --build > "$work/answer" 2> "$work/error" &
+    script=$!
+    timeout 20 bash -c 'until [[ -s $1 ]]; do sleep 0.02; done' - "$stage/rt"
+    kill "$script"
+    wait "$script" || status=$?
+    rm -- "$stage/slow"
     while read -r process; do
         ! kill -0 "$process" 2> "$work/said" || status=1
     done < "$stage/rt"
-    [[ $status -eq 143 && ! -e $stage/tree/.git/lanes ]] && builds
+    [[ $status -eq 143 && ! -e $stage/tree/out/lanes && -f $stage/tree/crates/low/out/rlib/stamp ]] && builds
 }
 
-ends_the_program() {
-    local status=0
-    end_when "$work/answer" wait || status=$?
-    [[ $status -eq 143 && ! -s $work/error ]]
-}
-
-gives_up_where_nothing_can_be_written() {
-    fresh && rm -r -- "$stage/tree/dist" && touch "$stage/tree/crates/mailfile/out"
-    gives_up 125 "out cannot be written" mailfile
-}
-
+# Whether a table that is not made leaves the page, here since the program of measures ends with a fault.
 leaves_the_page() {
     echo old > "$stage/tree/docs/PERFORMANCE.md"
-    gives_up 125 "the program ended with a fault" bench --write &&
-        [[ $(< "$stage/tree/docs/PERFORMANCE.md") == old ]]
+    ! start test speed --write && grep -q "the program ended with a fault" "$work/error" &&
+        [[ -x $stage/tree/trials/measures/out/measures && $(< "$stage/tree/docs/PERFORMANCE.md") == old ]]
 }
+
+# ---- dist/
 
 # Makes the dist/ of the stage, by the programs that the substitute builds.
 makes_dist() {
-    rm -rf -- "$stage/tree/crates/"*/out
-    PATH=$path "$stage/tree/prove" --dist > "$work/answer" 2> "$work/error" && [[ -s $stage/tree/dist/mailfile-tool.gz ]] &&
-        grep -q -x 'kit kit 2' "$stage/tree/dist/MANIFEST" && [[ $(grep -c -E '^mailfile(_tool)? ' "$stage/tree/dist/MANIFEST") -eq 2 ]]
+    fresh && start prove --dist && [[ -s $stage/tree/dist/mailfile-tool.gz ]] &&
+        grep -q -x 'kit kit-1 logic 1' "$stage/tree/dist/MANIFEST" &&
+        [[ $(grep -c -E '^mailfile(_tool)? ' "$stage/tree/dist/MANIFEST") -eq 2 ]]
 }
 
-# What ./prove says of the programs that are built.
-compared() (
+# Whether ./prove, by a kit, says that so many programs are those of dist/, and so many are not.
+compares() (
     root=$stage/tree PROGRAMS=(mailfile mailfile_tool) group_passed=0 group_failed=0
-    PATH=$path compare_dist 2>&1
+    echo "$1" > "$stage/kit/KIT-ID"
+    PATH=$path compare_dist 2>&1 | grep -q ": $2 passed, $3 failed$"
 )
 
 compares_with_dist() {
     local program=$stage/tree/crates/mailfile/out/mailfile
-    compared | grep -q ': 2 passed, 0 failed$' && echo >> "$program" && compared | grep -q ': 1 passed, 1 failed$' &&
-        echo 'kit 3' > "$stage/kit/KIT-ID" && compared | grep -q ': 0 passed, 0 failed$' && echo 'kit 2' > "$stage/kit/KIT-ID"
-}
-
-# Starts as in a fresh clone without a kit: nothing is built, unpacked or noted.
-fresh() {
-    rm -rf -- "$stage/tree/crates/"*/out "$stage/tree/out"
+    compares 'kit-1 logic 1' 2 0 && compares 'kit-2 logic 1' 2 0 && compares 'kit-3 logic 3' 0 0 && echo >> "$program" &&
+        compares 'kit-2 logic 1' 1 1 && compares 'kit-1 logic 1' 1 1
 }
 
 serves_from_dist() {
@@ -245,6 +179,11 @@ serves_from_dist() {
     local status=$?
     mv -- "$stage/dist" "$stage/tree/dist"
     return "$status"
+}
+
+# A start after the first takes no command of the system but `stat`.
+serves_by_stat_alone() {
+    mkdir -- "$stage/few" && ln -s -- "$(command -v stat)" "$stage/few/stat" && path=$stage/few serves a
 }
 
 # Four starts at the same time, of which each finds nothing unpacked.
@@ -259,14 +198,39 @@ serves_at_once() {
         wait "${starts[start - 1]}"
         [[ $? -eq 7 && $(< "$work/answer.$start") == "ran $start" ]] || return
     done
-    [[ ! -s $work/error.all && $(find "$stage/tree/out" -type f | wc -l) -eq 3 ]]
+    [[ ! -s $work/error.all && $(find "$stage/tree/out" -type f -printf .) == .. ]]
+}
+
+serves_from_anywhere() (
+    ln -s -- "$stage/tree/mailfile" "$stage/link"
+    cd / && [[ $(CDPATH=$stage PATH=$path TMPDIR=/nowhere "$stage/link" a 2> "$work/error") == "ran a" ]] && cd -- "$stage" &&
+        [[ $(CDPATH=/ PATH=$path tree/mailfile a 2> "$work/error") == "ran a" ]]
+)
+
+serves_as_posix_asks() {
+    fresh && POSIXLY_CORRECT=1 serves a && POSIXLY_CORRECT=1 serves b
 }
 
 serves_after_other_edits() {
     echo edited > "$stage/tree/crates/apart/src/main.rt" && echo 'other: low' >> "$stage/tree/crates.txt" && serves c && fresh && serves d
 }
 
-# A file in dist/ that is cut off, or is another program: it is reported, and neither run nor replaced by a build.
+# An edit that leaves the size and the time of its file, a new file, and then the sources of dist/ again.
+sees_edits() {
+    local file=$stage/tree/crates/low/src/lib.rt none="dist/ has mailfile from other sources" status=0
+    cp -p -- "$file" "$stage/kept" && tr l m < "$stage/kept" > "$file" && touch -r "$stage/kept" "$file" &&
+        needs_a_build "$none" || status=1
+    cp -p -- "$stage/kept" "$file" && serves a && touch "${file%.rt}s.rt" && needs_a_build "$none" &&
+        rm -- "${file%.rt}s.rt" && serves b || status=1
+    return "$status"
+}
+
+# A program in out/ that is not that of dist/ is not started.
+unpacks_again() {
+    printf '#!/bin/sh\necho another\n' > "$stage/tree/out/mailfile" && serves a && chmod a-x "$stage/tree/out/mailfile" && serves b
+}
+
+# A file in dist/ that is cut off, or is another program: it is reported, and not run.
 refuses_a_damaged_file() {
     local file=$stage/tree/dist/mailfile.gz status=0
     cp -- "$file" "$stage/whole.gz"
@@ -286,40 +250,29 @@ refuses_a_damaged_list() {
     return "$status"
 }
 
-# Where dist/ can't be used and there is no kit, the start says both.
-refuses_other_sources() {
-    echo more > "$stage/tree/crates/low/src/more.rt"
-    fresh && gives_up 125 "dist/ has mailfile from other sources, and there is no command rt" mailfile a && answers_unbuilt
-    local status=$?
-    rm -- "$stage/tree/crates/low/src/more.rt"
-    return "$status"
-}
-
 refuses_another_system() {
-    mkdir -p -- "$stage/other" && printf '#!/bin/sh\necho Plan9 mips\n' > "$stage/other/uname" && chmod +x "$stage/other/uname"
-    fresh && path=$stage/other:$path gives_up 125 "this is Plan9 mips.*no command rt" mailfile a
+    mkdir -- "$stage/other" && printf '#!/bin/sh\necho Plan9 mips\n' > "$stage/other/uname" && chmod +x "$stage/other/uname"
+    fresh && path=$stage/other:$path needs_a_build "dist/ has programs for Linux.*, and this is Plan9 mips.*"
 }
 
 refuses_a_foreign_program() {
-    touch "$stage/foreign"
-    fresh && gives_up 125 "the program in dist/ does not start here.*no command rt" mailfile a
+    touch "$stage/tree/foreign"
+    fresh && needs_a_build "the program in dist/ does not start here (.*)" && [[ ! -e $stage/tree/out/mailfile ]]
     local status=$?
-    rm -- "$stage/foreign"
+    rm -- "$stage/tree/foreign"
     return "$status"
 }
 
-# A path without one of the system's commands.
-refuses_without() {
-    local without=$stage/without-$1
-    mkdir -- "$without" && cp -s -- /usr/bin/* /bin/* "$without" 2> "$work/said"
-    rm -f -- "$without/$1"
-    fresh && path=$without gives_up 125 "no $1 " mailfile a
+refuses_without_gzip() {
+    mkdir -- "$stage/without" && cp -s -- /usr/bin/* /bin/* "$stage/without" 2> "$work/said"
+    rm -f -- "$stage/without/gzip"
+    fresh && path=$stage/without gives_up 125 "no gzip " mailfile a
 }
 
 # Starts in a checkout that cannot be written keep what they unpack in the user's folder, or for one start alone.
 serves_from_a_fixed_checkout() {
     fresh && touch "$stage/tree/out" || return
-    XDG_CACHE_HOME=$stage/cache serves a && XDG_CACHE_HOME=$stage/cache serves b && [[ -x $(find "$stage/cache" -name mailfile -type f) ]] &&
+    XDG_CACHE_HOME=$stage/cache serves a && XDG_CACHE_HOME=$stage/cache path=$stage/few serves b &&
         mkdir -- "$stage/temporary" && XDG_CACHE_HOME=/dev/null TMPDIR=$stage/temporary serves c && rmdir -- "$stage/temporary"
     local status=$?
     rm -f -- "$stage/tree/out"
@@ -329,63 +282,61 @@ serves_from_a_fixed_checkout() {
 # What is installed works without the checkout, and replaces what was there.
 installs() {
     fresh && start install "$stage/prefix" && start install "$stage/prefix" && [[ -f $stage/prefix/share/man/man1/mailfile-tool.1 ]] &&
-        grep -q "$stage/prefix/bin is not on the path" "$work/answer" && mv -- "$stage/tree" "$stage/moved" || return
+        grep -q "/prefix/bin is not on the path" <(tr '\n' ' ' < "$work/answer") && mv -- "$stage/tree" "$stage/moved" || return
     [[ $("$stage/prefix/bin/mailfile" a) == "ran a" ]]
     local status=$?
     mv -- "$stage/moved" "$stage/tree"
     return "$status"
 }
 
-# What starts do with dist/, at first without a kit.
+# ---- all of these
+
+builds_of_programs() {
+    count "a start before anything is built" needs_a_build "there is no dist/"
+    count "a build of all programs" builds_side_by_side
+    count "an edit while the program is built" sees_an_edit_while_building
+    count "a start after the program was changed" sees_another_program
+    count "a build that fails" goes_on_after_a_failure
+    count "a build after one that was killed" goes_on_after_a_kill
+    count "a build beside another" gives_up_beside_another
+    count "a build that is ended" ends_what_it_started
+    count "a page that is not measured" leaves_the_page
+}
+
+# What starts do with dist/, in the end without a kit.
 starts_from_dist() {
     count "dist/ is made" makes_dist
     count "programs are compared with dist/" compares_with_dist
     mv -- "$stage/kit" "$stage/away"
+    count "a build without a kit" gives_up 125 "no command rt" prove --build
     count "a first start from dist/" serves_from_dist
+    count "a start at once" serves_by_stat_alone
     count "first starts at the same time" serves_at_once
+    count "a start from another folder, by a link" serves_from_anywhere
+    count "a start under POSIXLY_CORRECT" serves_as_posix_asks
     count "an edit of a crate that is not below the program" serves_after_other_edits
+    count "edits of the sources" sees_edits
+    count "another program in out/" unpacks_again
     count "a damaged file in dist/" refuses_a_damaged_file
     count "a damaged list of dist/" refuses_a_damaged_list
-    count "a dist/ of other sources" refuses_other_sources
     count "another system" refuses_another_system
     count "a program that does not start here" refuses_a_foreign_program
-    count "a system without gzip" refuses_without gzip
-    count "a system without xargs" refuses_without xargs
+    count "a system without gzip" refuses_without_gzip
     count "a checkout that cannot be written" serves_from_a_fixed_checkout
     count "what is installed" installs
-    mv -- "$stage/away" "$stage/kit"
 }
 
 scripts() {
-    make_stage
-    count "questions before the program is built" answers_unbuilt
-    count "the first start" builds_side_by_side
-    count "a start at once" serves a
-    count "a start with little memory" builds_one_after_the_other
-    count "a start after an edit" builds_after_an_edit
-    count "a start after a deletion" builds_after_a_deletion
-    count "a start with another kit" serves_with_another_kit
-    count "a start after the program was changed" builds_after_another_program
-    count "an edit while the program is built" sees_an_edit_while_building
-    count "a start from another folder, by a link" serves_from_anywhere
-    count "a build that fails" goes_on_after_a_failure
-    count "a start after one that was killed" goes_on_after_a_kill
-    count "a start without memory" gives_up_without_memory
-    count "a start beside another" gives_up_beside_another
-    count "a start that is ended while a library is built" ends_what_it_started lib
-    count "a start that is ended while the program is built" ends_what_it_started run
-    count "a program that is ended by a signal" ends_the_program
-    count "a start without a kit" serves_without_a_kit
+    make_stage && make_kit
+    builds_of_programs
     starts_from_dist
-    count "a build without a place for it" gives_up_where_nothing_can_be_written
-    count "a page that is not measured" leaves_the_page
-    count "an unknown word for ./bench" gives_up 2 "^usage:" bench --nothing
-    count "a seed that is no number" gives_up 2 "^usage:" hostile one
-    count "an unknown word for ./failing" gives_up 2 "^usage:" failing memory some
-    count "an unknown word for ./prove" gives_up 2 "^usage:" prove --nothing
+    count "an unknown word for ./test" gives_up 2 "^usage:" test --nothing
+    count "an unknown word for ./test speed" gives_up 2 "^usage:" test speed --nothing
+    count "a seed that is no number" gives_up 2 "^usage:" test hostile one
+    count "an unknown word for ./test failing" gives_up 2 "^usage:" test failing memory some
     count "an unknown word for ./install" gives_up 2 "^usage:" install --nothing
     if command -v shellcheck > "$work/said"; then
-        count "shellcheck" shellcheck -x mailfile* test prove install bench hostile failing .ci/run scripts/*.bash sessions/*.bash sessions/*/*.bash
+        count "shellcheck" shellcheck -x mailfile* test prove install .ci/run scripts/*.sh scripts/*.bash sessions/*.bash sessions/*/*.bash
     fi
     group scripts
 }

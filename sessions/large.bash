@@ -186,7 +186,7 @@ begin_changes() {
     echo ok >&4
 }
 
-# Sessions that try changes of images, as the file `changes` has them.
+# Sessions that try changes of images, as the file `06-images/changes` has them.
 changes() {
     local word values rest part value octets=() message=''
     while read -r word values rest; do
@@ -200,18 +200,18 @@ changes() {
                 done
             done
         fi
-    done < <(grep -v '^#' "$here/changes")
+    done < <(grep -v '^#' "$here/06-images/changes")
     echo end >&4
     exec 3>&- 4>&-
 }
 
 # A session that ends at each of its octets, and after it one that asks for what is in the store.
 cuts() {
-    local name=$1 place=0 lines=0 end=0 archive='' size questions part stages said
-    size=$(stat -c %s -- "$here/$name.session")
+    local session=$1 name=${1##*/} place=0 lines=0 end=0 archive='' size questions part stages said
+    size=$(stat -c %s -- "$session.session")
     questions=$(< "$here/questions")
-    mapfile -t stages < "$here/$name.cuts"
-    mapfile -t said < "$here/$name.expected"
+    mapfile -t stages < "$session.cuts"
+    mapfile -t said < "$session.expected"
     for ((place = 0; place <= size; place++)); do
         if [[ ${#stages[@]} -gt 0 && ${stages[0]%% *} -eq $place ]]; then
             read -r end lines archive <<< "${stages[0]}"
@@ -219,7 +219,7 @@ cuts() {
         fi
         part=$folder/$name-cut-at-$place
         mkdir -- "$part"
-        head -c "$place" -- "$here/$name.session" > "$part/1.session"
+        head -c "$place" -- "$session.session" > "$part/1.session"
         {
             ((lines == 0)) || answers "${said[@]:0:lines}"
             ((place == end)) || answers 'refused 72'
@@ -230,12 +230,57 @@ cuts() {
     done
 }
 
+# Answers of many lines: a due list, and a capture in each of 4,096 classes.
+long_answers() {
+    local number script
+    {
+        printf 'PLAN 23\nroot = "1 days review"\n'
+        for number in {1..2000}; do printf 'BEGIN ann 0 0\nTURN %s 1\nFINISH %s\n' "$number" "$number"; done
+        echo 'DUE 1970-01-02'
+    } | session a-due-list-of-2000-lines ok \
+        "$(for number in {1..2000}; do
+            printf 'ticket %s budget 1\nended 1\nrecord %s class unfiled due 1970-01-02\n' "$number" "$number"
+        done)" \
+        "$(printf 'record %s class unfiled due 1970-01-02\n' {1..2000})" ok end
+    script=$(printf 'require "fileinto"; keep;' && printf ' fileinto "c%s";' {1..4095})
+    {
+        printf 'CLASS c%s\n' {1..4095}
+        printf 'SCRIPT ann main %s\n%sACTIVE ann main\nBEGIN ann 0 0\nTURN 1 60000\nFINISH 1\n' ${#script} "$script"
+    } | session a-capture-in-4096-classes "$(lines 4095 ok)" ok ok 'ticket 1 budget 16389' 'ended 4097' \
+        "$(printf '%s\n' c{1..4095} unfiled | LC_ALL=C sort | awk '{print "record " NR " class " $0 " due never"}')" end
+}
+
+# A record that many holds keep, and the longest path and name of an officer.
+holds_and_names() {
+    local number path officer script
+    {
+        printf 'PLAN 24\nroot = "1 days destroy"\nBEGIN ann 0 0\nTURN 1 1\nFINISH 1\n'
+        printf 'HOLD h%s 1\n' {1..1100}
+        printf 'DUE 1970-01-02\nDESTROY 1 1970-01-02\n'
+        printf 'RELEASE h%s 1\n' {1100..1}
+        printf 'DUE 1970-01-02\nDESTROY 1 1970-01-02\n'
+    } | session a-record-with-1100-holds ok 'ticket 1 budget 1' 'ended 1' 'record 1 class unfiled due 1970-01-02' \
+        "$(lines 1100 ok)" ok 'refused 81' "$(lines 1100 ok)" 'record 1 class unfiled due 1970-01-02' ok ok end
+    officer=$(times 64 o)
+    path=$(printf 'aaaaaaaaaaaaaaaaaaaaaaaaaaaaaaaaaaaaaaaa/%.0s' {1..8})
+    path=${path%/}
+    script="require \"fileinto\"; fileinto \"$path\";"
+    {
+        for number in {1..8}; do echo "CLASS ${path:0:41 * number - 1}"; done
+        printf 'SCRIPT %s main %s\n%sACTIVE %s main\n' "$officer" ${#script} "$script" "$officer"
+        printf 'BEGIN %s 0 0\nTURN 1 9\nFINISH 1\n' "$officer"
+    } | session the-longest-path-and-officer "$(lines 8 ok)" ok ok 'ticket 1 budget 9' 'ended 2' \
+        "record 1 class $path due never" end
+}
+
 payloads
 scripts
 strings
 plans
+long_answers
+holds_and_names
 commands
 changes
-for file in "$here"/*.cuts; do
-    cuts "$(basename -- "$file" .cuts)"
+for file in "$here"/*/*.cuts; do
+    cuts "${file%.cuts}"
 done

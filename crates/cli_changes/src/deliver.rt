@@ -1,16 +1,13 @@
 //! `deliver`: one message from standard input.
 
 use crate::rules::FilingRules;
-use clap::ArgMatches;
-use cli_console::{Failure, Status, Task, now, tell, write_text};
+use cli_console::{Failure, Status, tell, write_text};
+use cli_sources::read_payload;
 use cli_texts::captured_line;
 use desk_commands::{Capture, DeskFault, MAX_MESSAGE_OCTETS, Payload};
 use filing_desk::{Delivery, deliver};
-use payload_files::read_payload;
 use record_archive::Records;
-use record_store::Store;
 use sieve_meaning::RunFault;
-use sqlite::Alter;
 use std::alloc::{AllocError, Global};
 use tool_texts::fault_text;
 
@@ -25,10 +22,14 @@ pub fn desk_failure(alloc: Global, name: &str, fault: DeskFault) -> Failure {
     Failure::numbered(alloc, status, name, fault.refusal().number)
 }
 
+/// The text of a run's fault.
+fn text_of(fault: RunFault) -> &'static str {
+    fault_text(fault.number()).unwrap_or("the run ended with a fault")
+}
+
 /// The fault of a run in words.
 fn fault_words(alloc: Global, fault: RunFault) -> Result<String, AllocError> {
-    let number = fault.number();
-    let words = fault_text(number).unwrap_or("the run ended with a fault");
+    let (number, words) = (fault.number(), text_of(fault));
     format!(in alloc; "fault {number}: {words}")
 }
 
@@ -40,8 +41,7 @@ fn beginning(text: &str) -> &str {
 
 /// The fault of a run in words, where its message was given up.
 pub fn given_up_words(alloc: Global, fault: RunFault) -> Result<String, AllocError> {
-    let number = fault.number();
-    let words = beginning(fault_text(number).unwrap_or("the run ended with a fault"));
+    let (number, words) = (fault.number(), beginning(text_of(fault)));
     format!(in alloc; "fault {number}: {words}; the message is not captured")
 }
 
@@ -71,37 +71,29 @@ pub fn report_capture(rt: &HostRuntime, before: &str, capture: &Capture) {
     }
 }
 
-/// The message on standard input.
-fn read_message(rt: &HostRuntime) -> Result<Payload, Failure> {
-    match read_payload(rt.alloc(), rt.stdin(), MAX_MESSAGE_OCTETS) {
-        Ok(Payload::TooLong) => Err(desk_failure(
-            rt.alloc(),
-            "the message",
-            DeskFault::MessageTooLong,
-        )),
-        Ok(message) => Ok(message),
-        Err(error) => Err(Failure::at(rt.alloc(), Status::TryAgain, "standard input", &error)),
+/// The message on standard input. `BadData` with the number of one that is too long; where it cannot be read it may be
+/// done later, `TryAgain`.
+pub fn read_message(rt: &HostRuntime) -> Result<Payload, Failure> {
+    let message = read_payload(rt.alloc(), rt.stdin(), MAX_MESSAGE_OCTETS).map_err(
+        |error| Failure::at(rt.alloc(), Status::TryAgain, "standard input", &error),
+    )?;
+    match message {
+        Payload::TooLong => Err(desk_failure(rt.alloc(), "the message", DeskFault::MessageTooLong)),
+        message => Ok(message),
     }
 }
 
-/// The moment of the command line, or the clock's.
-fn moment_asked(rt: &HostRuntime, asked: &ArgMatches<'_>) -> Result<u64, Failure> {
-    let Some(word) = asked.get_str("at") else {
-        return now(rt);
+/// The failure of a delivery.
+fn delivery_failure(alloc: Global, fault: DeskFault) -> Failure {
+    let name = match fault {
+        DeskFault::BadMoment => "--at",
+        _ => "the message",
     };
-    match word.parse() {
-        Ok(moment) => Ok(moment),
-        Err(_) => Err(Failure::at(
-            rt.alloc(),
-            Status::Usage,
-            word,
-            &"not a number of seconds since 1970",
-        )),
-    }
+    desk_failure(alloc, name, fault)
 }
 
-/// Delivers a message to an archive, and gives the archive back.
-fn deliver_to<A: Records>(
+/// Delivers a message to an archive by rules, and gives the archive back.
+pub fn deliver_to<A: Records>(
     rt: &HostRuntime,
     archive: A,
     filing: &FilingRules<'_>,
@@ -113,74 +105,22 @@ fn deliver_to<A: Records>(
         Err((archive, failure)) => return (archive, Err(failure)),
     };
     let officer = filing.officer.as_bytes();
-    let done = match deliver(&mut desk, officer, moment, message, filing.on_fault) {
-        Ok(delivery) => Ok(delivery),
-        Err(DeskFault::BadMoment) => { Err(desk_failure(rt.alloc(), "--at", DeskFault::BadMoment)) }
-        Err(fault) => Err(desk_failure(rt.alloc(), "the message", fault)),
-    };
+    let done = deliver(&mut desk, officer, moment, message, filing.on_fault).map_err(
+        |fault| delivery_failure(rt.alloc(), fault),
+    );
     (desk.into_store(), done)
 }
 
-/// The failure of a message whose run ended with a fault.
-fn given_up(rt: &HostRuntime, fault: RunFault) -> Failure {
-    match given_up_words(rt.alloc(), fault) {
-        Ok(words) => Failure::Told(Status::TryAgain, words),
-        Err(_) => Failure::NoMemory,
-    }
-}
-
-/// `deliver`: captures a message.
-#[derive(Drop)]
-pub struct DeliverTask<'a> {
-    moment: u64,
-    message: Payload,
-    filing: FilingRules<'a>,
-}
-
-impl<'a> DeliverTask<'a> {
-    /// The task of a command line, with the message on standard input. `Usage` where its moment is none, and `BadData`
-    /// with the number of a message that is too long. It may be done later, `TryAgain`, where the message cannot be
-    /// read, or where rules are at fault and mail is not to go to `unfiled` then.
-    pub fn read(rt: &HostRuntime, asked: &ArgMatches<'a>) -> Result<DeliverTask<'a>, Failure> {
-        let moment = moment_asked(rt, asked)?;
-        let message = read_message(rt)?;
-        let filing = FilingRules::read(rt, asked)?;
-        Ok(DeliverTask {
-            moment,
-            message,
-            filing,
-        })
-    }
-}
-
-impl Task for DeliverTask<'_> {
-    type Answer = Result<Delivery, Failure>;
-
-    fn work_on<S: Alter>(
-        self,
-        rt: &HostRuntime,
-        archive: Store<S>,
-    ) -> (Store<S>, Result<Self::Answer, Failure>) {
-        let DeliverTask {
-            moment,
-            message,
-            filing,
-        } = self;
-        let (archive, delivered) = deliver_to(rt, archive, &filing, moment, message);
-        (archive, Ok(delivered))
-    }
-}
-
 /// Writes the records of a delivery to standard output. Where its message was given up, that is a failure.
-pub fn report_delivery(
-    rt: &HostRuntime,
-    delivered: Result<Delivery, Failure>,
-) -> Result<(), Failure> {
-    match delivered? {
+pub fn report_delivery(rt: &HostRuntime, delivered: &Delivery) -> Result<(), Failure> {
+    match delivered {
         Delivery::Captured(capture) => {
-            report_capture(rt, "", &capture);
+            report_capture(rt, "", capture);
             Ok(())
         }
-        Delivery::GivenUp(fault) => Err(given_up(rt, fault)),
+        Delivery::GivenUp(fault) => Err(Failure::written(
+            Status::TryAgain,
+            given_up_words(rt.alloc(), *fault),
+        )),
     }
 }

@@ -1,9 +1,9 @@
 //! `dispose`: what is due, and its destruction.
 
-use clap::ArgMatches;
 use class_plan::{Action, Date, Plan, Schedule};
-use cli_console::{Failure, Status, Task, Walk, day_asked, now, read_number, tell, write_text};
+use cli_console::{Failure, Status, Walk, judge_day, now, tell, today, write_text};
 use cli_texts::{Certificate, captured_line, certificate_line, sum_of};
+use command_lines::archives::{Disposal, TypedNumber};
 use record_store::{Line, RecordEntry, Store, StoreFault};
 use sqlite::Alter;
 use std::alloc::{AllocError, Global};
@@ -15,7 +15,7 @@ const GROUP: usize = 16;
 fn record_failure(rt: &HostRuntime, number: u32, fault: StoreFault) -> Failure {
     match format!(in rt.alloc(); "record {number}") {
         Ok(name) => Failure::of_store(rt.alloc(), name.as_str(), fault),
-        Err(_) => Failure::NoMemory,
+        Err(AllocError) => Failure::NoMemory,
     }
 }
 
@@ -36,10 +36,9 @@ fn disposable<S: Alter>(
     archive: &mut Store<S>,
     day: Date,
 ) -> Result<Vec<Line>, Failure> {
-    let due = match archive.due(day) {
-        Ok(due) => due,
-        Err(fault) => return Err(Failure::of_store(rt.alloc(), "the store", fault)),
-    };
+    let due = archive
+        .due(day)
+        .map_err(|fault| Failure::of_store(rt.alloc(), "the store", fault))?;
     let mut lines = Vec::new(rt.alloc());
     for line in due {
         if destroys(archive.plan(), line.path.as_slice()) {
@@ -59,40 +58,40 @@ fn numbers_of(alloc: Global, lines: &[Line]) -> Result<Vec<u32>, AllocError> {
     Ok(numbers)
 }
 
-/// The numbers that were typed, in order. Each has to be among those of the records that may be destroyed by a day.
-fn read_numbers(
+/// The numbers of records that were asked for, in order. Each has to be among those of the records that may be destroyed
+/// by a day.
+fn judge_numbers(
     rt: &HostRuntime,
-    words: &[&str],
+    records: &[TypedNumber<'_>],
     among: &[u32],
     day: Date,
 ) -> Result<Vec<u32>, Failure> {
-    let mut numbers = Vec::with_capacity(rt.alloc(), words.len())?;
-    for word in words {
-        let number = read_number(rt, *word)?;
-        if among.binary_search(&number).is_err() {
+    let mut numbers = Vec::with_capacity(rt.alloc(), records.len())?;
+    for record in records {
+        if among.binary_search(&record.number).is_err() {
             let reason = format!(in rt.alloc();
                 "not among the records that may be destroyed by {day}"
             )?;
-            return Err(Failure::at(rt.alloc(), Status::BadData, *word, &reason));
+            return Err(Failure::at(rt.alloc(), Status::BadData, record.word, &reason));
         }
-        numbers.push(number)?;
+        numbers.push(record.number)?;
     }
     numbers.sort()?;
     Ok(numbers)
 }
 
-/// Of the records that may be destroyed by a day, those whose numbers were typed; all, where none was.
+/// Of the records that may be destroyed by a day, those that were asked for; all, where none was.
 fn chosen(
     rt: &HostRuntime,
     lines: Vec<Line>,
-    words: &[&str],
+    records: &[TypedNumber<'_>],
     day: Date,
 ) -> Result<Vec<Line>, Failure> {
-    if words.is_empty() {
+    if records.is_empty() {
         return Ok(lines);
     }
     let among = numbers_of(rt.alloc(), lines.as_slice())?;
-    let numbers = read_numbers(rt, words, among.as_slice(), day)?;
+    let numbers = judge_numbers(rt, records, among.as_slice(), day)?;
     let mut chosen = Vec::with_capacity(rt.alloc(), numbers.len())?;
     for line in lines {
         if numbers.as_slice().binary_search(&line.number).is_ok() {
@@ -167,10 +166,9 @@ fn destroy<S: Alter>(
     line: &Line,
     day: Date,
 ) -> Result<Destroyed, Failure> {
-    let message = match archive.message(line.number) {
-        Ok(message) => message,
-        Err(fault) => return Err(record_failure(rt, line.number, fault)),
-    };
+    let message = archive
+        .message(line.number)
+        .map_err(|fault| record_failure(rt, line.number, fault))?;
     let sum = sum_of(rt.alloc(), message.as_slice())?;
     let kept_by = keeper_of(rt, archive, line.number)?;
     let facts = Certificate {
@@ -183,28 +181,25 @@ fn destroy<S: Alter>(
         kept_by,
     };
     let certificate = certificate_line(rt.alloc(), &facts)?;
-    match archive.destroy(line.number, day) {
-        Ok(()) => Ok(Destroyed {
-            certificate,
-            is_gone: kept_by.is_none(),
-        }),
-        Err(fault) => Err(record_failure(rt, line.number, fault)),
-    }
+    archive
+        .destroy(line.number, day)
+        .map_err(|fault| record_failure(rt, line.number, fault))?;
+    Ok(Destroyed {
+        certificate,
+        is_gone: kept_by.is_none(),
+    })
 }
 
 /// Writes a certificate. Where that fails, it goes to standard error instead, and no more is destroyed.
 fn write_certificate(rt: &HostRuntime, text: &str) -> Result<(), Failure> {
-    match write_text(rt, text) {
-        Ok(()) => Ok(()),
-        Err(_) => {
-            tell(rt, text);
-            Err(Failure::told(
-                rt.alloc(),
-                Status::NotWritten,
-                "the certificate above could not be written to standard output; no further record is destroyed",
-            ))
-        }
-    }
+    write_text(rt, text).map_err(|_| {
+        tell(rt, text);
+        Failure::told(
+            rt.alloc(),
+            Status::NotWritten,
+            "the certificate above could not be written to standard output; no further record is destroyed",
+        )
+    })
 }
 
 /// Destroys records, with a certificate for each.
@@ -229,53 +224,32 @@ fn destroy_all<S: Alter>(
     Ok(())
 }
 
-/// Writes or destroys what is due by a day; of records whose numbers were typed, these alone.
-fn dispose_by<S: Alter>(
+/// The day by which records are to be destroyed. `Usage` where it has not come yet.
+pub fn day_of_disposal(rt: &HostRuntime, asked: &Disposal<'_>) -> Result<Date, Failure> {
+    match asked.day {
+        Some(day) => {
+            judge_day(rt, day)?;
+            Ok(day)
+        }
+        None => today(rt),
+    }
+}
+
+/// Writes what is due by a day and may be destroyed, or destroys it; of records that were asked for, these alone.
+/// `BadData` where one of these is none that may be destroyed.
+pub fn dispose_by<S: Alter>(
     rt: &HostRuntime,
     archive: &mut Store<S>,
+    asked: &Disposal<'_>,
     day: Date,
-    asked: &ArgMatches<'_>,
 ) -> Result<(), Failure> {
     let lines = disposable(rt, archive, day)?;
-    let words = asked.get_strs("numbers").unwrap_or(&[]);
-    let lines = chosen(rt, lines, words, day)?;
-    if asked.get_flag("yes") {
+    let lines = chosen(rt, lines, asked.records.as_slice(), day)?;
+    if asked.destroys {
         return destroy_all(rt, archive, lines.as_slice(), day);
     }
     for line in lines.as_slice() {
         write_text(rt, captured_line(rt.alloc(), line)?.as_str())?;
     }
     Ok(())
-}
-
-/// `dispose`: writes what is due and may be destroyed, or destroys it.
-#[derive(Clone, Copy)]
-pub struct DisposeTask<'a, 'w> {
-    day: Date,
-    asked: &'w ArgMatches<'a>,
-}
-
-impl<'a, 'w> DisposeTask<'a, 'w> {
-    /// The task of a command line. `Usage` where its day is none, or has not come yet.
-    pub fn read(
-        rt: &HostRuntime,
-        asked: &'w ArgMatches<'a>,
-    ) -> Result<DisposeTask<'a, 'w>, Failure> {
-        let day = day_asked(rt, asked.get_str("day"))?;
-        Ok(DisposeTask { day, asked })
-    }
-}
-
-impl Task for DisposeTask<'_, '_> {
-    type Answer = ();
-
-    fn work_on<S: Alter>(
-        self,
-        rt: &HostRuntime,
-        archive: Store<S>,
-    ) -> (Store<S>, Result<(), Failure>) {
-        let mut archive = archive;
-        let done = dispose_by(rt, &mut archive, self.day, self.asked);
-        (archive, done)
-    }
 }

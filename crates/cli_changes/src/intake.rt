@@ -2,17 +2,15 @@
 
 use crate::deliver::{desk_failure, given_up_words, report_capture};
 use crate::rules::FilingRules;
-use clap::ArgMatches;
-use cli_console::{Failure, Status, Task, now};
-use desk_commands::{Capture, MAX_MESSAGE_OCTETS, Payload};
-use filing_desk::{Delivery, Desk, deliver};
-use maildir::{
+use cli_console::{Failure, Status, now};
+use cli_sources::maildir::{
     NewMail, has_cur, is_in_cur, is_message, move_to_cur, new_mail, new_path, settle, try_move,
 };
-use payload_files::payload_of_file;
+use cli_sources::payload_of_file;
+use command_lines::archives::Filing;
+use desk_commands::{Capture, MAX_MESSAGE_OCTETS, Payload};
+use filing_desk::{Delivery, Desk, deliver};
 use record_archive::Records;
-use record_store::Store;
-use sqlite::Alter;
 use std::fmt::Display;
 use std::io::{self, IsTerminal};
 use tool_texts::named;
@@ -49,9 +47,9 @@ impl Tally {
     }
 }
 
-/// `intake`: captures the new messages of a Maildir, and moves them to its folder `cur`.
+/// A Maildir, and how its messages are filed.
 #[derive(Drop)]
-pub struct IntakeTask<'a> {
+pub struct Intake<'a> {
     maildir: &'a str,
     filing: FilingRules<'a>,
 }
@@ -124,12 +122,12 @@ fn file_away(
     report_capture(rt, before.as_str(), capture);
     match move_to_cur(rt, maildir, name) {
         Ok(()) => Ok(Taken::Filed),
-        Err(error) => match format!(in rt.alloc();
-            "{shown} is captured, but still in new, where the next intake would capture it again: {error}"
-        ) {
-            Ok(text) => Err(Failure::Told(Status::TryAgain, text)),
-            Err(_) => Err(Failure::NoMemory),
-        },
+        Err(error) => Err(Failure::written(
+            Status::TryAgain,
+            format!(in rt.alloc();
+                "{shown} is captured, but still in new, where the next intake would capture it again: {error}"
+            ),
+        )),
     }
 }
 
@@ -137,7 +135,7 @@ fn file_away(
 fn take_one<A: Records>(
     rt: &HostRuntime,
     desk: &mut Desk<A>,
-    job: &IntakeTask<'_>,
+    job: &Intake<'_>,
     name: &str,
 ) -> Result<Taken, Failure> {
     let Some(message) = read_message(rt, job.maildir, name)? else {
@@ -167,7 +165,7 @@ fn show_progress(rt: &HostRuntime, tally: &Tally) {
 fn take_with<A: Records>(
     rt: &HostRuntime,
     desk: &mut Desk<A>,
-    job: &IntakeTask<'_>,
+    job: &Intake<'_>,
     names: &[String],
     tally: &mut Tally,
 ) -> Result<usize, Failure> {
@@ -189,7 +187,7 @@ fn take_with<A: Records>(
 fn take_run<A: Records>(
     rt: &HostRuntime,
     archive: A,
-    job: &IntakeTask<'_>,
+    job: &Intake<'_>,
     names: &[String],
     tally: &mut Tally,
 ) -> (A, Result<usize, Failure>) {
@@ -205,7 +203,7 @@ fn take_run<A: Records>(
 fn take_all<A: Records>(
     rt: &HostRuntime,
     archive: A,
-    job: &IntakeTask<'_>,
+    job: &Intake<'_>,
     names: &[String],
     tally: &mut Tally,
 ) -> (A, Result<(), Failure>) {
@@ -251,11 +249,11 @@ fn movable_mail(rt: &HostRuntime, maildir: &str) -> io::Result<NewMail> {
     Ok(mail)
 }
 
-/// Takes the new messages of a Maildir over, in the order of their names.
-fn take_new<A: Records>(
+/// Captures the new messages of a Maildir, in the order of their names, and moves them to its folder `cur`.
+pub fn take_new<A: Records>(
     rt: &HostRuntime,
     archive: A,
-    job: &IntakeTask<'_>,
+    job: &Intake<'_>,
 ) -> (A, Result<(), Failure>) {
     let mail = match movable_mail(rt, job.maildir) {
         Ok(mail) => mail,
@@ -290,27 +288,19 @@ fn judge_maildir(rt: &HostRuntime, maildir: &str) -> Result<(), Failure> {
     }
 }
 
-impl<'a> IntakeTask<'a> {
-    /// The task of a command line. `NoInput` where it names no Maildir. It may be done later, `TryAgain`, where the
-    /// Maildir cannot be looked at, or where rules are at fault and mail is not to go to `unfiled` then.
-    pub fn read(rt: &HostRuntime, asked: &ArgMatches<'a>) -> Result<IntakeTask<'a>, Failure> {
-        let maildir = asked.get_str("maildir").unwrap_or("");
-        judge_maildir(rt, maildir)?;
-        Ok(IntakeTask {
-            maildir,
-            filing: FilingRules::read(rt, asked)?,
-        })
-    }
-}
-
-impl Task for IntakeTask<'_> {
-    type Answer = ();
-
-    fn work_on<S: Alter>(
-        self,
+impl<'a> Intake<'a> {
+    /// A Maildir, and the rules by which its messages are filed. `NoInput` where there is no Maildir. It may be done
+    /// later, `TryAgain`, where the Maildir cannot be looked at, or where rules are at fault and mail is not to go to
+    /// `unfiled` then.
+    pub fn read(
         rt: &HostRuntime,
-        archive: Store<S>,
-    ) -> (Store<S>, Result<(), Failure>) {
-        take_new(rt, archive, &self)
+        maildir: &'a str,
+        filing: &Filing<'a>,
+    ) -> Result<Intake<'a>, Failure> {
+        judge_maildir(rt, maildir)?;
+        Ok(Intake {
+            maildir,
+            filing: FilingRules::read(rt, filing)?,
+        })
     }
 }

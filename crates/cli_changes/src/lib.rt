@@ -5,8 +5,8 @@
 //! - `deliver` and `intake`: one message, and those of a Maildir;
 //! - `holds` and `dispose`: records that must not be destroyed, and the destruction of what is due.
 //!
-//! A task is read from the command line, and works on a store that is lent to it. What it writes, and what a Maildir or a
-//! terminal does, no contract speaks of: tests of the program show it.
+//! Each works on a store that is lent to it. What it writes, and what a Maildir or a terminal does, no contract speaks of:
+//! tests of the program show it.
 #![tactic(auto)]
 
 mod deliver;
@@ -17,9 +17,10 @@ mod plan;
 mod plan_file;
 mod rules;
 
-pub use deliver::{DeliverTask, report_delivery};
-pub use dispose::DisposeTask;
-pub use holds::{Change, HoldTask};
-pub use intake::IntakeTask;
-pub use plan::PlanTask;
+pub use deliver::{deliver_to, read_message, report_delivery};
+pub use dispose::{day_of_disposal, dispose_by};
+pub use holds::{Change, change_holds};
+pub use intake::{Intake, take_new};
+pub use plan::{replace_plan, write_plan};
 pub use plan_file::read_plan;
+pub use rules::FilingRules;

@@ -2,9 +2,8 @@
 
 use crate::dispose::destroys;
 use crate::plan_file::read_plan;
-use clap::ArgMatches;
 use class_plan::{Date, Plan, day_number};
-use cli_console::{Failure, Status, Task, Walk, agrees, is_by, today, write_text};
+use cli_console::{Failure, Status, Walk, agrees, is_by, today, write_text};
 use cli_texts::{due_by, plan_of_text, plan_text};
 use record_store::{RecordEntry, Store};
 use sqlite::Alter;
@@ -99,8 +98,9 @@ fn write_changes(rt: &HostRuntime, changes: &Changes) -> Result<(), Failure> {
     write_text(rt, text.as_str())
 }
 
-/// Replaces the plan of an archive, once it was printed what that changes, and someone agrees.
-fn replace<S: Alter>(
+/// Replaces the plan of an archive by that of a file, once it was printed what that changes, and someone agrees. `Usage`
+/// where nobody does.
+pub fn replace_plan<S: Alter>(
     rt: &HostRuntime,
     archive: &mut Store<S>,
     path: &str,
@@ -116,14 +116,13 @@ fn replace<S: Alter>(
             "the plan is not replaced; --yes replaces it",
         ));
     }
-    match archive.revise(plan) {
-        Ok(()) => Ok(()),
-        Err(fault) => Err(Failure::of_store(rt.alloc(), path, fault)),
-    }
+    archive
+        .revise(plan)
+        .map_err(|fault| Failure::of_store(rt.alloc(), path, fault))
 }
 
-/// Writes a plan as the text of a plan file. It is read back before, and is the same plan.
-fn write_plan(rt: &HostRuntime, plan: &Plan) -> Result<(), Failure> {
+/// Writes a plan to standard output as the text of a plan file. It is read back before, and is the same plan.
+pub fn write_plan(rt: &HostRuntime, plan: &Plan) -> Result<(), Failure> {
     let text = plan_text(rt.alloc(), plan)?;
     if plan_of_text(rt.alloc(), text.as_str())?.is_none() {
         return Err(Failure::told(
@@ -133,51 +132,4 @@ fn write_plan(rt: &HostRuntime, plan: &Plan) -> Result<(), Failure> {
         ));
     }
     write_text(rt, text.as_str())
-}
-
-/// `plan`: writes the plan of an archive to standard output, or replaces it.
-#[derive(Clone, Copy)]
-pub enum PlanTask<'a> {
-    /// Writes it.
-    Write,
-    /// Replaces it by the plan of a file.
-    Replace {
-        /// The path of that file.
-        path: &'a str,
-        /// Whether nobody is asked before.
-        is_agreed: bool,
-    },
-}
-
-impl<'a> PlanTask<'a> {
-    /// The task of a command line. `Usage` where `--yes` has no plan to agree to.
-    pub fn read(rt: &HostRuntime, asked: &ArgMatches<'a>) -> Result<PlanTask<'a>, Failure> {
-        let is_agreed = asked.get_flag("yes");
-        match asked.get_str("set") {
-            Some(path) => Ok(PlanTask::Replace { path, is_agreed }),
-            None if is_agreed => Err(Failure::told(
-                rt.alloc(),
-                Status::Usage,
-                "--yes needs the plan of --set",
-            )),
-            None => Ok(PlanTask::Write),
-        }
-    }
-}
-
-impl Task for PlanTask<'_> {
-    type Answer = ();
-
-    fn work_on<S: Alter>(
-        self,
-        rt: &HostRuntime,
-        archive: Store<S>,
-    ) -> (Store<S>, Result<(), Failure>) {
-        let mut archive = archive;
-        let done = match self {
-            PlanTask::Write => write_plan(rt, archive.plan()),
-            PlanTask::Replace { path, is_agreed } => replace(rt, &mut archive, path, is_agreed),
-        };
-        (archive, done)
-    }
 }

@@ -2,8 +2,8 @@
 
 use class_plan::{Plan, PlanFault};
 use cli_console::{Failure, Status};
+use cli_sources::payload_of_file;
 use desk_commands::{MAX_PLAN_OCTETS, Payload};
-use payload_files::payload_of_file;
 use std::io::ErrorKind;
 use tool_texts::refusal_text;
 
@@ -13,12 +13,10 @@ const TOO_LONG: u8 = 58;
 /// The failure of a plan that is refused by a number.
 fn plan_refused(rt: &HostRuntime, path: &str, number: u8) -> Failure {
     let words = refusal_text(number).unwrap_or("refused");
-    match format!(in rt.alloc();
-        "{path}: {number}: {words}; mailfile-tool check {path} says where"
-    ) {
-        Ok(text) => Failure::Told(Status::BadData, text),
-        Err(_) => Failure::NoMemory,
-    }
+    Failure::written(
+        Status::BadData,
+        format!(in rt.alloc(); "{path}: {number}: {words}; mailfile-tool check {path} says where"),
+    )
 }
 
 /// The text of a plan's file.
@@ -35,9 +33,8 @@ fn read_text(rt: &HostRuntime, path: &str) -> Result<Vec<u8>, Failure> {
 /// The plan of a file. `NoInput` where the file cannot be read, and `BadData` with the number where its text is no plan.
 pub fn read_plan(rt: &HostRuntime, path: &str) -> Result<Plan, Failure> {
     let text = read_text(rt, path)?;
-    match Plan::from_toml(rt.alloc(), text.as_slice()) {
-        Ok(plan) => Ok(plan),
-        Err(PlanFault::NoMemory) => Err(Failure::NoMemory),
-        Err(fault) => Err(plan_refused(rt, path, fault.number())),
-    }
+    Plan::from_toml(rt.alloc(), text.as_slice()).map_err(|fault| match fault {
+        PlanFault::NoMemory => Failure::NoMemory,
+        fault => plan_refused(rt, path, fault.number()),
+    })
 }

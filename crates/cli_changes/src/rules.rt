@@ -1,8 +1,8 @@
 //! The rules by which mail is filed, and what is done where they are at fault.
 
-use clap::ArgMatches;
 use cli_console::{Failure, Status, tell};
 use cli_sources::{Rules, RulesFault, read_rules, set_rules};
+use command_lines::archives::Filing;
 use filing_desk::{Desk, OnFault};
 use record_archive::Records;
 
@@ -31,16 +31,16 @@ fn excuse(rt: &HostRuntime, fault: &RulesFault, on_fault: OnFault) -> Result<(),
 }
 
 impl<'a> FilingRules<'a> {
-    /// How the command line says that mail is to be filed.
-    pub fn read(rt: &HostRuntime, asked: &ArgMatches<'a>) -> Result<FilingRules<'a>, Failure> {
-        let folder = asked.get_str("rules").unwrap_or("");
-        let officer = asked.get_str("officer").unwrap_or("");
-        let on_fault = if asked.get_flag("unfiled-on-fault") {
+    /// The rules of a folder. Where they cannot be had it may be done later, `TryAgain`; where they are at fault, that is
+    /// no failure if mail may go to `unfiled` then.
+    pub fn read(rt: &HostRuntime, asked: &Filing<'a>) -> Result<FilingRules<'a>, Failure> {
+        let officer = asked.officer;
+        let on_fault = if asked.unfiled_on_fault {
             OnFault::Capture
         } else {
             OnFault::GiveUp
         };
-        let rules = match read_rules(rt, folder, officer) {
+        let rules = match read_rules(rt, asked.rules, officer) {
             Ok(rules) => Some(rules),
             Err(fault) => {
                 excuse(rt, &fault, on_fault)?;
@@ -59,10 +59,7 @@ impl<'a> FilingRules<'a> {
         let Some(rules) = &self.rules else {
             return Ok(());
         };
-        match set_rules(rt.alloc(), desk, rules) {
-            Ok(()) => Ok(()),
-            Err(fault) => excuse(rt, &fault, self.on_fault),
-        }
+        set_rules(rt.alloc(), desk, rules).or_else(|fault| excuse(rt, &fault, self.on_fault))
     }
 
     /// A desk over an archive, with these rules. A failure hands the archive back.

@@ -51,37 +51,33 @@ pub enum Failure {
 }
 
 impl Failure {
+    /// A failure that is reported in words that were just written, if there was memory for them.
+    pub fn written(status: Status, words: Result<String, AllocError>) -> Failure {
+        match words {
+            Ok(text) => Failure::Told(status, text),
+            Err(AllocError) => Failure::NoMemory,
+        }
+    }
+
     /// A failure that is reported in these words.
     pub fn told(alloc: Global, status: Status, words: &str) -> Failure {
-        match String::from_str(alloc, words) {
-            Ok(text) => Failure::Told(status, text),
-            Err(_) => Failure::NoMemory,
-        }
+        Failure::written(status, String::from_str(alloc, words))
     }
 
     /// A failure that is reported by the reason alone.
     pub fn by<T: Display>(alloc: Global, status: Status, reason: &T) -> Failure {
-        match format!(in alloc; "{reason}") {
-            Ok(text) => Failure::Told(status, text),
-            Err(_) => Failure::NoMemory,
-        }
+        Failure::written(status, format!(in alloc; "{reason}"))
     }
 
     /// A failure at a file, a stream or a record, reported with its name and the reason.
     pub fn at<T: Display>(alloc: Global, status: Status, name: &str, reason: &T) -> Failure {
-        match format!(in alloc; "{name}: {reason}") {
-            Ok(text) => Failure::Told(status, text),
-            Err(_) => Failure::NoMemory,
-        }
+        Failure::written(status, format!(in alloc; "{name}: {reason}"))
     }
 
     /// The failure of a refusal's number, reported with its text.
     pub fn numbered(alloc: Global, status: Status, name: &str, number: u8) -> Failure {
         let words = refusal_text(number).unwrap_or("refused");
-        match format!(in alloc; "{name}: {number}: {words}") {
-            Ok(text) => Failure::Told(status, text),
-            Err(_) => Failure::NoMemory,
-        }
+        Failure::written(status, format!(in alloc; "{name}: {number}: {words}"))
     }
 
     /// The failure of a call of the store, at something of this name. A refusal is `BadData` with its number; what the

@@ -1,9 +1,9 @@
-//! What the subcommands of `mailfile-store` share: how they report, and how they work on an archive.
+//! What the subcommands of `mailfile-store` share: how they report, and how they go over an archive.
 //!
 //! - `failure`: why something is not done, and the status that says so;
 //! - `output`: what is written for people and programs;
-//! - `clock`: the time, and days as they are typed;
-//! - `tasks`: what is done with an archive, wherever that is kept, and a walk over its records.
+//! - `clock`: the time and the day;
+//! - `walk`: the records of an archive, a page at a time.
 //!
 //! No contract speaks of a clock, a terminal or a stream. So these calls are only proved to be safe, and tests of the
 //! program show what they do.
@@ -12,9 +12,9 @@
 mod clock;
 mod failure;
 mod output;
-mod tasks;
+mod walk;
 
-pub use clock::{day_asked, future_day_asked, is_by, now, today};
+pub use clock::{day_or_today, is_by, judge_day, now, today};
 pub use failure::{Failure, Status};
 pub use output::{agrees, tell, write, write_text};
-pub use tasks::{Task, Walk, read_number};
+pub use walk::{Walk, message_of};

@@ -15,10 +15,9 @@ fn write_failure(alloc: Global, error: Error) -> Failure {
 
 /// Writes octets to standard output. `Closed` where its reader has gone, and `NotWritten` where they cannot be written.
 pub fn write(rt: &HostRuntime, octets: &[u8]) -> Result<(), Failure> {
-    match rt.stdout().write_all(octets) {
-        Ok(()) => Ok(()),
-        Err(error) => Err(write_failure(rt.alloc(), error)),
-    }
+    rt.stdout()
+        .write_all(octets)
+        .map_err(|error| write_failure(rt.alloc(), error))
 }
 
 /// Writes a text to standard output, as `write` does.

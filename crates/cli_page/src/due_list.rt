@@ -1,7 +1,7 @@
 //! What is due by the day, for signature.
 
 use crate::fault::ReportFault;
-use crate::page::Page;
+use crate::page::{Page, put};
 use crate::report::Record;
 use class_plan::{Action, Date, Plan, Schedule};
 use std::alloc::{AllocError, Global};
@@ -104,20 +104,13 @@ impl Item {
 
     /// Adds the row of the record.
     fn row(&self, page: &mut Page) -> Result<(), AllocError> {
-        page.markup(if self.is_free() {
-            "<tr>"
-        } else {
-            "<tr class=\"barred\">"
-        })?;
-        page.markup("<th scope=\"row\" class=\"n\">")?;
-        page.number(u64::from(self.number))?;
-        page.markup("</th><td>")?;
-        page.name(self.path.as_slice())?;
-        page.markup("</td><td class=\"d\">")?;
-        page.date(self.day)?;
-        page.markup("</td><td class=\"d\">")?;
-        page.date(self.due)?;
-        page.markup("</td><td>")?;
+        put!(page;
+            markup(if self.is_free() { "<tr>" } else { "<tr class=\"barred\">" })
+            "<th scope=\"row\" class=\"n\">" number(u64::from(self.number))
+            "</th><td>" name(self.path.as_slice())
+            "</td><td class=\"d\">" date(self.day)
+            "</td><td class=\"d\">" date(self.due) "</td><td>"
+        )?;
         self.bar(page)?;
         page.markup("</td><td class=\"sign\"></td></tr>\n")
     }
@@ -153,17 +146,17 @@ impl DueList {
 
     /// Adds how many records there are, and how many of them may be destroyed.
     fn heading(&self, page: &mut Page, day: Date) -> Result<(), AllocError> {
-        page.markup("<section aria-labelledby=\"due\" class=\"due\">\n<h2 id=\"due\">Due by ")?;
-        page.date(day)?;
-        page.markup(", for signature</h2>\n")?;
+        put!(page;
+            "<section aria-labelledby=\"due\" class=\"due\">\n<h2 id=\"due\">Due by " date(day)
+            ", for signature</h2>\n"
+        )?;
         if self.items.is_empty() {
             return page.markup("<p>No record is due by this day.</p>\n</section>\n");
         }
-        page.markup("<p>Records: ")?;
-        page.number(self.items.len() as u64)?;
-        page.markup(", of which ")?;
-        page.number(self.free_count() as u64)?;
-        page.markup(" may be destroyed.</p>\n")
+        put!(page;
+            "<p>Records: " number(self.items.len() as u64) ", of which "
+            number(self.free_count() as u64) " may be destroyed.</p>\n"
+        )
     }
 
     /// Adds the section of what is due.
@@ -172,22 +165,21 @@ impl DueList {
         if self.items.is_empty() {
             return Ok(());
         }
-        page.markup("<table>\n<caption>Live records that are due by ")?;
-        page.date(day)?;
-        page.markup(", by number</caption>\n<thead><tr><th scope=\"col\" class=\"n\">Record</th>")?;
-        page.markup("<th scope=\"col\" class=\"p\">Class</th><th scope=\"col\">Captured</th>")?;
-        page.markup("<th scope=\"col\">Due</th><th scope=\"col\">What bars destruction</th>")?;
-        page.markup(
-            "<th scope=\"col\" class=\"sign\">Approved (initials)</th></tr></thead>\n<tbody>\n",
+        put!(page;
+            "<table>\n<caption>Live records that are due by " date(day)
+            ", by number</caption>\n<thead><tr><th scope=\"col\" class=\"n\">Record</th>\
+            <th scope=\"col\" class=\"p\">Class</th><th scope=\"col\">Captured</th>\
+            <th scope=\"col\">Due</th><th scope=\"col\">What bars destruction</th>\
+            <th scope=\"col\" class=\"sign\">Approved (initials)</th></tr></thead>\n<tbody>\n"
         )?;
         for item in self.items.as_slice() {
             item.row(page)?;
         }
-        page.markup("</tbody>\n</table>\n")?;
         page.markup(
-            "<div class=\"signature\">\n<p>The destruction of the records that are approved above is authorized by:</p>\n",
-        )?;
-        page.markup("<ul><li>Name</li><li>Function</li><li>Date</li><li>Signature</li></ul>\n")?;
-        page.markup("</div>\n</section>\n")
+            "</tbody>\n</table>\n<div class=\"signature\">\n\
+            <p>The destruction of the records that are approved above is authorized by:</p>\n\
+            <ul><li>Name</li><li>Function</li><li>Date</li><li>Signature</li></ul>\n\
+            </div>\n</section>\n",
+        )
     }
 }

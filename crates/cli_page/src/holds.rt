@@ -1,7 +1,7 @@
 //! The holds of an archive, by name, and the records that each keeps.
 
 use crate::fault::ReportFault;
-use crate::page::Page;
+use crate::page::{Page, put};
 use std::alloc::{AllocError, Global};
 use std::collections::BTreeMap;
 
@@ -37,12 +37,10 @@ fn push_number(stretches: &mut Vec<Stretch>, number: u32) -> Result<(), ReportFa
 
 /// How many records there are in some stretches.
 fn count_of(stretches: &[Stretch]) -> u64 {
-    let mut count = 0u64;
-    for stretch in stretches {
+    stretches.iter().fold(0, |count: u64, stretch| {
         let length = u64::from(stretch.last.saturating_sub(stretch.first)).saturating_add(1);
-        count = count.saturating_add(length);
-    }
-    count
+        count.saturating_add(length)
+    })
 }
 
 /// Adds the numbers of records, as `1-3, 7`.
@@ -84,12 +82,12 @@ impl Holds {
     /// Adds the rows of a table: the name of each hold, how many records it keeps, and which.
     fn rows(&self, page: &mut Page) -> Result<(), AllocError> {
         for (name, stretches) in &self.holds {
-            page.markup("<tr><th scope=\"row\">")?;
-            page.name(name.as_slice())?;
-            page.markup("</th>")?;
-            page.number_cell(count_of(stretches.as_slice()))?;
-            page.markup("<td>")?;
-            push_stretches(page, stretches.as_slice())?;
+            let stretches = stretches.as_slice();
+            put!(page;
+                "<tr><th scope=\"row\">" name(name.as_slice()) "</th>"
+                number_cell(count_of(stretches)) "<td>"
+            )?;
+            push_stretches(page, stretches)?;
             page.markup("</td></tr>\n")?;
         }
         Ok(())
@@ -101,12 +99,12 @@ impl Holds {
         if self.holds.is_empty() {
             return page.markup("<p>No hold keeps a record.</p>\n</section>\n");
         }
-        page.markup("<p>A record is not destroyed while any hold keeps it.</p>\n")?;
         page.markup(
-            "<table>\n<caption>Holds and the records that they keep</caption>\n<thead><tr>",
+            "<p>A record is not destroyed while any hold keeps it.</p>\n\
+            <table>\n<caption>Holds and the records that they keep</caption>\n<thead><tr>\
+            <th scope=\"col\">Hold</th><th scope=\"col\" class=\"n\">Records</th>\
+            <th scope=\"col\">Numbers of the records</th></tr></thead>\n<tbody>\n",
         )?;
-        page.markup("<th scope=\"col\">Hold</th><th scope=\"col\" class=\"n\">Records</th>")?;
-        page.markup("<th scope=\"col\">Numbers of the records</th></tr></thead>\n<tbody>\n")?;
         self.rows(page)?;
         page.markup("</tbody>\n</table>\n</section>\n")
     }

@@ -9,6 +9,23 @@ use class_plan::Date;
 use std::alloc::{AllocError, Global};
 use std::str;
 
+/// Adds pieces to a page, one after the other: markup, and values by the calls of `Page` that are named.
+macro_rules! put {
+    ($page:expr;) => {
+        Ok::<(), AllocError>(())
+    };
+    ($page:expr; $markup:literal $($rest:tt)*) => {{
+        $page.markup($markup)?;
+        put!($page; $($rest)*)
+    }};
+    ($page:expr; $call:ident($value:expr) $($rest:tt)*) => {{
+        $page.$call($value)?;
+        put!($page; $($rest)*)
+    }};
+}
+
+pub(crate) use put;
+
 /// The text of a page, which grows piece by piece. Markup is a text of the program itself; whatever an archive or a command
 /// line names is added as text, in which nothing is markup.
 #[derive(Drop)]
@@ -60,25 +77,12 @@ impl Page {
 
     /// Adds a date as an element, which is not broken into lines.
     pub(crate) fn time(&mut self, date: Date) -> Result<(), AllocError> {
-        self.markup("<time>")?;
-        self.date(date)?;
-        self.markup("</time>")
+        put!(self; "<time>" date(date) "</time>")
     }
 
-    /// Adds a line of a table's body: a number in a cell.
+    /// Adds a number in a cell of a table.
     pub(crate) fn number_cell(&mut self, number: u64) -> Result<(), AllocError> {
-        self.markup("<td class=\"n\">")?;
-        self.number(number)?;
-        self.markup("</td>")
-    }
-
-    /// Adds an attribute that is a number.
-    pub(crate) fn attribute(&mut self, name: &'static str, value: u64) -> Result<(), AllocError> {
-        self.markup(" ")?;
-        self.markup(name)?;
-        self.markup("=\"")?;
-        self.number(value)?;
-        self.markup("\"")
+        put!(self; "<td class=\"n\">" number(number) "</td>")
     }
 
     /// What was added.

@@ -3,7 +3,7 @@
 ghost use Rattle.class_plan.specs.Schedules.{IsInRange};
 
 use crate::counts::Counts;
-use crate::page::Page;
+use crate::page::{Page, put};
 use crate::report::Heading;
 use crate::style::{STYLE, policy};
 use crate::tally::{ClassCounts, Tally};
@@ -12,17 +12,15 @@ use std::alloc::{AllocError, Global};
 
 /// Adds what comes before the body of a page.
 fn push_head(alloc: Global, page: &mut Page, heading: &Heading<'_>) -> Result<(), AllocError> {
-    page.markup("<!DOCTYPE html>\n<html lang=\"en\">\n<head>\n<meta charset=\"utf-8\">\n")?;
-    page.markup("<meta http-equiv=\"Content-Security-Policy\" content=\"")?;
-    page.text(policy(alloc)?.as_str())?;
-    page.markup("\">\n<meta name=\"viewport\" content=\"width=device-width, initial-scale=1\">\n")?;
-    page.markup("<meta name=\"referrer\" content=\"no-referrer\">\n<title>Disposal report by ")?;
-    page.date(heading.day)?;
-    page.markup(": ")?;
-    page.text(heading.file)?;
-    page.markup("</title>\n<style>")?;
-    page.markup(STYLE)?;
-    page.markup("</style>\n</head>\n")
+    let policy = policy(alloc)?;
+    put!(page;
+        "<!DOCTYPE html>\n<html lang=\"en\">\n<head>\n<meta charset=\"utf-8\">\n"
+        "<meta http-equiv=\"Content-Security-Policy\" content=\"" text(policy.as_str())
+        "\">\n<meta name=\"viewport\" content=\"width=device-width, initial-scale=1\">\n"
+        "<meta name=\"referrer\" content=\"no-referrer\">\n<title>Disposal report by "
+        date(heading.day) ": " text(heading.file)
+        "</title>\n<style>" markup(STYLE) "</style>\n</head>\n"
+    )
 }
 
 /// Adds that the day has not come yet, where that is so.
@@ -30,30 +28,22 @@ fn push_forecast(page: &mut Page, heading: &Heading<'_>) -> Result<(), AllocErro
     if day_number(heading.day) <= day_number(heading.today) {
         return Ok(());
     }
-    page.markup("<p class=\"note\"><strong>This is a forecast.</strong> ")?;
-    page.date(heading.day)?;
-    page.markup(
-        " has not come yet. Until then records may be captured, held, released and destroyed, and the plan may be replaced. No record can be destroyed before it is due.</p>\n",
+    put!(page;
+        "<p class=\"note\"><strong>This is a forecast.</strong> " date(heading.day)
+        " has not come yet. Until then records may be captured, held, released and destroyed, and \
+        the plan may be replaced. No record can be destroyed before it is due.</p>\n"
     )
-}
-
-/// Adds a fact that has a name.
-fn push_fact(page: &mut Page, name: &'static str, text: &str) -> Result<(), AllocError> {
-    page.markup("<dt>")?;
-    page.markup(name)?;
-    page.markup("</dt><dd>")?;
-    page.text(text)?;
-    page.markup("</dd>\n")
 }
 
 /// Adds the head of a page, and what the report is about.
 pub fn heading(alloc: Global, page: &mut Page, heading: &Heading<'_>) -> Result<(), AllocError> {
     push_head(alloc, page, heading)?;
-    page.markup("<body>\n<header>\n<h1>Disposal report by ")?;
-    page.date(heading.day)?;
-    page.markup("</h1>\n<dl class=\"facts\">\n")?;
-    push_fact(page, "Store", heading.file)?;
-    push_fact(page, "Made", heading.moment)
+    put!(page;
+        "<body>\n<header>\n<h1>Disposal report by " date(heading.day)
+        "</h1>\n<dl class=\"facts\">\n"
+        "<dt>Store</dt><dd>" text(heading.file) "</dd>\n"
+        "<dt>Made</dt><dd>" text(heading.moment) "</dd>\n"
+    )
 }
 
 /// Adds how many records there are, and so the end of the head.
@@ -63,21 +53,13 @@ pub fn totals(
     all: &Counts,
     free: u64,
 ) -> Result<(), AllocError> {
-    page.markup("<dt>Records</dt><dd>")?;
-    page.number(all.records)?;
-    page.markup(": ")?;
-    page.number(all.live)?;
-    page.markup(" live, ")?;
-    page.number(all.destroyed)?;
-    page.markup(" destroyed</dd>\n<dt>On hold</dt><dd>")?;
-    page.number(all.held)?;
-    page.markup("</dd>\n<dt>Due by ")?;
-    page.time(heading.day)?;
-    page.markup("</dt><dd>")?;
-    page.number(all.due)?;
-    page.markup(", of which ")?;
-    page.number(free)?;
-    page.markup(" may be destroyed</dd>\n</dl>\n</header>\n")?;
+    put!(page;
+        "<dt>Records</dt><dd>" number(all.records) ": " number(all.live) " live, "
+        number(all.destroyed) " destroyed</dd>\n"
+        "<dt>On hold</dt><dd>" number(all.held) "</dd>\n"
+        "<dt>Due by " time(heading.day) "</dt><dd>" number(all.due) ", of which "
+        number(free) " may be destroyed</dd>\n</dl>\n</header>\n"
+    )?;
     push_forecast(page, heading)?;
     page.markup("<main>\n")
 }
@@ -92,11 +74,10 @@ fn push_schedule(alloc: Global, page: &mut Page, schedule: Schedule) -> Result<(
 
 /// Adds the cells of counts.
 fn push_counts(page: &mut Page, counts: &Counts) -> Result<(), AllocError> {
-    page.number_cell(counts.records)?;
-    page.number_cell(counts.live)?;
-    page.number_cell(counts.held)?;
-    page.number_cell(counts.destroyed)?;
-    page.number_cell(counts.due)
+    put!(page;
+        number_cell(counts.records) number_cell(counts.live) number_cell(counts.held)
+        number_cell(counts.destroyed) number_cell(counts.due)
+    )
 }
 
 /// Adds the row of a class.
@@ -106,41 +87,28 @@ fn push_class(
     plan: &Plan,
     class: &ClassCounts,
 ) -> Result<(), AllocError> {
-    page.markup("<tr><th scope=\"row\">")?;
-    page.name(class.path.as_slice())?;
-    page.markup("</th><td>")?;
-    if let Some(schedule) = plan.schedule_of(class.path.as_slice()) {
+    let path = class.path.as_slice();
+    put!(page; "<tr><th scope=\"row\">" name(path) "</th><td>")?;
+    if let Some(schedule) = plan.schedule_of(path) {
         push_schedule(alloc, page, schedule)?;
     }
-    page.markup("</td><td>")?;
-    page.markup(if plan.is_open(class.path.as_slice()) {
-        "yes"
-    } else {
-        "no"
-    })?;
-    page.markup("</td>")?;
+    put!(page; "</td><td>" markup(if plan.is_open(path) { "yes" } else { "no" }) "</td>")?;
     push_counts(page, &class.counts)?;
     page.markup("</tr>\n")
 }
 
 /// Adds the head of the table of classes.
 fn push_class_head(page: &mut Page, day: Date) -> Result<(), AllocError> {
-    page.markup(
-        "<section aria-labelledby=\"classes\">\n<h2 id=\"classes\">Classes</h2>\n<table>\n",
-    )?;
-    page.markup(
-        "<caption>Each class with its schedule, its own or that of the class above it, and its records. Held and due ones are live.</caption>\n",
-    )?;
-    page.markup(
-        "<thead><tr><th scope=\"col\" class=\"p\">Class</th><th scope=\"col\">Schedule</th>",
-    )?;
-    page.markup("<th scope=\"col\">Open</th><th scope=\"col\" class=\"n\">Records</th>")?;
-    page.markup("<th scope=\"col\" class=\"n\">Live</th><th scope=\"col\" class=\"n\">Held</th>")?;
-    page.markup(
-        "<th scope=\"col\" class=\"n\">Destroyed</th><th scope=\"col\" class=\"n\">Due by ",
-    )?;
-    page.time(day)?;
-    page.markup("</th></tr></thead>\n<tbody>\n")
+    put!(page;
+        "<section aria-labelledby=\"classes\">\n<h2 id=\"classes\">Classes</h2>\n<table>\n\
+        <caption>Each class with its schedule, its own or that of the class above it, and its \
+        records. Held and due ones are live.</caption>\n\
+        <thead><tr><th scope=\"col\" class=\"p\">Class</th><th scope=\"col\">Schedule</th>\
+        <th scope=\"col\">Open</th><th scope=\"col\" class=\"n\">Records</th>\
+        <th scope=\"col\" class=\"n\">Live</th><th scope=\"col\" class=\"n\">Held</th>\
+        <th scope=\"col\" class=\"n\">Destroyed</th><th scope=\"col\" class=\"n\">Due by "
+        time(day) "</th></tr></thead>\n<tbody>\n"
+    )
 }
 
 /// Adds the section of classes.

@@ -1,7 +1,7 @@
 //! When live records fall due: a drawn timeline, and the same in a table.
 
 use crate::fault::ReportFault;
-use crate::page::Page;
+use crate::page::{Page, put};
 use crate::tally::Tally;
 use crate::years::Column;
 use class_plan::Date;
@@ -132,24 +132,18 @@ fn push_rectangle(
     if height == 0 {
         return Ok(());
     }
-    page.markup("<rect class=\"")?;
-    page.markup(class)?;
-    page.markup("\"")?;
-    page.attribute("x", left)?;
-    page.attribute("y", bottom.saturating_sub(height))?;
-    page.attribute("width", width)?;
-    page.attribute("height", height)?;
-    page.markup("/>")
+    put!(page;
+        "<rect class=\"" markup(class) "\" x=\"" number(left) "\" y=\""
+        number(bottom.saturating_sub(height)) "\" width=\"" number(width) "\" height=\""
+        number(height) "\"/>"
+    )
 }
 
 /// Adds the beginning of a text, up to its words.
 fn open_text(page: &mut Page, anchor: &'static str, x: u64, y: u64) -> Result<(), AllocError> {
-    page.markup("<text text-anchor=\"")?;
-    page.markup(anchor)?;
-    page.markup("\"")?;
-    page.attribute("x", x)?;
-    page.attribute("y", y)?;
-    page.markup(">")
+    put!(page;
+        "<text text-anchor=\"" markup(anchor) "\" x=\"" number(x) "\" y=\"" number(y) "\">"
+    )
 }
 
 /// Adds a number as a text.
@@ -161,8 +155,7 @@ fn push_label(
     number: u64,
 ) -> Result<(), AllocError> {
     open_text(page, anchor, x, y)?;
-    page.number(number)?;
-    page.markup("</text>")
+    put!(page; number(number) "</text>")
 }
 
 /// Adds a line.
@@ -172,14 +165,10 @@ fn push_line(
     from: (u64, u64),
     to: (u64, u64),
 ) -> Result<(), AllocError> {
-    page.markup("<line class=\"")?;
-    page.markup(class)?;
-    page.markup("\"")?;
-    page.attribute("x1", from.0)?;
-    page.attribute("y1", from.1)?;
-    page.attribute("x2", to.0)?;
-    page.attribute("y2", to.1)?;
-    page.markup("/>")
+    put!(page;
+        "<line class=\"" markup(class) "\" x1=\"" number(from.0) "\" y1=\"" number(from.1)
+        "\" x2=\"" number(to.0) "\" y2=\"" number(to.1) "\"/>"
+    )
 }
 
 /// Adds a level of the scale, with its number.
@@ -279,17 +268,14 @@ fn push_day(page: &mut Page, scale: &Scale, day: Date) -> Result<(), AllocError>
         x,
         TOP - 16,
     )?;
-    page.date(day)?;
-    page.markup("</text>\n")
+    put!(page; date(day) "</text>\n")
 }
 
 /// Adds the meaning of the colours.
 fn push_legend(page: &mut Page, day: Date) -> Result<(), AllocError> {
     push_rectangle(page, "c-due", LEFT, 256, 12, 12)?;
     open_text(page, "start", LEFT + 18, 254)?;
-    page.markup("due by ")?;
-    page.date(day)?;
-    page.markup("</text>")?;
+    put!(page; "due by " date(day) "</text>")?;
     push_rectangle(page, "c-later", LEFT + 160, 256, 12, 12)?;
     open_text(page, "start", LEFT + 178, 254)?;
     page.markup("due later</text>\n")
@@ -298,10 +284,9 @@ fn push_legend(page: &mut Page, day: Date) -> Result<(), AllocError> {
 /// Adds what is said of the drawing to those who do not see it.
 fn push_title(page: &mut Page) -> Result<(), AllocError> {
     page.markup(
-        "<figure>\n<svg viewBox=\"0 0 720 264\" xmlns=\"http://www.w3.org/2000/svg\" role=\"img\" ",
-    )?;
-    page.markup(
-        "aria-label=\"Columns of live records by the years in which they fall due. The table below has the same numbers.\">\n",
+        "<figure>\n<svg viewBox=\"0 0 720 264\" xmlns=\"http://www.w3.org/2000/svg\" role=\"img\" \
+        aria-label=\"Columns of live records by the years in which they fall due. \
+        The table below has the same numbers.\">\n",
     )
 }
 
@@ -327,21 +312,18 @@ fn push_drawing(
 
 /// Adds the row of a column.
 fn push_row(page: &mut Page, column: &Column) -> Result<(), AllocError> {
-    page.markup("<tr><th scope=\"row\">")?;
-    page.number(u64::from(column.from))?;
+    let from = u64::from(column.from);
+    put!(page; "<tr><th scope=\"row\">" number(from))?;
     if column.years > 1 {
-        page.markup(" to ")?;
-        page.number(
-            u64::from(column.from)
-                .saturating_add(u64::from(column.years))
-                .saturating_sub(1),
-        )?;
+        let to = from
+            .saturating_add(u64::from(column.years))
+            .saturating_sub(1);
+        put!(page; " to " number(to))?;
     }
-    page.markup("</th>")?;
-    page.number_cell(column.due)?;
-    page.number_cell(column.later)?;
-    page.number_cell(column.total())?;
-    page.markup("</tr>\n")
+    put!(page;
+        "</th>" number_cell(column.due) number_cell(column.later) number_cell(column.total())
+        "</tr>\n"
+    )
 }
 
 /// Adds the table of columns.
@@ -351,22 +333,20 @@ fn push_table(
     dated: u64,
     day: Date,
 ) -> Result<(), AllocError> {
-    page.markup(
-        "<table>\n<caption>Live records by the years in which they fall due; years without any are left out</caption>\n<thead><tr>",
-    )?;
-    page.markup("<th scope=\"col\">Due in</th><th scope=\"col\" class=\"n\">By ")?;
-    page.time(day)?;
-    page.markup(
-        "</th><th scope=\"col\" class=\"n\">Later</th><th scope=\"col\" class=\"n\">All</th></tr></thead>\n<tbody>\n",
+    put!(page;
+        "<table>\n<caption>Live records by the years in which they fall due; years without any are \
+        left out</caption>\n<thead><tr>\
+        <th scope=\"col\">Due in</th><th scope=\"col\" class=\"n\">By " time(day)
+        "</th><th scope=\"col\" class=\"n\">Later</th><th scope=\"col\" class=\"n\">All</th>\
+        </tr></thead>\n<tbody>\n"
     )?;
     for column in columns {
         push_row(page, column)?;
     }
-    page.markup(
-        "</tbody>\n<tfoot><tr><th scope=\"row\" colspan=\"3\">Live records with a due date</th>",
-    )?;
-    page.number_cell(dated)?;
-    page.markup("</tr></tfoot>\n</table>\n")
+    put!(page;
+        "</tbody>\n<tfoot><tr><th scope=\"row\" colspan=\"3\">Live records with a due date</th>"
+        number_cell(dated) "</tr></tfoot>\n</table>\n"
+    )
 }
 
 /// Adds the section of due dates.

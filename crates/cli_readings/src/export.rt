@@ -1,13 +1,12 @@
 //! `export`: records as files, with a manifest.
 
-use crate::choice::Choice;
+use crate::choice::{has, judge_class};
 use crate::list::row_of;
-use clap::ArgMatches;
-use cli_console::{Failure, Status, Task, Walk};
+use cli_console::{Failure, Status, Walk, message_of};
 use cli_texts::{Kept, MANIFEST_HEADER, manifest_row, sum_of};
+use command_lines::archives::Choice;
 use record_store::{RecordEntry, Store};
 use sqlite::Alter;
-use std::alloc::{AllocError, Global};
 use std::fs::{self, File, OpenOptions};
 use std::io::{self, ErrorKind, Write};
 use std::os::unix::fs::OpenOptionsExt;
@@ -15,13 +14,13 @@ use std::os::unix::fs::OpenOptionsExt;
 /// The permissions of a file of an export, as of a store.
 const MODE: u32 = 0o600;
 
-/// The files of an export that lists the others.
+/// The folder of an export, with the files that list the others.
 #[derive(Drop)]
 struct ExportFiles<'a> {
     folder: &'a str,
     manifest: File,
     sums: File,
-    /// The message that was written last: its number, the name of its file, its length and its sum.
+    /// The message that was written last.
     last: Option<Written>,
 }
 
@@ -32,6 +31,17 @@ struct Written {
     file: String,
     octets: usize,
     sum: String,
+}
+
+impl Written {
+    /// What the manifest says of it.
+    fn kept(&self) -> Kept<'_> {
+        Kept {
+            file: self.file.as_str(),
+            octets: self.octets,
+            sum: self.sum.as_str(),
+        }
+    }
 }
 
 /// The failure of a file that cannot be made or written.
@@ -47,23 +57,18 @@ fn file_failure(rt: &HostRuntime, path: &str, error: io::Error) -> Failure {
 /// A new file of a folder, which only its owner may read. One that is there is not replaced.
 fn make_file(rt: &HostRuntime, folder: &str, name: &str) -> Result<File, Failure> {
     let path = format!(in rt.alloc(); "{folder}/{name}")?;
-    let made = OpenOptions::new()
+    OpenOptions::new()
         .write(true)
         .create_new(true)
         .mode(MODE)
-        .open(rt, path.as_str());
-    match made {
-        Ok(file) => Ok(file),
-        Err(error) => Err(file_failure(rt, path.as_str(), error)),
-    }
+        .open(rt, path.as_str())
+        .map_err(|error| file_failure(rt, path.as_str(), error))
 }
 
 /// Writes octets to a file of a folder.
 fn write_to(rt: &HostRuntime, folder: &str, file: &mut File, octets: &[u8]) -> Result<(), Failure> {
-    match file.write_all(octets) {
-        Ok(()) => Ok(()),
-        Err(error) => Err(file_failure(rt, folder, error)),
-    }
+    file.write_all(octets)
+        .map_err(|error| file_failure(rt, folder, error))
 }
 
 /// Makes the folder, if it is not there.
@@ -104,40 +109,13 @@ fn write_new<S: Alter>(
     export: &mut ExportFiles<'_>,
     entry: &RecordEntry,
 ) -> Result<(), Failure> {
-    if export
-        .last
-        .as_ref()
-        .is_some_and(|last| last.message == entry.message)
-    {
+    let last = export.last.as_ref();
+    if last.is_some_and(|last| last.message == entry.message) {
         return Ok(());
     }
-    match archive.message(entry.number) {
-        Ok(octets) => {
-            export.last = Some(write_message(rt, export, entry.message, octets.as_slice())?);
-            Ok(())
-        }
-        Err(fault) => Err(Failure::of_store(rt.alloc(), "the store", fault)),
-    }
-}
-
-/// The row of a record, with the message that was written last.
-fn row_beside(
-    alloc: Global,
-    entry: &RecordEntry,
-    last: &Option<Written>,
-) -> Result<Vec<u8>, AllocError> {
-    let row = row_of(entry);
-    match last {
-        Some(last) => {
-            let kept = Kept {
-                file: last.file.as_str(),
-                octets: last.octets,
-                sum: last.sum.as_str(),
-            };
-            manifest_row(alloc, &row, Some(kept))
-        }
-        None => manifest_row(alloc, &row, None),
-    }
+    let octets = message_of(rt, archive, entry)?;
+    export.last = Some(write_message(rt, export, entry.message, octets.as_slice())?);
+    Ok(())
 }
 
 /// Exports a record: its message, unless it is destroyed, and its row.
@@ -147,12 +125,13 @@ fn export_record<S: Alter>(
     export: &mut ExportFiles<'_>,
     entry: &RecordEntry,
 ) -> Result<(), Failure> {
-    let row = if entry.destroyed {
-        manifest_row(rt.alloc(), &row_of(entry), None)?
+    let kept = if entry.destroyed {
+        None
     } else {
         write_new(rt, archive, export, entry)?;
-        row_beside(rt.alloc(), entry, &export.last)?
+        export.last.as_ref().map(|last| last.kept())
     };
+    let row = manifest_row(rt.alloc(), &row_of(entry), kept)?;
     write_to(rt, export.folder, &mut export.manifest, row.as_slice())
 }
 
@@ -161,7 +140,7 @@ fn export_records<S: Alter>(
     rt: &HostRuntime,
     archive: &mut Store<S>,
     export: &mut ExportFiles<'_>,
-    choice: &Choice,
+    choice: &Choice<'_>,
 ) -> Result<(), Failure> {
     let mut walk = Walk::from(choice.from);
     for _ in 0..u64::MAX {
@@ -169,21 +148,22 @@ fn export_records<S: Alter>(
         if page.is_empty() {
             break;
         }
-        for entry in page.iter().filter(|entry| choice.has(*entry)) {
+        for entry in page.iter().filter(|entry| has(choice, *entry)) {
             export_record(rt, archive, export, entry)?;
         }
     }
     Ok(())
 }
 
-/// Exports the chosen records to a folder in which none of the files is yet.
-fn export_to<S: Alter>(
+/// Exports the chosen records to a folder in which none of the files is yet. `BadData` where the class is none of the
+/// plan.
+pub fn export_to<S: Alter>(
     rt: &HostRuntime,
     archive: &mut Store<S>,
+    choice: &Choice<'_>,
     folder: &str,
-    choice: &Choice,
 ) -> Result<(), Failure> {
-    choice.judge(rt, archive.plan())?;
+    judge_class(rt, choice, archive.plan())?;
     make_folder(rt, folder)?;
     let mut manifest = make_file(rt, folder, "manifest.csv")?;
     write_to(rt, folder, &mut manifest, MANIFEST_HEADER.as_bytes())?;
@@ -194,35 +174,4 @@ fn export_to<S: Alter>(
         last: None,
     };
     export_records(rt, archive, &mut export, choice)
-}
-
-/// `export`: writes the chosen records to files of a folder.
-#[derive(Drop)]
-pub struct ExportTask<'a> {
-    choice: Choice,
-    folder: &'a str,
-}
-
-impl<'a> ExportTask<'a> {
-    /// The task of a command line. `Usage` where a day or a number of it is none.
-    pub fn read(rt: &HostRuntime, asked: &ArgMatches<'a>) -> Result<ExportTask<'a>, Failure> {
-        Ok(ExportTask {
-            choice: Choice::read(rt, asked)?,
-            folder: asked.get_str("folder").unwrap_or(""),
-        })
-    }
-}
-
-impl Task for ExportTask<'_> {
-    type Answer = ();
-
-    fn work_on<S: Alter>(
-        self,
-        rt: &HostRuntime,
-        archive: Store<S>,
-    ) -> (Store<S>, Result<(), Failure>) {
-        let mut archive = archive;
-        let done = export_to(rt, &mut archive, self.folder, &self.choice);
-        (archive, done)
-    }
 }

@@ -1,7 +1,7 @@
 //! `check`: what an archive holds.
 
 use class_plan::Date;
-use cli_console::{Failure, Task, Walk, is_by, today, write_text};
+use cli_console::{Failure, Walk, is_by, message_of, today, write_text};
 use record_store::{RecordEntry, Store};
 use sqlite::Alter;
 
@@ -55,15 +55,11 @@ impl Contents {
         if self.messages > 0 && self.message == entry.message {
             return Ok(());
         }
-        match archive.message(entry.number) {
-            Ok(octets) => {
-                self.message = entry.message;
-                self.messages = self.messages.saturating_add(1);
-                self.octets = self.octets.saturating_add(octets.len() as u64);
-                Ok(())
-            }
-            Err(fault) => Err(Failure::of_store(rt.alloc(), "the store", fault)),
-        }
+        let octets = message_of(rt, archive, entry)?;
+        self.message = entry.message;
+        self.messages = self.messages.saturating_add(1);
+        self.octets = self.octets.saturating_add(octets.len() as u64);
+        Ok(())
     }
 }
 
@@ -93,8 +89,8 @@ fn contents_of<S: Alter>(rt: &HostRuntime, archive: &mut Store<S>) -> Result<Con
     Ok(contents)
 }
 
-/// Says what an archive holds.
-fn write_contents<S: Alter>(rt: &HostRuntime, archive: &mut Store<S>) -> Result<(), Failure> {
+/// Reads a whole store, and writes to standard output what it holds.
+pub fn write_contents<S: Alter>(rt: &HostRuntime, archive: &mut Store<S>) -> Result<(), Failure> {
     let classes = archive.plan().class_count();
     let held = contents_of(rt, archive)?;
     let text = format!(in rt.alloc();
@@ -109,22 +105,4 @@ fn write_contents<S: Alter>(rt: &HostRuntime, archive: &mut Store<S>) -> Result<
         u64::from(held.last) + 1
     )?;
     write_text(rt, text.as_str())
-}
-
-/// `check`: reads a whole store, and writes to standard output what it holds.
-#[derive(Clone, Copy)]
-pub struct CheckTask;
-
-impl Task for CheckTask {
-    type Answer = ();
-
-    fn work_on<S: Alter>(
-        self,
-        rt: &HostRuntime,
-        archive: Store<S>,
-    ) -> (Store<S>, Result<(), Failure>) {
-        let mut archive = archive;
-        let done = write_contents(rt, &mut archive);
-        (archive, done)
-    }
 }

@@ -1,11 +1,10 @@
 //! What `mailfile-store` reads of an archive, for each of its subcommands that change nothing.
 //!
 //! - `choice`: which records a list or an export has;
-//! - `list`, `show`, `export`, `judge` (for `check`), `why` and `report`: the tasks of these subcommands;
+//! - `list`, `show`, `export`, `judge` (for `check`), `why` and `report`: these subcommands;
 //! - `sums`: what a copy is compared by.
 //!
-//! A task is read from the command line, works on a store that is lent to it, and may have a text that is written once
-//! that store is closed. What it writes, no contract speaks of: tests of the program show it.
+//! Each works on a store that is lent to it. What it writes, no contract speaks of: tests of the program show it.
 #![tactic(auto)]
 
 mod choice;
@@ -17,10 +16,11 @@ mod show;
 mod sums;
 mod why;
 
-pub use export::ExportTask;
-pub use judge::CheckTask;
-pub use list::ListTask;
-pub use report::ReportTask;
-pub use show::{ShowTask, write_shown};
-pub use sums::{SumTask, Summary, summary_of};
-pub use why::{Captured, WhyTask, write_why};
+pub use choice::judge_choice;
+pub use export::export_to;
+pub use judge::write_contents;
+pub use list::write_list;
+pub use report::write_report;
+pub use show::{message_of_record, write_message};
+pub use sums::{Summary, summary_of};
+pub use why::{Captured, read_captured, write_why};

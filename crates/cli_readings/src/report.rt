@@ -1,8 +1,7 @@
 //! `report`: one page of HTML on what is kept, what is due and what is held.
 
-use clap::ArgMatches;
 use class_plan::{Date, Plan};
-use cli_console::{Failure, Status, Task, Walk, future_day_asked, now, today, write_text};
+use cli_console::{Failure, Status, Walk, now, today, write_text};
 use cli_page::{Heading, Page, Record, Report, ReportFault};
 use cli_texts::moment_text;
 use record_store::{RecordEntry, Store};
@@ -39,9 +38,9 @@ fn add_page(
     page: &[RecordEntry],
 ) -> Result<(), Failure> {
     for entry in page {
-        if let Err(fault) = report.add(plan, &record_of(entry)) {
-            return Err(report_failure(rt, fault));
-        }
+        report
+            .add(plan, &record_of(entry))
+            .map_err(|fault| report_failure(rt, fault))?;
     }
     Ok(())
 }
@@ -79,57 +78,22 @@ fn write_page(
         moment: moment.as_str(),
     };
     let mut page = Page::new(rt.alloc());
-    match report.write(&mut page, plan, &heading) {
-        Ok(()) => write_text(rt, page.as_str()),
-        Err(fault) => Err(report_failure(rt, fault)),
-    }
+    report
+        .write(&mut page, plan, &heading)
+        .map_err(|fault| report_failure(rt, fault))?;
+    write_text(rt, page.as_str())
 }
 
-/// Writes the report on an archive by a day.
-fn report_by<S: Alter>(
+/// Writes a report by a day to standard output, as a page of HTML that names the store's file.
+pub fn write_report<S: Alter>(
     rt: &HostRuntime,
     archive: &mut Store<S>,
     file: &str,
     day: Date,
 ) -> Result<(), Failure> {
-    let mut report = match Report::new(rt.alloc(), archive.plan(), day) {
-        Ok(report) => report,
-        Err(fault) => return Err(report_failure(rt, fault)),
-    };
+    let mut report = Report::new(rt.alloc(), archive.plan(), day).map_err(|fault| report_failure(
+        rt, fault,
+    ))?;
     add_records(rt, archive, &mut report)?;
     write_page(rt, archive.plan(), &report, file, day)
-}
-
-/// `report`: writes a report by a day to standard output, as a page of HTML.
-#[derive(Clone, Copy)]
-pub struct ReportTask<'a> {
-    /// The file that the page names.
-    file: &'a str,
-    day: Date,
-}
-
-impl<'a> ReportTask<'a> {
-    /// The task of a command line, on the archive in this file. `Usage` where its day is none.
-    pub fn read(
-        rt: &HostRuntime,
-        asked: &ArgMatches<'_>,
-        file: &'a str,
-    ) -> Result<ReportTask<'a>, Failure> {
-        let day = future_day_asked(rt, asked.get_str("day"))?;
-        Ok(ReportTask { file, day })
-    }
-}
-
-impl Task for ReportTask<'_> {
-    type Answer = ();
-
-    fn work_on<S: Alter>(
-        self,
-        rt: &HostRuntime,
-        archive: Store<S>,
-    ) -> (Store<S>, Result<(), Failure>) {
-        let mut archive = archive;
-        let done = report_by(rt, &mut archive, self.file, self.day);
-        (archive, done)
-    }
 }

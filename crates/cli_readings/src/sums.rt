@@ -1,7 +1,7 @@
 //! How much an archive keeps, and whether two archives are the same.
 
 use class_plan::day_number;
-use cli_console::{Failure, Task, Walk};
+use cli_console::{Failure, Walk, message_of};
 use cli_texts::plan_text;
 use record_store::{RecordEntry, Store};
 use sha2::{Digest, Sha256};
@@ -68,16 +68,12 @@ impl Summing {
         if entry.destroyed || (self.messages > 0 && self.message == entry.message) {
             return Ok(());
         }
-        match archive.message(entry.number) {
-            Ok(octets) => {
-                self.message = entry.message;
-                self.messages = self.messages.saturating_add(1);
-                self.octets = self.octets.saturating_add(octets.len() as u64);
-                self.add_octets(octets.as_slice());
-                Ok(())
-            }
-            Err(fault) => Err(Failure::of_store(rt.alloc(), "the store", fault)),
-        }
+        let octets = message_of(rt, archive, entry)?;
+        self.message = entry.message;
+        self.messages = self.messages.saturating_add(1);
+        self.octets = self.octets.saturating_add(octets.len() as u64);
+        self.add_octets(octets.as_slice());
+        Ok(())
     }
 
     /// Adds all records and their messages.
@@ -126,22 +122,4 @@ pub fn summary_of<S: Alter>(rt: &HostRuntime, archive: &mut Store<S>) -> Result<
         octets,
         sum: hasher.finalize(),
     })
-}
-
-/// `copy`: reads a whole archive.
-#[derive(Clone, Copy)]
-pub struct SumTask;
-
-impl Task for SumTask {
-    type Answer = Summary;
-
-    fn work_on<S: Alter>(
-        self,
-        rt: &HostRuntime,
-        archive: Store<S>,
-    ) -> (Store<S>, Result<Summary, Failure>) {
-        let mut archive = archive;
-        let summary = summary_of(rt, &mut archive);
-        (archive, summary)
-    }
 }

@@ -1,11 +1,12 @@
 //! `why`: why a record is in its class, and whether the rules of today would file its message there again.
 
 use crate::list::row_of;
-use clap::ArgMatches;
+use crate::show::message_of_record;
 use class_plan::{Date, Plan, day_number};
-use cli_console::{Failure, Status, Task, read_number, write, write_text};
+use cli_console::{Failure, Status, write, write_text};
 use cli_sources::{Script, read_rules};
 use cli_texts::{listed_line, plan_text};
+use command_lines::archives::{TypedNumber, Why};
 use desk_commands::Payload;
 use record_store::{RecordEntry, Store};
 use sieve_meaning::{Location, Outcome};
@@ -17,6 +18,12 @@ use tool_inquiry::{
 
 /// The seconds of a day.
 const DAY: u64 = 86_400;
+
+/// The number of the refusal of a record that is not there.
+const NO_RECORD: u8 = 80;
+
+/// The number of the refusal of scripts whose image is too long.
+const FULL: u8 = 96;
 
 /// A record as it was captured, with the plan of today.
 #[derive(Drop)]
@@ -32,7 +39,7 @@ fn failure_of(rt: &HostRuntime, fault: InquiryFault) -> Failure {
     match fault {
         InquiryFault::NoMemory => Failure::NoMemory,
         InquiryFault::Full(path) => {
-            Failure::numbered(rt.alloc(), Status::BadData, path.as_str(), 96)
+            Failure::numbered(rt.alloc(), Status::BadData, path.as_str(), FULL)
         }
         fault => Failure::at(rt.alloc(), Status::BadData, "why", &fault),
     }
@@ -67,19 +74,17 @@ fn script_file(
     let Some(text) = whole_text(text)? else {
         return Err(not_good(rt, path.as_str()));
     };
-    match script_of(rt.alloc(), path.as_str(), location, text)? {
-        Some(script) => Ok(script),
-        None => Err(not_good(rt, path.as_str())),
-    }
+    script_of(rt.alloc(), path.as_str(), location, text)?.ok_or_else(|| not_good(rt, path.as_str()))
 }
 
 /// The scripts of an officer in a folder of rules.
 fn read_scripts(rt: &HostRuntime, folder: &str, officer: &str) -> Result<Scripts, Failure> {
     let alloc = rt.alloc();
-    let rules = match read_rules(rt, folder, officer) {
-        Ok(rules) => rules,
-        Err(fault) => return Err(Failure::by(alloc, Status::TryAgain, &fault)),
-    };
+    let rules = read_rules(rt, folder, officer).map_err(|fault| Failure::by(
+        alloc,
+        Status::TryAgain,
+        &fault,
+    ))?;
     let mut main = None;
     let mut others = Vec::new(alloc);
     for script in rules.scripts {
@@ -97,47 +102,37 @@ fn read_scripts(rt: &HostRuntime, folder: &str, officer: &str) -> Result<Scripts
     let Some(main) = main else {
         return Err(Failure::told(alloc, Status::NoInput, "no script main.sieve"));
     };
-    match Scripts::new(alloc, main, others) {
-        Ok(scripts) => Ok(scripts),
-        Err(fault) => Err(failure_of(rt, fault)),
-    }
+    Scripts::new(alloc, main, others).map_err(|fault| failure_of(rt, fault))
 }
 
-/// A record of an archive and its message, which is none where it is destroyed.
-fn read_record<S: Alter>(
+/// The entry of a record. `BadData` where there is none of its number.
+fn entry_of<S: Alter>(
     rt: &HostRuntime,
     archive: &mut Store<S>,
-    word: &str,
-    number: u32,
-) -> Result<(RecordEntry, Option<Vec<u8>>), Failure> {
-    let alloc = rt.alloc();
-    let mut page = match archive.entries(number, 1) {
-        Ok(page) => page,
-        Err(fault) => return Err(Failure::of_store(alloc, word, fault)),
-    };
+    record: TypedNumber<'_>,
+) -> Result<RecordEntry, Failure> {
+    let mut page = archive
+        .entries(record.number, 1)
+        .map_err(|fault| Failure::of_store(rt.alloc(), record.word, fault))?;
     match page.pop() {
-        Some(entry) if entry.number == number => {
-            if entry.destroyed {
-                return Ok((entry, None));
-            }
-            match archive.message(number) {
-                Ok(message) => Ok((entry, Some(message))),
-                Err(fault) => Err(Failure::of_store(alloc, word, fault)),
-            }
-        }
-        _ => Err(Failure::numbered(alloc, Status::BadData, word, 80)),
+        Some(entry) if entry.number == record.number => Ok(entry),
+        _ => Err(Failure::numbered(rt.alloc(), Status::BadData, record.word, NO_RECORD)),
     }
 }
 
-/// A record of an archive, with the plan of today.
-fn read_captured<S: Alter>(
+/// A record of an archive as it was captured, with the plan of today. `BadData` where there is none of its number.
+pub fn read_captured<S: Alter>(
     rt: &HostRuntime,
     archive: &mut Store<S>,
-    word: &str,
-    number: u32,
+    record: TypedNumber<'_>,
 ) -> Result<Captured, Failure> {
     let plan = archive.plan().copy()?;
-    let (entry, message) = read_record(rt, archive, word, number)?;
+    let entry = entry_of(rt, archive, record)?;
+    let message = if entry.destroyed {
+        None
+    } else {
+        Some(message_of_record(rt, archive, record)?)
+    };
     Ok(Captured {
         entry,
         message,
@@ -171,10 +166,7 @@ fn answer_by(
         message,
         moment: moment_of(captured.entry.day),
     };
-    match answer_to(alloc, &inquiry, Form::Lines) {
-        Ok(answer) => Ok(answer),
-        Err(fault) => Err(failure_of(rt, fault)),
-    }
+    answer_to(alloc, &inquiry, Form::Lines).map_err(|fault| failure_of(rt, fault))
 }
 
 /// Writes an outcome in one line, after some words.
@@ -239,61 +231,24 @@ fn write_answer(rt: &HostRuntime, entry: &RecordEntry, answer: &Answer) -> Resul
 /// Writes why a record with a message is in its class.
 fn explain(
     rt: &HostRuntime,
-    asked: &ArgMatches<'_>,
+    asked: &Why<'_>,
     captured: &Captured,
     message: &[u8],
 ) -> Result<(), Failure> {
-    let officer = asked.get_str("officer").unwrap_or("");
-    let rules = asked.get_str("rules").unwrap_or("");
-    let today = answer_by_rules(rt, rules, officer, captured, message)?;
+    let today = answer_by_rules(rt, asked.rules, asked.officer, captured, message)?;
     write_answer(rt, &captured.entry, &today)?;
-    let Some(folder) = asked.get_str("formerly") else {
+    let Some(folder) = asked.formerly else {
         return Ok(());
     };
-    let former = answer_by_rules(rt, folder, officer, captured, message)?;
+    let former = answer_by_rules(rt, folder, asked.officer, captured, message)?;
     write_parting(rt, &today, &former)
-}
-
-/// `why`: reads a record with its message and the plan.
-#[derive(Clone, Copy)]
-pub struct WhyTask<'a> {
-    /// The number as it is typed, which names the record where it is refused.
-    word: &'a str,
-    number: u32,
-}
-
-impl<'a> WhyTask<'a> {
-    /// The task of a command line. `Usage` where its number is none.
-    pub fn read(rt: &HostRuntime, asked: &ArgMatches<'a>) -> Result<WhyTask<'a>, Failure> {
-        let word = asked.get_str("number").unwrap_or("");
-        let number = read_number(rt, word)?;
-        Ok(WhyTask { word, number })
-    }
-}
-
-impl Task for WhyTask<'_> {
-    type Answer = Captured;
-
-    fn work_on<S: Alter>(
-        self,
-        rt: &HostRuntime,
-        archive: Store<S>,
-    ) -> (Store<S>, Result<Captured, Failure>) {
-        let mut archive = archive;
-        let captured = read_captured(rt, &mut archive, self.word, self.number);
-        (archive, captured)
-    }
 }
 
 /// Writes why a record is in its class: the record, a report on the run of today's rules over its message at its day,
 /// and whether that files it there again; with the rules of former times also where their run differs.
-pub fn write_why(
-    rt: &HostRuntime,
-    asked: &ArgMatches<'_>,
-    captured: Captured,
-) -> Result<(), Failure> {
+pub fn write_why(rt: &HostRuntime, asked: &Why<'_>, captured: &Captured) -> Result<(), Failure> {
     match &captured.message {
-        Some(message) => explain(rt, asked, &captured, message.as_slice()),
+        Some(message) => explain(rt, asked, captured, message.as_slice()),
         None => {
             write_entry(rt, &captured.entry)?;
             write_text(

@@ -1,8 +1,8 @@
 //! The scripts of an officer, from the folder of all rules.
 
 use crate::fault::RulesFault;
+use crate::payloads::payload_of_file;
 use desk_commands::{MAX_SCRIPT_OCTETS, Payload};
-use payload_files::payload_of_file;
 use session_words::is_name;
 use std::alloc::Global;
 use std::fs;
@@ -41,16 +41,12 @@ fn is_officer(word: &str) -> bool {
 /// The names of the scripts in a folder, in byte order.
 fn script_names(rt: &HostRuntime, folder: &str) -> Result<Vec<String>, RulesFault> {
     let alloc = rt.alloc();
-    let entries = match fs::read_dir(rt, folder) {
-        Ok(entries) => entries,
-        Err(error) => return Err(RulesFault::unreadable(alloc, folder, error)),
-    };
+    let entries = fs::read_dir(rt, folder).map_err(|error| RulesFault::unreadable(
+        alloc, folder, error,
+    ))?;
     let mut names = Vec::new(alloc);
     for entry in entries {
-        let entry = match entry {
-            Ok(entry) => entry,
-            Err(error) => return Err(RulesFault::unreadable(alloc, folder, error)),
-        };
+        let entry = entry.map_err(|error| RulesFault::unreadable(alloc, folder, error))?;
         if let Some(name) = entry.file_name().strip_suffix(ENDING) {
             names.push(String::from_str(alloc, name)?)?;
         }
@@ -63,10 +59,9 @@ fn script_names(rt: &HostRuntime, folder: &str) -> Result<Vec<String>, RulesFaul
 fn read_script(rt: &HostRuntime, folder: &str, name: &str) -> Result<Script, RulesFault> {
     let alloc = rt.alloc();
     let path = format!(in alloc; "{folder}/{name}{ENDING}")?;
-    let text = match payload_of_file(rt, path.as_str(), MAX_SCRIPT_OCTETS) {
-        Ok(text) => text,
-        Err(error) => return Err(RulesFault::unreadable(alloc, path.as_str(), error)),
-    };
+    let text = payload_of_file(rt, path.as_str(), MAX_SCRIPT_OCTETS).map_err(
+        |error| RulesFault::unreadable(alloc, path.as_str(), error),
+    )?;
     Ok(Script {
         path,
         name: String::from_str(alloc, name)?,

@@ -40,11 +40,10 @@ fn refused(alloc: Global, script: &Script, fault: DeskFault) -> RulesFault
 
 /// Sets the global scripts.
 fn set_globals<D: Registry>(alloc: Global, desk: &mut D, rules: &Rules) -> Result<(), RulesFault>
-    ensures set { OnOk result (SetsAll (Calls D.clean D.stands D.may_leave D.keeps) globally
-        rules.now.globals.items desk.old desk.new) }
-    ensures stopped { IfErr result
-        (λ fault. StopsAmong (Calls D.clean D.stands D.may_leave D.keeps) globally
-        rules.now.globals.items fault desk.old desk.new) }
+    ensures set { OnOk result
+        (SetsAll (Calls D.keeper) globally rules.now.globals.items desk.old desk.new) }
+    ensures stopped { IfErr result (λ fault.
+        StopsAmong (Calls D.keeper) globally rules.now.globals.items fault desk.old desk.new) }
 {
     for script in &rules.globals {
         if let Err(fault) = desk.set_global(script.name.as_bytes(), &script.text) {
@@ -56,10 +55,9 @@ fn set_globals<D: Registry>(alloc: Global, desk: &mut D, rules: &Rules) -> Resul
 
 /// Sets the officer's own scripts.
 fn set_scripts<D: Registry>(alloc: Global, desk: &mut D, rules: &Rules) -> Result<(), RulesFault>
-    ensures set { OnOk result (SetsAll (Calls D.clean D.stands D.may_leave D.keeps)
+    ensures set { OnOk result (SetsAll (Calls D.keeper)
         (by_officer (string_bytes rules.now.officer)) rules.now.scripts.items desk.old desk.new) }
-    ensures stopped { IfErr result
-        (λ fault. StopsAmong (Calls D.clean D.stands D.may_leave D.keeps)
+    ensures stopped { IfErr result (λ fault. StopsAmong (Calls D.keeper)
         (by_officer (string_bytes rules.now.officer)) rules.now.scripts.items fault
         desk.old desk.new) }
 {
@@ -76,11 +74,9 @@ fn set_scripts<D: Registry>(alloc: Global, desk: &mut D, rules: &Rules) -> Resul
 /// order, and then `main` as the officer's program. At the first of these calls that is refused it stops, with the path of
 /// the script, or with the officer's name for `main`, and the number of the refusal.
 pub fn set_rules<D: Registry>(alloc: Global, desk: &mut D, rules: &Rules) -> Result<(), RulesFault>
-    ensures set { OnOk result (SetsRules (Calls D.clean D.stands D.may_leave D.keeps) rules.now
-        desk.old desk.new) }
+    ensures set { OnOk result (SetsRules (Calls D.keeper) rules.now desk.old desk.new) }
     ensures stopped { IfErr result
-        (λ fault. StopsSetting (Calls D.clean D.stands D.may_leave D.keeps) rules.now fault
-        desk.old desk.new) }
+        (λ fault. StopsSetting (Calls D.keeper) rules.now fault desk.old desk.new) }
 {
     set_globals(alloc, desk, rules)?;
     set_scripts(alloc, desk, rules)?;

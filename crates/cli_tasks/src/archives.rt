@@ -1,9 +1,8 @@
 //! Where archives are kept, and what is done with them there.
 
 use crate::reports::tell_failure;
-use clap::ArgMatches;
 use class_plan::Plan;
-use cli_console::{Failure, Status, Task};
+use cli_console::{Failure, Status};
 use record_store::Store;
 use sqlite::{Alter, Connection};
 
@@ -18,58 +17,23 @@ pub enum Closed {
     Doubtful,
 }
 
-/// What is done with an archive last. Its store ends, and the connection below is given back.
-pub trait LastTask: Drop {
-    /// What it comes to.
-    type Answer: Drop;
-
-    /// Does it. The connection is given back whatever fails.
-    fn end<S: Alter>(
-        self,
-        rt: &HostRuntime,
-        archive: Store<S>,
-    ) -> (Connection<S>, Result<Self::Answer, Failure>);
-}
-
-/// Where archives are kept, each at a path.
+/// Where archives are kept, each at a path. Programs have files there; what is done with an archive knows nothing of them,
+/// and is proved beside them.
 pub trait Archives {
-    /// Opens the archive at a path, lends it to a task, and closes it. Answers what the task came to, and how the archive
-    /// was closed. The failure is that of an archive that cannot be had.
-    fn lend<T: LastTask>(
-        &self,
-        rt: &HostRuntime,
-        path: &str,
-        task: T,
-    ) -> Result<(Result<T::Answer, Failure>, Closed), Failure>;
+    /// What holds an archive's database while it is open.
+    type Database: Alter;
+
+    /// Opens the archive at a path.
+    fn open(&self, rt: &HostRuntime, path: &str) -> Result<Store<Self::Database>, Failure>;
+
+    /// Closes an archive whose store has ended.
+    fn close(&self, conn: Connection<Self::Database>) -> Closed;
 
     /// Makes an archive with a plan at a path where nothing is. Where that fails, nothing is left there.
     fn create(&self, rt: &HostRuntime, path: &str, plan: Plan) -> Result<(), Failure>;
 
     /// Removes an archive that was just made.
     fn remove(&self, rt: &HostRuntime, path: &str);
-}
-
-/// A task after which an archive is closed.
-#[derive(Drop)]
-struct ThenClosed<T>(T);
-
-impl<T: Task> LastTask for ThenClosed<T> {
-    type Answer = T::Answer;
-
-    fn end<S: Alter>(
-        self,
-        rt: &HostRuntime,
-        archive: Store<S>,
-    ) -> (Connection<S>, Result<T::Answer, Failure>) {
-        let ThenClosed(task) = self;
-        let (archive, done) = task.work_on(rt, archive);
-        (archive.into_connection(), done)
-    }
-}
-
-/// The path of the store.
-pub fn store_path<'a>(asked: &ArgMatches<'a>) -> &'a str {
-    asked.get_str("store").unwrap_or("")
 }
 
 /// The same failure with `CannotMake` where the new archive is not there or is none.
@@ -89,10 +53,7 @@ pub fn make<A: Archives>(
     path: &str,
     plan: Plan,
 ) -> Result<(), Failure> {
-    match archives.create(rt, path, plan) {
-        Ok(()) => Ok(()),
-        Err(failure) => Err(not_made(failure)),
-    }
+    archives.create(rt, path, plan).map_err(not_made)
 }
 
 /// What was done with an archive that is closed now. Where it may not keep that, this is the failure, by `TryAgain`; why
@@ -119,24 +80,28 @@ pub fn settled<T: Drop>(
     }
 }
 
-/// Lends the archive at a path to a task, and closes it. Answers what the task came to, and how the archive was closed.
-pub fn lend<A: Archives, T: Task>(
+/// Closes the archive at a path, and answers what was done with it, as `settled` does.
+pub fn close_after<A: Archives, T: Drop>(
     rt: &HostRuntime,
     archives: &A,
     path: &str,
-    task: T,
-) -> Result<(Result<T::Answer, Failure>, Closed), Failure> {
-    archives.lend(rt, path, ThenClosed(task))
+    archive: Store<A::Database>,
+    done: Result<T, Failure>,
+) -> Result<T, Failure> {
+    let closed = archives.close(archive.into_connection());
+    settled(rt, path, done, closed)
 }
 
-/// Does a task on the archive that the command line names.
-pub fn on_archive<A: Archives, T: Task>(
+/// Opens the archive at a path, does something with it, and closes it, as `settled` does.
+pub fn with_archive<A: Archives, T: Drop, F: FnOnce(&mut Store<A::Database>) -> Result<T, Failure>>(
     rt: &HostRuntime,
     archives: &A,
-    asked: &ArgMatches<'_>,
-    task: T,
-) -> Result<T::Answer, Failure> {
-    let path = store_path(asked);
-    let (done, closed) = lend(rt, archives, path, task)?;
-    settled(rt, path, done, closed)
+    path: &str,
+    work: F,
+) -> Result<T, Failure>
+    requires { F.IsAlwaysCallable work }
+{
+    let mut archive = archives.open(rt, path)?;
+    let done = work(&mut archive);
+    close_after(rt, archives, path, archive, done)
 }

@@ -1,10 +1,9 @@
 //! `copy`: a new archive with all that another one has.
 
-use crate::archives::{Archives, Closed, LastTask, lend, make, not_made, settled, store_path};
-use clap::ArgMatches;
+use crate::archives::{Archives, Closed, make, not_made, settled};
 use class_plan::Plan;
 use cli_console::{Failure, Status, write_text};
-use cli_readings::{SumTask, Summary, summary_of};
+use cli_readings::{Summary, summary_of};
 use record_copy::{CopyFault, copy_archive};
 use record_store::Store;
 use sqlite::{Alter, Connection};
@@ -12,11 +11,11 @@ use std::alloc::Global;
 
 /// The paths of a copy.
 #[derive(Clone, Copy)]
-struct Paths<'a> {
+pub struct Paths<'a> {
     /// Of the archive that is copied.
-    store: &'a str,
+    pub store: &'a str,
     /// Of the new one.
-    new: &'a str,
+    pub new: &'a str,
 }
 
 /// The failure of a copy.
@@ -62,111 +61,54 @@ fn kept_of<S: Alter>(rt: &HostRuntime, archive: &mut Store<S>) -> Result<Kept, F
     Ok(Kept { plan, summary })
 }
 
-/// Fills a new archive with what the database of a connection has.
-#[derive(Drop)]
-struct FillTask<'f, S: Alter> {
-    plan: &'f Plan,
-    from: &'f mut Connection<S>,
-    paths: Paths<'f>,
-}
-
-impl<S: Alter> LastTask for FillTask<'_, S> {
-    type Answer = ();
-
-    fn end<T: Alter>(
-        self,
-        rt: &HostRuntime,
-        archive: Store<T>,
-    ) -> (Connection<T>, Result<(), Failure>) {
-        let FillTask { plan, from, paths } = self;
-        let mut to = archive.into_connection();
-        match copy_archive(rt.alloc(), plan, from, &mut to) {
-            Ok(()) => (to, Ok(())),
-            Err(fault) => (to, Err(copy_failure(rt.alloc(), paths, fault))),
-        }
-    }
-}
-
-/// Fills an archive that was just made.
-fn fill<A: Archives, S: Alter>(
+/// Fills an archive that was just made with what the database of a connection has.
+fn fill<A: Archives>(
     rt: &HostRuntime,
     archives: &A,
     plan: &Plan,
-    from: &mut Connection<S>,
+    from: &mut Connection<A::Database>,
     paths: Paths<'_>,
 ) -> Result<(), Failure> {
-    match archives.lend(rt, paths.new, FillTask { plan, from, paths }) {
-        // How it is closed shows when it is read back.
-        Ok((filled, _)) => filled,
-        Err(failure) => Err(not_made(failure)),
-    }
+    let archive = archives.open(rt, paths.new).map_err(not_made)?;
+    let mut to = archive.into_connection();
+    let filled = copy_archive(rt.alloc(), plan, from, &mut to).map_err(|fault| copy_failure(
+        rt.alloc(),
+        paths,
+        fault,
+    ));
+    // How it is closed shows when it is read back.
+    archives.close(to);
+    filled
 }
 
-/// Reads a whole archive, and copies it to one that was just made.
-fn copy_all<A: Archives, S: Alter>(
+/// Reads a whole archive, copies it to one that was just made, and closes it. Answers what was copied, and how the archive
+/// was closed. Where something fails, no new one is left.
+fn copy_all<A: Archives>(
     rt: &HostRuntime,
     archives: &A,
-    archive: Store<S>,
+    archive: Store<A::Database>,
     paths: Paths<'_>,
-) -> (Connection<S>, Result<Summary, Failure>) {
+) -> (Result<Summary, Failure>, Closed) {
     let mut archive = archive;
-    let kept = match kept_of(rt, &mut archive) {
-        Ok(kept) => kept,
-        Err(failure) => return (archive.into_connection(), Err(failure)),
-    };
+    let kept = kept_of(rt, &mut archive);
     let mut from = archive.into_connection();
-    match fill(rt, archives, &kept.plan, &mut from, paths) {
-        Ok(()) => (from, Ok(kept.summary)),
-        Err(failure) => (from, Err(failure)),
+    let copied = kept.and_then(|kept| {
+        fill(rt, archives, &kept.plan, &mut from, paths)?;
+        Ok(kept.summary)
+    });
+    if copied.is_err() {
+        archives.remove(rt, paths.new);
     }
-}
-
-/// Makes a new archive with the plan of another one.
-fn make_alike<A: Archives, S: Alter>(
-    rt: &HostRuntime,
-    archives: &A,
-    archive: &Store<S>,
-    new: &str,
-) -> Result<(), Failure> {
-    make(rt, archives, new, archive.plan().copy()?)
-}
-
-/// Makes a new archive with all that another one has, and answers what that is. Where that fails, no new one is left.
-#[derive(Clone, Copy)]
-struct CopyTask<'a, A> {
-    archives: &'a A,
-    paths: Paths<'a>,
-}
-
-impl<A: Archives> LastTask for CopyTask<'_, A> {
-    type Answer = Summary;
-
-    fn end<S: Alter>(
-        self,
-        rt: &HostRuntime,
-        archive: Store<S>,
-    ) -> (Connection<S>, Result<Summary, Failure>) {
-        let CopyTask { archives, paths } = self;
-        if let Err(failure) = make_alike(rt, archives, &archive, paths.new) {
-            return (archive.into_connection(), Err(failure));
-        }
-        let (from, copied) = copy_all(rt, archives, archive, paths);
-        match copied {
-            Ok(summary) => (from, Ok(summary)),
-            Err(failure) => {
-                archives.remove(rt, paths.new);
-                (from, Err(failure))
-            }
-        }
-    }
+    (copied, archives.close(from))
 }
 
 /// Reads a new archive back. All of it is in its file then, and nothing in the log.
 fn read_back<A: Archives>(rt: &HostRuntime, archives: &A, new: &str) -> Result<Summary, Failure> {
-    match lend(rt, archives, new, SumTask) {
-        Ok((summed, Closed::Whole)) => summed,
-        Ok(_) => Err(Failure::at(rt.alloc(), Status::TryAgain, new, &"the disk failed")),
-        Err(failure) => Err(not_made(failure)),
+    let mut archive = archives.open(rt, new).map_err(not_made)?;
+    let summed = summary_of(rt, &mut archive);
+    match archives.close(archive.into_connection()) {
+        Closed::Whole => summed,
+        _ => Err(Failure::at(rt.alloc(), Status::TryAgain, new, &"the disk failed")),
     }
 }
 
@@ -211,20 +153,27 @@ fn settle<A: Archives>(
     }
 }
 
-/// Makes a new archive with all that another one has. Where that fails, no new one is left.
-pub fn copy<A: Archives>(
+/// Makes a new archive with the plan of another one.
+fn make_alike<A: Archives>(
     rt: &HostRuntime,
     archives: &A,
-    asked: &ArgMatches<'_>,
+    archive: &Store<A::Database>,
+    new: &str,
 ) -> Result<(), Failure> {
-    let paths = Paths {
-        store: store_path(asked),
-        new: asked.get_str("new").unwrap_or(""),
+    make(rt, archives, new, archive.plan().copy()?)
+}
+
+/// Makes a new archive with all that another one has. Where that fails, no new one is left.
+pub fn copy_to<A: Archives>(
+    rt: &HostRuntime,
+    archives: &A,
+    paths: Paths<'_>,
+) -> Result<(), Failure> {
+    let archive = archives.open(rt, paths.store)?;
+    let (copied, closed) = match make_alike(rt, archives, &archive, paths.new) {
+        Ok(()) => copy_all(rt, archives, archive, paths),
+        Err(failure) => (Err(failure), archives.close(archive.into_connection())),
     };
-    let (copied, closed) = archives.lend(rt, paths.store, CopyTask { archives, paths })?;
-    let done = match copied {
-        Ok(kept) => settle(rt, archives, &kept, paths.new),
-        Err(failure) => Err(failure),
-    };
+    let done = copied.and_then(|kept| settle(rt, archives, &kept, paths.new));
     settled(rt, paths.store, done, closed)
 }

@@ -1,10 +1,10 @@
 //! The subcommands of `mailfile-store`, over archives that are kept anywhere.
 //!
-//! - `archives`: where archives are kept, and a task that is done on one of them;
-//! - `subcommands`: what each subcommand does, by its task or by a library of its own;
+//! - `archives`: where archives are kept, and how they are opened and closed;
+//! - `subcommands`: what each subcommand does;
 //! - `copy`: a new archive with all that another one has;
 //! - `reports`: why something was not done, for a person and as a status;
-//! - `program`: the command line, and the subcommand that it names.
+//! - `program`: the command line, and what it asks for.
 //!
 //! It knows nothing of files, so it is proved beside what opens them. No contract speaks of a command line or a terminal:
 //! these calls are only proved to be safe, and tests of the program show what they do.
@@ -16,5 +16,5 @@ mod program;
 mod reports;
 mod subcommands;
 
-pub use archives::{Archives, Closed, LastTask};
+pub use archives::{Archives, Closed};
 pub use program::serve;

@@ -1,23 +1,8 @@
 //! Why something was not done, for a person and as a status.
 
-use clap::Error;
-use clap::error::ErrorKind;
 use cli_console::{Failure, Status, tell};
+use command_lines::NoCommand;
 use std::process::ExitCode;
-
-/// Writes on standard error what `clap` reports, and answers its status. For `--help` it is no fault. Where there was no
-/// memory to read the command line, that may work later, as with any other lack of memory.
-pub fn report_usage(rt: &HostRuntime, error: &Error) -> ExitCode {
-    if let ErrorKind::OutOfMemory = error.kind() {
-        return end_with(rt, &Failure::NoMemory);
-    }
-    let _ = error.print(rt);
-    if error.use_stderr() {
-        Status::Usage.code()
-    } else {
-        ExitCode::SUCCESS
-    }
-}
 
 /// Writes on standard error why something was not done, unless that was written, or the reader of the output has gone.
 pub fn tell_failure(rt: &HostRuntime, failure: &Failure) {
@@ -28,8 +13,8 @@ pub fn tell_failure(rt: &HostRuntime, failure: &Failure) {
     }
 }
 
-/// The status of a failure. It is none where the reader of the output has gone.
-pub fn code_of(failure: &Failure) -> ExitCode {
+/// The status of a failure. It is that of success where the reader of the output has gone.
+fn code_of(failure: &Failure) -> ExitCode {
     match failure {
         Failure::Closed => ExitCode::SUCCESS,
         Failure::NoMemory => Status::TryAgain.code(),
@@ -41,4 +26,17 @@ pub fn code_of(failure: &Failure) -> ExitCode {
 pub fn end_with(rt: &HostRuntime, failure: &Failure) -> ExitCode {
     tell_failure(rt, failure);
     code_of(failure)
+}
+
+/// Ends where the command line has nothing to do, which is written unless it was. Help is no fault.
+pub fn end_without_command(rt: &HostRuntime, none: NoCommand) -> ExitCode {
+    match none {
+        NoCommand::Answered => return ExitCode::SUCCESS,
+        NoCommand::NoMemory => return end_with(rt, &Failure::NoMemory),
+        NoCommand::Told => {}
+        NoCommand::Wrong(text) => tell(rt, text.as_str()),
+        NoCommand::NotText => tell(rt, "a word of the command line is not UTF-8"),
+        NoCommand::Unread => tell(rt, "the command line was not read"),
+    }
+    Status::Usage.code()
 }

@@ -1,128 +1,176 @@
-//! The subcommands, each by its task or by a library of its own.
+//! What each subcommand does.
 
-use crate::archives::{Archives, make, on_archive, store_path};
-use clap::ArgMatches;
+use crate::archives::{Archives, close_after, make, with_archive};
+use crate::copy::{Paths, copy_to};
+use class_plan::Date;
 use cli_changes::{
-    Change, DeliverTask, DisposeTask, HoldTask, IntakeTask, PlanTask, read_plan, report_delivery,
+    Change, FilingRules, Intake, change_holds, day_of_disposal, deliver_to, dispose_by,
+    read_message, read_plan, replace_plan, report_delivery, take_new, write_plan,
 };
-use cli_console::Failure;
+use cli_console::{Failure, day_or_today, now};
 use cli_readings::{
-    CheckTask, ExportTask, ListTask, ReportTask, ShowTask, WhyTask, write_shown, write_why,
+    export_to, judge_choice, message_of_record, read_captured, write_contents, write_list,
+    write_message, write_report, write_why,
 };
-
-/// Makes a new store.
-pub fn create<A: Archives>(
-    rt: &HostRuntime,
-    archives: &A,
-    asked: &ArgMatches<'_>,
-) -> Result<(), Failure> {
-    let plan = read_plan(rt, asked.get_str("plan").unwrap_or(""))?;
-    make(rt, archives, store_path(asked), plan)
-}
-
-/// Writes the plan of an archive, or replaces it.
-pub fn plan<A: Archives>(
-    rt: &HostRuntime,
-    archives: &A,
-    asked: &ArgMatches<'_>,
-) -> Result<(), Failure> {
-    on_archive(rt, archives, asked, PlanTask::read(rt, asked)?)
-}
+use command_lines::archives::{
+    Choice, Command, CommandLine, Disposal, Filing, Format, Holding, TypedNumber, Why,
+};
 
 /// Captures the message on standard input. A store that cannot be had, or that may not keep the message, is a reason to
 /// try again, so that a mail server keeps it.
-pub fn deliver<A: Archives>(
+fn deliver<A: Archives>(
     rt: &HostRuntime,
     archives: &A,
-    asked: &ArgMatches<'_>,
+    store: &str,
+    moment: Option<u64>,
+    filing: &Filing<'_>,
 ) -> Result<(), Failure> {
-    match on_archive(rt, archives, asked, DeliverTask::read(rt, asked)?) {
-        Ok(delivered) => report_delivery(rt, delivered),
-        Err(failure) => Err(failure.kept()),
-    }
+    let moment = match moment {
+        Some(moment) => moment,
+        None => now(rt)?,
+    };
+    let message = read_message(rt)?;
+    let rules = FilingRules::read(rt, filing)?;
+    let archive = archives.open(rt, store).map_err(|failure| failure.kept())?;
+    let (archive, delivered) = deliver_to(rt, archive, &rules, moment, message);
+    let delivery = close_after(rt, archives, store, archive, Ok(delivered))??;
+    report_delivery(rt, &delivery)
 }
 
 /// Captures the new messages of a Maildir.
-pub fn intake<A: Archives>(
+fn intake<A: Archives>(
     rt: &HostRuntime,
     archives: &A,
-    asked: &ArgMatches<'_>,
+    store: &str,
+    maildir: &str,
+    filing: &Filing<'_>,
 ) -> Result<(), Failure> {
-    on_archive(rt, archives, asked, IntakeTask::read(rt, asked)?)
+    let job = Intake::read(rt, maildir, filing)?;
+    let archive = archives.open(rt, store)?;
+    let (archive, done) = take_new(rt, archive, &job);
+    close_after(rt, archives, store, archive, done)
 }
 
 /// Lists records.
-pub fn list<A: Archives>(
+fn list<A: Archives>(
     rt: &HostRuntime,
     archives: &A,
-    asked: &ArgMatches<'_>,
+    store: &str,
+    choice: &Choice<'_>,
+    format: Format,
 ) -> Result<(), Failure> {
-    on_archive(rt, archives, asked, ListTask::read(rt, asked)?)
-}
-
-/// Writes the message of a record, or its header.
-pub fn show<A: Archives>(
-    rt: &HostRuntime,
-    archives: &A,
-    asked: &ArgMatches<'_>,
-) -> Result<(), Failure> {
-    let message = on_archive(rt, archives, asked, ShowTask::read(rt, asked)?)?;
-    write_shown(rt, asked, message)
+    judge_choice(rt, choice)?;
+    with_archive(rt, archives, store, |archive| {
+        write_list(rt, archive, choice, format)
+    })
 }
 
 /// Exports records to a folder.
-pub fn export<A: Archives>(
+fn export<A: Archives>(
     rt: &HostRuntime,
     archives: &A,
-    asked: &ArgMatches<'_>,
+    store: &str,
+    choice: &Choice<'_>,
+    folder: &str,
 ) -> Result<(), Failure> {
-    on_archive(rt, archives, asked, ExportTask::read(rt, asked)?)
+    judge_choice(rt, choice)?;
+    with_archive(rt, archives, store, |archive| {
+        export_to(rt, archive, choice, folder)
+    })
 }
 
-/// Judges a whole store, and says what it holds.
-pub fn check<A: Archives>(
+/// Writes the message of a record once the archive is closed, or the fields of its header.
+fn show<A: Archives>(
     rt: &HostRuntime,
     archives: &A,
-    asked: &ArgMatches<'_>,
+    store: &str,
+    record: TypedNumber<'_>,
+    fields: bool,
 ) -> Result<(), Failure> {
-    on_archive(rt, archives, asked, CheckTask)
+    let message = with_archive(rt, archives, store, |archive| {
+        message_of_record(rt, archive, record)
+    })?;
+    write_message(rt, message.as_slice(), fields)
 }
 
-/// Says why a record is in its class.
-pub fn why<A: Archives>(
+/// Says why a record is in its class, once the archive is closed.
+fn why<A: Archives>(
     rt: &HostRuntime,
     archives: &A,
-    asked: &ArgMatches<'_>,
+    store: &str,
+    asked: &Why<'_>,
 ) -> Result<(), Failure> {
-    let captured = on_archive(rt, archives, asked, WhyTask::read(rt, asked)?)?;
-    write_why(rt, asked, captured)
+    let captured = with_archive(rt, archives, store, |archive| {
+        read_captured(rt, archive, asked.record)
+    })?;
+    write_why(rt, asked, &captured)
 }
 
 /// Places a hold on records, or ends it.
-pub fn change_holds<A: Archives>(
+fn hold<A: Archives>(
     rt: &HostRuntime,
     archives: &A,
-    asked: &ArgMatches<'_>,
+    store: &str,
     change: Change,
+    asked: &Holding<'_>,
 ) -> Result<(), Failure> {
-    on_archive(rt, archives, asked, HoldTask::read(rt, asked, change)?)
+    with_archive(rt, archives, store, |archive| {
+        change_holds(rt, archive, change, asked)
+    })
 }
 
 /// Lists what is due and may be destroyed, or destroys it.
-pub fn dispose<A: Archives>(
+fn dispose<A: Archives>(
     rt: &HostRuntime,
     archives: &A,
-    asked: &ArgMatches<'_>,
+    store: &str,
+    asked: &Disposal<'_>,
 ) -> Result<(), Failure> {
-    on_archive(rt, archives, asked, DisposeTask::read(rt, asked)?)
+    let day = day_of_disposal(rt, asked)?;
+    with_archive(rt, archives, store, |archive| {
+        dispose_by(rt, archive, asked, day)
+    })
 }
 
-/// Writes a report as a page of HTML.
-pub fn report<A: Archives>(
+/// Writes a report on the archive by a day, or else by today.
+fn report<A: Archives>(
     rt: &HostRuntime,
     archives: &A,
-    asked: &ArgMatches<'_>,
+    store: &str,
+    day: Option<Date>,
 ) -> Result<(), Failure> {
-    let task = ReportTask::read(rt, asked, store_path(asked))?;
-    on_archive(rt, archives, asked, task)
+    let day = day_or_today(rt, day)?;
+    with_archive(rt, archives, store, |archive| {
+        write_report(rt, archive, store, day)
+    })
+}
+
+/// Does what a command line asks for.
+pub fn execute<A: Archives>(
+    rt: &HostRuntime,
+    archives: &A,
+    line: CommandLine<'_>,
+) -> Result<(), Failure> {
+    let CommandLine { store, command } = line;
+    match command {
+        Command::Create { plan } => make(rt, archives, store, read_plan(rt, plan)?),
+        Command::WritePlan => with_archive(rt, archives, store, |archive| {
+            write_plan(rt, archive.plan())
+        }),
+        Command::ReplacePlan { plan, is_agreed } => with_archive(rt, archives, store, |archive| {
+            replace_plan(rt, archive, plan, is_agreed)
+        }),
+        Command::Deliver { moment, filing } => deliver(rt, archives, store, moment, &filing),
+        Command::Intake { maildir, filing } => intake(rt, archives, store, maildir, &filing),
+        Command::List { choice, format } => list(rt, archives, store, &choice, format),
+        Command::Show { record, fields } => show(rt, archives, store, record, fields),
+        Command::Export { choice, folder } => export(rt, archives, store, &choice, folder),
+        Command::Copy { new } => copy_to(rt, archives, Paths { store, new }),
+        Command::Check => with_archive(rt, archives, store, |archive| write_contents(rt, archive)),
+        Command::Why(asked) => why(rt, archives, store, &asked),
+        Command::Hold(asked) => hold(rt, archives, store, Change::Place, &asked),
+        Command::Release(asked) => hold(rt, archives, store, Change::End, &asked),
+        Command::Dispose(asked) => dispose(rt, archives, store, &asked),
+        Command::Report { day } => report(rt, archives, store, day),
+    }
 }

@@ -24,14 +24,8 @@ pub struct Kept<'a> {
 /// A row of CSV, with its line end.
 pub fn csv_row(alloc: Global, fields: &[&[u8]]) -> Result<Vec<u8>, AllocError> {
     let mut writer = WriterBuilder::new().from_writer(Vec::new(alloc));
-    match writer.write_fields(fields) {
-        Ok(()) => {}
-        Err(_) => return Err(AllocError),
-    }
-    match writer.into_inner() {
-        Ok(row) => Ok(row),
-        Err(_) => Err(AllocError),
-    }
+    writer.write_fields(fields).map_err(|_| AllocError)?;
+    writer.into_inner().map_err(|_| AllocError)
 }
 
 /// The names of holds, with spaces between them.

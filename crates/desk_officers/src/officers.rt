@@ -163,6 +163,8 @@ impl Officers {
     ///
     /// A script is compiled once, and again only after the officer's program or a script that it can include was set.
     /// The image is shared. What officers have set stays the same.
+    ///
+    /// The module `profiles` finds the officer. Here the invariant is kept: each image that is kept is still current.
     pub fn pin(&mut self, officer: &[u8]) -> Result<Rc<Verified>, AllocError>
         ensures pinned { IfOk result (λ v. PinsFor (officer_at officer.now self.old.officers)
             (meanings_of self.old.globals) v.value) }

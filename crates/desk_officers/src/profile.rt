@@ -42,7 +42,8 @@ pub(crate) struct Profile {
     pub kept: Option<KeptImage>,
 }
 
-/// Puts a script on a shelf, in the place of the one that has the name.
+/// Puts a script on a shelf, in the place of the one that has the name. This is `Shelf::put`, told in the meanings of
+/// scripts, as the commands are.
 pub(crate) fn put_on(
     shelf: &mut Shelf,
     name: &[u8],

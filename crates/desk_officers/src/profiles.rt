@@ -87,7 +87,8 @@ pub(crate) fn clear(profiles: &mut BTreeMap<Vec<u8>, Profile>, officer: &[u8])
     }
 }
 
-/// What is pinned for an officer with the global scripts of an edition.
+/// What is pinned for an officer with the global scripts of an edition: by `Profile::pin`, or one `Stop` for an officer
+/// who has set nothing, and so has no profile.
 pub(crate) fn pin(
     alloc: Global,
     profiles: &mut BTreeMap<Vec<u8>, Profile>,

@@ -12,6 +12,7 @@ use Rattle.class_plan.specs.Plans.{Listing, is_open_in}
 use Rattle.mail_case.specs.Message.{is_among}
 use Rattle.filing_image.specs.Program.{Program}
 use Rattle.record_archive.specs.Archive.{Archive}
+use Rattle.record_archive.specs.Calls.{Keeper}
 use Rattle.desk_commands.specs.Answers.{Answer, begun, refused}
 use Rattle.desk_commands.specs.Calls.{Calls}
 use Rattle.desk_commands.specs.Faults.{refusal_of, refused_by}
@@ -29,11 +30,11 @@ use Rattle.desk_flights.specs.FlightViews.{FlightView, Holds}
 use Rattle.desk_flights.specs.Laws.{AreAsMany, OpenPathsAreClasses}
 use Rattle.desk_officers.specs.Register.{PinsFor, officer_at}
 use Rattle.filing_desk.specs.Beginning.{IsNewFlight, IsNumbered, KeepsAll, against_begin}
-use Rattle.filing_desk.specs.Standing.{AreOpenPaths, HasPathsOf, IsClean, MayLeave, StandsFor}
+use Rattle.filing_desk.specs.Standing.{AreOpenPaths, HasPathsOf, StandsFor, desk_keeper}
 use Rattle.filing_desk.specs.declared.desk.Desk.{Desk}
 use Rattle.filing_desk.proofs.FirstLemmas.{RunsEnd, after_begin, begins, first_begun, first_flight}
-use Rattle.filing_desk.proofs.StepLemmas.{untouched}
-use Rattle.filing_desk.proofs.FlightLemmas.{cleans, reflies}
+use Rattle.filing_desk.proofs.StepLemmas.{cleans, untouched}
+use Rattle.filing_desk.proofs.FlightLemmas.{reflies}
 use Rattle.filing_desk.proofs.ReasonLemmas.{allowed, refused_count, refused_length, refused_ticket}
 
 -- the answer to a fault
@@ -86,11 +87,10 @@ more_classes : (p : Listing) (fs : List Flight) (f : Flight) → AllByRecursion 
 more_classes p [] f all here = (here, tt)
 more_classes p (x ∷ fs) f all here = (all.0, more_classes p fs f all.1 here)
 
-module _ {A I : Type 0} (is_clean : A → Type 0) (stood : A → Archive → Type 0) (may_leave : A → I → Type 0)
-    (keeps : I → Archive → Type 0) (plan_of : A
-    → Listing) (plan_is : (x : A) (a : Archive) → stood x a → plan_of x ≡ a.plan) (as_many : AreAsMany) where
+module _ {A : Type 0} (keeper : Keeper A Archive) (plan_of : A → Listing)
+    (plan_is : (x : A) (a : Archive) → keeper.stands x a → plan_of x ≡ a.plan) (as_many : AreAsMany) where
   -- what refuses a beginning at the desk refuses one in the state
-  against : (desk : Desk A) (s : Standing) (moment size : ℕ) → StandsFor stood desk s
+  against : (desk : Desk A) (s : Standing) (moment size : ℕ) → StandsFor keeper desk s
       → against_begin desk moment size ≡ begin_refusal (length s.flights) s.last moment size
   against desk s moment size stands =
       ap (λ n. begin_refusal n desk.last moment size) (as_many desk.flights s.flights stands.flights)
@@ -99,7 +99,7 @@ module _ {A I : Type 0} (is_clean : A → Type 0) (stood : A → Archive → Typ
   -- it is refused with that number
   pub begin_refused : (desk : Desk A) (officer : List ℕ) (moment : ℕ) (message : List ℕ) (f : DeskFault) (a : Answer)
       → IsNumbered f (against_begin desk moment (length message)) → a ≡ refused_by f
-      → Calls (IsClean is_clean) (StandsFor stood) (MayLeave may_leave) keeps desk (begin officer moment message) a desk
+      → Calls (desk_keeper keeper) desk (begin officer moment message) a desk
   unfolding Step
   begin_refused desk officer moment message f a h is_told = record {
     was_clean = λ clean. clean;
@@ -109,7 +109,7 @@ module _ {A I : Type 0} (is_clean : A → Type 0) (stood : A → Archive → Typ
         (refl, refl, inl (sym (against desk s moment (length message) stands) ∙ h.0)) in
         record { to = s; is_one = subst P (sym (is_told ∙ numbered f _ h)) step; there = stands };
     unchanged = λ from_archive. absurd (false≢true from_archive);
-    crash = untouched is_clean stood may_leave keeps desk desk (begin officer moment message) refl;
+    crash = untouched keeper desk desk (begin officer moment message) refl;
     kept = λ from_archive. absurd (false≢true from_archive);
   }
 
@@ -117,10 +117,10 @@ module _ {A I : Type 0} (is_clean : A → Type 0) (stood : A → Archive → Typ
   pub begin_poor : (old new : Desk A) (officer : List ℕ) (moment : ℕ) (message : List ℕ) (f : DeskFault) (a : Answer)
       → against_begin old moment (length message) ≡ None → f ≡ NoMemory → a ≡ refused_by f → KeepsAll old new
       → ((p : Listing) → plan_of old.store ≡ p → AreOpenPaths old.open_paths p → AreOpenPaths new.open_paths p)
-      → Calls (IsClean is_clean) (StandsFor stood) (MayLeave may_leave) keeps old (begin officer moment message) a new
+      → Calls (desk_keeper keeper) old (begin officer moment message) a new
   unfolding Step
   begin_poor old new officer moment message f a permitted none told same paths = record {
-    was_clean = cleans is_clean stood may_leave keeps old new same.store;
+    was_clean = cleans keeper old new same.store;
     leads = λ sure s stands.
         let P : Answer → Type 0 = λ x. BeginStep s officer moment message x s in
         let Q : List FlightView → Type 0 = λ xs. AreHeld xs s.flights in
@@ -129,18 +129,18 @@ module _ {A I : Type 0} (is_clean : A → Type 0) (stood : A → Archive → Typ
         record {
           to = s;
           is_one = subst P (sym (told ∙ ap (λ x. refused_by x) none)) step;
-          there = reflies is_clean stood may_leave keeps old new s s.flights s.last same.store same.officers (same.last
+          there = reflies keeper old new s s.flights s.last same.store same.officers (same.last
               ∙ stands.last) (paths s.office.archive.plan (plan_is old.store s.office.archive stands.store)
               stands.open_paths) stands (subst Q (sym same.flights) stands.flights) stands.classes;
         };
     unchanged = λ from_archive. absurd (false≢true from_archive);
-    crash = untouched is_clean stood may_leave keeps old new (begin officer moment message) same.store;
+    crash = untouched keeper old new (begin officer moment message) same.store;
     kept = λ from_archive. absurd (false≢true from_archive);
   }
 
   -- what is pinned for an officer of the desk is what is pinned for what stands in the state
   pins_stood : (desk : Desk A) (s : Standing) (officer : List ℕ) (moment : ℕ) (message : List ℕ) (p : Program)
-      → StandsFor stood desk s
+      → StandsFor keeper desk s
       → PinsFor (officer_at officer desk.officers.officers) (meanings_of desk.officers.globals) p
       → Pins (begin_state s.office officer moment message) p
   pins_stood desk s officer moment message p stands pins =
@@ -157,10 +157,10 @@ module _ {A I : Type 0} (is_clean : A → Type 0) (stood : A → Archive → Typ
       → IsNewFlight (plan_of old.store) old officer (old.last + 1) message day x) → new.store ≡ mid.store
       → new.officers ≡ mid.officers → Adds mid.flights x new.flights → new.last ≡ old.last + 1
       → new.open_paths ≡ mid.open_paths → a ≡ begun (old.last + 1) x.program.budget
-      → Calls (IsClean is_clean) (StandsFor stood) (MayLeave may_leave) keeps old (begin officer moment message) a new
+      → Calls (desk_keeper keeper) old (begin officer moment message) a new
   unfolding Step
   begin_done are_there ends old mid new officer moment message day x a permitted on same_all paths entered es eo adds el ep told = record {
-    was_clean = cleans is_clean stood may_leave keeps old new (es ∙ same_all.store);
+    was_clean = cleans keeper old new (es ∙ same_all.store);
     leads = λ sure s stands.
         let plan = s.office.archive.plan in
         let P : Listing → Type 0 = λ p. AreOpenPaths old.open_paths p in
@@ -187,13 +187,13 @@ module _ {A I : Type 0} (is_clean : A → Type 0) (stood : A → Archive → Typ
         record {
           to = to;
           is_one = subst B (sym same) begins_so;
-          there = reflies is_clean stood may_leave keeps old new s (s.flights ++ flight ∷ []) (s.last + 1) (es ∙ same_all.store) (eo
+          there = reflies keeper old new s (s.flights ++ flight ∷ []) (s.last + 1) (es ∙ same_all.store) (eo
               ∙ same_all.officers) (el
               ∙ next) (subst T (sym ep) (subst U (plan_is old.store s.office.archive stands.store) (paths there)))
               stands (adds s.flights flight (subst Q (sym same_all.flights) stands.flights) holds)
               (more_classes plan s.flights flight stands.classes (λ q there. are_there plan q there));
         };
     unchanged = λ from_archive. absurd (false≢true from_archive);
-    crash = untouched is_clean stood may_leave keeps old new (begin officer moment message) (es ∙ same_all.store);
+    crash = untouched keeper old new (begin officer moment message) (es ∙ same_all.store);
     kept = λ from_archive. absurd (false≢true from_archive);
   }

@@ -5,6 +5,7 @@ use Rattle.std.specs.Prelude.{◌==◌}
 use Rattle.std.specs.Option.{option_map}
 use Rattle.std.proofs.lemmas.Bool.Decides.{nat_tests}
 use Rattle.sieve_meaning.specs.declared.run_fault.RunFault.{RunFault}
+use Rattle.record_archive.specs.Calls.{Keeper}
 use Rattle.desk_commands.specs.Answers.{Answer}
 use Rattle.desk_commands.specs.Pinning.{BeginState}
 use Rattle.desk_commands.specs.Standing.{Begins, Flight, Standing, Step, TurnStep, begin_state, flight_of, grant, with_turns}
@@ -78,14 +79,14 @@ module _ (s to : Standing) (officer : List ℕ) (moment : ℕ) (message : List �
       begun_fault mid fault free begins (subst Turns (sym is) step) told
 
 -- a message whose fault is reported in each state that the desk represents after its BEGIN and TURN
-pub is_faulty : {D : Type 0} (stands : D → Standing → Type 0) (s to : Standing) (officer : List ℕ) (moment : ℕ)
+pub is_faulty : {D : Type 0} (keeper : Keeper D Standing) (s to : Standing) (officer : List ℕ) (moment : ℕ)
     (message : List ℕ) (t b : ℕ) (turned : Answer) (fault : RunFault) (new : D)
-    → Goes s (first_calls officer moment message t b turned) to → stands new to
-    → ((z : Standing) → stands new z → TellsFault (flight_of t z.flights) (Some fault))
-    → IsFaulty stands s officer moment message fault new
-is_faulty stands s to officer moment message t b turned fault new goes there told =
+    → Goes s (first_calls officer moment message t b turned) to → keeper.stands new to
+    → ((z : Standing) → keeper.stands new z → TellsFault (flight_of t z.flights) (Some fault))
+    → IsFaulty keeper s officer moment message fault new
+is_faulty keeper s to officer moment message t b turned fault new goes there told =
     let next : t ≡ s.last + 1 = next_ticket s to officer moment message t b turned goes in
-    let Told : ℕ → Type 0 = λ n. (z : Standing) → stands new z → TellsFault (flight_of n z.flights) (Some fault) in
+    let Told : ℕ → Type 0 = λ n. (z : Standing) → keeper.stands new z → TellsFault (flight_of n z.flights) (Some fault) in
     let told_next : Told (s.last + 1) = subst Told next told in
     record {
       answers = λ z after a at step. fault_answered z after (s.last + 1) fault a (told_next z at) step;

@@ -2,7 +2,7 @@
 use Rattle.std.proofs.Common.{◌≡◌, List, [], ◌∷◌, ◌++◌, Result, Ok, Err, IsErr, IsErrAnd, Bool, true, false, refl, ap, subst}
 use Rattle.std.specs.Prelude.{◌||◌}
 use Rattle.std.proofs.lemmas.Bool.{false≢true}
-use Rattle.record_archive.specs.Archive.{Archive}
+use Rattle.record_archive.specs.Calls.{Keeper}
 use Rattle.desk_commands.specs.Answers.{Answer}
 use Rattle.desk_commands.specs.ArchiveAnswers.{is_of_archive}
 use Rattle.desk_commands.specs.Calls.{Calls}
@@ -43,19 +43,18 @@ in_last (c ∷ xs) ys e = last_of (is_of_archive c.command c.answer) (are_of_arc
 
 -- ---- calls that a desk went through
 
-module _ {D : Type 0} (clean : D → Type 0) (stands : D → Standing → Type 0) where
-  pub one_call : {I : Type 0} (may_leave : D → I → Type 0) (keeps : I → Archive → Type 0) (old new : D) (c : Command) (a : Answer)
-      → Calls clean stands may_leave keeps old c a new
-      → Follows clean stands old (record { command = c; answer = a } ∷ []) new
-  one_call may_leave keeps old new c a call = record {
+module _ {D : Type 0} (keeper : Keeper D Standing) where
+  pub one_call : (old new : D) (c : Command) (a : Answer) → Calls keeper old c a new
+      → Follows keeper old (record { command = c; answer = a } ∷ []) new
+  one_call old new c a call = record {
     was_clean = call.was_clean;
     leads = λ h s there.
         let l = call.leads (λ e. h (one_of (is_of_archive c a) false e)) s there in
         record { to = l.to; is_one = (l.to, l.is_one, refl); there = l.there };
   }
 
-  pub calls_on : (old mid new : D) (xs ys : List Call) → Follows clean stands old xs mid → Follows clean stands mid ys new
-      → Follows clean stands old (xs ++ ys) new
+  pub calls_on : (old mid new : D) (xs ys : List Call) → Follows keeper old xs mid → Follows keeper mid ys new
+      → Follows keeper old (xs ++ ys) new
   calls_on old mid new xs ys first second = record {
     was_clean = λ h. first.was_clean (second.was_clean h);
     leads = λ h s there.

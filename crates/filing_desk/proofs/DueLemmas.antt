@@ -5,7 +5,7 @@ use Rattle.std.specs.declared.alloc.Global.{Global}
 use Rattle.record_archive.specs.Archive.{Archive, Line, due_list, due_list_on}
 use Rattle.record_archive.specs.Lines.{line_view}
 use Rattle.record_archive.specs.declared.line.Line as code
-use Rattle.record_archive.specs.Calls.{CarriesOut, KeepsMade, unchanged}
+use Rattle.record_archive.specs.Calls.{CarriesOut, Keeper, KeepsMade, unchanged}
 use Rattle.record_archive.specs.Faults.{WhereRefused}
 use Rattle.record_archive.specs.declared.fault.ArchiveFault.{ArchiveFault}
 use Rattle.record_archive.specs.declared.fault.ArchiveFault.TheVariants.{Refused, Database, NoMemory}
@@ -16,7 +16,7 @@ use Rattle.desk_commands.specs.Faults.{refused_by, archive_fault}
 use Rattle.desk_commands.specs.Office.{OfficeStep, due}
 use Rattle.desk_commands.specs.Standing.{Standing, Step, plain}
 use Rattle.filing_desk.specs.Filing.{IsArchiveFault}
-use Rattle.filing_desk.specs.Standing.{IsClean, MayLeave, StandsFor}
+use Rattle.filing_desk.specs.Standing.{StandsFor, desk_keeper}
 use Rattle.filing_desk.specs.declared.desk.Desk.{Desk}
 use Rattle.filing_desk.proofs.ArchiveLemmas.{fault_told}
 use Rattle.filing_desk.proofs.StepLemmas.{Crashes, KeepsRest, no_stay, of_archive, plain_calls, refused_so, still_stands}
@@ -48,18 +48,17 @@ either_given_up : {E : Type 0} (s : Standing) (n : ℕ) (f : ArchiveFault E) →
 either_given_up s n f (inl trouble) refuses = inr (trouble.0, trouble.1, trouble.2, refl)
 either_given_up s n f (inr inside) refuses = given_up s n f (refuses inside)
 
-module _ {A I : Type 0} (is_clean : A → Type 0) (stood : A → Archive → Type 0) (may_leave : A → I → Type 0)
-    (keeps : I → Archive → Type 0) where
+module _ {A : Type 0} (keeper : Keeper A Archive) where
   -- a due list changes nothing
   crashes_due : (old new : Desk A) (n : ℕ)
-      → (is_clean new.store → (a : Archive) → stood old.store a → (image : I) → may_leave new.store image
-      → may_leave old.store image ⊎ KeepsMade keeps image (unchanged a))
-      → Crashes is_clean stood may_leave keeps old new (plain (due n))
+      → (keeper.clean new.store → (a : Archive) → keeper.stands old.store a → (image : keeper.remains) → keeper.may_leave new.store image
+      → keeper.may_leave old.store image ⊎ KeepsMade keeper.keeps image (unchanged a))
+      → Crashes keeper old new (plain (due n))
   crashes_due old new n crash clean s stands image may =
       elim (crash clean s.office.archive stands.store image may) [
         | inl before ↦ inl before
         | inr made ↦
-            let P : Archive → Type 0 = λ x. keeps image x in
+            let P : Archive → Type 0 = λ x. keeper.keeps image x in
             inr (
               listed (due_list s.office.archive n),
               record {
@@ -71,34 +70,34 @@ module _ {A I : Type 0} (is_clean : A → Type 0) (stood : A → Archive → Typ
       ]
 
   pub due_told : {E : Type 0} (old new : Desk A) (n : ℕ) (lines : Vec code.Line Global)
-      → KeepsRest is_clean stood may_leave keeps old new → new.open_paths ≡ old.open_paths
-      → CarriesOut {E = E} is_clean stood may_leave keeps old.store new.store unchanged (IsDueList (pos n)) (Ok lines)
-      → Calls (IsClean is_clean) (StandsFor stood) (MayLeave may_leave) keeps old (plain (due n)) (listed (map line_view lines.items)) new
+      → KeepsRest keeper old new → new.open_paths ≡ old.open_paths
+      → CarriesOut {E = E} keeper old.store new.store unchanged (IsDueList (pos n)) (Ok lines)
+      → Calls (desk_keeper keeper) old (plain (due n)) (listed (map line_view lines.items)) new
   due_told old new n lines rest same call =
-      plain_calls is_clean stood may_leave keeps old new (due n) (listed (map line_view lines.items)) call.was_clean (λ sure s stands.
-      let clean : is_clean new.store = sure refl in
+      plain_calls keeper old new (due n) (listed (map line_view lines.items)) call.was_clean (λ sure s stands.
+      let clean : keeper.clean new.store = sure refl in
       let h = call.does clean s.office.archive stands.store in
-      (s.office, inl (refl, h.1), still_stands is_clean stood may_leave keeps old new s rest same stands h.0)) (λ refused. absurd
+      (s.office, inl (refl, h.1), still_stands keeper old new s rest same stands h.0)) (λ refused. absurd
       (false≢true refused))
       (crashes_due old new n call.crash)
       (λ from_archive told clean s stands image may.
-      let P : Archive → Type 0 = λ x. keeps image x in
+      let P : Archive → Type 0 = λ x. keeper.keeps image x in
       let made = call.kept clean s.office.archive stands.store image may in
       record { to = s; is_one = due_step s n _ (call.does clean s.office.archive stands.store).1; kept = subst P (sym (same_made made.1)) made.2 })
 
   pub due_given_up : {E : Type 0} (old new : Desk A) (n : ℕ) (day : ℤ) (f : ArchiveFault E) (a : Answer)
-      → KeepsRest is_clean stood may_leave keeps old new → new.open_paths ≡ old.open_paths
-      → CarriesOut {X = Vec code.Line Global} {E = E} is_clean stood may_leave keeps old.store new.store unchanged (IsDueList day)
-      (Err f) → a ≡ refused_by (archive_fault f) → Calls (IsClean is_clean) (StandsFor stood) (MayLeave may_leave) keeps old (plain (due n)) a new
-  due_given_up old new n day f a rest same call is_told = plain_calls is_clean stood may_leave keeps old new (due n) a call.was_clean (λ
+      → KeepsRest keeper old new → new.open_paths ≡ old.open_paths
+      → CarriesOut {X = Vec code.Line Global} {E = E} keeper old.store new.store unchanged (IsDueList day)
+      (Err f) → a ≡ refused_by (archive_fault f) → Calls (desk_keeper keeper) old (plain (due n)) a new
+  due_given_up old new n day f a rest same call is_told = plain_calls keeper old new (due n) a call.was_clean (λ
       sure s stands.
       let h = call.does s.office.archive stands.store in
       let P : Answer → Type 0 = λ x. OfficeStep s.office (due n) x s.office in
       let step : OfficeStep s.office (due n) (refused_by (archive_fault f)) s.office =
       either_given_up s n f (fault_told f) (λ inside.
       h.1 (sure (of_archive (due n) a refl (ap is_refused_outside is_told ∙ inside)))) in
-      (s.office, subst P (sym is_told) step, still_stands is_clean stood may_leave keeps old new s rest same stands h.0))
+      (s.office, subst P (sym is_told) step, still_stands keeper old new s rest same stands h.0))
       (λ refused s stands.
-      still_stands is_clean stood may_leave keeps old new s rest same stands (call.does s.office.archive stands.store).0)
+      still_stands keeper old new s rest same stands (call.does s.office.archive stands.store).0)
       (crashes_due old new n call.crash)
-      (λ from_archive other. no_stay is_clean stood may_leave keeps old new (plain (due n)) a (refused_so _ _ is_told) other)
+      (λ from_archive other. no_stay keeper old new (plain (due n)) a (refused_so _ _ is_told) other)

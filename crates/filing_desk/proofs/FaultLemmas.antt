@@ -14,6 +14,7 @@ use Rattle.filing_image.specs.Program.{Program}
 use Rattle.filing_table.specs.Ends.{HasOutcome}
 use Rattle.sieve_library.specs.Libraries.{Scripts, library_of}
 use Rattle.record_archive.specs.Archive.{Archive}
+use Rattle.record_archive.specs.Calls.{Keeper}
 use Rattle.record_archive.specs.declared.line.Line.{Line}
 use Rattle.desk_commands.specs.Answers.{Answer, dry_run}
 use Rattle.desk_commands.specs.ArchiveAnswers.{is_of_archive}
@@ -28,7 +29,7 @@ use Rattle.desk_commands.specs.CallAnswers.{answer_of_lines, answer_of_outcome}
 use Rattle.desk_commands.specs.declared.fault.DeskFault.{DeskFault}
 use Rattle.desk_commands.specs.declared.fault.DeskFault.TheVariants.{NoMemory}
 use Rattle.filing_desk.specs.Judging.{IsFaultOf, IsLongMessage}
-use Rattle.filing_desk.specs.Standing.{IsClean, MayLeave, StandsFor}
+use Rattle.filing_desk.specs.Standing.{StandsFor, desk_keeper}
 use Rattle.filing_desk.specs.declared.desk.Desk.{Desk}
 use Rattle.filing_desk.proofs.ScriptLemmas.{library_meant}
 use Rattle.filing_desk.proofs.StepLemmas.{no_stay, plain_calls, refused_so, untouched}
@@ -60,25 +61,24 @@ lacking s c limit payload f a told is short lacks =
     let P : Answer → Type 0 = λ x. OfficeStep s c x s in
     subst P (sym told) (fault_step s c (λ n. ⊥) limit payload f (λ n r. absurd r) lacks (inr (is, short)))
 
-module _ {A I : Type 0} (is_clean : A → Type 0) (stood : A → Archive → Type 0) (may_leave : A → I → Type 0)
-    (keeps : I → Archive → Type 0) where
+module _ {A : Type 0} (keeper : Keeper A Archive) where
   -- a call that leaves the desk as it was
   pub unchanged : (desk : Desk A) (c : PlainCommand) (a : Answer)
       → (is_of_archive (plain c) a ≡ true → is_refusal a ≡ true)
-      → ((s : Standing) → StandsFor stood desk s → OfficeStep s.office c a s.office)
-      → Calls (IsClean is_clean) (StandsFor stood) (MayLeave may_leave) keeps desk (plain c) a desk
-  unchanged desk c a refused step = plain_calls is_clean stood may_leave keeps desk desk c a (λ clean. clean) (λ sure s stands.
+      → ((s : Standing) → StandsFor keeper desk s → OfficeStep s.office c a s.office)
+      → Calls (desk_keeper keeper) desk (plain c) a desk
+  unchanged desk c a refused step = plain_calls keeper desk desk c a (λ clean. clean) (λ sure s stands.
       (s.office, step s stands, stands)) (λ refused s stands. stands)
-      (untouched is_clean stood may_leave keeps desk desk (plain c) refl)
-      (λ from_archive other. no_stay is_clean stood may_leave keeps desk desk (plain c) a (refused from_archive) other)
+      (untouched keeper desk desk (plain c) refl)
+      (λ from_archive other. no_stay keeper desk desk (plain c) a (refused from_archive) other)
 
   -- the outcome of a script with the global scripts of a desk, in a message's case
   pub file_done : (desk : Desk A) (p : Listing) (lent : Scripts) (tree : CommandTrees) (script message : List ℕ)
-      (facts : Facts) (o : Outcome) → ((s : Standing) → StandsFor stood desk s → p ≡ s.office.archive.plan)
+      (facts : Facts) (o : Outcome) → ((s : Standing) → StandsFor keeper desk s → p ≡ s.office.archive.plan)
       → lent ≡ record { personal = []; global = desk.officers.globals } → IsGood script tree
       → length message ≤ greatest_message → facts ≡ case_of message (is_open_in p)
       → o ≡ meaning.outcome facts (library_of lent) None (program_of tree)
-      → Calls (IsClean is_clean) (StandsFor stood) (MayLeave may_leave) keeps desk (plain (file script message)) (dry_run o) desk
+      → Calls (desk_keeper keeper) desk (plain (file script message)) (dry_run o) desk
   file_done desk p lent tree script message facts o is_plan globals good short case is = unchanged desk (file script message) (dry_run o)
       (λ e. absurd (false≢true e)) (λ s stands.
       let main = program_of tree in
@@ -96,9 +96,9 @@ module _ {A I : Type 0} (is_clean : A → Type 0) (stood : A → Archive → Typ
 
   -- the outcome of an image's run
   pub try_done : (desk : Desk A) (p : Listing) (program : Program) (image message : List ℕ) (facts : Facts) (n : ℕ)
-      (o : Outcome) → ((s : Standing) → StandsFor stood desk s → p ≡ s.office.archive.plan) → IsGoodImage image program
+      (o : Outcome) → ((s : Standing) → StandsFor keeper desk s → p ≡ s.office.archive.plan) → IsGoodImage image program
       → length message ≤ greatest_message → facts ≡ case_of message (is_open_in p) → HasOutcome program facts n o
-      → Calls (IsClean is_clean) (StandsFor stood) (MayLeave may_leave) keeps desk (plain (try_image image message)) (dry_run o) desk
+      → Calls (desk_keeper keeper) desk (plain (try_image image message)) (dry_run o) desk
   try_done desk p program image message facts n o is_plan good short case ran = unchanged desk (try_image image message) (dry_run o)
       (λ e. absurd (false≢true e)) (λ s stands.
       let there : facts ≡ case_of message (is_open_in s.office.archive.plan) = case ∙ ap (λ q. case_of message (is_open_in q)) (is_plan s stands) in
@@ -114,7 +114,7 @@ module _ {A I : Type 0} (is_clean : A → Type 0) (stood : A → Archive → Typ
 
   pub file_no_script : (desk : Desk A) (script message : List ℕ) (f : DeskFault) (a : Answer) → a ≡ refused_by f
       → IsFaultOf (RefusesScript script) greatest_script script f
-      → Calls (IsClean is_clean) (StandsFor stood) (MayLeave may_leave) keeps desk (plain (file script message)) a desk
+      → Calls (desk_keeper keeper) desk (plain (file script message)) a desk
   file_no_script desk script message f a told h = unchanged desk (file script message) a
       (λ e. refused_so _ _ told) (λ s stands.
       let P : Answer → Type 0 = λ x. OfficeStep s.office (file script message) x s.office in
@@ -123,7 +123,7 @@ module _ {A I : Type 0} (is_clean : A → Type 0) (stood : A → Archive → Typ
   pub file_no_message : (desk : Desk A) (script message : List ℕ) (tree : CommandTrees) (f : DeskFault) (a : Answer)
       → a ≡ refused_by f → IsGood script tree → length script ≤ greatest_script
       → IsFaultOf (IsLongMessage message) greatest_message message f
-      → Calls (IsClean is_clean) (StandsFor stood) (MayLeave may_leave) keeps desk (plain (file script message)) a desk
+      → Calls (desk_keeper keeper) desk (plain (file script message)) a desk
   file_no_message desk script message tree f a told good short h = unchanged desk (file script message) a
       (λ e. refused_so _ _ told) (λ s stands.
       let P : Answer → Type 0 = λ x. OfficeStep s.office (file script message) x s.office in
@@ -133,7 +133,7 @@ module _ {A I : Type 0} (is_clean : A → Type 0) (stood : A → Archive → Typ
 
   pub try_no_image : (desk : Desk A) (image message : List ℕ) (f : DeskFault) (a : Answer) → a ≡ refused_by f
       → IsFaultOf (RefusesImage image) greatest_image image f
-      → Calls (IsClean is_clean) (StandsFor stood) (MayLeave may_leave) keeps desk (plain (try_image image message)) a desk
+      → Calls (desk_keeper keeper) desk (plain (try_image image message)) a desk
   try_no_image desk image message f a told h = unchanged desk (try_image image message) a
       (λ e. refused_so _ _ told) (λ s stands.
       let P : Answer → Type 0 = λ x. OfficeStep s.office (try_image image message) x s.office in
@@ -142,7 +142,7 @@ module _ {A I : Type 0} (is_clean : A → Type 0) (stood : A → Archive → Typ
   pub try_no_message : (desk : Desk A) (image message : List ℕ) (program : Program) (f : DeskFault) (a : Answer)
       → a ≡ refused_by f → IsGoodImage image program → length image ≤ greatest_image
       → IsFaultOf (IsLongMessage message) greatest_message message f
-      → Calls (IsClean is_clean) (StandsFor stood) (MayLeave may_leave) keeps desk (plain (try_image image message)) a desk
+      → Calls (desk_keeper keeper) desk (plain (try_image image message)) a desk
   try_no_message desk image message program f a told good short h = unchanged desk (try_image image message) a
       (λ e. refused_so _ _ told) (λ s stands.
       let P : Answer → Type 0 = λ x. OfficeStep s.office (try_image image message) x s.office in
@@ -154,7 +154,7 @@ module _ {A I : Type 0} (is_clean : A → Type 0) (stood : A → Archive → Typ
       → Type 0) (limit : ℕ) (payload : List ℕ) (f : DeskFault) (a : Answer)
       → ((s : Office) (n : ℕ) → Rule n → Refuses s c n)
       → ((s : Office) (n : ℕ) → LacksMemory limit payload n → GivesUp s c n) → a ≡ refused_by f
-      → IsFaultOf Rule limit payload f → Calls (IsClean is_clean) (StandsFor stood) (MayLeave may_leave) keeps desk (plain c) a desk
+      → IsFaultOf Rule limit payload f → Calls (desk_keeper keeper) desk (plain c) a desk
   refused_part desk c Rule limit payload f a refuses lacks told h = unchanged desk c a (λ e. refused_so _ _ told) (λ s stands.
       let P : Answer → Type 0 = λ x. OfficeStep s.office c x s.office in
       subst P (sym told) (fault_step s.office c Rule limit payload f (refuses s.office) (lacks s.office) h))
@@ -163,6 +163,6 @@ module _ {A I : Type 0} (is_clean : A → Type 0) (stood : A → Archive → Typ
   pub gave_up : (desk : Desk A) (c : PlainCommand) (limit : ℕ) (payload : List ℕ) (f : DeskFault) (a : Answer)
       → a ≡ refused_by f → f ≡ NoMemory → length payload ≤ limit
       → ((s : Office) (n : ℕ) → LacksMemory limit payload n → GivesUp s c n)
-      → Calls (IsClean is_clean) (StandsFor stood) (MayLeave may_leave) keeps desk (plain c) a desk
+      → Calls (desk_keeper keeper) desk (plain c) a desk
   gave_up desk c limit payload f a told is short lacks =
       unchanged desk c a (λ e. refused_so _ _ told) (λ s stands. lacking s.office c limit payload f a told is short (lacks s.office))

@@ -11,7 +11,7 @@ use Rattle.sieve_meaning.specs.Case.{Facts}
 use Rattle.filing_machine.specs.Runs.{IsOnRun}
 use Rattle.record_archive.specs.Archive.{Archive, capture, after_capture, capture_lines, has_room, AreClasses}
 use Rattle.record_archive.specs.Lines.{line_view}
-use Rattle.record_archive.specs.Calls.{CarriesOut, KeepsMade, Makes}
+use Rattle.record_archive.specs.Calls.{CarriesOut, Keeper, KeepsMade, Makes}
 use Rattle.record_archive.specs.Faults.{WhereRefused, number_of}
 use Rattle.record_archive.specs.declared.fault.ArchiveFault.{ArchiveFault}
 use Rattle.record_archive.specs.declared.fault.ArchiveFault.TheVariants.{Refused, Database, NoMemory}
@@ -64,27 +64,26 @@ reason a body day classes NoMemory refuses = record { number = 99; told = refl; 
 abbrev AreLines : ℕ → List (List ℕ) → Archive → Vec Line Global → Type 0
 AreLines day classes a lines = map line_view lines.items ≡ capture_lines a day classes
 
-module _ {A I : Type 0} (is_clean : A → Type 0) (stood : A → Archive → Type 0) (may_leave : A → I → Type 0)
-    (keeps : I → Archive → Type 0) where
+module _ {A : Type 0} (keeper : Keeper A Archive) where
   pub files_fault : (old new : A) (body : List ℕ) (day : ℕ) (classes : List (List ℕ))
       (result : Result (Vec Line Global) DeskFault) (f : DeskFault) → IsErr result → IsErrAnd result (λ x. x ≡ f)
-      → MakesRecords is_clean stood old new body day classes (Err f) → MakesRecords is_clean stood old new body day classes result
+      → MakesRecords keeper old new body day classes (Err f) → MakesRecords keeper old new body day classes result
   files_fault old new body day classes (Err e) f is same h = let P : DeskFault
-      → Type 0 = λ x. MakesRecords is_clean stood old new body day classes (Err x) in subst P (sym same) h
+      → Type 0 = λ x. MakesRecords keeper old new body day classes (Err x) in subst P (sym same) h
   files_fault old new body day classes (Ok v) f is same h = absurd (false≢true is)
 
   -- paths that are no classes of the archive's plan
   pub no_classes : (store : A) (plan : Listing) (body : List ℕ) (day : ℕ) (classes : List (List ℕ)) (b : Bool)
-      (f : DeskFault) → ((a : Archive) → stood store a → plan ≡ a.plan) → b ≡ false
-      → b ≡ list_all (has plan.rows) classes → MakesRecords is_clean stood store store body day classes (Err f)
+      (f : DeskFault) → ((a : Archive) → keeper.stands store a → plan ≡ a.plan) → b ≡ false
+      → b ≡ list_all (has plan.rows) classes → MakesRecords keeper store store body day classes (Err f)
   no_classes store plan body day classes b f kept off is = λ a stands are.
       let P : Listing → Type 0 = λ p. AreClasses p classes in
       absurd (false≢true (sym off ∙ is ∙ subst P (sym (kept a stands)) are))
 
   pub file_refused : {E : Type 0} (old new : A) (body said : List ℕ) (day on : ℕ) (classes : List (List ℕ))
       (f : ArchiveFault E) → said ≡ body → on ≡ day
-      → CarriesOut {E = E} is_clean stood may_leave keeps old new (λ a. capture a said on classes) (AreLines on classes) (Err f)
-      → MakesRecords is_clean stood old new body day classes (Err (archive_fault f))
+      → CarriesOut {E = E} keeper old new (λ a. capture a said on classes) (AreLines on classes) (Err f)
+      → MakesRecords keeper old new body day classes (Err (archive_fault f))
   file_refused old new body said day on classes f b d call = λ a stands are.
       let h = call.does a stands in
       let same : capture a said on classes ≡ capture a body day classes = λ i. capture a (b i) (d i) classes in
@@ -92,46 +91,46 @@ module _ {A I : Type 0} (is_clean : A → Type 0) (stood : A → Archive → Typ
 
   pub file_done : {E : Type 0} (old new : A) (body said : List ℕ) (day on : ℕ) (classes : List (List ℕ))
       (lines : Vec Line Global) → said ≡ body → on ≡ day
-      → CarriesOut {E = E} is_clean stood may_leave keeps old new (λ a. capture a said on classes) (AreLines on classes) (Ok lines)
-      → MakesRecords is_clean stood old new body day classes (Ok lines)
+      → CarriesOut {E = E} keeper old new (λ a. capture a said on classes) (AreLines on classes) (Ok lines)
+      → MakesRecords keeper old new body day classes (Ok lines)
   file_done old new body said day on classes lines b d call = λ clean a stands.
       let h = call.does clean a stands in
       let same : capture a said on classes ≡ capture a body day classes = λ i. capture a (b i) (d i) classes in
       let told_same : capture_lines a on classes ≡ capture_lines a day classes = λ i. capture_lines a (d i) classes in
-      (subst (Makes (stood new)) same h.0, h.1 ∙ told_same)
+      (subst (Makes (keeper.stands new)) same h.0, h.1 ∙ told_same)
 
   -- nothing was asked of the archive
   pub safe_same : (store : A) (body : List ℕ) (day : ℕ) (classes : List (List ℕ)) (result : Result (Vec Line Global) DeskFault)
-      → IsErr result → FilesSafely is_clean stood may_leave keeps store store body day classes result
+      → IsErr result → FilesSafely keeper store store body day classes result
   safe_same store body day classes (Err e) is = record { crash = λ clean a stands image may. inl may; kept = tt }
   safe_same store body day classes (Ok v) is = absurd (false≢true is)
 
   safe_call : {E : Type 0} (old new : A) (body said : List ℕ) (day on : ℕ) (classes : List (List ℕ))
       (result : Result (Vec Line Global) (ArchiveFault E)) → said ≡ body → on ≡ day
-      → CarriesOut {E = E} is_clean stood may_leave keeps old new (λ a. capture a said on classes) (AreLines on classes) result
-      → is_clean new → (a : Archive) → stood old a → (image : I) → may_leave new image
-      → may_leave old image ⊎ KeepsMade keeps image (capture a body day classes)
+      → CarriesOut {E = E} keeper old new (λ a. capture a said on classes) (AreLines on classes) result
+      → keeper.clean new → (a : Archive) → keeper.stands old a → (image : keeper.remains) → keeper.may_leave new image
+      → keeper.may_leave old image ⊎ KeepsMade keeper.keeps image (capture a body day classes)
   safe_call old new body said day on classes result b d call clean a stands image may =
-      let P : Result Archive ArchiveRefusal → Type 0 = λ r. KeepsMade keeps image r in
+      let P : Result Archive ArchiveRefusal → Type 0 = λ r. KeepsMade keeper.keeps image r in
       let same : capture a said on classes ≡ capture a body day classes = λ i. capture a (b i) (d i) classes in
       elim (call.crash clean a stands image may) [ inl before ↦ inl before | inr made ↦ inr (subst P same made) ]
 
   pub safe_refused : {E : Type 0} (old new : A) (body said : List ℕ) (day on : ℕ) (classes : List (List ℕ))
       (f : ArchiveFault E) (result : Result (Vec Line Global) DeskFault) → IsErr result → said ≡ body → on ≡ day
-      → CarriesOut {E = E} is_clean stood may_leave keeps old new (λ a. capture a said on classes) (AreLines on classes) (Err f)
-      → FilesSafely is_clean stood may_leave keeps old new body day classes result
+      → CarriesOut {E = E} keeper old new (λ a. capture a said on classes) (AreLines on classes) (Err f)
+      → FilesSafely keeper old new body day classes result
   safe_refused old new body said day on classes f (Err e) is b d call =
       record { crash = safe_call old new body said day on classes (Err f) b d call; kept = tt }
   safe_refused old new body said day on classes f (Ok v) is b d call = absurd (false≢true is)
 
   pub safe_done : {E : Type 0} (old new : A) (body said : List ℕ) (day on : ℕ) (classes : List (List ℕ))
       (lines : Vec Line Global) → said ≡ body → on ≡ day
-      → CarriesOut {E = E} is_clean stood may_leave keeps old new (λ a. capture a said on classes) (AreLines on classes) (Ok lines)
-      → FilesSafely is_clean stood may_leave keeps old new body day classes (Ok lines)
+      → CarriesOut {E = E} keeper old new (λ a. capture a said on classes) (AreLines on classes) (Ok lines)
+      → FilesSafely keeper old new body day classes (Ok lines)
   safe_done old new body said day on classes lines b d call = record {
     crash = safe_call old new body said day on classes (Ok lines) b d call;
     kept = λ clean a stands image may.
-        let P : Result Archive ArchiveRefusal → Type 0 = λ r. KeepsMade keeps image r in
+        let P : Result Archive ArchiveRefusal → Type 0 = λ r. KeepsMade keeper.keeps image r in
         let same : capture a said on classes ≡ capture a body day classes = λ i. capture a (b i) (d i) classes in
         subst P same (call.kept clean a stands image may);
   }

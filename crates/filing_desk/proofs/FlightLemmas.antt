@@ -13,8 +13,7 @@ use Rattle.mail_case.specs.Message.{is_among}
 use Rattle.record_archive.specs.Archive as archives
 use Rattle.record_archive.specs.Archive.{Archive, IsArchive, capture, capture_lines}
 use Rattle.record_archive.specs.Lines.{line_view}
-use Rattle.record_archive.specs.Calls.{KeepsMade, Makes}
-use Rattle.record_archive.specs.declared.fault.ArchiveRefusal.{ArchiveRefusal}
+use Rattle.record_archive.specs.Calls.{Keeper, KeepsMade}
 use Rattle.record_archive.specs.declared.fault.ArchiveRefusal.TheVariants.{Full}
 use Rattle.record_archive.specs.declared.line.Line.{Line}
 use Rattle.desk_commands.specs.Answers.{Answer, captured, refused}
@@ -29,10 +28,10 @@ use Rattle.desk_flights.specs.FlightViews.{FlightView, Holds, IsOpenAtBegin, IsO
 use Rattle.desk_flights.specs.Laws.{CapturesHaveClasses, HasOpen}
 use Rattle.desk_officers.specs.Register.{office_of}
 use Rattle.filing_desk.specs.Filing.{MakesRecords, FilesSafely, IsArchiveFault, IsNotFiled}
-use Rattle.filing_desk.specs.Standing.{AreOpenPaths, HasPathsOf, IsClean, MayLeave, StandsFor}
+use Rattle.filing_desk.specs.Standing.{AreOpenPaths, HasPathsOf, StandsFor, desk_keeper}
 use Rattle.filing_desk.specs.declared.desk.Desk.{Desk}
 use Rattle.filing_desk.proofs.ClassLemmas.{captured_plan}
-use Rattle.filing_desk.proofs.StepLemmas.{Crashes, no_stay, refused_so, untouched}
+use Rattle.filing_desk.proofs.StepLemmas.{Crashes, becomes, cleans, no_stay, refused_so, untouched}
 
 -- ---- flights
 
@@ -89,15 +88,14 @@ early_flag x f b tells holds e = go (nat_lt f.granted f.run_length) (sym (tells 
     go true h = refl
     go false h = absurd cc
 
-module _ {A I : Type 0} (is_clean : A → Type 0) (stood : A → Archive → Type 0) (may_leave : A → I → Type 0)
-    (keeps : I → Archive → Type 0) where
+module _ {A : Type 0} (keeper : Keeper A Archive) where
   -- the desk represents the state with other flights
   pub reflies : (old new : Desk A) (s : Standing) (fs : List Flight) (n : ℕ) → new.store ≡ old.store
       → new.officers ≡ old.officers → new.last ≡ n → AreOpenPaths new.open_paths s.office.archive.plan
-      → StandsFor stood old s → AreHeld new.flights fs → AllByRecursion (HasPathsOf s.office.archive.plan) fs
-      → StandsFor stood new (record { office = s.office; flights = fs; last = n })
+      → StandsFor keeper old s → AreHeld new.flights fs → AllByRecursion (HasPathsOf s.office.archive.plan) fs
+      → StandsFor keeper new (record { office = s.office; flights = fs; last = n })
   reflies old new s fs n es eo el paths stands held classes =
-      let P : A → Type 0 = λ x. stood x s.office.archive in
+      let P : A → Type 0 = λ x. keeper.stands x s.office.archive in
       record {
         store = subst P (sym es) stands.store;
         officers = ap (λ x. office_of s.office.archive x) eo ∙ stands.officers;
@@ -107,16 +105,13 @@ module _ {A I : Type 0} (is_clean : A → Type 0) (stood : A → Archive → Typ
         classes = classes;
       }
 
-  pub cleans : (old new : Desk A) → new.store ≡ old.store → is_clean new.store → is_clean old.store
-  cleans old new same clean = let P : A → Type 0 = λ x. is_clean x in subst P same clean
-
   -- turns are granted
   pub turned_by : (old new : Desk A) (t k : ℕ) (a : Answer) → new.store ≡ old.store → new.officers ≡ old.officers
       → new.last ≡ old.last → new.open_paths ≡ old.open_paths → Turns old.flights t k a new.flights
-      → Calls (IsClean is_clean) (StandsFor stood) (MayLeave may_leave) keeps old (turn t k) a new
+      → Calls (desk_keeper keeper) old (turn t k) a new
   unfolding Step
   turned_by old new t k a es eo el ep turns = record {
-    was_clean = cleans old new es;
+    was_clean = cleans keeper old new es;
     leads = λ sure s stands.
         let h = turns s stands.flights in
         let P : Option (List (List ℕ)) → Type 0 = λ x. AreOpenPaths x s.office.archive.plan in
@@ -128,33 +123,33 @@ module _ {A I : Type 0} (is_clean : A → Type 0) (stood : A → Archive → Typ
               (granted_classes s.office.archive.plan t h.made s.flights stands.classes);
         };
     unchanged = λ from_archive. absurd (false≢true from_archive);
-    crash = untouched is_clean stood may_leave keeps old new (turn t k) es;
+    crash = untouched keeper old new (turn t k) es;
     kept = λ from_archive. absurd (false≢true from_archive);
   }
 
   -- nothing is finished
   finish_same : (desk : Desk A) (t : ℕ) (a : Answer) → is_refusal a ≡ true
-      → ((s : Standing) → StandsFor stood desk s → FinishStep s t (flight_of t s.flights) a s)
-      → Calls (IsClean is_clean) (StandsFor stood) (MayLeave may_leave) keeps desk (finish t) a desk
+      → ((s : Standing) → StandsFor keeper desk s → FinishStep s t (flight_of t s.flights) a s)
+      → Calls (desk_keeper keeper) desk (finish t) a desk
   unfolding Step
   finish_same desk t a is step = record {
     was_clean = λ clean. clean;
     leads = λ sure s stands. record { to = s; is_one = step s stands; there = stands };
     unchanged = λ from_archive refused s stands. stands;
-    crash = untouched is_clean stood may_leave keeps desk desk (finish t) refl;
-    kept = λ from_archive other. no_stay is_clean stood may_leave keeps desk desk (finish t) a is other;
+    crash = untouched keeper desk desk (finish t) refl;
+    kept = λ from_archive other. no_stay keeper desk desk (finish t) a is other;
   }
 
   -- no capture in flight has the ticket
   pub finish_none : (desk : Desk A) (t : ℕ) → Finds desk.flights t None
-      → Calls (IsClean is_clean) (StandsFor stood) (MayLeave may_leave) keeps desk (finish t) (refused 91 None) desk
+      → Calls (desk_keeper keeper) desk (finish t) (refused 91 None) desk
   finish_none desk t finds = finish_same desk t (refused 91 None) refl (λ s stands.
       let P : Option Flight → Type 0 = λ o. FinishStep s t o (refused 91 None) s in
       subst P (sym (none_found (flight_of t s.flights) (finds s.flights stands.flights))) (refl, refl))
 
   -- a capture that has not come to its end
   pub finish_early : (desk : Desk A) (t : ℕ) (x : FlightView) (b : Bool) → Finds desk.flights t (Some x) → TellsEnd x b
-      → b ≡ false → Calls (IsClean is_clean) (StandsFor stood) (MayLeave may_leave) keeps desk (finish t) (refused 92 None) desk
+      → b ≡ false → Calls (desk_keeper keeper) desk (finish t) (refused 92 None) desk
   finish_early desk t x b finds tells e = finish_same desk t (refused 92 None) refl (λ s stands.
       let f = some_found (flight_of t s.flights) x (finds s.flights stands.flights) in
       let early = early_flag x f.0 b tells f.2 e in
@@ -163,7 +158,7 @@ module _ {A I : Type 0} (is_clean : A → Type 0) (stood : A → Archive → Typ
   -- there is no memory for the outcome
   pub finish_poor : (desk : Desk A) (t : ℕ) (x : FlightView) (b : Bool) (a : Answer) → Finds desk.flights t (Some x)
       → TellsEnd x b → b ≡ true → a ≡ refused 99 None
-      → Calls (IsClean is_clean) (StandsFor stood) (MayLeave may_leave) keeps desk (finish t) a desk
+      → Calls (desk_keeper keeper) desk (finish t) a desk
   finish_poor desk t x b a finds tells e told = finish_same desk t a (ap is_refusal told) (λ s stands.
       let f = some_found (flight_of t s.flights) x (finds s.flights stands.flights) in
       let ended = ended_flag x f.0 b tells f.2 e in
@@ -174,13 +169,13 @@ module _ {A I : Type 0} (is_clean : A → Type 0) (stood : A → Archive → Typ
   of_flight x f s holds = ap (λ z. unsigned_abs z) holds.day
 
   -- after nothing was filed, the desk represents the same state
-  finish_stays : (are_classes : CapturesHaveClasses) → ((x : A) (a : Archive) → stood x a → IsArchive a)
+  finish_stays : (are_classes : CapturesHaveClasses) → ((x : A) (a : Archive) → keeper.stands x a → IsArchive a)
       → (old new : Desk A) (t : ℕ) (x : FlightView) (o : Outcome) (f : DeskFault) → Finds old.flights t (Some x)
       → All (IsOpenAtBegin x) o.classes
-      → MakesRecords is_clean stood old.store new.store x.message (number_of_day x.day) o.classes (Err f)
+      → MakesRecords keeper old.store new.store x.message (number_of_day x.day) o.classes (Err f)
       → new.officers ≡ old.officers → new.flights ≡ old.flights → new.last ≡ old.last → new.open_paths ≡ old.open_paths
-      → (s : Standing) → StandsFor stood old s → StandsFor stood new s
-      × (is_clean new.store → IsNotFiled s.office.archive x.message (number_of_day x.day) o.classes f)
+      → (s : Standing) → StandsFor keeper old s → StandsFor keeper new s
+      × (keeper.clean new.store → IsNotFiled s.office.archive x.message (number_of_day x.day) o.classes f)
   finish_stays are_classes is_archive old new t x o f finds each files eo ef el ep s stands =
       let here = some_found (flight_of t s.flights) x (finds s.flights stands.flights) in
       let classes =
@@ -190,7 +185,7 @@ module _ {A I : Type 0} (is_clean : A → Type 0) (stood : A → Archive → Typ
       let filed = files s.office.archive stands.store classes in
       let P : Option (List (List ℕ)) → Type 0 = λ y. AreOpenPaths y s.office.archive.plan in
       let Q : List FlightView → Type 0 = λ xs. AreHeld xs s.flights in
-      let there : StandsFor stood new s = record {
+      let there : StandsFor keeper new s = record {
         store = filed.0;
         officers = ap (λ y. office_of s.office.archive y) eo ∙ stands.officers;
         flights = subst Q (sym ef) stands.flights;
@@ -248,11 +243,11 @@ module _ {A I : Type 0} (is_clean : A → Type 0) (stood : A → Archive → Typ
       subst T (sym here) step
 
   -- what a crash leaves of the capture keeps the archive that it makes
-  keeps_filed : (s : Standing) (t : ℕ) (x : FlightView) (f : Flight) (b : Bool) (o : Outcome) (image : I) (lines : List archives.Line)
+  keeps_filed : (s : Standing) (t : ℕ) (x : FlightView) (f : Flight) (b : Bool) (o : Outcome) (image : keeper.remains) (lines : List archives.Line)
       → flight_of t s.flights ≡ Some f → Holds x f → TellsEnd x b → b ≡ true → IsOutcome x o
       → lines ≡ capture_lines s.office.archive (number_of_day x.day) o.classes
-      → KeepsMade keeps image (capture s.office.archive x.message (number_of_day x.day) o.classes)
-      → KeepsOne keeps image (Step s (finish t) (captured o.fault lines))
+      → KeepsMade keeper.keeps image (capture s.office.archive x.message (number_of_day x.day) o.classes)
+      → KeepsOne keeper.keeps image (Step s (finish t) (captured o.fault lines))
   keeps_filed s t x f b o image lines here holds tells e alone told made = record {
     to = after_capture_of s t made.0;
     is_one = filed_step s t x f b o made.0 lines here holds tells e alone made.1 told;
@@ -261,8 +256,8 @@ module _ {A I : Type 0} (is_clean : A → Type 0) (stood : A → Archive → Typ
 
   crashes_filed : (old new : Desk A) (t : ℕ) (x : FlightView) (b : Bool) (o : Outcome) (result : Result (Vec Line Global) DeskFault)
       → Finds old.flights t (Some x) → TellsEnd x b → b ≡ true → IsOutcome x o
-      → FilesSafely is_clean stood may_leave keeps old.store new.store x.message (number_of_day x.day) o.classes result
-      → Crashes is_clean stood may_leave keeps old new (finish t)
+      → FilesSafely keeper old.store new.store x.message (number_of_day x.day) o.classes result
+      → Crashes keeper old new (finish t)
   crashes_filed old new t x b o result finds tells e alone safe clean s stands image may =
       let here = some_found (flight_of t s.flights) x (finds s.flights stands.flights) in
       let lines = capture_lines s.office.archive (number_of_day x.day) o.classes in
@@ -272,15 +267,15 @@ module _ {A I : Type 0} (is_clean : A → Type 0) (stood : A → Archive → Typ
       ]
 
   -- nothing is filed
-  pub finish_refused : CapturesHaveClasses → ((x : A) (a : Archive) → stood x a → IsArchive a)
+  pub finish_refused : CapturesHaveClasses → ((x : A) (a : Archive) → keeper.stands x a → IsArchive a)
       → (old new : Desk A) (t : ℕ) (x : FlightView) (b : Bool) (o : Outcome) (f : DeskFault) (a : Answer)
       → Finds old.flights t (Some x) → TellsEnd x b → b ≡ true → IsOutcome x o
       → All (IsOpenAtBegin x) o.classes
-      → MakesRecords is_clean stood old.store new.store x.message (number_of_day x.day) o.classes (Err f) → IsArchiveFault f
-      → FilesSafely is_clean stood may_leave keeps old.store new.store x.message (number_of_day x.day) o.classes (Err f)
-      → (is_clean new.store → is_clean old.store) → new.officers ≡ old.officers → new.flights ≡ old.flights
+      → MakesRecords keeper old.store new.store x.message (number_of_day x.day) o.classes (Err f) → IsArchiveFault f
+      → FilesSafely keeper old.store new.store x.message (number_of_day x.day) o.classes (Err f)
+      → (keeper.clean new.store → keeper.clean old.store) → new.officers ≡ old.officers → new.flights ≡ old.flights
       → new.last ≡ old.last → new.open_paths ≡ old.open_paths → a ≡ refused_by f
-      → Calls (IsClean is_clean) (StandsFor stood) (MayLeave may_leave) keeps old (finish t) a new
+      → Calls (desk_keeper keeper) old (finish t) a new
   unfolding Step
   finish_refused are_classes is_archive old new t x b o f a finds tells e alone each files fault safe falls eo ef el ep told = record {
     was_clean = falls;
@@ -294,37 +289,33 @@ module _ {A I : Type 0} (is_clean : A → Type 0) (stood : A → Archive → Typ
         record { to = s; is_one = subst R (sym told) step; there = stays.0 };
     unchanged = λ from_archive refused s stands. (finish_stays are_classes is_archive old new t x o f finds each files eo ef el ep s stands).0;
     crash = crashes_filed old new t x b o (Err f) finds tells e alone safe;
-    kept = λ from_archive other. no_stay is_clean stood may_leave keeps old new (finish t) a (refused_so _ _ told) other;
+    kept = λ from_archive other. no_stay keeper old new (finish t) a (refused_so _ _ told) other;
   }
-
-  becomes : (new : A) (r : Result Archive ArchiveRefusal) → Makes (stood new) r → (b : Archive) × (r ≡ Ok b) × stood new b
-  becomes new (Ok b) h = (b, refl, h)
-  becomes new (Err f) h = absurd h
 
   -- a capture is whole
   pub finish_done : (old new : Desk A) (t : ℕ) (x : FlightView) (b : Bool) (o : Outcome) (lines : Vec Line Global)
       → Finds old.flights t (Some x) → TellsEnd x b → b ≡ true → IsOutcome x o
-      → MakesRecords is_clean stood old.store new.store x.message (number_of_day x.day) o.classes (Ok lines)
-      → FilesSafely is_clean stood may_leave keeps old.store new.store x.message (number_of_day x.day) o.classes (Ok lines)
-      → (is_clean new.store → is_clean old.store) → new.officers ≡ old.officers → Removes old.flights t new.flights
+      → MakesRecords keeper old.store new.store x.message (number_of_day x.day) o.classes (Ok lines)
+      → FilesSafely keeper old.store new.store x.message (number_of_day x.day) o.classes (Ok lines)
+      → (keeper.clean new.store → keeper.clean old.store) → new.officers ≡ old.officers → Removes old.flights t new.flights
       → new.last ≡ old.last → new.open_paths ≡ old.open_paths
-      → Calls (IsClean is_clean) (StandsFor stood) (MayLeave may_leave) keeps old (finish t) (captured o.fault (map line_view lines.items)) new
+      → Calls (desk_keeper keeper) old (finish t) (captured o.fault (map line_view lines.items)) new
   unfolding Step
   finish_done old new t x b o lines finds tells e alone files safe falls eo removes el ep = record {
     was_clean = falls;
     leads = λ sure s stands.
-        let clean : is_clean new.store = sure refl in
+        let clean : keeper.clean new.store = sure refl in
         let here = some_found (flight_of t s.flights) x (finds s.flights stands.flights) in
         let was = s.office.archive in
         let day = number_of_day x.day in
         let h = files clean was stands.store in
-        let made = becomes new.store (capture was x.message day o.classes) h.0 in
+        let made = becomes keeper new.store (capture was x.message day o.classes) h.0 in
         let now = made.0 in
         let same : now.plan ≡ was.plan = captured_plan was now x.message day o.classes made.1 in
         let P : Option (List (List ℕ)) → Type 0 = λ y. AreOpenPaths y now.plan in
         let Q : Listing → Type 0 = λ p. AreOpenPaths old.open_paths p in
         let U : Listing → Type 0 = λ p. AllByRecursion (HasPathsOf p) (without t s.flights) in
-        let there : StandsFor stood new (after_capture_of s t now) = record {
+        let there : StandsFor keeper new (after_capture_of s t now) = record {
           store = made.2;
           officers = ap (λ y. office_of now y) eo ∙ ap (λ y. with_archive y now) stands.officers;
           flights = removes s.flights stands.flights;

@@ -2,7 +2,8 @@
 use Rattle.std.proofs.Common.{◌≡◌, ℕ, List, true, false, Option, Some, None, Ok, refl, ap, ◌∙◌, sym, subst}
 use Rattle.std.proofs.lemmas.Bool.{false≢true}
 use Rattle.sieve_meaning.specs.declared.run_fault.RunFault.{RunFault}
-use Rattle.record_archive.specs.Archive.{Archive, Line}
+use Rattle.record_archive.specs.Archive.{Line}
+use Rattle.record_archive.specs.Calls.{Keeper}
 use Rattle.desk_commands.specs.Answers.{Answer, captured}
 use Rattle.desk_commands.specs.Calls.{Calls}
 use Rattle.desk_commands.specs.Standing.{Standing, finish, flight_of}
@@ -14,46 +15,45 @@ use Rattle.filing_desk.specs.declared.deliveries.OnFault.TheVariants.{GiveUp, Ca
 use Rattle.filing_desk.proofs.FaultyRunLemmas.{captured_told}
 use Rattle.filing_desk.proofs.BegunLemmas.{is_faulty}
 
-module _ {D : Type 0} (clean : D → Type 0) (stands : D → Standing → Type 0) (old : D) (officer : List ℕ) (moment : ℕ)
-    (message : List ℕ) where
+module _ {D : Type 0} (keeper : Keeper D Standing) (old : D) (officer : List ℕ) (moment : ℕ) (message : List ℕ) where
   -- a message that is given up has the fault that is reported of its capture
   given_up_for : (calls : List Call) (t b : ℕ) (turned : Answer) (fault : RunFault) (new : D)
-      → calls ≡ first_calls officer moment message t b turned → Follows clean stands old calls new
-      → ((z : Standing) → stands new z → TellsFault (flight_of t z.flights) (Some fault))
-      → (s : Standing) → stands old s → IsFaulty stands s officer moment message fault new
+      → calls ≡ first_calls officer moment message t b turned → Follows keeper old calls new
+      → ((z : Standing) → keeper.stands new z → TellsFault (flight_of t z.flights) (Some fault))
+      → (s : Standing) → keeper.stands old s → IsFaulty keeper s officer moment message fault new
   given_up_for calls t b turned fault new is follows told s there =
-      let outside : are_of_archive calls ≡ true → clean new =
+      let outside : are_of_archive calls ≡ true → keeper.clean new =
       λ e. absurd (let no : false ≡ true = sym (ap are_of_archive is) ∙ e in false≢true no) in
       let l = follows.leads outside s there in
       let From : List Call → Type 0 = λ xs. Goes s xs l.to in
-      is_faulty stands s l.to officer moment message t b turned fault new (subst From is l.is_one) l.there told
+      is_faulty keeper s l.to officer moment message t b turned fault new (subst From is l.is_one) l.there told
 
   pub heeds_given_up : (on_fault : OnFault) (calls : List Call) (t b : ℕ) (turned : Answer) (fault : RunFault) (new : D)
-      → calls ≡ first_calls officer moment message t b turned → Follows clean stands old calls new
-      → (on_fault ≡ GiveUp → (z : Standing) → stands new z → TellsFault (flight_of t z.flights) (Some fault))
+      → calls ≡ first_calls officer moment message t b turned → Follows keeper old calls new
+      → (on_fault ≡ GiveUp → (z : Standing) → keeper.stands new z → TellsFault (flight_of t z.flights) (Some fault))
       → (on_fault ≡ Capture → ◌≡◌ {A = Option RunFault} (Some fault) None)
-      → Heeds clean stands old officer moment message (Ok (GivenUp fault)) on_fault new
+      → Heeds keeper old officer moment message (Ok (GivenUp fault)) on_fault new
   heeds_given_up GiveUp calls t b turned fault new is follows told none =
       λ s there. given_up_for calls t b turned fault new is follows (told refl) s there
   heeds_given_up Capture calls t b turned fault new is follows told none =
       let no : ◌≡◌ {A = Option RunFault} (Some fault) None = none refl in cc
 
   -- a message that is captured has the fault that is reported of its capture
-  captured_for : {I : Type 0} (may_leave : D → I → Type 0) (keeps : I → Archive → Type 0) (calls : List Call) (t : ℕ)
-      (told : Option RunFault) (lines : List Line) (mid new : D) → Follows clean stands old calls mid
-      → ((z : Standing) → stands mid z → TellsFault (flight_of t z.flights) None)
-      → Calls clean stands may_leave keeps mid (finish t) (captured told lines) new
-      → clean new → (s : Standing) → stands old s → told ≡ None
-  captured_for may_leave keeps calls t told lines mid new follows none call h s there =
+  captured_for : (calls : List Call) (t : ℕ)
+      (told : Option RunFault) (lines : List Line) (mid new : D) → Follows keeper old calls mid
+      → ((z : Standing) → keeper.stands mid z → TellsFault (flight_of t z.flights) None)
+      → Calls keeper mid (finish t) (captured told lines) new
+      → keeper.clean new → (s : Standing) → keeper.stands old s → told ≡ None
+  captured_for calls t told lines mid new follows none call h s there =
       let l = follows.leads (λ e. call.was_clean h) s there in
       let k = call.leads (λ e. h) l.to l.there in
       captured_told l.to k.to t told None lines (none l.to l.there) k.is_one
 
-  pub heeds_captured : {I : Type 0} (may_leave : D → I → Type 0) (keeps : I → Archive → Type 0) (on_fault : OnFault)
-      (calls : List Call) (t : ℕ) (c : results.Capture) (lines : List Line) (mid new : D) → Follows clean stands old calls mid
-      → (on_fault ≡ GiveUp → (z : Standing) → stands mid z → TellsFault (flight_of t z.flights) None)
-      → Calls clean stands may_leave keeps mid (finish t) (captured c.fault lines) new
-      → Heeds clean stands old officer moment message (Ok (Captured c)) on_fault new
-  heeds_captured may_leave keeps GiveUp calls t c lines mid new follows none call =
-      λ h s there. captured_for may_leave keeps calls t c.fault lines mid new follows (none refl) call h s there
-  heeds_captured may_leave keeps Capture calls t c lines mid new follows none call = tt
+  pub heeds_captured : (on_fault : OnFault) (calls : List Call) (t : ℕ) (c : results.Capture) (lines : List Line) (mid new : D)
+      → Follows keeper old calls mid
+      → (on_fault ≡ GiveUp → (z : Standing) → keeper.stands mid z → TellsFault (flight_of t z.flights) None)
+      → Calls keeper mid (finish t) (captured c.fault lines) new
+      → Heeds keeper old officer moment message (Ok (Captured c)) on_fault new
+  heeds_captured GiveUp calls t c lines mid new follows none call =
+      λ h s there. captured_for calls t c.fault lines mid new follows (none refl) call h s there
+  heeds_captured Capture calls t c lines mid new follows none call = tt

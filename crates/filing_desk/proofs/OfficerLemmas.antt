@@ -6,6 +6,7 @@ use Rattle.sieve_syntax.specs.Tree.{CommandTrees}
 use Rattle.sieve_meaning.specs.Program.{Commands}
 use Rattle.sieve_meaning.specs.Reading.{program_of}
 use Rattle.record_archive.specs.Archive.{Archive}
+use Rattle.record_archive.specs.Calls.{Keeper}
 use Rattle.desk_commands.specs.Answers.{Answer, done}
 use Rattle.desk_commands.specs.ArchiveAnswers.{is_for_archive, is_of_archive}
 use Rattle.desk_commands.specs.Calls.{Calls}
@@ -21,9 +22,9 @@ use Rattle.desk_commands.specs.declared.fault.DeskFault.TheVariants.{LibraryFull
 use Rattle.desk_flights.specs.Flights.{AreHeld}
 use Rattle.desk_flights.specs.FlightViews.{FlightView}
 use Rattle.desk_officers.specs.Register.{office_of, officer_at}
-use Rattle.filing_desk.specs.Standing.{AreOpenPaths, HasPathsOf, IsClean, MayLeave, StandsFor}
+use Rattle.filing_desk.specs.Standing.{AreOpenPaths, HasPathsOf, StandsFor, desk_keeper}
 use Rattle.filing_desk.specs.declared.desk.Desk.{Desk}
-use Rattle.filing_desk.proofs.StepLemmas.{plain_calls, untouched}
+use Rattle.filing_desk.proofs.StepLemmas.{cleans, plain_calls, untouched}
 
 -- ---- steps of the office
 
@@ -90,8 +91,7 @@ activate_refused s officer name o f same (inr poor) none exact =
 not_of_archive : (c : PlainCommand) (a : Answer) → is_for_archive c ≡ false → is_of_archive (plain c) a ≡ false
 not_of_archive c a apart = rw apart refl
 
-module _ {A I : Type 0} (is_clean : A → Type 0) (stood : A → Archive → Type 0) (may_leave : A → I → Type 0)
-    (keeps : I → Archive → Type 0) where
+module _ {A : Type 0} (keeper : Keeper A Archive) where
   -- the desk is as it was, except for its officers
   pub record KeepsOthers (old new : Desk A) : Type 0 where
     pub store : new.store ≡ old.store
@@ -100,12 +100,12 @@ module _ {A I : Type 0} (is_clean : A → Type 0) (stood : A → Archive → Typ
     pub open_paths : new.open_paths ≡ old.open_paths
 
   -- the desk represents the state with the office that its officers have now
-  resets : (old new : Desk A) (s : Standing) (b : Office) → KeepsOthers old new → StandsFor stood old s
+  resets : (old new : Desk A) (s : Standing) (b : Office) → KeepsOthers old new → StandsFor keeper old s
       → b.archive ≡ s.office.archive → office_of s.office.archive new.officers ≡ b
-      → StandsFor stood new (record s { office = b })
+      → StandsFor keeper new (record s { office = b })
   resets old new s b rest stands same is =
-      let P : A → Type 0 = λ x. stood x b.archive in
-      let Q : Archive → Type 0 = λ x. stood old.store x in
+      let P : A → Type 0 = λ x. keeper.stands x b.archive in
+      let Q : Archive → Type 0 = λ x. keeper.stands old.store x in
       let R : List FlightView → Type 0 = λ xs. AreHeld xs s.flights in
       let T : Option (List (List ℕ)) → Type 0 = λ x. AreOpenPaths x b.archive.plan in
       let U : Archive → Type 0 = λ x. AreOpenPaths old.open_paths x.plan in
@@ -119,41 +119,38 @@ module _ {A I : Type 0} (is_clean : A → Type 0) (stood : A → Archive → Typ
         classes = subst V (sym same) stands.classes;
       }
 
-  cleans : (old new : Desk A) → new.store ≡ old.store → is_clean new.store → is_clean old.store
-  cleans old new same clean = let P : A → Type 0 = λ x. is_clean x in subst P same clean
-
   -- something is set
   pub set_by : (old new : Desk A) (c : PlainCommand) (change : Office → Office) → is_for_archive c ≡ false → KeepsOthers old new
       → ((s : Office) → (change s).archive ≡ s.archive)
       → ((a : Archive) → office_of a new.officers ≡ change (office_of a old.officers))
-      → ((s : Standing) → StandsFor stood old s → Settles s.office c (change s.office))
-      → Calls (IsClean is_clean) (StandsFor stood) (MayLeave may_leave) keeps old (plain c) done new
-  set_by old new c change apart rest same is settles = plain_calls is_clean stood may_leave keeps old new c done (cleans old new
+      → ((s : Standing) → StandsFor keeper old s → Settles s.office c (change s.office))
+      → Calls (desk_keeper keeper) old (plain c) done new
+  set_by old new c change apart rest same is settles = plain_calls keeper old new c done (cleans keeper old new
       rest.store) (λ sure s stands. (
         change s.office,
         inl (settles s stands),
         resets old new s (change s.office) rest stands (same s.office) (is s.office.archive
             ∙ ap change stands.officers),
-      )) (λ refused. absurd (false≢true refused)) (untouched is_clean stood may_leave keeps old new (plain c) rest.store)
+      )) (λ refused. absurd (false≢true refused)) (untouched keeper old new (plain c) rest.store)
       (λ from_archive. absurd (false≢true (sym (not_of_archive c done apart) ∙ from_archive)))
 
   -- nothing is set
   pub not_set : (old new : Desk A) (c : PlainCommand) (a : Answer) → is_for_archive c ≡ false → KeepsOthers old new → new.officers ≡ old.officers
-      → ((s : Standing) → StandsFor stood old s → OfficeStep s.office c a s.office)
-      → Calls (IsClean is_clean) (StandsFor stood) (MayLeave may_leave) keeps old (plain c) a new
+      → ((s : Standing) → StandsFor keeper old s → OfficeStep s.office c a s.office)
+      → Calls (desk_keeper keeper) old (plain c) a new
   not_set old new c a apart rest same step =
-      plain_calls is_clean stood may_leave keeps old new c a (cleans old new rest.store) (λ sure s stands.
+      plain_calls keeper old new c a (cleans keeper old new rest.store) (λ sure s stands.
       (s.office, step s stands, stays s stands)) (λ refused s stands. stays s stands)
-      (untouched is_clean stood may_leave keeps old new (plain c) rest.store)
+      (untouched keeper old new (plain c) rest.store)
       (λ from_archive. absurd (false≢true (sym (not_of_archive c a apart) ∙ from_archive)))
     where
-      stays : (s : Standing) → StandsFor stood old s → StandsFor stood new s
+      stays : (s : Standing) → StandsFor keeper old s → StandsFor keeper new s
       stays s stands = resets old new s s.office rest stands refl (ap (λ x. office_of s.office.archive x) same ∙ stands.officers)
 
   -- what the officers have, as the state does
-  pub globals_are : (desk : Desk A) (s : Standing) → StandsFor stood desk s → (office_of s.office.archive desk.officers).globals ≡ s.office.globals
+  pub globals_are : (desk : Desk A) (s : Standing) → StandsFor keeper desk s → (office_of s.office.archive desk.officers).globals ≡ s.office.globals
   globals_are desk s stands = ap (λ (o : Office). o.globals) stands.officers
 
-  pub officer_is : (desk : Desk A) (s : Standing) (name : List ℕ) → StandsFor stood desk s
+  pub officer_is : (desk : Desk A) (s : Standing) (name : List ℕ) → StandsFor keeper desk s
       → officer_at name desk.officers.officers ≡ s.office.officers name
   officer_is desk s name stands = ap (λ (o : Office). o.officers name) stands.officers

@@ -6,6 +6,7 @@ use Rattle.class_plan.specs.declared.faults.PlanFault.{PlanFault}
 use Rattle.class_plan.specs.declared.faults.PlanFault.TheVariants as plans
 use Rattle.class_plan.specs.declared.faults.PlanFault.TheVariants.{PathDropped}
 use Rattle.record_archive.specs.Archive.{Archive, revise}
+use Rattle.record_archive.specs.Calls.{Keeper}
 use Rattle.record_archive.specs.declared.fault.ArchiveRefusal.TheVariants.{Plan}
 use Rattle.desk_commands.specs.Answers.{Answer}
 use Rattle.desk_commands.specs.Calls.{Calls}
@@ -16,7 +17,7 @@ use Rattle.desk_commands.specs.Parts.{IsPlanOf}
 use Rattle.desk_commands.specs.Standing.{plain}
 use Rattle.desk_commands.specs.declared.fault.DeskFault.{DeskFault}
 use Rattle.desk_commands.specs.declared.fault.DeskFault.TheVariants as faults
-use Rattle.filing_desk.specs.Standing.{IsClean, MayLeave, StandsFor}
+use Rattle.filing_desk.specs.Standing.{StandsFor, desk_keeper}
 use Rattle.filing_desk.specs.declared.desk.Desk.{Desk}
 use Rattle.filing_desk.proofs.ClassLemmas.{revised_keeps}
 use Rattle.filing_desk.proofs.FaultLemmas.{unchanged}
@@ -57,20 +58,19 @@ long_step s t f (inr h) =
     let P : DeskFault → Type 0 = λ x. OfficeStep s (set_plan t) (refused_by x) s in
     subst P (sym h.1) (inr (99, (inl refl, h.0), refl, refl))
 
-module _ {A I : Type 0} (is_clean : A → Type 0) (stood : A → Archive → Type 0) (may_leave : A → I → Type 0)
-    (keeps : I → Archive → Type 0) where
+module _ {A : Type 0} (keeper : Keeper A Archive) where
   pub no_text : (desk : Desk A) (t : List ℕ) (f : DeskFault) (a : Answer) → a ≡ refused_by f
       → ((greatest_plan < length t) × (f ≡ faults.PlanTooLong)) ⊎ ((length t ≤ greatest_plan) × (f ≡ faults.NoMemory))
-      → Calls (IsClean is_clean) (StandsFor stood) (MayLeave may_leave) keeps desk (plain (set_plan t)) a desk
-  no_text desk t f a told h = unchanged is_clean stood may_leave keeps desk (set_plan t) a
+      → Calls (desk_keeper keeper) desk (plain (set_plan t)) a desk
+  no_text desk t f a told h = unchanged keeper desk (set_plan t) a
       (λ e. refused_so _ _ told) (λ s stands.
       let P : Answer → Type 0 = λ x. OfficeStep s.office (set_plan t) x s.office in
       subst P (sym told) (long_step s.office t f h))
 
   pub no_plan : (desk : Desk A) (t : List ℕ) (f : PlanFault) (a : Answer) → a ≡ refused_by (plan_fault f)
       → length t ≤ greatest_plan → (f ≢ plans.NoMemory → plan_of_text t ≡ Err f)
-      → Calls (IsClean is_clean) (StandsFor stood) (MayLeave may_leave) keeps desk (plain (set_plan t)) a desk
-  no_plan desk t f a told short refuses = unchanged is_clean stood may_leave keeps desk (set_plan t) a
+      → Calls (desk_keeper keeper) desk (plain (set_plan t)) a desk
+  no_plan desk t f a told short refuses = unchanged keeper desk (set_plan t) a
       (λ e. refused_so _ _ told) (λ s stands.
       let P : Answer → Type 0 = λ x. OfficeStep s.office (set_plan t) x s.office in
       subst P (sym told) (text_step s.office t f short refuses))

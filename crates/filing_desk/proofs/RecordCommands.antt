@@ -3,7 +3,7 @@ use Rattle.std.proofs.Common.{◌≡◌, ◌≤◌, ◌^◌, ℕ, List, Option, 
 use Rattle.class_plan.specs.Plans.{Listing}
 use Rattle.record_archive.specs.Archive as archives
 use Rattle.record_archive.specs.Archive.{Archive, IsArchive}
-use Rattle.record_archive.specs.Calls.{CarriesOut, Quietly}
+use Rattle.record_archive.specs.Calls.{CarriesOut, Keeper, Quietly}
 use Rattle.record_archive.specs.declared.fault.ArchiveFault.{ArchiveFault}
 use Rattle.record_archive.specs.declared.fault.ArchiveRefusal.{ArchiveRefusal}
 use Rattle.record_archive.specs.declared.fault.ArchiveRefusal.TheVariants.{NoRecord}
@@ -12,7 +12,7 @@ use Rattle.desk_commands.specs.Calls.{Calls}
 use Rattle.desk_commands.specs.Faults.{refused_by, refusal_fault, archive_fault}
 use Rattle.desk_commands.specs.Office.{PlainCommand, hold, release, destroy}
 use Rattle.desk_commands.specs.Standing.{plain}
-use Rattle.filing_desk.specs.Standing.{AreOpenPaths, IsClean, MayLeave, StandsFor}
+use Rattle.filing_desk.specs.Standing.{AreOpenPaths, StandsFor, desk_keeper}
 use Rattle.filing_desk.specs.declared.desk.Desk.{Desk}
 use Rattle.filing_desk.proofs.ClassLemmas.{destroy_stays, hold_stays, release_stays, same_keeps}
 use Rattle.filing_desk.proofs.NumberLemmas.{no_destruction, no_hold, no_release}
@@ -67,34 +67,33 @@ destroys day = record {
   none = λ n a is large. no_destruction a n day is large;
 }
 
-module _ {A I : Type 0} (is_clean : A → Type 0) (stood : A → Archive → Type 0) (may_leave : A → I → Type 0)
-    (keeps : I → Archive → Type 0) (c : ℕ → PlainCommand) (command : ℕ
+module _ {A : Type 0} (keeper : Keeper A Archive) (c : ℕ → PlainCommand) (command : ℕ
     → Archive → Result Archive ArchiveRefusal) (of : IsOfRecord c command) where
   -- the number has more than 32 bits
-  pub number_refused : ((x : A) (a : Archive) → stood x a → IsArchive a)
+  pub number_refused : ((x : A) (a : Archive) → keeper.stands x a → IsArchive a)
       → (desk : Desk A) (n : ℕ) (r : ArchiveRefusal) (a : Answer) → (r ≡ NoRecord) × (2 ^ 32 ≤ n)
-      → a ≡ refused_by (refusal_fault r) → Calls (IsClean is_clean) (StandsFor stood) (MayLeave may_leave) keeps desk (plain (c n)) a desk
+      → a ≡ refused_by (refusal_fault r) → Calls (desk_keeper keeper) desk (plain (c n)) a desk
   number_refused is_archive desk n r a large told =
-      refused_by_number is_clean stood may_leave keeps is_archive desk (c n) (command n) r a (of.is n) (λ x is. of.none n x is large.1
+      refused_by_number keeper is_archive desk (c n) (command n) r a (of.is n) (λ x is. of.none n x is large.1
       ∙ ap (λ e. Err e) (sym large.0)) told
 
   -- the archive refuses, or its database or the memory does
   pub record_refused : {E : Type 0} (old new : Desk A) (n asked : ℕ) (f : ArchiveFault E) (a : Answer) → n ≡ asked
-      → KeepsRest is_clean stood may_leave keeps old new → new.open_paths ≡ old.open_paths
-      → CarriesOut {X = Unit {0}} {E = E} is_clean stood may_leave keeps old.store new.store (command n) Quietly (Err f)
-      → a ≡ refused_by (archive_fault f) → Calls (IsClean is_clean) (StandsFor stood) (MayLeave may_leave) keeps old (plain (c asked)) a new
+      → KeepsRest keeper old new → new.open_paths ≡ old.open_paths
+      → CarriesOut {X = Unit {0}} {E = E} keeper old.store new.store (command n) Quietly (Err f)
+      → a ≡ refused_by (archive_fault f) → Calls (desk_keeper keeper) old (plain (c asked)) a new
   record_refused old new n asked f a same rest paths call told =
-      let P : ℕ → Type 0 = λ m. Calls (IsClean is_clean) (StandsFor stood) (MayLeave may_leave) keeps old (plain (c m)) a new in
-      subst P same (refused_by_archive is_clean stood may_leave keeps old new (c n) (command n) f a (of.is n) rest paths call told)
+      let P : ℕ → Type 0 = λ m. Calls (desk_keeper keeper) old (plain (c m)) a new in
+      subst P same (refused_by_archive keeper old new (c n) (command n) f a (of.is n) rest paths call told)
 
-  pub record_done : {E : Type 0} (old new : Desk A) (n asked : ℕ) → n ≡ asked → KeepsRest is_clean stood may_leave keeps old new
+  pub record_done : {E : Type 0} (old new : Desk A) (n asked : ℕ) → n ≡ asked → KeepsRest keeper old new
       → new.open_paths ≡ old.open_paths
-      → CarriesOut {X = Unit {0}} {E = E} is_clean stood may_leave keeps old.store new.store (command n) Quietly (Ok tt)
-      → Calls (IsClean is_clean) (StandsFor stood) (MayLeave may_leave) keeps old (plain (c asked)) done new
+      → CarriesOut {X = Unit {0}} {E = E} keeper old.store new.store (command n) Quietly (Ok tt)
+      → Calls (desk_keeper keeper) old (plain (c asked)) done new
   record_done old new n asked same rest paths call =
-      let P : ℕ → Type 0 = λ m. Calls (IsClean is_clean) (StandsFor stood) (MayLeave may_leave) keeps old (plain (c m)) done new in
+      let P : ℕ → Type 0 = λ m. Calls (desk_keeper keeper) old (plain (c m)) done new in
       subst P same
-      (done_by is_clean stood may_leave keeps old new (c n) (command n) (of.is n) rest
+      (done_by keeper old new (c n) (command n) (of.is n) rest
       (λ a b made there. let P : Listing → Type 0 = λ p. AreOpenPaths old.open_paths p in let Q : Option (List (List ℕ))
       → Type 0 = λ x. AreOpenPaths x b.plan in subst Q (sym paths) (subst P (sym (of.stays n a b made)) there))
       call)

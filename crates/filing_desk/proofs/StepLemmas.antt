@@ -6,7 +6,7 @@ use Rattle.std.proofs.lemmas.Bool.{false≢true}
 use Rattle.std.specs.List.{AllByRecursion}
 use Rattle.class_plan.specs.Plans.{Listing, has}
 use Rattle.record_archive.specs.Archive.{Archive, IsArchive}
-use Rattle.record_archive.specs.Calls.{CarriesOut, KeepsMade, Makes, Quietly}
+use Rattle.record_archive.specs.Calls.{CarriesOut, Keeper, KeepsMade, Makes, Quietly}
 use Rattle.record_archive.specs.Faults.{WhereRefused, number_of}
 use Rattle.record_archive.specs.declared.fault.ArchiveFault.{ArchiveFault}
 use Rattle.record_archive.specs.declared.fault.ArchiveFault.TheVariants.{Refused, Database, NoMemory}
@@ -23,7 +23,7 @@ use Rattle.desk_flights.specs.Flights.{AreHeld}
 use Rattle.desk_flights.specs.FlightViews.{FlightView}
 use Rattle.desk_officers.specs.Register.{office_of}
 use Rattle.filing_desk.specs.Filing.{IsArchiveFault}
-use Rattle.filing_desk.specs.Standing.{AreOpenPaths, HasPathsOf, IsClean, MayLeave, StandsFor}
+use Rattle.filing_desk.specs.Standing.{AreOpenPaths, HasPathsOf, StandsFor, desk_keeper}
 use Rattle.filing_desk.specs.declared.desk.Desk.{Desk}
 use Rattle.filing_desk.proofs.ArchiveLemmas.{fault_told, told, no_place}
 
@@ -91,8 +91,7 @@ still_classes : (p q : Listing) (fs : List Flight) → ((x : List ℕ) → has p
 still_classes p q [] keeps all = tt
 still_classes p q (f ∷ fs) keeps all = ((λ x there. keeps x (all.0 x there)), still_classes p q fs keeps all.1)
 
-module _ {A I : Type 0} (is_clean : A → Type 0) (stood : A → Archive → Type 0) (may_leave : A → I → Type 0)
-    (keeps : I → Archive → Type 0) where
+module _ {A : Type 0} (keeper : Keeper A Archive) where
   -- the desk is as it was, except for its store and the paths that it keeps
   pub record KeepsRest (old new : Desk A) : Type 0 where
     pub officers : new.officers ≡ old.officers
@@ -101,28 +100,31 @@ module _ {A I : Type 0} (is_clean : A → Type 0) (stood : A → Archive → Typ
 
   -- a crash leaves what it might have left before, or the archive that the command makes
   abbrev pub Crashes : (old new : Desk A) → Command → Type 0
-  Crashes old new c = is_clean new.store → (s : Standing) → StandsFor stood old s → (image : I) → may_leave new.store image
-      → may_leave old.store image ⊎ ((answer : Answer) × KeepsOne keeps image (Step s c answer))
+  Crashes old new c = keeper.clean new.store → (s : Standing) → StandsFor keeper old s → (image : keeper.remains)
+      → keeper.may_leave new.store image → keeper.may_leave old.store image ⊎ ((answer : Answer) × KeepsOne keeper.keeps image (Step s c answer))
 
   -- what a crash leaves keeps the archive of a state to which the command leads by this answer
   abbrev pub Stays : (old new : Desk A) → Command → Answer → Type 0
-  Stays old new c a = is_clean new.store → (s : Standing) → StandsFor stood old s → (image : I) → may_leave new.store image
-      → KeepsOne keeps image (Step s c a)
+  Stays old new c a = keeper.clean new.store → (s : Standing) → StandsFor keeper old s → (image : keeper.remains)
+      → keeper.may_leave new.store image → KeepsOne keeper.keeps image (Step s c a)
 
   -- the archive is not touched
   pub untouched : (old new : Desk A) (c : Command) → new.store ≡ old.store → Crashes old new c
-  untouched old new c same clean s stands image may = inl (let P : A → Type 0 = λ x. may_leave x image in subst P same may)
+  untouched old new c same clean s stands image may = inl (let P : A → Type 0 = λ x. keeper.may_leave x image in subst P same may)
+
+  pub cleans : (old new : Desk A) → new.store ≡ old.store → keeper.clean new.store → keeper.clean old.store
+  cleans old new same clean = let P : A → Type 0 = λ x. keeper.clean x in subst P same clean
 
   -- it is refused, so that nothing is said of it
   pub no_stay : (old new : Desk A) (c : Command) (a : Answer) → is_refusal a ≡ true → is_refusal a ≡ false → Stays old new c a
   no_stay old new c a is other = absurd (false≢true (sym other ∙ is))
 
-  pub plain_calls : (old new : Desk A) (c : PlainCommand) (a : Answer) → (is_clean new.store → is_clean old.store)
-      → ((is_of_archive (plain c) a ≡ true → is_clean new.store) → (s : Standing) → StandsFor stood old s → (b : Office)
-      × OfficeStep s.office c a b × StandsFor stood new (record s { office = b }))
-      → (is_refusal a ≡ true → (s : Standing) → StandsFor stood old s → StandsFor stood new s)
+  pub plain_calls : (old new : Desk A) (c : PlainCommand) (a : Answer) → (keeper.clean new.store → keeper.clean old.store)
+      → ((is_of_archive (plain c) a ≡ true → keeper.clean new.store) → (s : Standing) → StandsFor keeper old s → (b : Office)
+      × OfficeStep s.office c a b × StandsFor keeper new (record s { office = b }))
+      → (is_refusal a ≡ true → (s : Standing) → StandsFor keeper old s → StandsFor keeper new s)
       → Crashes old new (plain c) → (is_of_archive (plain c) a ≡ true → is_refusal a ≡ false → Stays old new (plain c) a)
-      → Calls (IsClean is_clean) (StandsFor stood) (MayLeave may_leave) keeps old (plain c) a new
+      → Calls (desk_keeper keeper) old (plain c) a new
   unfolding Step
   plain_calls old new c a falls leads holds crashes stays = record {
     was_clean = falls;
@@ -135,9 +137,9 @@ module _ {A I : Type 0} (is_clean : A → Type 0) (stood : A → Archive → Typ
   }
 
   -- the desk represents the state with the archive that its store represents now
-  pub restands : (old new : Desk A) (s : Standing) (b : Archive) → KeepsRest old new → StandsFor stood old s
-      → stood new.store b → AreOpenPaths new.open_paths b.plan → ((q : List ℕ) → has s.office.archive.plan.rows q ≡ true
-      → has b.plan.rows q ≡ true) → StandsFor stood new (record s { office = with_archive s.office b })
+  pub restands : (old new : Desk A) (s : Standing) (b : Archive) → KeepsRest old new → StandsFor keeper old s
+      → keeper.stands new.store b → AreOpenPaths new.open_paths b.plan → ((q : List ℕ) → has s.office.archive.plan.rows q ≡ true
+      → has b.plan.rows q ≡ true) → StandsFor keeper new (record s { office = with_archive s.office b })
   restands old new s b rest stands store paths keeps =
       let P : List FlightView → Type 0 = λ xs. AreHeld xs s.flights in
       record {
@@ -151,12 +153,12 @@ module _ {A I : Type 0} (is_clean : A → Type 0) (stood : A → Archive → Typ
 
   -- the same with the archive as it was
   pub still_stands : (old new : Desk A) (s : Standing) → KeepsRest old new → new.open_paths ≡ old.open_paths
-      → StandsFor stood old s → stood new.store s.office.archive → StandsFor stood new s
+      → StandsFor keeper old s → keeper.stands new.store s.office.archive → StandsFor keeper new s
   still_stands old new s rest same stands store =
       let P : Option (List (List ℕ)) → Type 0 = λ x. AreOpenPaths x s.office.archive.plan in
       restands old new s s.office.archive rest stands store (subst P (sym same) stands.open_paths) (λ q there. there)
 
-  becomes : (new : A) (r : Result Archive ArchiveRefusal) → Makes (stood new) r → (b : Archive) × (r ≡ Ok b) × stood new b
+  pub becomes : (new : A) (r : Result Archive ArchiveRefusal) → Makes (keeper.stands new) r → (b : Archive) × (r ≡ Ok b) × keeper.stands new b
   becomes new (Ok b) h = (b, refl, h)
   becomes new (Err f) h = absurd h
 
@@ -172,8 +174,8 @@ module _ {A I : Type 0} (is_clean : A → Type 0) (stood : A → Archive → Typ
     refl,
   )
 
-  keeps_done : (s : Standing) (c : PlainCommand) (command : Archive → Result Archive ArchiveRefusal) (image : I)
-      → IsCommand c command → KeepsMade keeps image (command s.office.archive) → KeepsOne keeps image (Step s (plain c) done)
+  keeps_done : (s : Standing) (c : PlainCommand) (command : Archive → Result Archive ArchiveRefusal) (image : keeper.remains)
+      → IsCommand c command → KeepsMade keeper.keeps image (command s.office.archive) → KeepsOne keeper.keeps image (Step s (plain c) done)
   keeps_done s c command image is made = record {
     to = done_to s made.0;
     is_one = done_step s c command made.0 is made.1;
@@ -183,7 +185,7 @@ module _ {A I : Type 0} (is_clean : A → Type 0) (stood : A → Archive → Typ
   -- a call of the archive by this command
   crashes_by : {E X : Type 0} (Answers : Archive → X → Type 0) (result : Result X (ArchiveFault E)) (old new : Desk A)
       (c : PlainCommand) (command : Archive → Result Archive ArchiveRefusal) → IsCommand c command
-      → CarriesOut {E = E} is_clean stood may_leave keeps old.store new.store command Answers result → Crashes old new (plain c)
+      → CarriesOut {E = E} keeper old.store new.store command Answers result → Crashes old new (plain c)
   crashes_by Answers result old new c command is call clean s stands image may =
       elim (call.crash clean s.office.archive stands.store image may) [
         | inl before ↦ inl before
@@ -194,10 +196,10 @@ module _ {A I : Type 0} (is_clean : A → Type 0) (stood : A → Archive → Typ
   pub done_by : {E : Type 0} (old new : Desk A) (c : PlainCommand) (command : Archive → Result Archive ArchiveRefusal)
       → IsCommand c command → KeepsRest old new
       → ((a b : Archive) → command a ≡ Ok b → AreOpenPaths old.open_paths a.plan → AreOpenPaths new.open_paths b.plan)
-      → CarriesOut {X = Unit {0}} {E = E} is_clean stood may_leave keeps old.store new.store command Quietly (Ok tt)
-      → Calls (IsClean is_clean) (StandsFor stood) (MayLeave may_leave) keeps old (plain c) done new
+      → CarriesOut {X = Unit {0}} {E = E} keeper old.store new.store command Quietly (Ok tt)
+      → Calls (desk_keeper keeper) old (plain c) done new
   done_by old new c command is rest paths call = plain_calls old new c done call.was_clean (λ sure s stands.
-      let clean : is_clean new.store = sure (of_archive c done is.for_archive refl) in
+      let clean : keeper.clean new.store = sure (of_archive c done is.for_archive refl) in
       let b = becomes new.store (command s.office.archive) (call.does clean s.office.archive stands.store).0 in
       let step : Settles s.office c (with_archive s.office b.0) =
       is.settles s.office (with_archive s.office b.0) (made s.office b.0 (command s.office.archive) b.1) in (
@@ -213,8 +215,8 @@ module _ {A I : Type 0} (is_clean : A → Type 0) (stood : A → Archive → Typ
   pub refused_by_archive : {E : Type 0} (old new : Desk A) (c : PlainCommand) (command : Archive
       → Result Archive ArchiveRefusal) (f : ArchiveFault E) (a : Answer) → IsCommand c command → KeepsRest old new
       → new.open_paths ≡ old.open_paths
-      → CarriesOut {X = Unit {0}} {E = E} is_clean stood may_leave keeps old.store new.store command Quietly (Err f)
-      → a ≡ refused_by (archive_fault f) → Calls (IsClean is_clean) (StandsFor stood) (MayLeave may_leave) keeps old (plain c) a new
+      → CarriesOut {X = Unit {0}} {E = E} keeper old.store new.store command Quietly (Err f)
+      → a ≡ refused_by (archive_fault f) → Calls (desk_keeper keeper) old (plain c) a new
   refused_by_archive old new c command f a is rest same call is_told = plain_calls old new c a call.was_clean (λ sure s stands.
       let h = call.does s.office.archive stands.store in
       let P : Answer → Type 0 = λ x. OfficeStep s.office c x s.office in
@@ -227,11 +229,11 @@ module _ {A I : Type 0} (is_clean : A → Type 0) (stood : A → Archive → Typ
       (λ from_archive other. no_stay old new (plain c) a (refused_so _ _ is_told) other)
 
   -- no record has the number
-  pub refused_by_number : ((x : A) (a : Archive) → stood x a → IsArchive a)
+  pub refused_by_number : ((x : A) (a : Archive) → keeper.stands x a → IsArchive a)
       → (desk : Desk A) (c : PlainCommand) (command : Archive
       → Result Archive ArchiveRefusal) (r : ArchiveRefusal) (a : Answer) → IsCommand c command
       → ((x : Archive) → IsArchive x → command x ≡ Err r) → a ≡ refused_by (refusal_fault r)
-      → Calls (IsClean is_clean) (StandsFor stood) (MayLeave may_leave) keeps desk (plain c) a desk
+      → Calls (desk_keeper keeper) desk (plain c) a desk
   refused_by_number is_archive desk c command r a is none is_told = plain_calls desk desk c a (λ clean. clean) (λ sure s stands.
       let P : Answer → Type 0 = λ x. OfficeStep s.office c x s.office in (
         s.office,

@@ -3,6 +3,7 @@ use Rattle.std.specs.Prelude.{◌≡◌, ◌⊎◌, ℕ, ◌+◌, List, [], ◌�
 use Rattle.std.specs.Prelude.{Option, Some, None, Result, Ok, Err}
 use Rattle.sieve_meaning.specs.declared.outcome.Outcome.{Outcome}
 use Rattle.sieve_meaning.specs.declared.run_fault.RunFault.{RunFault}
+use Rattle.record_archive.specs.Calls.{Keeper}
 use Rattle.desk_commands.specs.Answers.{Answer, begun, captured, refused}
 use Rattle.desk_commands.specs.ArchiveAnswers.{is_of_archive}
 use Rattle.desk_commands.specs.CallAnswers.{answer_of_capture}
@@ -35,10 +36,10 @@ are_of_archive (c ∷ calls) = is_of_archive c.command c.answer || are_of_archiv
 
 -- A desk went through these calls. Where it is clean afterwards, it was clean before, and each state that it represented
 -- leads by the calls to one that it represents. Only an answer of the archive needs that the desk is clean afterwards.
-pub record Follows {D : Type 0} (clean : D → Type 0) (stands : D → Standing → Type 0) (old : D) (calls : List Call)
-    (new : D) : Type 0 where
-  pub was_clean : clean new → clean old
-  pub leads : (are_of_archive calls ≡ true → clean new) → (s : Standing) → stands old s → Leads stands new (Goes s calls)
+pub record Follows {D : Type 0} (keeper : Keeper D Standing) (old : D) (calls : List Call) (new : D) : Type 0 where
+  pub was_clean : keeper.clean new → keeper.clean old
+  pub leads : (are_of_archive calls ≡ true → keeper.clean new) → (s : Standing) → keeper.stands old s →
+      Leads keeper new (Goes s calls)
 
 -- The outcome of a capture alone, by the state at its beginning, has this fault, or none.
 abbrev pub HasFault : BeginState → Option RunFault → Type 0
@@ -91,21 +92,21 @@ module _ (officer : List ℕ) (moment : ℕ) (message : List ℕ) where
 -- A message that was delivered in this state has this fault. In each state that the desk then represents, a FINISH of its
 -- ticket, which is the next one, would be answered with this fault or refused. And where no capture had that ticket
 -- before, as in each state of a session, the outcome of the capture alone, by the state at its BEGIN, has this fault.
-pub record IsFaulty {D : Type 0} (stands : D → Standing → Type 0) (s : Standing) (officer : List ℕ) (moment : ℕ)
+pub record IsFaulty {D : Type 0} (keeper : Keeper D Standing) (s : Standing) (officer : List ℕ) (moment : ℕ)
     (message : List ℕ) (fault : RunFault) (new : D) : Type 0 where
-  pub answers : (to after : Standing) (a : Answer) → stands new to → Step to (finish (s.last + 1)) a after → AnswersFault fault a
+  pub answers : (to after : Standing) (a : Answer) → keeper.stands new to → Step to (finish (s.last + 1)) a after →
+      AnswersFault fault a
   pub alone : flight_of (s.last + 1) s.flights ≡ None → HasFault (begin_state s.office officer moment message) (Some fault)
 
-module _ {D : Type 0} (clean : D → Type 0) (stands : D → Standing → Type 0) (old : D) (officer : List ℕ) (moment : ℕ)
-    (message : List ℕ) where
+module _ {D : Type 0} (keeper : Keeper D Standing) (old : D) (officer : List ℕ) (moment : ℕ) (message : List ℕ) where
   abbrev pub BeginsCapture : Result ℕ DeskFault → (new : D) → Type 0
-  BeginsCapture result new = (calls : List Call) × AreFirst officer moment message result calls × Follows clean stands old calls new
+  BeginsCapture result new = (calls : List Call) × AreFirst officer moment message result calls × Follows keeper old calls new
 
   -- What was to be done on a fault is done. Where messages are given up for a fault, one that was captured has none, on a
   -- clean disk, and one that was given up has the fault that is reported, on any disk. Else none is given up.
   abbrev pub Heeds : Result Delivery DeskFault → OnFault → (new : D) → Type 0
-  Heeds (Ok (Captured c)) GiveUp new = clean new → (s : Standing) → stands old s → c.fault ≡ None
-  Heeds (Ok (GivenUp fault)) GiveUp new = (s : Standing) → stands old s → IsFaulty stands s officer moment message fault new
+  Heeds (Ok (Captured c)) GiveUp new = keeper.clean new → (s : Standing) → keeper.stands old s → c.fault ≡ None
+  Heeds (Ok (GivenUp fault)) GiveUp new = (s : Standing) → keeper.stands old s → IsFaulty keeper s officer moment message fault new
   Heeds (Ok (Captured c)) Capture new = Unit {0}
   Heeds (Ok (GivenUp fault)) Capture new = ⊥
   Heeds (Err f) on_fault new = Unit {0}
@@ -113,4 +114,4 @@ module _ {D : Type 0} (clean : D → Type 0) (stands : D → Standing → Type 0
   -- the desk went through the calls of a delivery, this is their result, and on a fault it was done as was said
   abbrev pub Delivers : OnFault → Result Delivery DeskFault → (new : D) → Type 0
   Delivers on_fault result new = (calls : List Call) × AreCalls officer moment message result calls
-      × Follows clean stands old calls new × Heeds result on_fault new
+      × Follows keeper old calls new × Heeds result on_fault new

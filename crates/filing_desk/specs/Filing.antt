@@ -3,7 +3,7 @@ use Rattle.std.specs.Prelude.{◌≡◌, ◌⊎◌, ℕ, List, map, false, None,
 use Rattle.std.specs.declared.alloc.Global.{Global}
 use Rattle.record_archive.specs.Archive.{Archive, capture, capture_lines, AreClasses}
 use Rattle.record_archive.specs.Lines.{line_view}
-use Rattle.record_archive.specs.Calls.{KeepsMade, Makes}
+use Rattle.record_archive.specs.Calls.{Keeper, KeepsMade, Makes}
 use Rattle.record_archive.specs.declared.fault.ArchiveRefusal.TheVariants.{Full}
 use Rattle.record_archive.specs.declared.line.Line.{Line}
 use Rattle.desk_commands.specs.Answers.{refused}
@@ -24,21 +24,20 @@ pub record IsNotFiled (a : Archive) (body : List ℕ) (on : ℕ) (classes : List
   pub reason : IsTrouble number ⊎ ((number ≡ 87) × (capture a body on classes ≡ Err Full))
 
 -- the capture of a message in these classes is made whole, or not at all
-abbrev pub MakesRecords : {A : Type 0} → (clean : A → Type 0) → (stands : A → Archive → Type 0) → (old new : A) →
-    (body : List ℕ) (day : ℕ) (classes : List (List ℕ)) → Result (Vec Line Global) DeskFault → Type 0
-MakesRecords clean stands old new body day classes (Ok lines) =
-    clean new → (a : Archive) → stands old a → Makes (stands new) (capture a body day classes) ×
+abbrev pub MakesRecords : {A : Type 0} → Keeper A Archive → (old new : A) → (body : List ℕ) (day : ℕ)
+    (classes : List (List ℕ)) → Result (Vec Line Global) DeskFault → Type 0
+MakesRecords keeper old new body day classes (Ok lines) =
+    keeper.clean new → (a : Archive) → keeper.stands old a → Makes (keeper.stands new) (capture a body day classes) ×
     (map line_view lines.items ≡ capture_lines a day classes)
-MakesRecords clean stands old new body day classes (Err f) =
-    (a : Archive) → stands old a → AreClasses a.plan classes → stands new a ×
-    (clean new → IsNotFiled a body day classes f)
+MakesRecords keeper old new body day classes (Err f) =
+    (a : Archive) → keeper.stands old a → AreClasses a.plan classes → keeper.stands new a ×
+    (keeper.clean new → IsNotFiled a body day classes f)
 
 -- What a crash may leave after the capture is what a crash might have left before, or keeps the archive with it; and
 -- where the capture is made, it keeps that.
-pub record FilesSafely {A I : Type 0} (clean : A → Type 0) (stands : A → Archive → Type 0) (may_leave : A → I → Type 0)
-    (keeps : I → Archive → Type 0) (old new : A) (body : List ℕ) (day : ℕ) (classes : List (List ℕ))
-    (result : Result (Vec Line Global) DeskFault) : Type 0 where
-  pub crash : clean new → (a : Archive) → stands old a → (image : I) → may_leave new image →
-      may_leave old image ⊎ KeepsMade keeps image (capture a body day classes)
-  pub kept : OnOk result (clean new → (a : Archive) → stands old a → (image : I) → may_leave new image →
-      KeepsMade keeps image (capture a body day classes))
+pub record FilesSafely {A : Type 0} (keeper : Keeper A Archive) (old new : A) (body : List ℕ) (day : ℕ)
+    (classes : List (List ℕ)) (result : Result (Vec Line Global) DeskFault) : Type 0 where
+  pub crash : keeper.clean new → (a : Archive) → keeper.stands old a → (image : keeper.remains) → keeper.may_leave new image →
+      keeper.may_leave old image ⊎ KeepsMade keeper.keeps image (capture a body day classes)
+  pub kept : OnOk result (keeper.clean new → (a : Archive) → keeper.stands old a → (image : keeper.remains) →
+      keeper.may_leave new image → KeepsMade keeper.keeps image (capture a body day classes))

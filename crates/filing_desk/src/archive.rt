@@ -27,12 +27,12 @@ pub(crate) fn file_outcome<A: Records>(
     flight: &Flight,
     classes: &Paths,
 ) -> Result<Vec<Line>, DeskFault>
-    ensures files { MakesRecords A.clean A.stands store.old store.new flight.now.message
+    ensures files { MakesRecords A.keeper store.old store.new flight.now.message
         (number_of_day flight.now.day) classes.now result }
-    ensures safe { FilesSafely A.clean A.stands A.may_leave A.keeps store.old store.new
-        flight.now.message (number_of_day flight.now.day) classes.now result }
+    ensures safe { FilesSafely A.keeper store.old store.new flight.now.message
+        (number_of_day flight.now.day) classes.now result }
     ensures fault { IfErr result IsArchiveFault }
-    ensures was_clean { A.clean store.new → A.clean store.old }
+    ensures was_clean { A.keeper.clean store.new → A.keeper.clean store.old }
 {
     if !are_classes(store.plan(), classes) {
         return Err(DeskFault::Archive(ArchiveRefusal::NoArchive));

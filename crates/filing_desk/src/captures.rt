@@ -25,7 +25,7 @@ use std::alloc::{AllocError, Global};
 
 impl<A: Records> Desk<A> {
     ghost use Rattle.desk_commands.specs.Calls.{Calls};
-    ghost use Rattle.filing_desk.specs.Standing.{IsClean, MayLeave, StandsFor};
+    ghost use Rattle.filing_desk.specs.Standing.{StandsFor, desk_keeper};
 
     /// The day of a moment, where one more capture may begin. Else 94, 95, 90 or 97, judged in this order.
     fn judge_begin(&self, moment: u64, message: &Message<'_>) -> Result<Date, DeskFault>
@@ -100,10 +100,8 @@ impl<A: Records> Desk<A> {
         moment: u64,
         message: Message<'_>,
     ) -> Result<(u32, u32), DeskFault>
-        ensures { (m : List ℕ) → IsMessageOf message.entry m
-            → Calls (IsClean A.clean) (StandsFor A.stands)
-            (MayLeave A.may_leave) A.keeps self.old
-            (commands.begin officer.now moment m) (answer_of_ticket result) self.new }
+        ensures { (m : List ℕ) → IsMessageOf message.entry m → Calls (desk_keeper A.keeper)
+            self.old (commands.begin officer.now moment m) (answer_of_ticket result) self.new }
     {
         captures_hold_flights();
         every_run_ends();
@@ -126,8 +124,7 @@ impl<A: Records> Desk<A> {
         moment: u64,
         pieces: &[&[u8]],
     ) -> Result<(u32, u32), DeskFault>
-        ensures { Calls (IsClean A.clean) (StandsFor A.stands)
-            (MayLeave A.may_leave) A.keeps self.old
+        ensures { Calls (desk_keeper A.keeper) self.old
             (commands.begin officer.now moment (whole_message pieces.now))
             (answer_of_ticket result) self.new }
     {
@@ -136,8 +133,8 @@ impl<A: Records> Desk<A> {
 
     /// The pinned program of a capture in flight, and its machine; none where no capture in flight has the ticket.
     pub fn in_flight(&self, ticket: u64) -> Option<(&Verified, &Machine)>
-        ensures { (s : Standing)
-            → StandsFor A.stands self.now s → MatchOption result (flight_of ticket s.flights ≡ None)
+        ensures { (s : Standing) → StandsFor A.keeper self.now s
+            → MatchOption result (flight_of ticket s.flights ≡ None)
             (λ p. IsShownBy (flight_of ticket s.flights) p.0.now p.1.now) }
     {
         match self.flights.get(ticket) {

@@ -5,7 +5,7 @@ ghost use Rattle.desk_commands.specs.Limits.{greatest_message};
 ghost use Rattle.desk_commands.specs.Payloads.{IsOf};
 ghost use Rattle.desk_commands.specs.Standing.{Standing, flight_of};
 ghost use Rattle.desk_commands.specs.declared.fault.DeskFault.TheVariants.{NoMemory};
-ghost use Rattle.filing_desk.specs.Standing.{IsClean, StandsFor};
+ghost use Rattle.filing_desk.specs.Standing.{StandsFor, desk_keeper};
 ghost use Rattle.filing_desk.specs.Deliveries.{BeginsCapture, Delivers, TellsFault};
 
 use crate::desk::Desk;
@@ -40,8 +40,7 @@ fn begin_and_run<A: Records>(
     message: Payload,
 ) -> Result<u32, DeskFault>
     ensures { (m : List ℕ) → IsOf greatest_message message m
-        → BeginsCapture (IsClean A.clean) (StandsFor A.stands) desk.old officer.now moment m
-        result desk.new }
+        → BeginsCapture (desk_keeper A.keeper) desk.old officer.now moment m result desk.new }
 {
     let (ticket, budget) = desk.begin(officer, moment, message)?;
     desk.turn(u64::from(ticket), budget)?;
@@ -50,7 +49,7 @@ fn begin_and_run<A: Records>(
 
 /// The fault of a capture that has come to its end, if its run ended with one.
 fn fault_in<A: Records>(desk: &Desk<A>, ticket: u32) -> Result<Option<RunFault>, AllocError>
-    ensures { (s : Standing) → StandsFor A.stands desk.now s
+    ensures { (s : Standing) → StandsFor A.keeper desk.now s
         → IfOk result (TellsFault (flight_of ticket s.flights)) }
 {
     let Some((_, machine)) = desk.in_flight(u64::from(ticket)) else {
@@ -69,7 +68,7 @@ fn fault_against<A: Records>(
     ticket: u32,
     on_fault: OnFault,
 ) -> Result<Option<RunFault>, DeskFault>
-    ensures told { on_fault ≡ OnFault.GiveUp → (s : Standing) → StandsFor A.stands desk.now s
+    ensures told { on_fault ≡ OnFault.GiveUp → (s : Standing) → StandsFor A.keeper desk.now s
         → IfOk result (TellsFault (flight_of ticket s.flights)) }
     ensures none { on_fault ≡ OnFault.Capture → IfOk result (λ f. f ≡ None) }
     ensures refused { IfErr result (λ f. f ≡ NoMemory) }
@@ -96,8 +95,7 @@ pub fn deliver<A: Records>(
     on_fault: OnFault,
 ) -> Result<Delivery, DeskFault>
     ensures { (m : List ℕ) → IsOf greatest_message message m
-        → Delivers (IsClean A.clean) (StandsFor A.stands) desk.old officer.now moment m
-        on_fault result desk.new }
+        → Delivers (desk_keeper A.keeper) desk.old officer.now moment m on_fault result desk.new }
 {
     let ticket = begin_and_run(desk, officer, moment, message)?;
     if let Some(fault) = fault_against(desk, ticket, on_fault)? {

@@ -30,8 +30,8 @@ impl<A: Records> Desk<A> {
     /// A desk over an archive that is kept, with no script, no program of an officer and no capture in flight. The only error is no
     /// memory (99), and it hands the archive back.
     pub fn new(alloc: Global, store: A) -> Result<Desk<A>, A>
-        ensures opens { IfOk result (λ d. (a : Archive) → A.stands store a →
-            StandsFor A.stands d (opening a)) }
+        ensures opens { IfOk result (λ d. (a : Archive) → A.keeper.stands store a →
+            StandsFor A.keeper d (opening a)) }
         ensures over { IfOk result (λ d. d.store ≡ store) }
         ensures handed_back { IfErr result (λ s. s ≡ store) }
     {
@@ -48,8 +48,8 @@ impl<A: Records> Desk<A> {
     /// Gives the archive back. Scripts, programs and captures in flight are dropped.
     pub fn into_store(self) -> A
         ensures store { result ≡ self.store }
-        ensures stands { (s : Standing) → StandsFor A.stands self s
-            → A.stands result s.office.archive }
+        ensures stands { (s : Standing) → StandsFor A.keeper self s
+            → A.keeper.stands result s.office.archive }
     {
         let Desk { store, .. } = self;
         store

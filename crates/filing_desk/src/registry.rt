@@ -14,17 +14,9 @@ use sieve_library::{Shelf, Shelves};
 use sieve_meaning::Outcome;
 
 impl<A: Records> Registry for Desk<A> {
-    ghost use Rattle.filing_desk.specs.Standing.{IsClean, MayLeave, StandsFor};
+    ghost use Rattle.filing_desk.specs.Standing.{desk_keeper};
 
-    ghost clean = { IsClean A.clean };
-
-    ghost stands = { StandsFor A.stands };
-
-    ghost remains = { A.remains };
-
-    ghost may_leave = { MayLeave A.may_leave };
-
-    ghost keeps = { A.keeps };
+    ghost keeper = { desk_keeper A.keeper };
 
     fn add_class(&mut self, path: &[u8]) -> Result<(), DeskFault> {
         self.store.add_class(path)?;

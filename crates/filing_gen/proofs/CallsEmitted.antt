@@ -1,6 +1,6 @@
 -- The code of the includes of a procedure, by what they come to.
-use Rattle.std.proofs.Common.{◌≡◌, ℕ, ◌+◌, List, [], Bool, true, false, refl, ap, ◌∙◌, arith}
-use Rattle.filing_flow.specs.Structure.{Flow, size}
+use Rattle.std.proofs.Common.{◌≡◌, ℕ, List, [], Bool, true, false, refl, ap, ◌∙◌, arith}
+use Rattle.filing_flow.specs.Structure.{Flow}
 use Rattle.filing_flow.specs.Types.{Shape, HasType}
 use Rattle.filing_gen.specs.IncludeCode.{once_flow}
 use Rattle.filing_gen.specs.Inclusions.{code_of_call, code_of}
@@ -23,7 +23,3 @@ module _ (a : Flow) (own slot : ℕ) (call : Call) (once : Bool) (j : Inclusion)
 
   pub once_code : once ≡ true → a ≡ once_flow true slot (code_of_call own slot call)
   once_code marked = entered ∙ ap (λ (b : Bool). once_flow b slot (code_of_call own slot call)) marked
-
-  pub once_long : once ≡ true → size a ≡ size (code_of_call own slot call) + 2
-  once_long marked = let e : size a ≡ size (once_flow true slot (code_of_call own slot call)) =
-      ap (λ (b : Flow). size b) (once_code marked) in omega (arith, e)

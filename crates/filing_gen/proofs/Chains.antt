@@ -4,6 +4,7 @@ use Rattle.std.proofs.Common.{sym, ap, ◌∙◌, subst, arith, drop, get_or}
 use Rattle.std.specs.Prelude.{if◌then◌else◌}
 use Rattle.std.specs.List.{All}
 use Rattle.std.proofs.lemmas.List.{length-set}
+use Rattle.std.proofs.Math.ListN.{drop_of_length-le}
 use Rattle.std.proofs.lemmas.List.Elements.{All-nil}
 use Rattle.filing_image.specs.declared.instruction.Operation.TheVariants.{Jump, JumpUnless}
 use Rattle.sieve_syntax.specs.Tree.{CommandTree, command, CommandTrees, no_commands}
@@ -27,7 +28,7 @@ use Rattle.filing_gen.specs.BlockCode.{test_flow, flow, branch_flow}
 use Rattle.filing_gen.specs.Adds.{Puts, Emits, HasRoom}
 use Rattle.filing_gen.specs.Ends.{no_place, with_operation, with_jumps}
 use Rattle.filing_gen.specs.Emission.{commands_long, part_long, long_from, plain_flow, part_flow, part_ends, is_apart, EmitsPart, EmitsOpen}
-use Rattle.filing_gen.proofs.Emitted.{grows, put_grows, turn, no_turn}
+use Rattle.filing_gen.proofs.Emitted.{grows, put_grows, turn}
 use Rattle.filing_gen.proofs.Jumps.{placed, emits_under, jumps_length, jumps_texts, jumps_numbers, jumps_last, emits_jumps}
 use Rattle.filing_gen.proofs.Turns.{flow_long, turn_long, part_grows, branch_emitted, open_long, open_then, Remains, remains_turn, remains_last}
 
@@ -281,4 +282,4 @@ pub last_stands : (g : Include
     → new ≡ with_jumps (length now.code.items) jumps now → (n : ℕ) (ends : List ℕ) → end_at ends n ≡ back → Emits old new (flow g n whole) ends
 last_stands g back old now new jumps is_open xs i whole h past is =
     stands_last g back old now new jumps is_open whole (subst (λ (l : List TreeCommand).
-    Stands g back old now jumps is_open (commands_of (map command_of l)) whole) (no_turn xs i past) h) is
+    Stands g back old now jumps is_open (commands_of (map command_of l)) whole) (drop_of_length-le xs past) h) is

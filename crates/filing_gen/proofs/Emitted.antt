@@ -2,8 +2,7 @@
 use Rattle.std.proofs.Common.{◌≡◌, ℕ, zero, suc, ◌+◌, ◌≤◌, ◌<◌, List, [], ◌∷◌, ◌++◌, length, Bool, Some, refl, sym, ap}
 use Rattle.std.proofs.Common.{◌∙◌, subst, arith, length-append, append_assoc, append-nil, drop, get_or, true, false}
 use Rattle.std.specs.Prelude.{slice_get}
-use Rattle.std.proofs.Math.Seq.{drop-cons}
-use Rattle.std.proofs.Math.ListN.{drop_of_length-le}
+use Rattle.std.proofs.lemmas.List.{drop_more}
 use Rattle.filing_image.specs.declared.instruction.Operation.{Operation}
 use Rattle.filing_image.specs.declared.instruction.Operation.TheVariants.{Jump, JumpIf, JumpUnless, PushTrue, PushFalse}
 use Rattle.filing_flow.specs.Structure.{Action, Push, Flow, nothing, action, sequence, block, leave, leave_if, size}
@@ -288,14 +287,9 @@ leads_both x y z a b c rest whole Ends some there h is e =
       numbers = omega (arith, h.numbers, g.numbers);
     }
 
--- the item of a turn, and the last turn
+-- the item of a turn
 pub turn : {A : Type 0} (xs : List A) (i : ℕ) (x : A) → x ≡ get_or xs i x → i < length xs → drop i xs ≡ x ∷ drop (i + 1) xs
-turn xs i x e lt = let s : suc i ≡ i + 1 = omega arith in
-    subst (λ n. drop i xs ≡ x
-    ∷ drop n xs) s (subst (λ y. drop i xs ≡ y ∷ drop (suc i) xs) (sym e) (drop-cons xs i x lt))
-
-pub no_turn : {A : Type 0} (xs : List A) (i : ℕ) → length xs ≤ i → drop i xs ≡ []
-no_turn xs i le = drop_of_length-le xs le
+turn xs i x e lt = drop_more xs i x lt ∙ ap (λ y. y ∷ drop (i + 1) xs) (sym e)
 
 -- the innermost block around ends there
 abbrev pub To : ℕ → List ℕ → Type 0

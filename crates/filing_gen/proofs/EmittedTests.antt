@@ -2,7 +2,9 @@
 use Rattle.std.proofs.Common.{◌≡◌, ℕ, ◌+◌, ◌<◌, ◌≤◌, List, [], ◌∷◌, length, map, Bool, true, false, ◌||◌, cond, refl}
 use Rattle.std.proofs.Common.{sym, ap, ◌∙◌, subst, arith, drop, get_or, codes, Box, Vec, Global}
 use Rattle.std.specs.List.{list_any}
-use Rattle.filing_image.specs.declared.instruction.Operation.TheVariants.{Join, Jump}
+use Rattle.std.proofs.Math.Bool.{or-false}
+use Rattle.std.proofs.Math.ListN.{drop_of_length-le}
+use Rattle.filing_image.specs.declared.instruction.Operation.TheVariants.{Jump}
 use Rattle.filing_verify.specs.declared.kind.Kind.TheVariants.{Texts}
 use Rattle.sieve_syntax.specs.Arguments.{strings_of, first_of, others_of}
 use Rattle.sieve_syntax.specs.Tree.{TestTree, listed_tests}
@@ -29,13 +31,16 @@ use Rattle.filing_gen.specs.BlockCode.{names_flow, keys_flow, values_flow, eithe
 use Rattle.filing_gen.specs.declared.output.Output.{Output}
 use Rattle.filing_gen.specs.Adds.{Puts, Emits, HasRoom}
 use Rattle.filing_gen.specs.Names.{each_once, others_once, has_name}
+use Rattle.filing_gen.specs.NameCode.{name_flow, each_flow, IsWithin, EmitsWithin}
+use Rattle.filing_gen.specs.declared.emit_tests.NameCode.{NameCode}
+use Rattle.filing_gen.specs.declared.emit_tests.NameCode.TheVariants.{Exists, Values}
 use Rattle.filing_gen.specs.Ends.{no_place, IsEnded}
-use Rattle.filing_gen.proofs.Names.{or_nothing, AreAsked, apart_from, once_turn, others_apart}
+use Rattle.filing_gen.proofs.Names.{AreAsked, apart_from, once_turn, others_apart}
 use Rattle.filing_gen.proofs.EndedBlocks.{jumps_ended}
 use Rattle.filing_gen.proofs.Types.{keys_typed}
-use Rattle.filing_gen.proofs.Emitted.{emits_sequence, emits_assoc, emits_block, emits_nothing, action_emitted}
+use Rattle.filing_gen.proofs.Emitted.{emits_sequence, emits_assoc, emits_block, emits_nothing}
 use Rattle.filing_gen.proofs.Emitted.{leave_emitted, grows, Completes, leads_first, leads_more, leads_both, leads_last}
-use Rattle.filing_gen.proofs.Emitted.{turn, no_turn, To, Anywhere}
+use Rattle.filing_gen.proofs.Emitted.{turn, To, Anywhere}
 
 pub flow-over : (args : List Argument) (n : ℕ) (longer : Bool) → longer ≡ has_tag (codes "over") args → longer ≡ true
     → n ≡ number_in args → sequence (action (PushNumber n)) (sequence (action PushSize) (action IsLess))
@@ -74,91 +79,89 @@ abbrev pub Unknown : List ℕ → Type 0
 Unknown = To no_place
 
 -- The names so far, and what is left to be written.
-pub record Asked (old now : Output) (lowercase : List (Vec ℕ Global)) (rest : List (List ℕ)) (flow_of : List (List ℕ)
-    → Flow) (whole : Flow) (Ends : List ℕ → Type 0) : Type 0 where
+pub record Asked (code : NameCode) (old now : Output) (lowercase : List (Vec ℕ Global)) (rest : List (List ℕ)) (whole : Flow) : Type 0 where
   pub seen : List (List ℕ)
   pub asked : AreAsked lowercase seen
-  pub leads : Completes old now (flow_of (apart_from seen (each_once rest))) whole Ends
+  pub leads : Completes old now (each_flow code (apart_from seen (each_once rest))) whole (IsWithin code)
 
 -- after the first name
-pub asked_first : (o : Output) (one : List (Vec ℕ Global)) (n : List ℕ) (ns : List (List ℕ)) (flow_of : List (List ℕ) → Flow) (Ends : List ℕ → Type 0)
-    → ((m : List ℕ) → has_name one m ≡ same_word n m) → Asked o o one ns flow_of (flow_of (others_once n ns)) Ends
-asked_first o one n ns flow_of Ends names = record {
-  seen = n ∷ [];
-  asked = λ m. names m ∙ sym (or_nothing (same_word n m));
-  leads = subst (λ (l : List (List ℕ)). Completes o o (flow_of l) (flow_of (others_once n ns)) Ends)
-      (sym (others_apart n ns)) (leads_first o (flow_of (others_once n ns)) Ends);
-}
+pub asked_first : (code : NameCode) (o : Output) (one : List (Vec ℕ Global)) (n : List ℕ) (ns : List (List ℕ))
+    → ((m : List ℕ) → has_name one m ≡ same_word n m) → Asked code o o one ns (each_flow code (others_once n ns))
+asked_first code o one n ns names =
+    let all = each_flow code (others_once n ns) in
+    record {
+      seen = n ∷ [];
+      asked = λ m. names m ∙ sym (or-false (same_word n m));
+      leads = subst (λ (l : List (List ℕ)). Completes o o (each_flow code l) all (IsWithin code)) (sym (others_apart n ns))
+          (leads_first o all (IsWithin code));
+    }
 
-module _ (old now : Output) (before after : List (Vec ℕ Global)) (xs : List (List ℕ)) (i : ℕ) (x : List ℕ)
-    (lt : i < length xs) (is : x ≡ get_or xs i x) (name : List ℕ) (named : name ≡ x) (flow_of : List (List ℕ)
-    → Flow) (whole : Flow) (Ends : List ℕ → Type 0)
-    (names : (m : List ℕ)
-    → has_name after m ≡ (same_word name m || has_name before m))
-    (h : Asked old now before (drop i xs) flow_of whole Ends) where
+name_long : (code : NameCode) (n : List ℕ) (ns : List (List ℕ)) → size (each_flow code (n ∷ ns)) ≡ 2 + size (each_flow code ns)
+name_long Exists n ns = omega arith
+name_long Values n ns = omega arith
+
+name_leads : (code : NameCode) (old now new : Output) (n : List ℕ) (ns : List (List ℕ)) (whole : Flow)
+    → EmitsWithin code now new (name_flow code n) → Completes old now (each_flow code (n ∷ ns)) whole (IsWithin code)
+    → Completes old new (each_flow code ns) whole (IsWithin code)
+name_leads Exists old now new n ns whole e h =
+    leads_both old now new (action (HasField n)) (leave_if false 0) (names_flow ns) (names_flow (n ∷ ns)) whole Unknown
+    (no_place ∷ []) refl h refl e
+name_leads Values old now new n ns whole e h =
+    leads_both old now new (action (ValuesOf n)) (action JoinTwo) (values_flow ns) (values_flow (n ∷ ns)) whole Anywhere
+    [] tt h refl e
+
+-- One name more: it was among those before, or it is new, and its code is written.
+pub record NameTurn (code : NameCode) (old now : Output) (before after : List (Vec ℕ Global)) (name : List ℕ)
+    (rest : List (List ℕ)) (whole : Flow) : Type 0 where
+  pub known : has_name before name ≡ true → Asked code old now after rest whole
+  pub room : has_name before name ≡ false → HasRoom old (size whole) → HasRoom now 2
+  pub written : has_name before name ≡ false → (new : Output) → EmitsWithin code now new (name_flow code name)
+      → Asked code old new after rest whole
+
+module _ (code : NameCode) (old now : Output) (before after : List (Vec ℕ Global)) (xs : List (List ℕ)) (i : ℕ)
+    (x : List ℕ) (lt : i < length xs) (is : x ≡ get_or xs i x) (name : List ℕ) (named : name ≡ x) (whole : Flow)
+    (names : (m : List ℕ) → has_name after m ≡ (same_word name m || has_name before m))
+    (h : Asked code old now before (drop i xs) whole) where
+  abbrev following : List (List ℕ)
+  following = apart_from (x ∷ h.seen) (each_once (drop (i + 1) xs))
+
   asked_more : AreAsked after (x ∷ h.seen)
   asked_more m = names m ∙ ap (λ n. same_word n m || has_name before m) named ∙ ap (λ b. same_word x m || b) (h.asked m)
 
   rest_is : (b : Bool) → has_name before name ≡ b
-      → apart_from h.seen (each_once (drop i xs)) ≡ cond b (apart_from (x ∷ h.seen) (each_once (drop (i + 1) xs))) (x
-      ∷ apart_from (x ∷ h.seen) (each_once (drop (i + 1) xs)))
+      → apart_from h.seen (each_once (drop i xs)) ≡ cond b following (name ∷ following)
   rest_is b e =
       let there : list_any (λ k. same_word k x) h.seen ≡ b = sym (h.asked x) ∙ ap (has_name before) (sym named) ∙ e in
       ap (λ l. apart_from h.seen (each_once l)) (turn xs i x is lt) ∙ once_turn h.seen x (drop (i + 1) xs) b there
+      ∙ ap (λ n. cond b following (n ∷ following)) (sym named)
 
-  -- a name that is among those before
-  pub asked_before : has_name before name ≡ true → Asked old now after (drop (i + 1) xs) flow_of whole Ends
-  asked_before e = record {
-    seen = x ∷ h.seen;
-    asked = asked_more;
-    leads =
-        subst (λ (l : List (List ℕ)). Completes old now (flow_of l) whole Ends) (rest_is true e) h.leads;
+  leads_at : (b : Bool) → has_name before name ≡ b
+      → Completes old now (each_flow code (cond b following (name ∷ following))) whole (IsWithin code)
+  leads_at b e = subst (λ (l : List (List ℕ)). Completes old now (each_flow code l) whole (IsWithin code)) (rest_is b e) h.leads
+
+  pub name_turn : NameTurn code old now before after name (drop (i + 1) xs) whole
+  name_turn = record {
+    known = λ e. record { seen = x ∷ h.seen; asked = asked_more; leads = leads_at true e };
+    room = λ e room.
+        let l = leads_at false e in
+        let long = name_long code name following in
+        (omega (arith, room.0, l.code, long), omega (arith, room.1, l.texts, long), omega (arith, room.2, l.numbers, long));
+    written = λ e new emits. record {
+      seen = x ∷ h.seen;
+      asked = asked_more;
+      leads = name_leads code old now new name following whole emits (leads_at false e);
+    };
   }
 
-  -- a new name, and its code
-  pub asked_now : has_name before name ≡ false → (new : Output)
-      → (Completes old now (flow_of (name ∷ apart_from (x ∷ h.seen) (each_once (drop (i + 1) xs)))) whole Ends
-      → Completes old new (flow_of (apart_from (x ∷ h.seen) (each_once (drop (i + 1) xs)))) whole Ends)
-      → Asked old new after (drop (i + 1) xs) flow_of whole Ends
-  asked_now e new go = record {
-    seen = x ∷ h.seen;
-    asked = asked_more;
-    leads = go (subst (λ (l : List (List ℕ)). Completes old now (flow_of l) whole Ends) (rest_is false e
-        ∙ ap (λ n. n ∷ apart_from (x ∷ h.seen) (each_once (drop (i + 1) xs))) (sym named)) h.leads);
-  }
+no_names : (code : NameCode) → each_flow code [] ≡ nothing
+no_names Exists = refl
+no_names Values = refl
 
-  -- the room for a new name and the others
-  pub asked_room : has_name before name ≡ false → HasRoom old (size whole)
-      → HasRoom now (size (flow_of (name ∷ apart_from (x ∷ h.seen) (each_once (drop (i + 1) xs)))))
-  asked_room e room =
-      let same : size (flow_of (apart_from h.seen (each_once (drop i xs))))
-      ≡ size (flow_of (name ∷ apart_from (x ∷ h.seen) (each_once (drop (i + 1) xs)))) =
-      ap (λ l. size (flow_of l)) (rest_is false e ∙ ap (λ n. n ∷ apart_from (x ∷ h.seen) (each_once (drop (i + 1) xs))) (sym named)) in
-      (omega (arith, room.0, h.leads.code, same), omega (arith, room.1, h.leads.texts, same), omega (arith, room.2, h.leads.numbers, same))
-
-pub asked_last : (old now : Output) (lowercase : List (Vec ℕ Global)) (xs : List (List ℕ)) (i : ℕ)
-    (flow_of : List (List ℕ) → Flow) (whole : Flow) (Ends : List ℕ → Type 0) → flow_of [] ≡ nothing → length xs ≤ i
-    → Asked old now lowercase (drop i xs) flow_of whole Ends → (ends : List ℕ) → Ends ends → Emits old now whole ends
-asked_last old now lowercase xs i flow_of whole Ends none le h ends there =
-    leads_last old now whole (flow_of (apart_from h.seen (each_once (drop i xs)))) Ends h.leads (ap (λ l.
-    flow_of (apart_from h.seen (each_once l))) (no_turn xs i le) ∙ none) ends there
-
-pub name_leads : (old now new : Output) (n : List ℕ) (ns : List (List ℕ)) (whole : Flow)
-    → ((ends : List ℕ) → end_at ends 0 ≡ no_place
-    → Emits now new (sequence (action (HasField n)) (leave_if false 0)) ends)
-    → Completes old now (names_flow (n ∷ ns)) whole Unknown → Completes old new (names_flow ns) whole Unknown
-name_leads old now new n ns whole e h =
-    leads_both old now new (action (HasField n)) (leave_if false 0) (names_flow ns) (names_flow (n ∷ ns)) whole Unknown
-    (no_place ∷ []) refl h refl e
-
-pub value_leads : (old now mid new : Output) (n : List ℕ) (ns : List (List ℕ)) (whole : Flow)
-    → ((ends : List ℕ) → Emits now mid (action (ValuesOf n)) ends) → Puts mid new Join
-    → Completes old now (values_flow (n ∷ ns)) whole Anywhere → Completes old new (values_flow ns) whole Anywhere
-value_leads old now mid new n ns whole e j h =
-    let one = leads_more old now mid (action (ValuesOf n)) (sequence (action JoinTwo) (values_flow ns))
-    (values_flow (n ∷ ns)) whole Anywhere [] tt h refl (λ ends there. e ends) in
-    leads_more old mid new (action JoinTwo) (values_flow ns) (sequence (action JoinTwo) (values_flow ns)) whole Anywhere
-    [] tt one refl (λ ends there. action_emitted mid new Join JoinTwo j refl ends)
+pub asked_last : (code : NameCode) (old now : Output) (lowercase : List (Vec ℕ Global)) (xs : List (List ℕ)) (i : ℕ)
+    (whole : Flow) → length xs ≤ i → Asked code old now lowercase (drop i xs) whole → EmitsWithin code old now whole
+asked_last code old now lowercase xs i whole le h =
+    leads_last old now whole (each_flow code (apart_from h.seen (each_once (drop i xs)))) (IsWithin code) h.leads
+    (ap (λ l. each_flow code (apart_from h.seen (each_once l))) (drop_of_length-le xs le) ∙ no_names code)
 
 pub keys_turn : (old now new : Output) (xs : List (List ℕ)) (i : ℕ) (x : List ℕ) → i < length xs → x ≡ get_or xs i x
     → (whole : Flow) (key : List ℕ) → key ≡ x → (m : ℕ) → Completes old now (keys_flow m (drop i xs)) whole Unknown

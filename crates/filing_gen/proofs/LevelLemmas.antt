@@ -1,6 +1,6 @@
 -- Includes by what they come to.
 use Rattle.std.proofs.Common.{◌≡◌, ℕ, zero, suc, ◌+◌, ◌<◌, ◌^◌, List, [], ◌∷◌, Bool, true, false, Option, Some, None}
-use Rattle.std.proofs.Common.{length, ◌⊎◌, inl, inr, refl, sym, ap, ◌∙◌, arith}
+use Rattle.std.proofs.Common.{length, ◌⊎◌, inl, inr, refl, sym, ap, ◌∙◌, subst, arith}
 use Rattle.filing_image.specs.declared.instruction.Operation.TheVariants.{Marked, Mark, JumpIf}
 use Rattle.sieve_meaning.specs.declared.run_fault.RunFault.{RunFault}
 use Rattle.sieve_meaning.specs.declared.run_fault.RunFault.TheVariants.{NestingTooDeep}
@@ -21,7 +21,7 @@ use Rattle.filing_gen.specs.IncludeCode.{is_passed, once_flow, active_flow, foun
 use Rattle.filing_gen.specs.Levels.{Judgement, Passes, Fails, Enters, judgement_by, judgement, judgement_flow}
 use Rattle.filing_gen.specs.Levels.{judgement_weight, flow_at_level, weight_at_level}
 use Rattle.filing_gen.specs.Ends.{no_place, IsEnded}
-use Rattle.filing_gen.proofs.Emitted.{emits_sequence, action_emitted, leave_if_emitted}
+use Rattle.filing_gen.proofs.Emitted.{emits_sequence, action_emitted, leave_if_emitted, grows, put_grows}
 use Rattle.filing_gen.proofs.EndedBlocks.{block_ended}
 use Rattle.filing_gen.proofs.Types.{IncludesTyped, flow_typed}
 use Rattle.filing_gen.proofs.IncludesTypes.{once_typed}
@@ -121,30 +121,24 @@ module _ (lib : Library) (slots : Slots) (main : List ScriptName) (left : ℕ) (
           ≡ once_flow true slot (flow_at_level lib slots main left (script_named i ∷ chain) slot script)
       once_entry once = entry_flow ∙ ap (λ (b : Bool). once_flow b slot (flow_at_level lib slots main left (script_named i ∷ chain) slot script)) once
 
-      pub plain_size : i.once ≡ false
-          → size (included_flow lib slots main left chain i)
-          ≡ size (flow_at_level lib slots main left (script_named i ∷ chain) slot script)
-      plain_size once = ap (λ (a : Flow). size a) (plain_entry once)
-
-      pub once_size : i.once ≡ true
-          → size (included_flow lib slots main left chain i)
-          ≡ size (flow_at_level lib slots main left (script_named i ∷ chain) slot script) + 2
-      once_size once = let e : size (included_flow lib slots main left chain i)
-          ≡ size (once_flow true slot (flow_at_level lib slots main left (script_named i ∷ chain) slot script)) =
-          ap (λ (a : Flow). size a) (once_entry once) in omega (arith, e)
-
 -- EMISSION
 
 -- the entry of a script under `:once`, after a jump past it where it is marked
-pub once_emitted : (x y z w u : Output) (slot : ℕ) (a : Flow) → ((es : List Shape) → HasType a es [] [])
-    → Puts x y (Marked slot) → Puts y z (JumpIf no_place) → Emits z w a (no_place ∷ []) → length w.code.items < 2 ^ 16
-    → IsEnded (length x.code.items) (length w.code.items) w u
-    → (ends : List ℕ) → Emits x u (once_flow true slot a) ends
-once_emitted x y z w u slot a typed test jump h few is ends =
-    block_ended x w u (sequence (action (IsMarked slot)) (sequence (leave_if true 0) a)) ends [] (once_typed true slot a [] typed)
-    (emits_sequence x y w (action (IsMarked slot)) (sequence (leave_if true 0) a) (no_place
-    ∷ []) (action_emitted x y (Marked slot) (IsMarked slot) test refl (no_place ∷ []))
-    (emits_sequence y z w (leave_if true 0) a (no_place ∷ []) (leave_if_emitted y z true no_place 0 (no_place ∷ []) jump refl) h)) few is
+module _ (x y z w : Output) (slot : ℕ) (a : Flow) (test : Puts x y (Marked slot)) (jump : Puts y z (JumpIf no_place))
+    (h : (ends : List ℕ) → Emits z w a ends) where
+  pub once_long : length w.code.items ≡ length x.code.items + size (once_flow true slot a)
+  once_long =
+      omega (arith, (put_grows x y (Marked slot) test).code, (put_grows y z (JumpIf no_place) jump).code, (grows z w a [] (h [])).code)
+
+  pub once_emitted : (u : Output) (start : ℕ) → ((es : List Shape) → HasType a es [] []) → start ≡ length x.code.items
+      → length w.code.items < 2 ^ 16 → IsEnded start (length w.code.items) w u
+      → (ends : List ℕ) → Emits x u (once_flow true slot a) ends
+  once_emitted u start typed begins few is ends =
+      block_ended x w u (sequence (action (IsMarked slot)) (sequence (leave_if true 0) a)) ends [] (once_typed true slot a [] typed)
+      (emits_sequence x y w (action (IsMarked slot)) (sequence (leave_if true 0) a) (no_place
+      ∷ []) (action_emitted x y (Marked slot) (IsMarked slot) test refl (no_place ∷ []))
+      (emits_sequence y z w (leave_if true 0) a (no_place ∷ []) (leave_if_emitted y z true no_place 0 (no_place ∷ []) jump refl)
+      (h (no_place ∷ [])))) few (subst (λ (n : ℕ). IsEnded n (length w.code.items) w u) begins is)
 
 -- a script that is marked and run, where its `return` goes to its end
 pub entry_emitted : (x y z u : Output) (slot : ℕ) (g : Include → Flow) → IncludesTyped g → (script : Commands)

@@ -27,19 +27,6 @@ same_named f a b same = ap (λ l. bytes_eq (str_to_ascii_lowercase f.name) l) (s
 
 -- THE NAMES SO FAR
 
-pub or_nothing : (b : Bool) → (b || false) ≡ b
-or_nothing true = refl
-or_nothing false = refl
-
--- what is new was not there
-pub not_there : (a b : Bool) → a ≡ not b → a ≡ true → b ≡ false
-not_there a true is new = absurd (cc (is, new))
-not_there a false is new = refl
-
-pub was_there : (a b : Bool) → a ≡ not b → a ≡ false → b ≡ true
-was_there a true is old = refl
-was_there a false is old = absurd (cc (is, old))
-
 same_both_ways : (a b : List ℕ) → bytes_eq a b ≡ bytes_eq b a
 same_both_ways a b =
     both_ways (bytes_eq a b) (bytes_eq b a) (λ e. (bytes_eq-Decides b a).1 (sym ((bytes_eq-Decides a b).0 e))) (λ e.

@@ -14,7 +14,7 @@ use Rattle.sieve_meaning.specs.declared.words.CommandWord.TheVariants as words
 use Rattle.sieve_meaning.specs.Words.{command_word}
 use Rattle.sieve_meaning.specs.Program as program
 use Rattle.sieve_meaning.specs.Program.{Test, Include, Commands, Branches}
-use Rattle.sieve_meaning.specs.Reading.{only_in, block_in, program_of, branches_of}
+use Rattle.sieve_meaning.specs.Reading.{only_in, block_in, program_of, branches_of, command_named}
 use Rattle.filing_flow.specs.Structure.{Flow, nothing, sequence, block, leave, leave_if, size}
 use Rattle.filing_flow.specs.Code.{Stands, end_at}
 use Rattle.filing_gen.specs.BlockCode.{test_flow, flow, flow_one, branches_flow, branch_flow}
@@ -59,26 +59,8 @@ long_then : (w : Include → ℕ) (word : CommandWord) (is_open : Bool) (name : 
     (is_branch (part_of word is_open)) more
 long_then w words.If true name args inner finish more is = rw is (omega arith)
 long_then w words.If false name args inner finish more is = rw is (omega arith)
-long_then w words.ElsIf true name args inner finish more is = rw is (omega arith)
-long_then w words.ElsIf false name args inner finish more is = rw is (omega arith)
-long_then w words.Else true name args inner finish more is = rw is (omega arith)
-long_then w words.Else false name args inner finish more is = rw is (omega arith)
-long_then w words.Require true name args inner finish more is = rw is (omega arith)
-long_then w words.Require false name args inner finish more is = rw is (omega arith)
-long_then w words.Stop true name args inner finish more is = rw is (omega arith)
-long_then w words.Stop false name args inner finish more is = rw is (omega arith)
-long_then w words.Keep true name args inner finish more is = rw is (omega arith)
-long_then w words.Keep false name args inner finish more is = rw is (omega arith)
-long_then w words.Discard true name args inner finish more is = rw is (omega arith)
-long_then w words.Discard false name args inner finish more is = rw is (omega arith)
-long_then w words.Return true name args inner finish more is = rw is (omega arith)
-long_then w words.Return false name args inner finish more is = rw is (omega arith)
-long_then w words.FileInto true name args inner finish more is = rw is (omega arith)
-long_then w words.FileInto false name args inner finish more is = rw is (omega arith)
-long_then w words.Include true name args inner finish more is = rw is (omega arith)
-long_then w words.Include false name args inner finish more is = rw is (omega arith)
-long_then w words.Other true name args inner finish more is = rw is (omega arith)
-long_then w words.Other false name args inner finish more is = rw is (omega arith)
+long_then w word true name args inner finish more is = rw is (omega arith)
+long_then w word false name args inner finish more is = rw is (omega arith)
 
 -- how many operations open branches still take
 abbrev pub open_long : (Include → ℕ) → (is_open : Bool) → CommandTrees → ℕ
@@ -92,26 +74,8 @@ pub open_then : (w : Include → ℕ) (word : CommandWord) (is_open : Bool) (nam
     (command name args inner finish) + open_long w (is_branch (part_of word is_open)) more)
 open_then w words.If true name args inner finish more is = rw is refl
 open_then w words.If false name args inner finish more is = refl
-open_then w words.ElsIf true name args inner finish more is = rw is (omega arith)
-open_then w words.ElsIf false name args inner finish more is = refl
-open_then w words.Else true name args inner finish more is = rw is (omega arith)
-open_then w words.Else false name args inner finish more is = refl
-open_then w words.Require true name args inner finish more is = rw is refl
-open_then w words.Require false name args inner finish more is = refl
-open_then w words.Stop true name args inner finish more is = rw is refl
-open_then w words.Stop false name args inner finish more is = refl
-open_then w words.Keep true name args inner finish more is = rw is refl
-open_then w words.Keep false name args inner finish more is = refl
-open_then w words.Discard true name args inner finish more is = rw is refl
-open_then w words.Discard false name args inner finish more is = refl
-open_then w words.Return true name args inner finish more is = rw is refl
-open_then w words.Return false name args inner finish more is = refl
-open_then w words.FileInto true name args inner finish more is = rw is refl
-open_then w words.FileInto false name args inner finish more is = refl
-open_then w words.Include true name args inner finish more is = rw is refl
-open_then w words.Include false name args inner finish more is = refl
-open_then w words.Other true name args inner finish more is = rw is refl
-open_then w words.Other false name args inner finish more is = refl
+open_then w word true name args inner finish more is = rw is (omega arith)
+open_then w word false name args inner finish more is = refl
 
 -- no branches were open
 none_open : (x z : Output) (f : Flow) (ends : List ℕ) → Emits x z f ends → Emits x z (sequence (block nothing) f) ends
@@ -121,17 +85,8 @@ none_open x z f ends h =
 
 plain_is_long : (g : Include → Flow) (n : ℕ) (word : CommandWord) (args : List Argument)
     → size (plain_flow g n word args) ≡ plain_long (λ i. size (g i)) word args
-plain_is_long g n words.If args = refl
-plain_is_long g n words.ElsIf args = refl
-plain_is_long g n words.Else args = refl
-plain_is_long g n words.Require args = refl
-plain_is_long g n words.Stop args = refl
 plain_is_long g n words.Keep args = refl
-plain_is_long g n words.Discard args = refl
-plain_is_long g n words.Return args = refl
-plain_is_long g n words.FileInto args = refl
-plain_is_long g n words.Include args = refl
-plain_is_long g n words.Other args = refl
+plain_is_long g n word args = refl
 
 part_is_long : (g : Include → Flow) (n : ℕ) (part : BranchPart) (c : CommandTree) → size (part_flow g n part c) ≡ part_long (λ i. size (g i)) part c
 part_is_long g n Branch (command name args inner finish) = omega (arith, flow_long g (suc (suc n)) (block_in finish))
@@ -145,6 +100,33 @@ part_grows g back part end c x y e =
     (grows x y (part_flow g 0 part c) (part_ends part end (back ∷ [])) (e 0 (back ∷ []) refl))
 
 module _ (g : Include → Flow) (back : ℕ) (x y : Output) where
+  -- a branch, before the others of its block
+  branch_then : (t : Test) (inside : Commands) (others : Branches) (rest : Commands) (n : ℕ) (ends : List ℕ) (z : Output)
+      → length y.code.items ≡ length x.code.items + (size (test_flow t) + commands_long (λ i. size (g i)) inside + 2)
+      → Emits x y (branch_flow g (suc n) t inside) ((length y.code.items + branches_long (λ i. size (g i)) others) ∷ ends)
+      → Emits y z (sequence (block (branches_flow g (suc n) others)) (flow g n rest)) ends
+      → Emits x z (sequence (block (branches_flow g (suc n) (program.if_then t inside others))) (flow g n rest)) ends
+  branch_then t inside others rest n ends z grown e k =
+      first_of_block x y z (branch_flow g (suc n) t inside) (branches_flow g (suc n) others) (flow g n rest)
+      (length y.code.items + branches_long (λ i. size (g i)) others) ends (omega (
+        arith,
+        grown,
+        flow_long g (suc (suc n)) inside,
+        branches_are_long g (suc n) others,
+      )) e k
+
+  -- a command that is no part of branches, before others
+  plain_then : (word : CommandWord) (args : List Argument) (t : Test) (inside : Commands) (others : Branches)
+      (rest : Commands) (n : ℕ) (ends : List ℕ) (z : Output) → part_of word false ≡ Plain
+      → Emits x y (plain_flow g n word args) ends → Emits y z (flow g n rest) ends
+      → Emits x z (flow g n (command_named word args t inside others rest)) ends
+  plain_then words.If args t inside others rest n ends z is e k = absurd (cc is)
+  plain_then words.ElsIf args t inside others rest n ends z is e k = after_nothing x y z (flow g n rest) ends e k
+  plain_then words.Else args t inside others rest n ends z is e k = after_nothing x y z (flow g n rest) ends e k
+  plain_then words.Other args t inside others rest n ends z is e k = after_nothing x y z (flow g n rest) ends e k
+  plain_then word args t inside others rest n ends z is e k =
+      emits_sequence x y z (plain_flow g n word args) (flow g n rest) ends e k
+
   -- once what follows a command is written, so is the whole
   part_emits : (word : CommandWord) (is_open : Bool) (name : List ℕ) (args : List Argument) (inner : InnerTests)
       (finish : EndingTree) (more : CommandTrees) → command_word name ≡ word
@@ -155,36 +137,15 @@ module _ (g : Include → Flow) (back : ℕ) (x y : Output) where
       → Emits y z (rest_flow g n (is_branch (part_of word is_open)) more) ends
       → Emits x z (rest_flow g n is_open (trees.command_then (command name args inner finish) more)) ends
   part_emits words.If true name args inner finish more is grown e n ends z eq k =
-      rw is (none_open x z
-      (sequence (block (branches_flow g (suc n) (program.if_then (only_in inner) (block_in finish) (branches_of more))))
-      (flow g n (program_of more))) ends (first_of_block x y z (branch_flow g (suc n) (only_in inner) (block_in finish))
-      (branches_flow g (suc n) (branches_of more)) (flow g n (program_of more))
-      (length y.code.items + branches_long (λ i. size (g i)) (branches_of more)) ends (omega (
-        arith,
-        grown,
-        flow_long g (suc (suc n)) (block_in finish),
-        branches_are_long g (suc n) (branches_of more),
-      )) (e n ends eq) k))
+      let t = only_in inner in
+      let inside = block_in finish in
+      let others = branches_of more in
+      rw is (none_open x z (sequence (block (branches_flow g (suc n) (program.if_then t inside others))) (flow g n (program_of more))) ends
+      (branch_then t inside others (program_of more) n ends z grown (e n ends eq) k))
   part_emits words.If false name args inner finish more is grown e n ends z eq k =
-      rw is (first_of_block x y z (branch_flow g (suc n) (only_in inner) (block_in finish))
-      (branches_flow g (suc n) (branches_of more)) (flow g n (program_of more))
-      (length y.code.items + branches_long (λ i. size (g i)) (branches_of more)) ends (omega (
-        arith,
-        grown,
-        flow_long g (suc (suc n)) (block_in finish),
-        branches_are_long g (suc n) (branches_of more),
-      )) (e n ends eq) k)
+      rw is (branch_then (only_in inner) (block_in finish) (branches_of more) (program_of more) n ends z grown (e n ends eq) k)
   part_emits words.ElsIf true name args inner finish more is grown e n ends z eq k =
-      rw is (first_of_block x y z (branch_flow g (suc n) (only_in inner) (block_in finish))
-      (branches_flow g (suc n) (branches_of more)) (flow g n (program_of more))
-      (length y.code.items + branches_long (λ i. size (g i)) (branches_of more)) ends (omega (
-        arith,
-        grown,
-        flow_long g (suc (suc n)) (block_in finish),
-        branches_are_long g (suc n) (branches_of more),
-      )) (e n ends eq) k)
-  part_emits words.ElsIf false name args inner finish more is grown e n ends z eq k =
-      rw is (after_nothing x y z (flow g n (program_of more)) ends ((rw is at e) n ends eq) k)
+      rw is (branch_then (only_in inner) (block_in finish) (branches_of more) (program_of more) n ends z grown (e n ends eq) k)
   part_emits words.Else true name args inner finish more is grown e n ends z eq k =
       rw is (emits_sequence x y z (block (flow g (suc n) (block_in finish))) (flow g n (program_of more)) ends
       (emits_block x y (flow g (suc n) (block_in finish)) ends (length y.code.items + 0) (omega (
@@ -192,62 +153,14 @@ module _ (g : Include → Flow) (back : ℕ) (x y : Output) where
         grown,
         flow_long g (suc n) (block_in finish),
       )) (e n ends eq)) k)
-  part_emits words.Else false name args inner finish more is grown e n ends z eq k =
-      rw is (after_nothing x y z (flow g n (program_of more)) ends ((rw is at e) n ends eq) k)
-  part_emits words.Require true name args inner finish more is grown e n ends z eq k =
-      rw is (none_open x z (sequence (plain_flow g n words.Require args) (flow g n (program_of more))) ends
-      (emits_sequence x y z (plain_flow g n words.Require args) (flow g n (program_of more)) ends
+  part_emits word true name args inner finish more is grown e n ends z eq k =
+      rw is (none_open x z
+      (flow g n (command_named word args (only_in inner) (block_in finish) (branches_of more) (program_of more))) ends
+      (plain_then word args (only_in inner) (block_in finish) (branches_of more) (program_of more) n ends z refl
       ((rw is at e) n ends eq) k))
-  part_emits words.Require false name args inner finish more is grown e n ends z eq k =
-      rw is (emits_sequence x y z (plain_flow g n words.Require args) (flow g n (program_of more)) ends
+  part_emits word false name args inner finish more is grown e n ends z eq k =
+      rw is (plain_then word args (only_in inner) (block_in finish) (branches_of more) (program_of more) n ends z refl
       ((rw is at e) n ends eq) k)
-  part_emits words.Stop true name args inner finish more is grown e n ends z eq k =
-      rw is (none_open x z (sequence (plain_flow g n words.Stop args) (flow g n (program_of more))) ends
-      (emits_sequence x y z (plain_flow g n words.Stop args) (flow g n (program_of more)) ends ((rw is at e) n ends eq)
-      k))
-  part_emits words.Stop false name args inner finish more is grown e n ends z eq k =
-      rw is (emits_sequence x y z (plain_flow g n words.Stop args) (flow g n (program_of more)) ends
-      ((rw is at e) n ends eq) k)
-  part_emits words.Keep true name args inner finish more is grown e n ends z eq k =
-      rw is (none_open x z (sequence (plain_flow g n words.Keep args) (flow g n (program_of more))) ends
-      (emits_sequence x y z (plain_flow g n words.Keep args) (flow g n (program_of more)) ends ((rw is at e) n ends eq)
-      k))
-  part_emits words.Keep false name args inner finish more is grown e n ends z eq k =
-      rw is (emits_sequence x y z (plain_flow g n words.Keep args) (flow g n (program_of more)) ends
-      ((rw is at e) n ends eq) k)
-  part_emits words.Discard true name args inner finish more is grown e n ends z eq k =
-      rw is (none_open x z (sequence (plain_flow g n words.Discard args) (flow g n (program_of more))) ends
-      (emits_sequence x y z (plain_flow g n words.Discard args) (flow g n (program_of more)) ends
-      ((rw is at e) n ends eq) k))
-  part_emits words.Discard false name args inner finish more is grown e n ends z eq k =
-      rw is (emits_sequence x y z (plain_flow g n words.Discard args) (flow g n (program_of more)) ends
-      ((rw is at e) n ends eq) k)
-  part_emits words.Return true name args inner finish more is grown e n ends z eq k =
-      rw is (none_open x z (sequence (plain_flow g n words.Return args) (flow g n (program_of more))) ends
-      (emits_sequence x y z (plain_flow g n words.Return args) (flow g n (program_of more)) ends
-      ((rw is at e) n ends eq) k))
-  part_emits words.Return false name args inner finish more is grown e n ends z eq k =
-      rw is (emits_sequence x y z (plain_flow g n words.Return args) (flow g n (program_of more)) ends
-      ((rw is at e) n ends eq) k)
-  part_emits words.FileInto true name args inner finish more is grown e n ends z eq k =
-      rw is (none_open x z (sequence (plain_flow g n words.FileInto args) (flow g n (program_of more))) ends
-      (emits_sequence x y z (plain_flow g n words.FileInto args) (flow g n (program_of more)) ends
-      ((rw is at e) n ends eq) k))
-  part_emits words.FileInto false name args inner finish more is grown e n ends z eq k =
-      rw is (emits_sequence x y z (plain_flow g n words.FileInto args) (flow g n (program_of more)) ends
-      ((rw is at e) n ends eq) k)
-  part_emits words.Include true name args inner finish more is grown e n ends z eq k =
-      rw is (none_open x z (sequence (plain_flow g n words.Include args) (flow g n (program_of more))) ends
-      (emits_sequence x y z (plain_flow g n words.Include args) (flow g n (program_of more)) ends
-      ((rw is at e) n ends eq) k))
-  part_emits words.Include false name args inner finish more is grown e n ends z eq k =
-      rw is (emits_sequence x y z (plain_flow g n words.Include args) (flow g n (program_of more)) ends
-      ((rw is at e) n ends eq) k)
-  part_emits words.Other true name args inner finish more is grown e n ends z eq k =
-      rw is (none_open x z (flow g n (program_of more)) ends (after_nothing x y z (flow g n (program_of more)) ends
-      ((rw is at e) n ends eq) k))
-  part_emits words.Other false name args inner finish more is grown e n ends z eq k =
-      rw is (after_nothing x y z (flow g n (program_of more)) ends ((rw is at e) n ends eq) k)
 
 -- What was written so far, in commands.
 pub record Remains (g : Include → Flow) (back : ℕ) (old now : Output) (is_open : Bool) (rest : CommandTrees) (whole : Commands) : Type 0 where

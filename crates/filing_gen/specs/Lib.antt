@@ -3,6 +3,7 @@ pub mod Pools
 pub mod Names
 pub mod Adds
 pub mod Alike
+pub mod NameCode
 pub mod Emission
 pub mod Correct
 pub mod Weights

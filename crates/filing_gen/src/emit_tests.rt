@@ -9,6 +9,7 @@ ghost use Rattle.sieve_meaning.specs.Reading.{test_in, only_in, tests_in, string
 ghost use Rattle.filing_flow.specs.Structure.{Flow, size, action, ValuesOf, HasField, MatchKey, PushNumber, PushSize, IsLess, Push, Drop, sequence, leave, leave_if, Negate};
 ghost use Rattle.filing_flow.specs.Code.{end_at};
 ghost use Rattle.filing_gen.specs.BlockCode.{either, values_flow, keys_flow, names_flow, header_flow, test_flow, tests_flow};
+ghost use Rattle.filing_gen.specs.NameCode.{name_flow, each_flow, EmitsWithin};
 ghost use Rattle.filing_gen.specs.Names.{each_once, others_once, other_names};
 ghost use Rattle.filing_gen.specs.Adds.{Emits, HasRoom, EmitsAnywhere, EmitsUnended, LeavesNothing};
 ghost use Rattle.filing_gen.specs.declared.output.Output.{Output};
@@ -63,16 +64,51 @@ fn emit_name(out: &mut Output, name: &[u8]) -> Result<(), AllocError>
     put_jump(out, false)
 }
 
-/// Writes `Exists name` and `JumpUnless missing` for each name that is new, ignoring ASCII case.
+/// Writes `Values name`.
+fn emit_value(out: &mut Output, name: &[u8]) -> Result<(), AllocError>
+    requires room { HasRoom out.old 1 }
+    requires short { length name.now < 2 ^ 16 }
+    ensures { OnOk result (EmitsAnywhere out.old out.new (action (ValuesOf name.now))) }
+{
+    let place = text_operand(out, name)?;
+    put(out, Operation::Values(place))
+}
+
+/// The code that a test has for a field name after its first.
+#[derive(Clone, Copy)]
+enum NameCode {
+    /// `Exists name` and `JumpUnless missing`.
+    Exists,
+    /// `Values name` and `Join`.
+    Values,
+}
+
+/// Writes the code of a name.
+fn emit_other_name(out: &mut Output, code: NameCode, name: &[u8]) -> Result<(), AllocError>
+    requires room { HasRoom out.old 2 }
+    requires short { length name.now < 2 ^ 16 }
+    ensures { OnOk result (EmitsWithin code out.old out.new (name_flow code name.now)) }
+{
+    match code {
+        NameCode::Exists => emit_name(out, name),
+        NameCode::Values => {
+            emit_value(out, name)?;
+            put(out, Operation::Join)
+        }
+    }
+}
+
+/// Writes the code of each name that is new, ignoring ASCII case.
 fn emit_other_names(
     alloc: Global,
     out: &mut Output,
+    code: NameCode,
     first: &[u8],
     others: &[StringText],
 ) -> Result<(), AllocError>
-    requires { HasRoom out.old (size (names_flow (others_once first.now others.now))) }
+    requires { HasRoom out.old (size (each_flow code (others_once first.now others.now))) }
     ensures { OnOk result
-        (EmitsUnended out.old out.new (names_flow (others_once first.now others.now))) }
+        (EmitsWithin code out.old out.new (each_flow code (others_once first.now others.now))) }
 {
     if others.is_empty() {
         return Ok(());
@@ -84,7 +120,7 @@ fn emit_other_names(
         if !is_new {
             continue;
         }
-        emit_name(out, name)?;
+        emit_other_name(out, code, name)?;
     }
     Ok(())
 }
@@ -97,7 +133,7 @@ fn emit_names(alloc: Global, out: &mut Output, names: &StringList) -> Result<(),
 {
     let first = names.first().as_slice();
     emit_name(out, first)?;
-    emit_other_names(alloc, out, first, names.others())
+    emit_other_names(alloc, out, NameCode::Exists, first, names.others())
 }
 
 /// Writes `exists` (RFC 5228, section 5.5): whether the header has a field of each name.
@@ -153,43 +189,6 @@ fn emit_size(out: &mut Output, arguments: &[Argument]) -> Result<(), AllocError>
     emit_under(out, number)
 }
 
-/// Writes `Values name`.
-fn emit_value(out: &mut Output, name: &[u8]) -> Result<(), AllocError>
-    requires room { HasRoom out.old 1 }
-    requires short { length name.now < 2 ^ 16 }
-    ensures { OnOk result (EmitsAnywhere out.old out.new (action (ValuesOf name.now))) }
-{
-    let place = text_operand(out, name)?;
-    put(out, Operation::Values(place))
-}
-
-/// Writes `Values name` and `Join` for each name that is new, ignoring ASCII case.
-fn emit_other_values(
-    alloc: Global,
-    out: &mut Output,
-    first: &[u8],
-    others: &[StringText],
-) -> Result<(), AllocError>
-    requires { HasRoom out.old (size (values_flow (others_once first.now others.now))) }
-    ensures { OnOk result
-        (EmitsAnywhere out.old out.new (values_flow (others_once first.now others.now))) }
-{
-    if others.is_empty() {
-        return Ok(());
-    }
-    let mut asked = FieldNames::of(alloc, first)?;
-    for name in others {
-        let name = name.as_slice();
-        let is_new = asked.insert(name)?;
-        if !is_new {
-            continue;
-        }
-        emit_value(out, name)?;
-        put(out, Operation::Join)?;
-    }
-    Ok(())
-}
-
 /// Writes the list of the values of all fields that have the names: `Values name` for the first name, and `Values name`
 /// and `Join` for each other name, once.
 fn emit_values(alloc: Global, out: &mut Output, names: &StringList) -> Result<(), AllocError>
@@ -199,7 +198,7 @@ fn emit_values(alloc: Global, out: &mut Output, names: &StringList) -> Result<()
 {
     let first = names.first().as_slice();
     emit_value(out, first)?;
-    emit_other_values(alloc, out, first, names.others())
+    emit_other_names(alloc, out, NameCode::Values, first, names.others())
 }
 
 /// Writes `Match how key` and `JumpIf found`.

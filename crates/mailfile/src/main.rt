@@ -1,8 +1,8 @@
 //! The program: serves a session from standard input to standard output.
 #![tactic(auto)]
 
+use command_lines::session::{end_without_session, read_command_line};
 use session_files::{serve_memory, serve_path};
-use session_options::{end_without_session, read_command_line};
 use std::process::ExitCode;
 
 fn main(rt: HostRuntime) -> ExitCode {

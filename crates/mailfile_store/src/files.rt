@@ -3,9 +3,10 @@
 use class_plan::Plan;
 use cli_console::{Failure, Status};
 use cli_files::{NoStore, create_archive, open_archive};
-use cli_tasks::{Archives, Closed, LastTask};
+use cli_tasks::{Archives, Closed};
 use record_files::{Closing, close};
-use sqlite::Unknown;
+use record_store::Store;
+use sqlite::{Connection, FileFrom, FileStore, Unknown};
 use std::alloc::Global;
 use std::fs;
 
@@ -35,20 +36,15 @@ fn closed_by(closing: Closing) -> Closed {
 pub struct FileArchives;
 
 impl Archives for FileArchives {
-    fn lend<T: LastTask>(
-        &self,
-        rt: &HostRuntime,
-        path: &str,
-        task: T,
-    ) -> Result<(Result<T::Answer, Failure>, Closed), Failure> {
-        match open_archive(rt, path, Unknown) {
-            Ok(archive) => {
-                let (conn, done) = task.end(rt, archive);
-                let (_files, closing) = close(conn);
-                Ok((done, closed_by(closing)))
-            }
-            Err(cause) => Err(no_store(rt.alloc(), path, cause)),
-        }
+    type Database = FileStore<FileFrom<Unknown>>;
+
+    fn open(&self, rt: &HostRuntime, path: &str) -> Result<Store<Self::Database>, Failure> {
+        open_archive(rt, path, Unknown).map_err(|cause| no_store(rt.alloc(), path, cause))
+    }
+
+    fn close(&self, conn: Connection<Self::Database>) -> Closed {
+        let (_files, closing) = close(conn);
+        closed_by(closing)
     }
 
     fn create(&self, rt: &HostRuntime, path: &str, plan: Plan) -> Result<(), Failure> {

@@ -2,15 +2,11 @@
 //! check scripts, show images as text, and say why a message is filed where it is.
 #![tactic(auto)]
 
-mod command_line;
-mod subcommands;
-
-use clap::Error;
-use command_line::{PROGRAM, words};
-use command_lines::read_words;
+use command_lines::tools::{Command, Explain, read_command};
+use command_lines::{NoCommand, words_of_process};
 use std::process::ExitCode;
-use subcommands::do_subcommand;
-use tool_console::{Failure, Verdict, tell};
+use tool_console::{Failure, Verdict, explain, frame, tell, tell_number, tell_numbers};
+use tool_scripts::{check_files, compile_script, dump_image, tell_why};
 
 /// The status where a script or an image is refused.
 const STATUS_REFUSED: u8 = 1;
@@ -18,13 +14,28 @@ const STATUS_REFUSED: u8 = 1;
 /// The status where something could not be done: a bad command line, a file that cannot be read or written, no memory.
 const STATUS_FAILURE: u8 = 2;
 
-/// Prints what `clap` reports, which for `--help` is no fault.
-fn tell_clap(rt: &HostRuntime, error: &Error) -> ExitCode {
-    let _ = error.print(rt);
-    if error.use_stderr() {
-        ExitCode::from(STATUS_FAILURE)
-    } else {
-        ExitCode::SUCCESS
+/// Explains what is asked.
+fn tell_explained(rt: &HostRuntime, asked: Explain<'_>) -> Result<(), Failure> {
+    match asked {
+        Explain::Numbers => tell_numbers(rt),
+        Explain::Number { word, number } => tell_number(rt, word, number),
+        Explain::Replies { script } => explain(rt, script),
+    }
+}
+
+/// Carries out a command.
+fn carry_out(rt: &HostRuntime, command: Command<'_>) -> Result<Verdict, Failure> {
+    match command {
+        Command::Frame { file } => frame(rt, file).map(|()| Verdict::Good),
+        Command::Explain(asked) => tell_explained(rt, asked).map(|()| Verdict::Good),
+        Command::Check(asked) => check_files(rt, &asked),
+        Command::Compile {
+            script,
+            folders,
+            image,
+        } => compile_script(rt, script, folders, image),
+        Command::Dump { image } => dump_image(rt, image),
+        Command::Why(asked) => tell_why(rt, &asked),
     }
 }
 
@@ -38,27 +49,35 @@ fn tell_failure(rt: &HostRuntime, failure: &Failure) -> ExitCode {
     ExitCode::from(STATUS_FAILURE)
 }
 
-/// Executes the words of the command line.
-fn serve_words(rt: &HostRuntime, words: &[String]) -> ExitCode {
-    let matches = match read_words(rt.alloc(), &PROGRAM, words) {
-        Ok(matches) => matches,
-        Err(error) => return tell_clap(rt, &error),
+/// Ends where the command line has no command. What `clap` reports is printed already, which for `--help` is no fault.
+fn tell_no_command(rt: &HostRuntime, why: &NoCommand) -> ExitCode {
+    match why {
+        NoCommand::Answered => return ExitCode::SUCCESS,
+        NoCommand::Told => {}
+        NoCommand::Wrong(text) => tell(rt, text.as_str()),
+        NoCommand::NotText => tell(rt, "a word of the command line is not UTF-8"),
+        NoCommand::Unread => tell(rt, "the command line cannot be read"),
+        NoCommand::NoMemory => tell(rt, "out of memory"),
+    }
+    ExitCode::from(STATUS_FAILURE)
+}
+
+/// Reads the words of the command line, and carries out their command.
+fn serve(rt: &HostRuntime, words: &[String]) -> ExitCode {
+    let command = match read_command(rt, words) {
+        Ok(command) => command,
+        Err(why) => return tell_no_command(rt, &why),
     };
-    match do_subcommand(rt, &matches) {
+    match carry_out(rt, command) {
         Ok(Verdict::Good) => ExitCode::SUCCESS,
         Ok(Verdict::Refused) => ExitCode::from(STATUS_REFUSED),
         Err(failure) => tell_failure(rt, &failure),
     }
 }
 
-/// Reads the command line and executes it.
-fn serve(rt: &HostRuntime) -> ExitCode {
-    match words(rt) {
-        Ok(words) => serve_words(rt, words.as_slice()),
-        Err(failure) => tell_failure(rt, &failure),
-    }
-}
-
 fn main(rt: HostRuntime) -> ExitCode {
-    serve(&rt)
+    match words_of_process(&rt) {
+        Ok(words) => serve(&rt, words.as_slice()),
+        Err(why) => tell_no_command(&rt, &why),
+    }
 }

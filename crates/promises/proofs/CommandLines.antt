@@ -1,6 +1,6 @@
 -- The commands among the lines of a session.
 use Rattle.std.proofs.Common.{[], ◌∷◌, List, refl, subst}
-use Rattle.record_archive.specs.Archive.{Archive}
+use Rattle.record_archive.specs.Calls.{Keeper}
 use Rattle.desk_commands.specs.Answers.{Answer}
 use Rattle.desk_commands.specs.Standing.{Standing, Step}
 use Rattle.session_protocol.specs.Session.{Item, Call, UnknownCommand, WrongWord}
@@ -23,9 +23,8 @@ commands_run s new (WrongWord ∷ items) (a ∷ answers) h =
 commands_run s new [] (a ∷ answers) h = absurd h
 commands_run s new (i ∷ items) [] h = absurd h
 
-module _ {D I : Type 0} (clean : D → Type 0) (stands : D → Standing → Type 0) (may_leave : D → I → Type 0)
-    (keeps : I → Archive → Type 0) (leads : RunsLead clean stands may_leave keeps) where
-  pub is_session : (x : LineSession clean stands may_leave keeps) → IsSession stands x.state x.items x.answers x.new
+module _ {D : Type 0} (keeper : Keeper D Standing) (leads : RunsLead keeper) where
+  pub is_session : (x : LineSession keeper) → IsSession keeper x.state x.items x.answers x.new
   is_session x =
       let led = leads x.items x.answers x.old x.new x.run x.state x.at_begin in
       record {

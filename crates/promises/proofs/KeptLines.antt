@@ -1,6 +1,6 @@
 -- Sessions of lines without what is struck of them.
 use Rattle.std.proofs.Common.{◌≡◌, [], ◌∷◌, ℕ, List, None, refl, inl, ap, ◌∙◌, sym, subst, Bool, true, false}
-use Rattle.record_archive.specs.Archive.{Archive}
+use Rattle.record_archive.specs.Calls.{Keeper}
 use Rattle.desk_commands.specs.Answers.{Answer, refused}
 use Rattle.desk_commands.specs.Standing.{Standing, Step}
 use Rattle.promises.specs.Alike.{AreAlike, AllAlike}
@@ -88,11 +88,10 @@ module _ (texts : TextsAreOne) (one_start : ProgramsAreOne) (one_outcome : Outco
       lines_once (forget t) (kept_items others replies) (kept_replies items answers) (kept_replies others replies)
       (forget x) (forget y) (subst Q e (subst P same (lines s items answers x h))) (lines t others replies y k)
 
-module _ {D I : Type 0} (clean : D → Type 0) (stands : D → Standing → Type 0) (may_leave : D → I → Type 0)
-    (keeps : I → Archive → Type 0) (leads : RunsLead clean stands may_leave keeps) (texts : TextsAreOne) (one_start : ProgramsAreOne)
+module _ {D : Type 0} (keeper : Keeper D Standing) (leads : RunsLead keeper) (texts : TextsAreOne) (one_start : ProgramsAreOne)
     (one_outcome : OutcomesAreOne) where
-  pub equal_lines : (x y : LineSession clean stands may_leave keeps) → SameButTurns x.state y.state → EqualLinesLeft x y
-      → ReplyAlike x y × LeaveTheSame stands x.new y.new
+  pub equal_lines : (x y : LineSession keeper) → SameButTurns x.state y.state → EqualLinesLeft x y
+      → ReplyAlike x y × LeaveTheSame keeper x.new y.new
   equal_lines x y same e =
       let one = leads x.items x.answers x.old x.new x.run x.state x.at_begin in
       let two = leads y.items y.answers y.old y.new y.run y.state y.at_begin in
@@ -101,7 +100,7 @@ module _ {D I : Type 0} (clean : D → Type 0) (stands : D → Standing → Type
       (equal.0, record { first = one.to; second = two.to; first_stands = one.there; second_stands = two.there; same = equal.1 })
 
   -- the lines of a session that was served
-  served_lines : (x : ServedSession clean stands may_leave keeps) → LineSession clean stands may_leave keeps
+  served_lines : (x : ServedSession keeper) → LineSession keeper
   served_lines x = record {
     state = x.state;
     old = x.old;
@@ -112,7 +111,7 @@ module _ {D I : Type 0} (clean : D → Type 0) (stands : D → Standing → Type
     run = x.served.1;
   }
 
-  pub equal_octets : (x y : ServedSession clean stands may_leave keeps) → SameButTurns x.state y.state → AreServedAlike x y
+  pub equal_octets : (x y : ServedSession keeper) → SameButTurns x.state y.state → AreServedAlike x y
   unfolding served_lines
   equal_octets x y same = record {
     answers = x.served.0;

@@ -16,3 +16,6 @@ pub mod RefusedAnywhere
 pub mod KeptLines
 pub mod CommandLines
 pub mod ImageLemmas
+pub mod TagKinds
+pub mod ReadArguments
+pub mod ReadWords

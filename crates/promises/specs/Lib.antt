@@ -8,3 +8,4 @@ pub mod Turns
 pub mod Records
 pub mod Lines
 pub mod RefusedCalls
+pub mod ReadingLaw

@@ -1,6 +1,6 @@
 -- Commands and calls of a registry that are refused.
 use Rattle.std.specs.Prelude.{◌≡◌, ◌<◌, ◌⊎◌, ℕ, Option}
-use Rattle.record_archive.specs.Archive.{Archive}
+use Rattle.record_archive.specs.Calls.{Keeper}
 use Rattle.desk_commands.specs.Answers.{refused}
 use Rattle.desk_commands.specs.Calls.{Calls}
 use Rattle.desk_commands.specs.Standing.{Command, Standing, turn, with_turns}
@@ -19,19 +19,18 @@ abbrev pub KeepsSteps : Standing → Command → Standing → Type 0
 KeepsSteps s c new = (new ≡ s) ⊎ MakesSomeSteps s c new
 
 -- A registry that represents a state refuses a command with this number. Nothing is known of the disk under it.
-pub record RefusedCall {D I : Type 0} (clean : D → Type 0) (stands : D → Standing → Type 0) (may_leave : D → I → Type 0)
-    (keeps : I → Archive → Type 0) : Type 0 where
+pub record RefusedCall {D : Type 0} (keeper : Keeper D Standing) : Type 0 where
   pub state : Standing
   pub old : D
   pub command : Command
   pub number : ℕ
   pub offset : Option ℕ
   pub new : D
-  pub at_begin : stands old state
-  pub call : Calls clean stands may_leave keeps old command (refused number offset) new
+  pub at_begin : keeper.stands old state
+  pub call : Calls keeper old command (refused number offset) new
 
 -- a registry represents this state, but for the steps that a TURN made
-pub record IsLeftBy {D : Type 0} (stands : D → Standing → Type 0) (state : Standing) (c : Command) (new : D) : Type 0 where
+pub record IsLeftBy {D : Type 0} (keeper : Keeper D Standing) (state : Standing) (c : Command) (new : D) : Type 0 where
   pub to : Standing
-  pub there : stands new to
+  pub there : keeper.stands new to
   pub steps : KeepsSteps state c to

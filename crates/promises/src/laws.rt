@@ -49,10 +49,10 @@ pub fn refusals_change_nothing<R: Registry>()
         Step s c (refused n at) new → n ≢ 99 → new ≡ s }
     ensures no_memory { (s : Standing) (c : Command) (at : Option ℕ) (new : Standing)
         → Step s c (refused 99 at) new → KeepsSteps s c new }
-    ensures registry { (x : RefusedCall R.clean R.stands R.may_leave R.keeps) → x.number ≢ 99
-        → R.stands x.new x.state }
-    ensures registry_no_memory { (x : RefusedCall R.clean R.stands R.may_leave R.keeps)
-        → x.number ≡ 99 → IsLeftBy R.stands x.state x.command x.new }
+    ensures registry { (x : RefusedCall R.keeper) → x.number ≢ 99
+        → R.keeper.stands x.new x.state }
+    ensures registry_no_memory { (x : RefusedCall R.keeper)
+        → x.number ≡ 99 → IsLeftBy R.keeper x.state x.command x.new }
 {}
 
 /// In a session that begins with an archive:

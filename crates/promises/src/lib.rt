@@ -5,6 +5,7 @@
 //!
 //! - `images`: an image that is accepted runs to its end without a trap and within its budget, and a compiled script
 //!   captures what the script means.
+//! - `reading`: whatever the checker accepts is read by the meaning of scripts as it stands.
 //! - `records`: a capture makes a record in each class of its outcome and in no other. Each line of a record gives its
 //!   due day, which comes the period of its class after the day of the capture, or at the end of the year in which that
 //!   period ends, where the schedule says so. A due list is whole.
@@ -25,6 +26,7 @@
 mod images;
 mod laws;
 mod lines;
+mod reading;
 mod records;
 mod turns;
 
@@ -36,5 +38,6 @@ pub use laws::{
     captures_are_pinned, equal_after_striking, refusals_change_nothing, turns_do_not_matter,
 };
 pub use lines::{equal_lines_after_striking, lines_are_sessions};
+pub use reading::checked_scripts_are_read;
 pub use records::{dry_runs_store_nothing, due_lists_are_whole, finished_captures_are_whole};
 pub use turns::{beginnings_are_refused_exactly, tickets_are_looked_up_exactly, turns_add_up};

@@ -20,10 +20,10 @@ use sieve_text::{one_scan, one_tree, one_verdict};
 /// `serve` reads and writes: it has written answers to the lines that it has read. The disk may fail in between; only
 /// after an answer that comes from the archive the registry is to be clean.
 pub fn equal_lines_after_striking<R: Registry>()
-    ensures lines { (x y : LineSession R.clean R.stands R.may_leave R.keeps)
+    ensures lines { (x y : LineSession R.keeper)
         → SameButTurns x.state y.state → EqualLinesLeft x y
-        → ReplyAlike x y × LeaveTheSame R.stands x.new y.new }
-    ensures octets { (x y : ServedSession R.clean R.stands R.may_leave R.keeps)
+        → ReplyAlike x y × LeaveTheSame R.keeper x.new y.new }
+    ensures octets { (x y : ServedSession R.keeper)
         → SameButTurns x.state y.state → AreServedAlike x y }
 {
     one_scan();
@@ -44,8 +44,8 @@ pub fn lines_are_sessions<R: Registry>()
     ensures steps { (s new : Standing) (items : List Item) (answers : List Answer)
         → Run Step s items answers new
         → Steps s (commands_in items) (answers_in items answers) new }
-    ensures registry { (x : LineSession R.clean R.stands R.may_leave R.keeps)
-        → IsSession R.stands x.state x.items x.answers x.new }
+    ensures registry { (x : LineSession R.keeper)
+        → IsSession R.keeper x.state x.items x.answers x.new }
 {
     sessions_refine_states::<R>();
 }

@@ -84,7 +84,8 @@ pub trait Records {
         ensures { CarriesOut keeper self.old self.new
             (λ a. archive.destroy_on a number (epoch_day day)) Quietly result };
 
-    ghost plan_is: { (records : Self) (a : Archive) → keeper.stands records a → plan_of records ≡ a.plan };
+    ghost plan_is: { (records : Self) (a : Archive) → keeper.stands records a
+        → plan_of records ≡ a.plan };
 
     ghost is_archive: { (records : Self) (a : Archive) → keeper.stands records a → IsArchive a };
 }

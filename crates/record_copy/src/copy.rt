@@ -104,23 +104,3 @@ pub fn copy_archive<S: Alter, T: Alter>(
     copy_rows(alloc, plan, from, to)?;
     Ok(())
 }
-
-/// The same between two connections of one kind, as over two files, where one type of connection is enough.
-pub fn copy_alike<S: Alter>(
-    alloc: Global,
-    plan: &Plan,
-    from: &mut Connection<S>,
-    to: &mut Connection<S>,
-) -> Result<(), CopyFault>
-    ensures idle { to.old.in_transaction ≡ false → to.new.in_transaction ≡ false }
-    ensures copies { OnOk result
-        (Copies S.Store S.Store plan.now from.old from.new to.old to.new) }
-    ensures lost { HasCleanDisk (state S.Store from.new) → result ≡ Err CopyFault.Lost
-        → (a : Archive) → IsArchive a → StoresArchive (state S.Store from.old).now a → ⊥ }
-    ensures looks { Looks S.Store from.old from.new }
-    ensures from_open { WasOpenOnOk S.Store from.old from.new result }
-    ensures committed { IsCommitted S.Store to.old to.new result }
-    ensures falls { HasCleanDisk (state S.Store to.new) → HasCleanDisk (state S.Store to.old) }
-{
-    copy_archive(alloc, plan, from, to)
-}

@@ -10,5 +10,5 @@ mod messages;
 mod source;
 mod writes;
 
-pub use copy::{copy_alike, copy_archive};
+pub use copy::copy_archive;
 pub use fault::CopyFault;

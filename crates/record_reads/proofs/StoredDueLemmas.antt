@@ -3,7 +3,7 @@ use Rattle.std.proofs.Common.{◌≡◌, ◌==◌, ◌&&◌, ℕ, Bool, true, fa
 use Rattle.std.proofs.lemmas.Bool.Decides.{nat_tests}
 use Rattle.std.specs.Bool.{Decides}
 use Rattle.std.specs.Cmp.Lexicographic.{pointwise}
-use Rattle.common_laws.proofs.Tests.{both}
+use Rattle.std.proofs.lemmas.Bool.{and_parts as both}
 use Rattle.record_tables.specs.Rows.{Due}
 use Rattle.record_tables.specs.Reads.{due_values}
 use Rattle.record_reads.specs.StoredDues.{shows_due}

@@ -1,12 +1,12 @@
 //! The records that are due, read in one query.
 
 ghost use Rattle.std.specs.Prelude.{◌≡◌, map};
-ghost use Rattle.sqlite.specs.Held.{state};
 ghost use Rattle.record_tables.specs.Tables.{IsArchiveSchema};
 ghost use Rattle.record_tables.specs.Rows.{Tables, Stores, AreKeyed};
 ghost use Rattle.record_reads.specs.DueRecords.{DueRecord, ReadsDueRecord, FitsDueRecord, due_records_by, due_record_of, FitsDueRecordsBy};
 ghost use Rattle.record_reads.specs.Lookups.{WasOpenOnNoArchive};
-ghost use Rattle.record_tables.specs.Steps.{CommitsNothingOf, IsStill, Falls, IsIdle, ReadsAlone, Learns, Rejects, WasOpenOnOk};
+ghost use Rattle.record_reads.specs.Quiet.{ReadsQuietly};
+ghost use Rattle.record_tables.specs.Steps.{Learns, Rejects};
 
 use crate::cells::{number_at, text_at};
 use crate::query::read_all;
@@ -45,15 +45,7 @@ pub fn due_records_by<S: Alter>(
     ensures none { Rejects S.Store conn.old conn.new result
         (λ db. (t : Tables) → Stores db t → AreKeyed t → FitsDueRecordsBy day t → ⊥) }
     ensures seen { WasOpenOnNoArchive S.Store conn.old conn.new result }
-    ensures same { ReadsAlone S.Store conn.old conn.new result
-        (IsArchiveSchema (state S.Store conn.old).now.schema) }
-    ensures still { IsStill S.Store conn.old conn.new
-        (IsArchiveSchema (state S.Store conn.old).now.schema) }
-    ensures was_open { WasOpenOnOk S.Store conn.old conn.new result }
-    ensures falls { Falls S.Store conn.old conn.new }
-    ensures idle { IsIdle S.Store conn.old conn.new }
-    ensures survives { CommitsNothingOf S.Store conn.old conn.new
-        (IsArchiveSchema (state S.Store conn.old).now.schema) }
+    ensures frame { ReadsQuietly S.Store conn.old conn.new result IsArchiveSchema }
 {
     read_all(
         alloc,

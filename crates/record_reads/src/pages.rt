@@ -5,14 +5,14 @@
 
 ghost use Rattle.std.specs.Prelude.{◌≡◌, map, take, filter};
 ghost use Rattle.std.specs.List.{AllByRecursion};
-ghost use Rattle.sqlite.specs.Held.{state};
 ghost use Rattle.record_tables.specs.Tables.{IsArchiveSchema};
 ghost use Rattle.record_tables.specs.Rows.{Tables, Stores, AreKeyed};
 ghost use Rattle.record_tables.specs.Reads.{FitsRecord, AreHolds, ForRows};
 ghost use Rattle.record_tables.specs.CodeRows.{record_of, hold_entry_of};
 ghost use Rattle.record_reads.specs.Lookups.{WasOpenOnNoArchive};
 ghost use Rattle.record_reads.specs.Pages.{records_from, is_between};
-ghost use Rattle.record_tables.specs.Steps.{CommitsNothingOf, IsStill, Falls, IsIdle, ReadsAlone, Learns, Rejects, WasOpenOnOk};
+ghost use Rattle.record_reads.specs.Quiet.{ReadsQuietly};
+ghost use Rattle.record_tables.specs.Steps.{Learns, Rejects};
 
 use crate::query::read_all;
 use record_tables::fault::Fault;
@@ -35,15 +35,7 @@ pub fn records_from<S: Alter>(
         (λ db. (t : Tables) → Stores db t → AreKeyed t →
         AllByRecursion FitsRecord (take most (records_from from t)) → ⊥) }
     ensures seen { WasOpenOnNoArchive S.Store conn.old conn.new result }
-    ensures same { ReadsAlone S.Store conn.old conn.new result
-        (IsArchiveSchema (state S.Store conn.old).now.schema) }
-    ensures still { IsStill S.Store conn.old conn.new
-        (IsArchiveSchema (state S.Store conn.old).now.schema) }
-    ensures was_open { WasOpenOnOk S.Store conn.old conn.new result }
-    ensures falls { Falls S.Store conn.old conn.new }
-    ensures idle { IsIdle S.Store conn.old conn.new }
-    ensures survives { CommitsNothingOf S.Store conn.old conn.new
-        (IsArchiveSchema (state S.Store conn.old).now.schema) }
+    ensures frame { ReadsQuietly S.Store conn.old conn.new result IsArchiveSchema }
 {
     read_all(
         alloc,
@@ -67,15 +59,7 @@ pub fn holds_between<S: Alter>(
     ensures none { Rejects S.Store conn.old conn.new result
         (λ db. ForRows Stores AreHolds db (λ hs. ⊥)) }
     ensures seen { WasOpenOnNoArchive S.Store conn.old conn.new result }
-    ensures same { ReadsAlone S.Store conn.old conn.new result
-        (IsArchiveSchema (state S.Store conn.old).now.schema) }
-    ensures still { IsStill S.Store conn.old conn.new
-        (IsArchiveSchema (state S.Store conn.old).now.schema) }
-    ensures was_open { WasOpenOnOk S.Store conn.old conn.new result }
-    ensures falls { Falls S.Store conn.old conn.new }
-    ensures idle { IsIdle S.Store conn.old conn.new }
-    ensures survives { CommitsNothingOf S.Store conn.old conn.new
-        (IsArchiveSchema (state S.Store conn.old).now.schema) }
+    ensures frame { ReadsQuietly S.Store conn.old conn.new result IsArchiveSchema }
 {
     read_all(
         alloc,

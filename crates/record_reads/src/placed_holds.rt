@@ -5,12 +5,12 @@
 
 ghost use Rattle.std.specs.Prelude.{◌≡◌, map};
 ghost use Rattle.std.specs.List.{AllByRecursion};
-ghost use Rattle.sqlite.specs.Held.{state};
 ghost use Rattle.record_tables.specs.Tables.{IsArchiveSchema};
 ghost use Rattle.record_tables.specs.Rows.{Tables, Stores, AreKeyed};
 ghost use Rattle.record_tables.specs.Reads.{hold_entry, FitsHold};
 ghost use Rattle.record_tables.specs.CodeRows.{hold_entry_of};
-ghost use Rattle.record_tables.specs.Steps.{CommitsNothingOf, IsStill, Falls, IsIdle, ReadsAlone, Learns, Rejects, WasOpenOnOk};
+ghost use Rattle.record_reads.specs.Quiet.{ReadsQuietly};
+ghost use Rattle.record_tables.specs.Steps.{Learns, Rejects};
 
 use crate::query::read_all;
 use record_tables::fault::Fault;
@@ -29,15 +29,7 @@ pub fn placed_holds<S: Alter>(
     ensures none { Rejects S.Store conn.old conn.new result
         (λ db. (t : Tables) → Stores db t → AreKeyed t →
         AllByRecursion FitsHold (map hold_entry t.holds) → ⊥) }
-    ensures same { ReadsAlone S.Store conn.old conn.new result
-        (IsArchiveSchema (state S.Store conn.old).now.schema) }
-    ensures still { IsStill S.Store conn.old conn.new
-        (IsArchiveSchema (state S.Store conn.old).now.schema) }
-    ensures was_open { WasOpenOnOk S.Store conn.old conn.new result }
-    ensures falls { Falls S.Store conn.old conn.new }
-    ensures idle { IsIdle S.Store conn.old conn.new }
-    ensures survives { CommitsNothingOf S.Store conn.old conn.new
-        (IsArchiveSchema (state S.Store conn.old).now.schema) }
+    ensures frame { ReadsQuietly S.Store conn.old conn.new result IsArchiveSchema }
 {
     read_all(
         alloc,

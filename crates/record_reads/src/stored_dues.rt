@@ -3,14 +3,13 @@
 ghost use Rattle.std.specs.Prelude.{◌≡◌, map};
 ghost use Rattle.std.specs.Bool.{Decides};
 ghost use Rattle.std.specs.Cmp.Lexicographic.{pointwise};
-ghost use Rattle.sqlite.specs.Held.{state};
 ghost use Rattle.sqlite.specs.Order.{column};
 ghost use Rattle.record_tables.specs.Tables.{IsArchiveSchema};
 ghost use Rattle.record_tables.specs.Rows.{Tables, Stores, AreKeyed};
 ghost use Rattle.record_reads.specs.StoredDues.{is_number, shows_due};
-ghost use Rattle.record_reads.specs.Quiet.{IsQuiet};
+ghost use Rattle.record_reads.specs.Quiet.{ReadsQuietly};
 ghost use Rattle.record_tables.specs.CodeRows.{due_of};
-ghost use Rattle.record_tables.specs.Steps.{CommitsNothingOf, Falls, IsIdle, ReadsAlone, Learns, WasOpenOnOk};
+ghost use Rattle.record_tables.specs.Steps.{Learns};
 
 use crate::query::rows_of;
 use record_tables::rows::DueRow;
@@ -55,14 +54,7 @@ pub fn are_dues<S: Alter>(conn: &mut Connection<S>, dues: &[DueRow]) -> Result<b
     ensures are { Learns S.Store conn.old conn.new result
         (λ db b. (t : Tables) → Stores db t → AreKeyed t →
         Decides b (t.dues ≡ map due_of dues.now)) }
-    ensures same { ReadsAlone S.Store conn.old conn.new result
-        (IsArchiveSchema (state S.Store conn.old).now.schema) }
-    ensures quiet { IsQuiet S.Store conn.old conn.new }
-    ensures was_open { WasOpenOnOk S.Store conn.old conn.new result }
-    ensures falls { Falls S.Store conn.old conn.new }
-    ensures idle { IsIdle S.Store conn.old conn.new }
-    ensures survives { CommitsNothingOf S.Store conn.old conn.new
-        (IsArchiveSchema (state S.Store conn.old).now.schema) }
+    ensures frame { ReadsQuietly S.Store conn.old conn.new result IsArchiveSchema }
 {
     let rows = rows_of(conn, "SELECT record, day FROM due_day ORDER BY record", &[])?;
     Ok(show_dues(rows.as_slice(), dues))

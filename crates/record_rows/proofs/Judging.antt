@@ -13,7 +13,7 @@ use Rattle.record_tables.specs.declared.rows.HoldRow.{HoldRow}
 use Rattle.record_archive.specs.Archive.{Record}
 use Rattle.record_tables.specs.Reads.{HoldEntry}
 use Rattle.record_tables.specs.CodeRows.{record_of, hold_entry_of}
-use Rattle.common_laws.proofs.Tests.{five}
+use Rattle.record_rows.proofs.Tests.{five}
 use Rattle.record_rows.specs.SoundRows.{is_named, is_live, is_one_of, IsSound, AreRows}
 use Rattle.record_rows.specs.Tests.{is_sound, rises_from, rises_after}
 use Rattle.record_rows.proofs.Sorted.{rises-sorted, sorted-rises, holds-sorted, sorted-holds, sorted-same}

@@ -1,3 +1,4 @@
+pub mod Tests
 pub mod Merged
 pub mod Pairs
 pub mod Loops

@@ -13,7 +13,7 @@ use Rattle.record_tables.specs.declared.rows.ScheduleRow.{ScheduleRow}
 use Rattle.record_tables.specs.declared.rows.ClassRow.{ClassRow}
 use Rattle.record_tables.specs.Changes.{ClassEntry, Rule}
 use Rattle.record_tables.specs.CodeRows.{rule_of, class_entry_of}
-use Rattle.common_laws.proofs.Tests.{both, three, five}
+use Rattle.record_rows.proofs.Tests.{both, three, five}
 use Rattle.record_rows.specs.Rules.{rule_at, own_rules, rules_of, entry_of_row, classes_of, HasRows, same_rule, same_class, answer_entry}
 use Rattle.record_rows.specs.Merge.{schedule_in, merge}
 use Rattle.record_rows.proofs.Loops.{told-are}

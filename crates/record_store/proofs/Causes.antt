@@ -15,7 +15,7 @@ use Rattle.record_tables.specs.declared.fault.Fault.{Fault}
 use Rattle.record_tables.specs.declared.fault.Fault.TheVariants as reads
 use Rattle.record_adoption.specs.Keeping.{StoresArchive}
 use Rattle.record_adoption.proofs.AdoptRows.{records_fit}
-use Rattle.record_store.specs.Stores.{StandsFor, IsNeverOwn}
+use Rattle.record_store.specs.Stores.{StandsFor, IsNeverOwn, Behaves}
 use Rattle.record_store.specs.declared.store.Store.{Store}
 use Rattle.record_store.specs.Faults.{StoreFault, lost_or, is_own}
 use Rattle.record_store.specs.declared.fault.Cause.TheVariants.{Sqlite, Lost, Busy}
@@ -57,9 +57,18 @@ passed_cause g old new (Err e) f same h = λ a s clean. ap is_own same ∙ h a s
 passed_cause g old new (Ok x) f same h = λ a s clean. tt
 
 -- outside a transaction a connection is idle
-pub never_busy : (busy settled : Bool) → busy ≡ false → settled ≡ not busy → settled ≡ false → ⊥
+never_busy : (busy settled : Bool) → busy ≡ false → settled ≡ not busy → settled ≡ false → ⊥
 never_busy true settled none is out = absurd (let e = none in cc)
 never_busy false settled none is out = let e : true ≡ false = sym is ∙ out in cc
+
+-- so a store that represents an archive is never found busy
+pub behaves_busy : {S X : Type 0} (g : Ghosts S) (s : Store S) (f : StoreFault) (settled : Bool)
+    → settled ≡ not s.conn.in_transaction → settled ≡ false → Behaves {X = X} g s s (Err f)
+behaves_busy g s f settled is out = record {
+  falls = λ clean. clean;
+  cause = λ (a : Archive) stands clean. absurd (never_busy _ settled stands.idle is out);
+  «open» = λ clean. tt;
+}
 
 -- ---- rows of an archive
 

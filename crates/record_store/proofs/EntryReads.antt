@@ -1,29 +1,30 @@
 -- Reads of a page, as looks at the archive's tables.
-use Rattle.std.proofs.Common.{◌≡◌, ℕ, false, List, filter, take, length, map, nat_le, Some, None}
-use Rattle.std.proofs.Common.{slice_get, [], ◌∷◌, zero, suc, ◌-◌, ◌<◌, refl, ap, ◌∙◌, arith, IsTrue}
+use Rattle.std.proofs.Common.{◌≡◌, ℕ, List, filter, take, length, map, nat_le, Some, None}
+use Rattle.std.proofs.Common.{Result, slice_get, [], ◌∷◌, zero, suc, ◌-◌, ◌<◌, refl, ap, ◌∙◌, arith}
 use Rattle.std.specs.List.{AllByRecursion}
 use Rattle.std.proofs.lemmas.List.Elements.{recursion_from_All}
 use Rattle.sqlite.specs.Store.{Ghosts}
-use Rattle.sqlite.specs.State.{HasCleanDisk, Survives}
-use Rattle.sqlite.specs.Held.{Held, state}
+use Rattle.sqlite.specs.Held.{Held}
 use Rattle.sqlite_keyed.proofs.ListLemmas.{filter_same, all-filter, all_weaker}
 use Rattle.record_archive.specs.Archive.{Record, Archive, IsArchive, IsRecord}
 use Rattle.record_tables.specs.Reads.{FitsRecord}
 use Rattle.record_tables.specs.Tables.{IsArchiveSchema}
 use Rattle.record_tables.specs.Rows.{Tables}
 use Rattle.record_reads.specs.Lookups.{Looks}
+use Rattle.record_reads.specs.Quiet.{ReadsQuietly}
 use Rattle.record_reads.specs.Pages as pages
 use Rattle.record_store.specs.Entries.{records_from, IsListableRecord}
 use Rattle.record_store.proofs.DueLemmas.{le_is}
 
 -- a read of the archive's tables is a look at them
-pub looks_at : {S : Type 0} (g : Ghosts S) (old new : Held S) → (old.in_transaction ≡ false → new.in_transaction ≡ false)
-    → (HasCleanDisk (state g new) → HasCleanDisk (state g old))
-    → (old.in_transaction ≡ false → (IsTrue (state g old).is_open → IsArchiveSchema (state g old).now.schema) → HasCleanDisk (state g new)
-    → IsTrue (state g new).is_open
-    → IsTrue (state g old).is_open × ((state g new).now ≡ (state g old).now))
-    → Survives (state g old) (state g new) (λ _. IsArchiveSchema (state g old).now.schema → ⊥) → Looks g old new
-looks_at g old new idle falls still survives = record { idle = idle; falls = falls; still = still; survives = survives }
+pub looks_at : {S T E : Type 0} (g : Ghosts S) (old new : Held S) (r : Result T E) → ReadsQuietly g old new r IsArchiveSchema
+    → Looks g old new
+looks_at g old new r read = record {
+  idle = read.idle;
+  falls = read.falls;
+  still = λ idle has. read.quiet idle;
+  survives = read.survives;
+}
 
 -- the records that are read are the archive's
 pub from_told : (a : Archive) (t : Tables) (from most : ℕ) → t.records ≡ a.records

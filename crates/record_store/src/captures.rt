@@ -11,7 +11,7 @@ ghost use Rattle.record_archive.specs.Archive.{Archive, AreClasses};
 ghost use Rattle.record_store.specs.Captures.{HasDueDay, lines_of, dues_of_lines, due_before, ObeysCapture};
 ghost use Rattle.record_archive.specs.Lines.{line_view};
 ghost use Rattle.record_archive.specs.Faults.{is_trouble};
-ghost use Rattle.record_store.specs.Stores.{StandsFor, Leaves, Falls, ChangesBy, LeavesChange, IsOpenOnOk, IsNeverOwn};
+ghost use Rattle.record_store.specs.Stores.{StandsFor, Leaves, ChangesBy, LeavesChange, Behaves};
 
 use crate::changes::Capture;
 use crate::fault::{BUSY, StoreFault, fault_of};
@@ -113,9 +113,7 @@ impl<S: Alter> Store<S> {
         ensures err { OnErr result
             ((a : Archive) → StandsFor S.Store self.old a → StandsFor S.Store self.new a) }
         ensures trouble { IfErr result (λ f. is_trouble f ≡ true) }
-        ensures falls { Falls S.Store self.old self.new }
-        ensures cause { IsNeverOwn S.Store self.old self.new result }
-        ensures open { IsOpenOnOk S.Store self.new result }
+        ensures behaves { Behaves S.Store self.old self.new result }
         ensures crash { LeavesChange S.Store self.old self.new
             (λ a. archive.after_capture a body.now day paths.now) }
     {
@@ -163,9 +161,7 @@ impl<S: Alter> Store<S> {
         requires paths { AreClasses self.old.plan paths.now }
         ensures obeys { ObeysCapture S.Store self.old self.new result
             body.now (number_of_day day) paths.now }
-        ensures falls { Falls S.Store self.old self.new }
-        ensures cause { IsNeverOwn S.Store self.old self.new result }
-        ensures open { IsOpenOnOk S.Store self.new result }
+        ensures behaves { Behaves S.Store self.old self.new result }
         ensures crash { Leaves S.Store self.old self.new
             (λ a. archive.capture a body.now (number_of_day day) paths.now) }
     {

@@ -1,11 +1,11 @@
 //! What commands change in the tables, each in one transaction.
 
-ghost use Rattle.std.specs.Prelude.{◌≡◌, ◌+◌, ◌≤◌, ◌^◌, length, map};
+ghost use Rattle.std.specs.Prelude.{◌+◌, ◌≤◌, ◌^◌, length, map};
 ghost use Rattle.record_tables.specs.Changes.{Turns, Always, IsPastRecords, with_hold, without_hold};
 ghost use Rattle.record_tables.specs.CodeRows.{due_of};
 ghost use Rattle.record_archive.specs.Archive.{records_of};
 ghost use Rattle.record_store.specs.Captures.{AreAfter, with_records, with_more_dues, IsCaptured};
-ghost use Rattle.record_tables.specs.Steps.{PutsOnOk, CommitsNothing, KeepsIn};
+ghost use Rattle.record_tables.specs.Steps.{Writes};
 
 use class_paths::Paths;
 use record_tables::rows::DueRow;
@@ -57,11 +57,8 @@ fn insert_records<S: Alter>(
     paths: &Paths,
 ) -> Result<(), Error>
     requires { first + length paths.now ≤ 2 ^ 32 }
-    ensures same_reference { tx.new.conn.ghost_name ≡ tx.old.conn.ghost_name }
-    ensures ok { PutsOnOk S.Store tx.old.conn.now tx.new.conn.now result (IsPastRecords first)
-        (with_records (records_of first first day paths.now)) }
-    ensures err { KeepsIn S.Store tx.old.conn.now tx.new.conn.now result }
-    ensures survives { CommitsNothing S.Store tx.old.conn.now tx.new.conn.now }
+    ensures { Writes S.Store tx.old.conn tx.new.conn result
+        (IsPastRecords first) (with_records (records_of first first day paths.now)) }
 {
     let paths = paths.as_slice();
     for (i, path) in paths.iter().enumerate() {
@@ -71,11 +68,8 @@ fn insert_records<S: Alter>(
 }
 
 fn insert_due_days<S: Alter>(tx: &mut Transaction<'_, S>, dues: &[DueRow]) -> Result<(), Error>
-    ensures same_reference { tx.new.conn.ghost_name ≡ tx.old.conn.ghost_name }
-    ensures ok { PutsOnOk S.Store tx.old.conn.now tx.new.conn.now result
+    ensures { Writes S.Store tx.old.conn tx.new.conn result
         (AreAfter (map due_of dues.now)) (with_more_dues (map due_of dues.now)) }
-    ensures err { KeepsIn S.Store tx.old.conn.now tx.new.conn.now result }
-    ensures survives { CommitsNothing S.Store tx.old.conn.now tx.new.conn.now }
 {
     for due in dues {
         insert_due(tx, due.record, due.day)?;

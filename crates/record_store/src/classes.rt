@@ -10,7 +10,7 @@ ghost use Rattle.record_store.specs.Revisions.{IsClassAdded, HasSameDue};
 ghost use Rattle.record_archive.specs.Faults.{WhereRefused, is_trouble};
 ghost use Rattle.record_archive.specs.Calls.{Quietly};
 ghost use Rattle.record_store.specs.Faults.{is_own};
-ghost use Rattle.record_store.specs.Stores.{StandsFor, Obeys, Leaves, Falls, IsOpenOnOk, IsNeverOwn};
+ghost use Rattle.record_store.specs.Stores.{StandsFor, Obeys, Leaves, Behaves};
 
 use crate::fault::{BUSY, StoreFault, fault_of};
 use crate::store::Store;
@@ -70,9 +70,7 @@ impl<S: Alter> Store<S> {
         ensures dues { OnOk result
             ((a : Archive) → StandsFor S.Store self.old a →
             All (HasSameDue self.old.plan self.new.plan) a.records) }
-        ensures falls { Falls S.Store self.old self.new }
-        ensures cause { IsNeverOwn S.Store self.old self.new result }
-        ensures open { IsOpenOnOk S.Store self.new result }
+        ensures behaves { Behaves S.Store self.old self.new result }
         ensures crash { Leaves S.Store self.old self.new (λ a. archive.add_class a path.now) }
     {
         if !self.conn.is_autocommit() {

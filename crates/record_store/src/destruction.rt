@@ -3,7 +3,7 @@
 ghost use Rattle.std.specs.Prelude.{◌≡◌, ◌<◌, pos, true, false, Err, Some, None, IfErr, OnOk, OnErr, MatchOption};
 ghost use Rattle.jiff.specs.Words.{epoch_day};
 ghost use Rattle.record_tables.specs.Changes.{Always};
-ghost use Rattle.record_tables.specs.Steps.{PutsIn, KeepsIn, CommitsNothing};
+ghost use Rattle.record_tables.specs.Steps.{Writes};
 ghost use Rattle.record_tables.specs.CodeRows.{record_of};
 ghost use Rattle.record_archive.specs.Archive as archive;
 ghost use Rattle.record_archive.specs.Archive.{Archive};
@@ -11,7 +11,7 @@ ghost use Rattle.record_adoption.specs.Counts.{count_at};
 ghost use Rattle.record_store.specs.Destruction.{IsUnheld, IsDestruction, against_destruction, without_body, IsDestroyable};
 ghost use Rattle.record_archive.specs.Faults.{WhereRefused, is_trouble};
 ghost use Rattle.record_archive.specs.Calls.{Quietly};
-ghost use Rattle.record_store.specs.Stores.{StandsFor, ObeysRows, Tells, Leaves, LeavesAll, LeavesAllowed, Falls, ChangesWhere, IsOpenOnOk, IsNeverOwn};
+ghost use Rattle.record_store.specs.Stores.{StandsFor, ObeysRows, Tells, Leaves, LeavesAll, LeavesAllowed, ChangesWhere, Behaves};
 
 use crate::dues::number_from_1970;
 use crate::fault::{BUSY, LOST, StoreFault, fault_of};
@@ -26,11 +26,7 @@ use sqlite::{Alter, Error, Transaction};
 
 /// Removes the message, if one is given.
 fn delete_body<S: Alter>(tx: &mut Transaction<'_, S>, last: Option<u32>) -> Result<(), Error>
-    ensures same_reference { tx.new.conn.ghost_name ≡ tx.old.conn.ghost_name }
-    ensures ok { OnOk result
-        (PutsIn S.Store tx.old.conn.now tx.new.conn.now Always (without_body last)) }
-    ensures err { KeepsIn S.Store tx.old.conn.now tx.new.conn.now result }
-    ensures survives { CommitsNothing S.Store tx.old.conn.now tx.new.conn.now }
+    ensures { Writes S.Store tx.old.conn tx.new.conn result Always (without_body last) }
 {
     match last {
         Some(message) => delete_message(tx, message),
@@ -107,9 +103,7 @@ impl<S: Alter> Store<S> {
         ensures tells { Tells S.Store self.old self.new result
             (λ a r. IsDestroyable number day a (record_of r))
             (λ a f. archive.destroy_by a number day (archive.record_at a number) ≡ Err f) }
-        ensures falls { Falls S.Store self.old self.new }
-        ensures open { IsOpenOnOk S.Store self.new result }
-        ensures cause { IsNeverOwn S.Store self.old self.new result }
+        ensures behaves { Behaves S.Store self.old self.new result }
         ensures crash { LeavesAll S.Store self.old self.new }
     {
         let record = self.record_at(number)?;
@@ -145,9 +139,7 @@ impl<S: Alter> Store<S> {
         ensures err { OnErr result
             ((a : Archive) → StandsFor S.Store self.old a → StandsFor S.Store self.new a) }
         ensures trouble { IfErr result (λ f. is_trouble f ≡ true) }
-        ensures falls { Falls S.Store self.old self.new }
-        ensures cause { IsNeverOwn S.Store self.old self.new result }
-        ensures open { IsOpenOnOk S.Store self.new result }
+        ensures behaves { Behaves S.Store self.old self.new result }
         ensures crash { LeavesAllowed S.Store self.old self.new
             (λ a. IsUnheld a number (record_of row.now))
             (λ a. archive.without a (record_of row.now)) }
@@ -180,9 +172,7 @@ impl<S: Alter> Store<S> {
     pub fn destroy(&mut self, number: u32, day: Date) -> Result<(), StoreFault>
         ensures obeys { ObeysRows S.Store self.old self.new result
             (λ a. archive.destroy_on a number (epoch_day day)) Quietly }
-        ensures falls { Falls S.Store self.old self.new }
-        ensures cause { IsNeverOwn S.Store self.old self.new result }
-        ensures open { IsOpenOnOk S.Store self.new result }
+        ensures behaves { Behaves S.Store self.old self.new result }
         ensures crash { Leaves S.Store self.old self.new
             (λ a. archive.destroy_on a number (epoch_day day)) }
     {

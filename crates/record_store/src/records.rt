@@ -1,5 +1,7 @@
 //! The store as `Records`, over which a desk is made. Each call first finds the connection open, and then is the store's
 //! own of the same name. So nothing is done any more on a connection that a fault of the disk has shut.
+//!
+//! The seven calls are written out: a helper that took the store's call as a closure would state its contract again.
 
 ghost use Rattle.record_store.specs.Stores.{keeper_of};
 

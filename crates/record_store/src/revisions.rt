@@ -12,7 +12,7 @@ ghost use Rattle.record_archive.specs.Faults.{WhereRefused, is_trouble};
 ghost use Rattle.record_archive.specs.Calls.{Quietly};
 ghost use Rattle.record_adoption.specs.Faults.{AreInOrder};
 ghost use Rattle.record_store.specs.Faults.{is_own};
-ghost use Rattle.record_store.specs.Stores.{StandsFor, ObeysRows, Tells, Leaves, LeavesAll, LeavesAllowed, Falls, ChangesWhere, IsOpenOnOk, IsNeverOwn};
+ghost use Rattle.record_store.specs.Stores.{StandsFor, ObeysRows, Tells, Leaves, LeavesAll, LeavesAllowed, Falls, ChangesWhere, IsOpenOnOk, IsNeverOwn, Behaves};
 
 use crate::fault::{BUSY, StoreFault, fault_of, lost_or};
 use crate::store::Store;
@@ -79,9 +79,7 @@ impl<S: Alter> Store<S> {
         ensures err { OnErr result
             ((a : Archive) → StandsFor S.Store self.old a → StandsFor S.Store self.new a) }
         ensures trouble { IfErr result (λ f. is_trouble f ≡ true) }
-        ensures falls { Falls S.Store self.old self.new }
-        ensures cause { IsNeverOwn S.Store self.old self.new result }
-        ensures open { IsOpenOnOk S.Store self.new result }
+        ensures behaves { Behaves S.Store self.old self.new result }
         ensures crash { LeavesAllowed S.Store self.old self.new
             (λ a. IsRevision a plan (map due_of dues.now)) (λ a. with_plan a plan) }
     {
@@ -106,9 +104,7 @@ impl<S: Alter> Store<S> {
     pub fn revise(&mut self, plan: Plan) -> Result<(), StoreFault>
         ensures obeys { ObeysRows S.Store self.old self.new result
             (λ a. archive.revise a plan) Quietly }
-        ensures falls { Falls S.Store self.old self.new }
-        ensures cause { IsNeverOwn S.Store self.old self.new result }
-        ensures open { IsOpenOnOk S.Store self.new result }
+        ensures behaves { Behaves S.Store self.old self.new result }
         ensures crash { Leaves S.Store self.old self.new (λ a. archive.revise a plan) }
     {
         let kept = self.judge_revision(plan)?;

@@ -10,7 +10,7 @@ ghost use Rattle.record_archive.specs.Archive.{Archive, empty_archive};
 ghost use Rattle.record_adoption.specs.Adoption.{FindsNothing, LeavesArchive};
 ghost use Rattle.record_archive.specs.Faults.{is_trouble};
 ghost use Rattle.record_store.specs.Faults.{is_own};
-ghost use Rattle.record_store.specs.Stores.{StandsFor, Tells, LeavesAll, LeavesNow, Falls, IsOpenOnOk, IsNeverOwn, LacksRecord};
+ghost use Rattle.record_store.specs.Stores.{StandsFor, Tells, LeavesAll, LeavesNow, Falls, IsOpenOnOk, LacksRecord, Behaves};
 ghost use Rattle.record_tables.specs.Steps.{CommitsNothing, IsUntouched};
 
 use crate::fault::{StoreFault, fault_of, lost_or};
@@ -112,9 +112,7 @@ impl<S: Alter> Store<S> {
     pub(crate) fn record_at(&mut self, number: u32) -> Result<RecordRow, StoreFault>
         ensures tells { Tells S.Store self.old self.new result
             (λ a r. archive.record_at a number ≡ Some (record_of r)) (LacksRecord number) }
-        ensures falls { Falls S.Store self.old self.new }
-        ensures open { IsOpenOnOk S.Store self.new result }
-        ensures cause { IsNeverOwn S.Store self.old self.new result }
+        ensures behaves { Behaves S.Store self.old self.new result }
         ensures crash { LeavesAll S.Store self.old self.new }
     {
         match record_by_number(self.alloc, &mut self.conn, number) {
@@ -128,9 +126,7 @@ impl<S: Alter> Store<S> {
     pub(crate) fn has_hold(&mut self, name: &[u8], number: u32) -> Result<bool, StoreFault>
         ensures tells { Tells S.Store self.old self.new result (λ a b. b ≡
             archive.is_held_by a name.now number) (λ a f. ⊥) }
-        ensures falls { Falls S.Store self.old self.new }
-        ensures open { IsOpenOnOk S.Store self.new result }
-        ensures cause { IsNeverOwn S.Store self.old self.new result }
+        ensures behaves { Behaves S.Store self.old self.new result }
         ensures crash { LeavesAll S.Store self.old self.new }
     {
         match has_hold(&mut self.conn, name, number) {

@@ -83,6 +83,11 @@ pub record Described (X : Type 0) : Type 0 where
       → kept schema has (with_rows xs t) ≡ map (put_in table.name (map to_row xs)) (kept schema has t)
   pub keyed_with : (xs : List X) (t : Tables) → AreKeyed t → IsKeyedBy key xs → AreKeyed (with_rows xs t)
 
+pub all_keyed : (t : Tables) → IsKeyedBy message_key t.messages → IsKeyedBy record_key t.records → IsKeyedBy hold_key t.holds
+    → IsKeyedBy setting_key t.settings → IsKeyedBy class_key t.classes → IsKeyedBy schedule_key t.schedules
+    → IsKeyedBy due_key t.dues → AreKeyed t
+all_keyed t a b c d e f g = record { messages = a; records = b; holds = c; settings = d; classes = e; schedules = f; dues = g }
+
 abbrev pub messages : Described Message
 messages = record {
   table = message_table;
@@ -97,15 +102,7 @@ messages = record {
   stored = λ db t s. s.messages;
   ordered = λ t k. k.messages;
   kept_with = λ schema has xs t. refl;
-  keyed_with = λ xs t k up. record {
-    messages = up;
-    records = k.records;
-    holds = k.holds;
-    settings = k.settings;
-    classes = k.classes;
-    schedules = k.schedules;
-    dues = k.dues;
-  };
+  keyed_with = λ xs t k up. all_keyed _ up k.records k.holds k.settings k.classes k.schedules k.dues;
 }
 
 abbrev pub records : Described Record
@@ -122,15 +119,7 @@ records = record {
   stored = λ db t s. s.records;
   ordered = λ t k. k.records;
   kept_with = λ schema has xs t. refl;
-  keyed_with = λ xs t k up. record {
-    messages = k.messages;
-    records = up;
-    holds = k.holds;
-    settings = k.settings;
-    classes = k.classes;
-    schedules = k.schedules;
-    dues = k.dues;
-  };
+  keyed_with = λ xs t k up. all_keyed _ k.messages up k.holds k.settings k.classes k.schedules k.dues;
 }
 
 abbrev pub holds : Described Hold
@@ -147,15 +136,7 @@ holds = record {
   stored = λ db t s. s.holds;
   ordered = λ t k. k.holds;
   kept_with = λ schema has xs t. refl;
-  keyed_with = λ xs t k up. record {
-    messages = k.messages;
-    records = k.records;
-    holds = up;
-    settings = k.settings;
-    classes = k.classes;
-    schedules = k.schedules;
-    dues = k.dues;
-  };
+  keyed_with = λ xs t k up. all_keyed _ k.messages k.records up k.settings k.classes k.schedules k.dues;
 }
 
 abbrev pub settings : Described Setting
@@ -172,15 +153,7 @@ settings = record {
   stored = λ db t s. s.settings;
   ordered = λ t k. k.settings;
   kept_with = λ schema has xs t. refl;
-  keyed_with = λ xs t k up. record {
-    messages = k.messages;
-    records = k.records;
-    holds = k.holds;
-    settings = up;
-    classes = k.classes;
-    schedules = k.schedules;
-    dues = k.dues;
-  };
+  keyed_with = λ xs t k up. all_keyed _ k.messages k.records k.holds up k.classes k.schedules k.dues;
 }
 
 abbrev pub classes : Described Class
@@ -197,15 +170,7 @@ classes = record {
   stored = λ db t s. s.classes;
   ordered = λ t k. k.classes;
   kept_with = λ schema has xs t. refl;
-  keyed_with = λ xs t k up. record {
-    messages = k.messages;
-    records = k.records;
-    holds = k.holds;
-    settings = k.settings;
-    classes = up;
-    schedules = k.schedules;
-    dues = k.dues;
-  };
+  keyed_with = λ xs t k up. all_keyed _ k.messages k.records k.holds k.settings up k.schedules k.dues;
 }
 
 abbrev pub schedules : Described Schedule
@@ -222,15 +187,7 @@ schedules = record {
   stored = λ db t s. s.schedules;
   ordered = λ t k. k.schedules;
   kept_with = λ schema has xs t. refl;
-  keyed_with = λ xs t k up. record {
-    messages = k.messages;
-    records = k.records;
-    holds = k.holds;
-    settings = k.settings;
-    classes = k.classes;
-    schedules = up;
-    dues = k.dues;
-  };
+  keyed_with = λ xs t k up. all_keyed _ k.messages k.records k.holds k.settings k.classes up k.dues;
 }
 
 abbrev pub dues : Described Due
@@ -247,15 +204,7 @@ dues = record {
   stored = λ db t s. s.dues;
   ordered = λ t k. k.dues;
   kept_with = λ schema has xs t. refl;
-  keyed_with = λ xs t k up. record {
-    messages = k.messages;
-    records = k.records;
-    holds = k.holds;
-    settings = k.settings;
-    classes = k.classes;
-    schedules = k.schedules;
-    dues = up;
-  };
+  keyed_with = λ xs t k up. all_keyed _ k.messages k.records k.holds k.settings k.classes k.schedules up;
 }
 
 -- ---- any of them

@@ -1,16 +1,20 @@
 -- Statements one after another.
 use Rattle.std.proofs.Common.{◌≡◌, ◌<◌, ◌+◌, ◌+ℤ◌, ℕ, ℤ, zero, suc, pos, List, [], ◌∷◌, ◌++◌, map, take, length, get_or}
-use Rattle.std.proofs.Common.{fold, true, refl, sym, ap, subst, ◌∙◌, arith}
+use Rattle.std.proofs.Common.{fold, true, refl, sym, ap, subst, ◌∙◌, arith, rules, IsTrue, Result, Ok, Err, OnOk, OnErr}
 use Rattle.std.proofs.lemmas.List.{take_more, map-append}
 use Rattle.std.specs.List.{AllByRecursion}
+use Rattle.std.specs.Borrow.{MutBor}
 use Rattle.sqlite_trees.specs.Tree.{Trees, IsAscending}
 use Rattle.sqlite_keyed.proofs.ListLemmas.{ascending_from_map, all_map}
 use Rattle.sqlite.specs.Store.{Ghosts}
 use Rattle.sqlite.specs.Effect.{Database}
-use Rattle.sqlite.specs.State.{State, HasCleanDisk, Survives}
+use Rattle.sqlite.specs.Order.{Row}
+use Rattle.sqlite.specs.declared.error.Error.{Error}
+use Rattle.sqlite.specs.State.{State, HasCleanDisk, Survives, ExecutesInside}
 use Rattle.sqlite.specs.Held.{Held, state}
 use Rattle.sqlite.proofs.StateLemmas.{survives_then}
 use Rattle.sqlite.proofs.Callers.{survives_begin}
+use Rattle.record_tables.specs.Steps.{Runs, Writes}
 use Rattle.record_tables.specs.Rows.{Tables, StoresKeyed, Due, class_key, schedule_key}
 use Rattle.record_tables.specs.Changes.{Puts, Turns, Always, HasNoDues, HasNoClasses, HasNoSchedules, IsPastDues}
 use Rattle.record_tables.specs.Changes.{ClassEntry, Rule, schedule_at, classes_from, schedules_from, with_due}
@@ -49,6 +53,53 @@ nothing_yet a A f same = record {
   committed = refl;
   mode = refl;
   is_open = refl;
+}
+
+-- ---- calls in a transaction
+
+on_ok : {T E P Q : Type 0} (r : Result T E) → (P → Q) → OnOk r P → OnOk r Q
+on_ok (Ok x) f p = f p
+on_ok (Err e) f p = tt
+
+on_err : {T E P Q : Type 0} (r : Result T E) → (P → Q) → OnErr r P → OnErr r Q
+on_err (Ok x) f p = tt
+on_err (Err e) f p = f p
+
+-- one statement
+pub written : {S T E : Type 0} (g : Ghosts S) (a b : MutBor (Held S)) (r : Result T E) {sql : List ℕ} {params : Row}
+    {Allows : Tables → Type 0} {change : Tables → Tables} → Runs g a b r sql params
+    → ((count : ℕ) → IsTrue (state g a.now).in_transaction → ExecutesInside 0 sql params (state g a.now) (state g b.now) (Ok count)
+    → Puts (state g a.now) (state g b.now) Allows change)
+    → Writes g a b r Allows change
+written g a b r run puts = record {
+  ok = on_ok r (λ ran clean inside. let it = ran clean inside in puts it.0 inside it.1) run.ran;
+  frame = run.frame;
+}
+
+-- a call that may write after those that have written
+pub writes_next : {S T E X F : Type 0} (g : Ghosts S) (a b c : MutBor (Held S)) (r : Result T E) {x : X}
+    {A B C : Tables → Type 0} {f h k : Tables → Tables} → Writes {E = F} g a b (Ok x) A f → Writes g b c r B h
+    → (Puts (state g a.now) (state g b.now) A f → Puts (state g b.now) (state g c.now) B h → Puts (state g a.now) (state g c.now) C k)
+    → Writes g a c r C k
+writes_next g a b c r one two both =
+    let first = λ (clean : HasCleanDisk (state g c.now)). one.ok (omega (arith, two.frame.survives.clean)) in
+    record {
+      ok = on_ok r (λ put clean inside. let was = first clean inside in both was (put clean (was.mode ∙ inside))) two.ok;
+      frame = record {
+        same_reference = two.frame.same_reference ∙ one.frame.same_reference;
+        err = λ clean inside. let was = first clean inside in on_err r (λ left. record {
+          was_open = λ is. subst IsTrue was.is_open (left.was_open is);
+          committed = λ is. left.committed is ∙ was.committed;
+        }) (two.frame.err clean (was.mode ∙ inside));
+        survives = search rules;
+      };
+    }
+
+pub writes_nothing : {S : Type 0} (g : Ghosts S) (a : MutBor (Held S)) {A : Tables → Type 0} {f : Tables → Tables}
+    → Puts (state g a.now) (state g a.now) A f → Writes {T = Unit} {E = Error} g a a (Ok tt) A f
+writes_nothing g a put = record {
+  ok = λ clean inside. put;
+  frame = record { same_reference = refl; err = λ clean inside. tt; survives = search rules };
 }
 
 pub get_or_any : {X : Type 0} (xs : List X) (i : ℕ) (d e : X) → i < length xs → get_or xs i d ≡ get_or xs i e

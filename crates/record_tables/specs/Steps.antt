@@ -1,13 +1,14 @@
 -- What calls on a connection promise about its state before and after. A disk is clean where it gave no error and
 -- returned what was written.
-use Rattle.std.specs.Prelude.{◌≡◌, ℕ, false, List, Vec, IsTrue, Result, Err, IfOk, OnOk, OnErr}
+use Rattle.std.specs.Prelude.{◌≡◌, ℕ, false, List, Vec, IsTrue, Result, Ok, Err, IfOk, OnOk, OnErr}
+use Rattle.std.specs.Borrow.{MutBor}
 use Rattle.std.specs.declared.alloc.Global.{Global}
 use Rattle.sqlite.specs.Store.{Ghosts}
 use Rattle.sqlite.specs.Schema.{Schema}
 use Rattle.sqlite.specs.Tree.{Trees}
 use Rattle.sqlite.specs.Effect.{Database}
 use Rattle.sqlite.specs.Order.{Row}
-use Rattle.sqlite.specs.State.{HasCleanDisk, IsUnchanged, KeepsCommit, Shown, Survives}
+use Rattle.sqlite.specs.State.{HasCleanDisk, ExecutesInside, IsUnchanged, KeepsCommit, Shown, Survives}
 use Rattle.sqlite.specs.Held.{Held, state}
 use Rattle.record_tables.specs.Rows.{Tables}
 use Rattle.record_tables.specs.Changes.{Puts}
@@ -125,3 +126,22 @@ module _ {S : Type 0} (g : Ghosts S) (old new : Held S) where
 
   abbrev pub IsIdle : Type 0
   IsIdle = old.in_transaction ≡ false → new.in_transaction ≡ false
+
+module _ {S T E : Type 0} (g : Ghosts S) (old new : MutBor (Held S)) (result : Result T E) where
+  -- What a call in a transaction promises beside its work: the transaction stays the caller's, a failure keeps what was
+  -- committed, and a crash leaves nothing of it.
+  pub record StaysInside : Type 0 where
+    pub same_reference : new.ghost_name ≡ old.ghost_name
+    pub err : KeepsIn g old.now new.now result
+    pub survives : CommitsNothing g old.now new.now
+
+  -- where it succeeds, the statement was run with these parameters
+  pub record Runs (sql : List ℕ) (params : Row) : Type 0 where
+    pub ran : OnOk result (Inside g old.now new.now ((count : ℕ)
+        × ExecutesInside 0 sql params (state g old.now) (state g new.now) (Ok count)))
+    pub frame : StaysInside
+
+  -- where it succeeds, the rows are changed by this change
+  pub record Writes (Allows : Tables → Type 0) (change : Tables → Tables) : Type 0 where
+    pub ok : OnOk result (PutsIn g old.now new.now Allows change)
+    pub frame : StaysInside

@@ -4,7 +4,7 @@ ghost use Rattle.std.specs.Prelude.{◌≡◌, ◌∷◌, [], OnOk, false, map};
 ghost use Rattle.sqlite.specs.Held.{state};
 ghost use Rattle.record_tables.specs.Tables.{archive_tables, schedule_table, due_table, due_index};
 ghost use Rattle.record_tables.specs.Layouts.{LaysIn, GoesOnIn, Empties, TellsDues, IsLaid, IsWidened, LaysTable, LaysIndex, DropsIn, IsIndexed};
-ghost use Rattle.record_tables.specs.Steps.{Inside, PutsIn, KeepsIn, CommitsNothing, CommitsWhole, Makes, IsCommitted, IsUndone, WasOpen, MakesIn};
+ghost use Rattle.record_tables.specs.Steps.{Inside, StaysInside, Writes, CommitsWhole, Makes, IsCommitted, IsUndone, WasOpen, MakesIn};
 ghost use Rattle.record_tables.specs.Changes.{Always, AreAscending, with_version};
 ghost use Rattle.record_tables.specs.CodeRows.{due_of, class_entry_of, rule_of, with_plan_rows, IsMovedTo};
 
@@ -16,22 +16,18 @@ use sqlite::{Alter, Connection, Error, Transaction};
 use sqlite_schema::schema::Index;
 
 fn define_table<S: Alter>(tx: &mut Transaction<'_, S>, text: &str) -> Result<(), Error>
-    ensures same_reference { tx.new.conn.ghost_name ≡ tx.old.conn.ghost_name }
     ensures ok { OnOk result (LaysTable S.Store tx.old.conn.now tx.new.conn.now text.now) }
     ensures goes_on { GoesOnIn S.Store tx.old.conn.now tx.new.conn.now result }
-    ensures err { KeepsIn S.Store tx.old.conn.now tx.new.conn.now result }
-    ensures survives { CommitsNothing S.Store tx.old.conn.now tx.new.conn.now }
+    ensures frame { StaysInside S.Store tx.old.conn tx.new.conn result }
 {
     tx.execute(text, &[])?;
     Ok(())
 }
 
 fn define_index<S: Alter>(tx: &mut Transaction<'_, S>, text: &str) -> Result<(), Error>
-    ensures same_reference { tx.new.conn.ghost_name ≡ tx.old.conn.ghost_name }
     ensures ok { OnOk result (LaysIndex S.Store tx.old.conn.now tx.new.conn.now text.now) }
     ensures goes_on { GoesOnIn S.Store tx.old.conn.now tx.new.conn.now result }
-    ensures err { KeepsIn S.Store tx.old.conn.now tx.new.conn.now result }
-    ensures survives { CommitsNothing S.Store tx.old.conn.now tx.new.conn.now }
+    ensures frame { StaysInside S.Store tx.old.conn tx.new.conn result }
 {
     tx.execute(text, &[])?;
     Ok(())
@@ -39,12 +35,10 @@ fn define_index<S: Alter>(tx: &mut Transaction<'_, S>, text: &str) -> Result<(),
 
 /// Creates the table of due days and its index.
 fn lay_dues<S: Alter>(tx: &mut Transaction<'_, S>) -> Result<(), Error>
-    ensures same_reference { tx.new.conn.ghost_name ≡ tx.old.conn.ghost_name }
     ensures ok { OnOk result (LaysIn S.Store tx.old.conn.now tx.new.conn.now (due_table ∷ [])) }
     ensures index { OnOk result (Inside S.Store tx.old.conn.now tx.new.conn.now
         (IsIndexed (state S.Store tx.new.conn.now).now.schema due_table due_index)) }
-    ensures err { KeepsIn S.Store tx.old.conn.now tx.new.conn.now result }
-    ensures survives { CommitsNothing S.Store tx.old.conn.now tx.new.conn.now }
+    ensures frame { StaysInside S.Store tx.old.conn tx.new.conn result }
 {
     define_table(
         tx,
@@ -56,11 +50,9 @@ fn lay_dues<S: Alter>(tx: &mut Transaction<'_, S>) -> Result<(), Error>
 
 /// Creates the tables that version 1 lacks, or has in another place.
 fn lay_later<S: Alter>(tx: &mut Transaction<'_, S>) -> Result<(), Error>
-    ensures same_reference { tx.new.conn.ghost_name ≡ tx.old.conn.ghost_name }
     ensures ok { OnOk result
         (LaysIn S.Store tx.old.conn.now tx.new.conn.now (schedule_table ∷ due_table ∷ [])) }
-    ensures err { KeepsIn S.Store tx.old.conn.now tx.new.conn.now result }
-    ensures survives { CommitsNothing S.Store tx.old.conn.now tx.new.conn.now }
+    ensures frame { StaysInside S.Store tx.old.conn tx.new.conn result }
 {
     define_table(
         tx,
@@ -72,10 +64,8 @@ fn lay_later<S: Alter>(tx: &mut Transaction<'_, S>) -> Result<(), Error>
 
 /// Creates all tables in a database that has none of their names.
 fn lay_tables<S: Alter>(tx: &mut Transaction<'_, S>) -> Result<(), Error>
-    ensures same_reference { tx.new.conn.ghost_name ≡ tx.old.conn.ghost_name }
     ensures ok { OnOk result (LaysIn S.Store tx.old.conn.now tx.new.conn.now archive_tables) }
-    ensures err { KeepsIn S.Store tx.old.conn.now tx.new.conn.now result }
-    ensures survives { CommitsNothing S.Store tx.old.conn.now tx.new.conn.now }
+    ensures frame { StaysInside S.Store tx.old.conn tx.new.conn result }
 {
     define_table(
         tx,
@@ -109,16 +99,11 @@ fn fill<S: Alter>(
     dues: &[DueRow],
 ) -> Result<(), Error>
     requires { AreAscending (map due_of dues.now) }
-    ensures same_reference { tx.new.conn.ghost_name ≡ tx.old.conn.ghost_name }
-    ensures ok { OnOk result
-        (PutsIn S.Store tx.old.conn.now tx.new.conn.now Always
-        (λ t. with_version (with_plan_rows schedules.now classes.now dues.now t))) }
-    ensures err { KeepsIn S.Store tx.old.conn.now tx.new.conn.now result }
-    ensures survives { CommitsNothing S.Store tx.old.conn.now tx.new.conn.now }
+    ensures { Writes S.Store tx.old.conn tx.new.conn result
+        Always (λ t. with_version (with_plan_rows schedules.now classes.now dues.now t)) }
 {
     put_plan(tx, schedules, classes, dues)?;
-    put_version(tx)?;
-    Ok(())
+    put_version(tx)
 }
 
 /// The tables of version 2, created with a plan in a database that has none of their names.
@@ -164,10 +149,8 @@ pub fn lay<S: Alter>(
 }
 
 fn drop_dues<S: Alter>(tx: &mut Transaction<'_, S>) -> Result<(), Error>
-    ensures same_reference { tx.new.conn.ghost_name ≡ tx.old.conn.ghost_name }
     ensures ok { OnOk result (DropsIn S.Store tx.old.conn.now tx.new.conn.now) }
-    ensures err { KeepsIn S.Store tx.old.conn.now tx.new.conn.now result }
-    ensures survives { CommitsNothing S.Store tx.old.conn.now tx.new.conn.now }
+    ensures frame { StaysInside S.Store tx.old.conn tx.new.conn result }
 {
     tx.execute("DROP TABLE due_day", &[])?;
     Ok(())
@@ -175,12 +158,10 @@ fn drop_dues<S: Alter>(tx: &mut Transaction<'_, S>) -> Result<(), Error>
 
 /// Removes all due days of version 2 by creating their table anew, as a deletion would remove them row by row.
 pub(crate) fn empty_dues<S: Alter>(tx: &mut Transaction<'_, S>) -> Result<(), Error>
-    ensures same_reference { tx.new.conn.ghost_name ≡ tx.old.conn.ghost_name }
     ensures ok { OnOk result
         (Inside S.Store tx.old.conn.now tx.new.conn.now
         (Empties (state S.Store tx.old.conn.now) (state S.Store tx.new.conn.now))) }
-    ensures err { KeepsIn S.Store tx.old.conn.now tx.new.conn.now result }
-    ensures survives { CommitsNothing S.Store tx.old.conn.now tx.new.conn.now }
+    ensures frame { StaysInside S.Store tx.old.conn tx.new.conn result }
 {
     drop_dues(tx)?;
     lay_dues(tx)?;
@@ -190,11 +171,9 @@ pub(crate) fn empty_dues<S: Alter>(tx: &mut Transaction<'_, S>) -> Result<(), Er
 /// Creates the later tables beside those of version 1, and drops the due days that version 1 may have.
 fn lay_beside<S: Alter>(tx: &mut Transaction<'_, S>, has_dues: bool) -> Result<(), Error>
     requires { TellsDues (state S.Store tx.old.conn.now).now.schema has_dues }
-    ensures same_reference { tx.new.conn.ghost_name ≡ tx.old.conn.ghost_name }
     ensures ok { OnOk result (MakesIn S.Store tx.old.conn.now tx.new.conn.now IsWidened) }
     ensures goes_on { GoesOnIn S.Store tx.old.conn.now tx.new.conn.now result }
-    ensures err { KeepsIn S.Store tx.old.conn.now tx.new.conn.now result }
-    ensures survives { CommitsNothing S.Store tx.old.conn.now tx.new.conn.now }
+    ensures frame { StaysInside S.Store tx.old.conn tx.new.conn result }
 {
     if has_dues {
         drop_dues(tx)?;

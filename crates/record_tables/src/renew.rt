@@ -1,12 +1,12 @@
 //! Replacing the rows of the plan, and the due days by it.
 
-ghost use Rattle.std.specs.Prelude.{◌≡◌, OnOk, false, map};
+ghost use Rattle.std.specs.Prelude.{◌≡◌, false, map};
 ghost use Rattle.record_tables.specs.Changes.{Always, HasNoClasses, HasNoSchedules, HasNoDues, IsPastDues, AreAscending, with_due, with_dues, with_classes, with_schedules, with_version, IsRevised, with_class_entry};
 ghost use Rattle.sqlite.specs.Held.{state};
 ghost use Rattle.sqlite.specs.State.{IsLive};
 ghost use Rattle.record_tables.specs.Layouts.{TellsAlone};
 ghost use Rattle.record_tables.specs.CodeRows.{due_of, class_entry_of, rule_of, with_plan_rows};
-ghost use Rattle.record_tables.specs.Steps.{PutsIn, KeepsIn, CommitsNothing, CommitsWhole, Makes, IsCommitted, IsOpenOnOk, IsUndone, WasOpen};
+ghost use Rattle.record_tables.specs.Steps.{Writes, CommitsWhole, Makes, IsCommitted, IsOpenOnOk, IsUndone, WasOpen};
 
 use crate::alone::is_alone;
 use crate::lay::empty_dues;
@@ -19,25 +19,17 @@ use crate::writes::{
 use sqlite::{Alter, Connection, Error, Transaction};
 
 fn insert_due_row<S: Alter>(tx: &mut Transaction<'_, S>, due: &DueRow) -> Result<(), Error>
-    ensures same_reference { tx.new.conn.ghost_name ≡ tx.old.conn.ghost_name }
-    ensures ok { OnOk result
-        (PutsIn S.Store tx.old.conn.now tx.new.conn.now (IsPastDues (due_of due.now).number)
-        (with_due (due_of due.now))) }
-    ensures err { KeepsIn S.Store tx.old.conn.now tx.new.conn.now result }
-    ensures survives { CommitsNothing S.Store tx.old.conn.now tx.new.conn.now }
+    ensures { Writes S.Store tx.old.conn tx.new.conn result
+        (IsPastDues (due_of due.now).number) (with_due (due_of due.now)) }
 {
-    insert_due(tx, due.record, due.day)?;
-    Ok(())
+    insert_due(tx, due.record, due.day)
 }
 
 /// Adds the due days to a table that has none.
 fn insert_dues<S: Alter>(tx: &mut Transaction<'_, S>, dues: &[DueRow]) -> Result<(), Error>
     requires { AreAscending (map due_of dues.now) }
-    ensures same_reference { tx.new.conn.ghost_name ≡ tx.old.conn.ghost_name }
-    ensures ok { OnOk result (PutsIn S.Store tx.old.conn.now tx.new.conn.now HasNoDues
-        (with_dues (map due_of dues.now))) }
-    ensures err { KeepsIn S.Store tx.old.conn.now tx.new.conn.now result }
-    ensures survives { CommitsNothing S.Store tx.old.conn.now tx.new.conn.now }
+    ensures { Writes S.Store tx.old.conn tx.new.conn result
+        HasNoDues (with_dues (map due_of dues.now)) }
 {
     for due in dues {
         insert_due_row(tx, due)?;
@@ -48,24 +40,16 @@ fn insert_dues<S: Alter>(tx: &mut Transaction<'_, S>, dues: &[DueRow]) -> Result
 /// Replaces the due days with these.
 fn renew_dues<S: Alter>(tx: &mut Transaction<'_, S>, dues: &[DueRow]) -> Result<(), Error>
     requires { AreAscending (map due_of dues.now) }
-    ensures same_reference { tx.new.conn.ghost_name ≡ tx.old.conn.ghost_name }
-    ensures ok { OnOk result
-        (PutsIn S.Store tx.old.conn.now tx.new.conn.now Always (with_dues (map due_of dues.now))) }
-    ensures err { KeepsIn S.Store tx.old.conn.now tx.new.conn.now result }
-    ensures survives { CommitsNothing S.Store tx.old.conn.now tx.new.conn.now }
+    ensures { Writes S.Store tx.old.conn tx.new.conn result
+        Always (with_dues (map due_of dues.now)) }
 {
     clear_dues(tx)?;
-    insert_dues(tx, dues)?;
-    Ok(())
+    insert_dues(tx, dues)
 }
 
 fn insert_class_row<S: Alter>(tx: &mut Transaction<'_, S>, class: &ClassRow) -> Result<(), Error>
-    ensures same_reference { tx.new.conn.ghost_name ≡ tx.old.conn.ghost_name }
-    ensures ok { OnOk result
-        (PutsIn S.Store tx.old.conn.now tx.new.conn.now Always
-        (with_class_entry (class_entry_of class.now))) }
-    ensures err { KeepsIn S.Store tx.old.conn.now tx.new.conn.now result }
-    ensures survives { CommitsNothing S.Store tx.old.conn.now tx.new.conn.now }
+    ensures { Writes S.Store tx.old.conn tx.new.conn result
+        Always (with_class_entry (class_entry_of class.now)) }
 {
     match &class.schedule {
         Some(text) => insert_class(
@@ -81,11 +65,8 @@ fn insert_class_row<S: Alter>(tx: &mut Transaction<'_, S>, class: &ClassRow) -> 
 
 /// Adds the classes to a table that has none.
 fn insert_classes<S: Alter>(tx: &mut Transaction<'_, S>, classes: &[ClassRow]) -> Result<(), Error>
-    ensures same_reference { tx.new.conn.ghost_name ≡ tx.old.conn.ghost_name }
-    ensures ok { OnOk result (PutsIn S.Store tx.old.conn.now tx.new.conn.now HasNoClasses
-        (with_classes (map class_entry_of classes.now))) }
-    ensures err { KeepsIn S.Store tx.old.conn.now tx.new.conn.now result }
-    ensures survives { CommitsNothing S.Store tx.old.conn.now tx.new.conn.now }
+    ensures { Writes S.Store tx.old.conn tx.new.conn result
+        HasNoClasses (with_classes (map class_entry_of classes.now)) }
 {
     for class in classes {
         insert_class_row(tx, class)?;
@@ -94,15 +75,11 @@ fn insert_classes<S: Alter>(tx: &mut Transaction<'_, S>, classes: &[ClassRow]) -
 }
 
 fn renew_classes<S: Alter>(tx: &mut Transaction<'_, S>, classes: &[ClassRow]) -> Result<(), Error>
-    ensures same_reference { tx.new.conn.ghost_name ≡ tx.old.conn.ghost_name }
-    ensures ok { OnOk result (PutsIn S.Store tx.old.conn.now tx.new.conn.now Always
-        (with_classes (map class_entry_of classes.now))) }
-    ensures err { KeepsIn S.Store tx.old.conn.now tx.new.conn.now result }
-    ensures survives { CommitsNothing S.Store tx.old.conn.now tx.new.conn.now }
+    ensures { Writes S.Store tx.old.conn tx.new.conn result
+        Always (with_classes (map class_entry_of classes.now)) }
 {
     clear_classes(tx)?;
-    insert_classes(tx, classes)?;
-    Ok(())
+    insert_classes(tx, classes)
 }
 
 /// Adds the schedules to a table that has none.
@@ -110,11 +87,8 @@ fn insert_schedules<S: Alter>(
     tx: &mut Transaction<'_, S>,
     schedules: &[ScheduleRow],
 ) -> Result<(), Error>
-    ensures same_reference { tx.new.conn.ghost_name ≡ tx.old.conn.ghost_name }
-    ensures ok { OnOk result (PutsIn S.Store tx.old.conn.now tx.new.conn.now HasNoSchedules
-        (with_schedules (map rule_of schedules.now))) }
-    ensures err { KeepsIn S.Store tx.old.conn.now tx.new.conn.now result }
-    ensures survives { CommitsNothing S.Store tx.old.conn.now tx.new.conn.now }
+    ensures { Writes S.Store tx.old.conn tx.new.conn result
+        HasNoSchedules (with_schedules (map rule_of schedules.now)) }
 {
     for schedule in schedules {
         insert_schedule(tx, schedule)?;
@@ -126,27 +100,19 @@ fn renew_schedules<S: Alter>(
     tx: &mut Transaction<'_, S>,
     schedules: &[ScheduleRow],
 ) -> Result<(), Error>
-    ensures same_reference { tx.new.conn.ghost_name ≡ tx.old.conn.ghost_name }
-    ensures ok { OnOk result (PutsIn S.Store tx.old.conn.now tx.new.conn.now Always
-        (with_schedules (map rule_of schedules.now))) }
-    ensures err { KeepsIn S.Store tx.old.conn.now tx.new.conn.now result }
-    ensures survives { CommitsNothing S.Store tx.old.conn.now tx.new.conn.now }
+    ensures { Writes S.Store tx.old.conn tx.new.conn result
+        Always (with_schedules (map rule_of schedules.now)) }
 {
     clear_schedules(tx)?;
-    insert_schedules(tx, schedules)?;
-    Ok(())
+    insert_schedules(tx, schedules)
 }
 
 /// Replaces the rows of `meta` with that of version 2.
 pub(crate) fn put_version<S: Alter>(tx: &mut Transaction<'_, S>) -> Result<(), Error>
-    ensures same_reference { tx.new.conn.ghost_name ≡ tx.old.conn.ghost_name }
-    ensures ok { OnOk result (PutsIn S.Store tx.old.conn.now tx.new.conn.now Always with_version) }
-    ensures err { KeepsIn S.Store tx.old.conn.now tx.new.conn.now result }
-    ensures survives { CommitsNothing S.Store tx.old.conn.now tx.new.conn.now }
+    ensures { Writes S.Store tx.old.conn tx.new.conn result Always with_version }
 {
     clear_settings(tx)?;
-    insert_setting(tx, b"version", b"2")?;
-    Ok(())
+    insert_setting(tx, b"version", b"2")
 }
 
 pub(crate) fn put_plan<S: Alter>(
@@ -156,17 +122,12 @@ pub(crate) fn put_plan<S: Alter>(
     dues: &[DueRow],
 ) -> Result<(), Error>
     requires { AreAscending (map due_of dues.now) }
-    ensures same_reference { tx.new.conn.ghost_name ≡ tx.old.conn.ghost_name }
-    ensures ok { OnOk result
-        (PutsIn S.Store tx.old.conn.now tx.new.conn.now Always
-        (with_plan_rows schedules.now classes.now dues.now)) }
-    ensures err { KeepsIn S.Store tx.old.conn.now tx.new.conn.now result }
-    ensures survives { CommitsNothing S.Store tx.old.conn.now tx.new.conn.now }
+    ensures { Writes S.Store tx.old.conn tx.new.conn result
+        Always (with_plan_rows schedules.now classes.now dues.now) }
 {
     renew_classes(tx, classes)?;
     renew_schedules(tx, schedules)?;
-    renew_dues(tx, dues)?;
-    Ok(())
+    renew_dues(tx, dues)
 }
 
 /// The rows of a plan, and the due days by it, in place of those that are there.

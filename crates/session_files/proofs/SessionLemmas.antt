@@ -14,6 +14,7 @@ use Rattle.sqlite_store.specs.declared.store.FileStore.{FileStore}
 use Rattle.record_store.specs.Stores.{Fate, Left, ShutAfter, FateKeeps, MayMeet, StandsFor, TreesKeep}
 use Rattle.record_store.specs.declared.store.Store.{Store}
 use Rattle.record_archive.specs.Archive.{Archive}
+use Rattle.record_archive.specs.Calls.{Keeper}
 use Rattle.desk_commands.specs.Answers.{Answer}
 use Rattle.desk_commands.specs.Calls.{Calls, Leads}
 use Rattle.desk_commands.specs.Standing.{Standing, Step, opening}
@@ -30,19 +31,18 @@ use Rattle.record_files.proofs.ArchiveLemmas.{holds_alike, keeps_now}
 use Rattle.session_files.specs.Sessions.{EndsAt, IsTold, LeadsTo, Represents}
 use Rattle.session_files.specs.declared.session.EndedSession.{EndedSession}
 
-module _ {D I : Type 0} (clean : D → Type 0) (stands : D → Standing → Type 0) (may_leave : D → I → Type 0)
-    (keeps : I → Archive → Type 0) where
+module _ {D : Type 0} (keeper : Keeper D Standing) where
   -- what a session at desks has written
   pub DeskTold : Result (Unit {0}) ServeFault → Session → D → (old written : List ℕ) → D → Type 0
-  DeskTold (Ok u) session s old written new = IsServed (Calls clean stands may_leave keeps) session s old written new
-  DeskTold (Err Read) session s old written new = IsAnswered (Calls clean stands may_leave keeps) session s old written new
-  DeskTold (Err Write) session s old written new = IsCut (Calls clean stands may_leave keeps) session s old written new
+  DeskTold (Ok u) session s old written new = IsServed (Calls keeper) session s old written new
+  DeskTold (Err Read) session s old written new = IsAnswered (Calls keeper) session s old written new
+  DeskTold (Err Write) session s old written new = IsCut (Calls keeper) session s old written new
 
   -- from the clauses of `serve`
   pub desk_told : (result : Result (Unit {0}) ServeFault) (session : Session) (s : D) (old written : List ℕ) (new : D)
-      → OnOk result (IsServed (Calls clean stands may_leave keeps) session s old written new)
-      → (IsErrOf result Read → IsAnswered (Calls clean stands may_leave keeps) session s old written new)
-      → (IsErrOf result Write → IsCut (Calls clean stands may_leave keeps) session s old written new)
+      → OnOk result (IsServed (Calls keeper) session s old written new)
+      → (IsErrOf result Read → IsAnswered (Calls keeper) session s old written new)
+      → (IsErrOf result Write → IsCut (Calls keeper) session s old written new)
       → DeskTold result session s old written new
   unfolding DeskTold
   desk_told (Ok u) session s old written new ok unheard unsaid = ok
@@ -51,21 +51,17 @@ module _ {D I : Type 0} (clean : D → Type 0) (stands : D → Standing → Type
 
   -- by the law of sessions over the states that desks represent
   pub told_refines :
-      ((session : Session) (old written : List ℕ) → Refines clean stands (λ desk. IsServed (Calls clean stands may_leave keeps) session
-      desk old written)
-      (λ s. IsServed Step session s old written))
-      → ((session : Session) (old written : List ℕ) → Refines clean stands (λ desk. IsAnswered (Calls clean stands may_leave keeps)
-      session desk old written)
-      (λ s. IsAnswered Step session s old written))
-      → ((session : Session) (old written : List ℕ) → Refines clean stands (λ desk. IsCutInAnswer (Calls clean stands may_leave keeps)
-      session desk old written)
-      (λ s. IsCutInAnswer Step session s old written))
-      → ((session : Session) (old written : List ℕ) → Refines clean stands (λ desk. IsCutInEnding (Calls clean stands may_leave keeps)
-      session desk old written)
-      (λ s. IsCutInEnding Step session s old written))
+      ((session : Session) (old written : List ℕ) → Refines keeper
+      (λ desk. IsServed (Calls keeper) session desk old written) (λ s. IsServed Step session s old written))
+      → ((session : Session) (old written : List ℕ) → Refines keeper
+      (λ desk. IsAnswered (Calls keeper) session desk old written) (λ s. IsAnswered Step session s old written))
+      → ((session : Session) (old written : List ℕ) → Refines keeper
+      (λ desk. IsCutInAnswer (Calls keeper) session desk old written) (λ s. IsCutInAnswer Step session s old written))
+      → ((session : Session) (old written : List ℕ) → Refines keeper
+      (λ desk. IsCutInEnding (Calls keeper) session desk old written) (λ s. IsCutInEnding Step session s old written))
       → (result : Result (Unit {0}) ServeFault) (session : Session) (old written : List ℕ) (desk new : D)
-      → DeskTold result session desk old written new → clean new
-      → clean desk × ((s : Standing) → stands desk s → Leads stands new (IsTold result session old written s))
+      → DeskTold result session desk old written new → keeper.clean new
+      → keeper.clean desk × ((s : Standing) → keeper.stands desk s → Leads keeper new (IsTold result session old written s))
   unfolding DeskTold
   told_refines served answered in_answer in_ending (Ok u) session old written desk new told ok = served session old written desk new told ok
   told_refines served answered in_answer in_ending (Err Read) session old written desk new told ok = answered session old written desk new told ok
@@ -78,11 +74,11 @@ module _ {D I : Type 0} (clean : D → Type 0) (stands : D → Standing → Type
 
   -- the same for what was done, whatever the streams know
   pub done_refines :
-      ((items : List Item) (answers : List Answer) → Refines clean stands (λ desk. Run (Calls clean stands may_leave keeps) desk items answers)
+      ((items : List Item) (answers : List Answer) → Refines keeper (λ desk. Run (Calls keeper) desk items answers)
       (λ s. Run Step s items answers))
       → (Heard : List Item → Type 0) (Said : List Answer → Type 0) (desk new : D)
-      → HasDone (Calls clean stands may_leave keeps) Heard Said desk new → clean new
-      → clean desk × ((s : Standing) → stands desk s → Leads stands new (HasDone Step Heard Said s))
+      → HasDone (Calls keeper) Heard Said desk new → keeper.clean new
+      → keeper.clean desk × ((s : Standing) → keeper.stands desk s → Leads keeper new (HasDone Step Heard Said s))
   done_refines law Heard Said desk new it ok =
       let led = law it.items it.answers desk new it.run ok in (
         led.0,
@@ -101,13 +97,14 @@ module _ {D I : Type 0} (clean : D → Type 0) (stands : D → Standing → Type
 
   -- the same with what a crash leaves of it, where each crash before it leaves the archive of the state
   pub leaves_refines :
-      ((items : List Item) (answers : List Answer) → Refines clean stands (λ desk. Run (Calls clean stands may_leave keeps) desk items answers)
-      (λ s. Run Step s items answers)) → RunsLeave clean stands may_leave keeps
+      ((items : List Item) (answers : List Answer) → Refines keeper (λ desk. Run (Calls keeper) desk items answers)
+      (λ s. Run Step s items answers)) → RunsLeave keeper
       → (Heard : List Item → Type 0) (Said : List Answer → Type 0) (desk new : D)
-      → HasDone (Calls clean stands may_leave keeps) Heard Said desk new → clean new
-      → (s : Standing) → stands desk s → ((image : I) → may_leave desk image → keeps image s.office.archive)
+      → HasDone (Calls keeper) Heard Said desk new → keeper.clean new
+      → (s : Standing) → keeper.stands desk s
+      → ((image : keeper.remains) → keeper.may_leave desk image → keeper.keeps image s.office.archive)
       → (to : Standing) × (reached : HasDone Step Heard Said s to)
-      × ((image : I) → may_leave new image → IsLeftOf keeps image s reached.items reached.answers)
+      × ((image : keeper.remains) → keeper.may_leave new image → IsLeftOf keeper.keeps image s reached.items reached.answers)
   leaves_refines law crash Heard Said desk new it ok s there start =
       let l = (law it.items it.answers desk new it.run ok).1 s there in
       let reached : HasDone Step Heard Said s l.to = record {
@@ -185,10 +182,10 @@ pub clean_alike : {S : Type 0} (g : Ghosts S) (conn other : Held S) → conn ≡
 clean_alike {S} g conn other same = let Clean : Held S → Type 0 = λ h. HasCleanDisk (state g h) in subst Clean same
 
 -- a session that leads to a desk ends at the connection of its store
-pub ends_at : {S D : Type 0} (g : Ghosts S) (stands : D → Standing → Type 0) (desk : D) (store : Store S) (conn : Held S)
-    → conn ≡ store.conn → ((s : Standing) → stands desk s → StandsFor g store s.office.archive) → (a : Archive)
-    (Reaches : Standing → Standing → Type 0) → Leads stands desk (Reaches (opening a)) → EndsAt g conn a Reaches
-ends_at g stands desk store conn same of_store a Reaches led = record {
+pub ends_at : {S D : Type 0} (g : Ghosts S) (keeper : Keeper D Standing) (desk : D) (store : Store S) (conn : Held S)
+    → conn ≡ store.conn → ((s : Standing) → keeper.stands desk s → StandsFor g store s.office.archive) → (a : Archive)
+    (Reaches : Standing → Standing → Type 0) → Leads keeper desk (Reaches (opening a)) → EndsAt g conn a Reaches
+ends_at g keeper desk store conn same of_store a Reaches led = record {
   to = led.to;
   reached = led.is_one;
   stored = represents g store conn same led.to.office.archive (of_store led.to led.there);

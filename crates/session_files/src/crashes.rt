@@ -7,7 +7,7 @@ ghost use Rattle.sqlite.specs.Recovery.{Image};
 ghost use Rattle.sqlite.specs.Files.{file_state, over_files};
 ghost use Rattle.desk_commands.specs.Standing.{Standing};
 ghost use Rattle.sqlite.specs.State.{HasCleanDisk};
-ghost use Rattle.record_store.specs.Stores as stores;
+ghost use Rattle.record_store.specs.Stores.{keeper_of};
 ghost use Rattle.filing_desk.specs.Standing.{StandsFor};
 ghost use Rattle.record_files.specs.Closing.{HoldsLeft};
 ghost use Rattle.record_files.specs.Files.{KeepsAt};
@@ -27,7 +27,7 @@ pub fn crash<D: Disk + Drop>(desk: Desk<Store<FileStore<D>>>) -> Files<D>
         → HasCleanDisk (file_state desk.store.conn) }
     ensures keeps { AreClean D.Disk result.log result.db
         → IsTrue (file_state desk.store.conn).is_open
-        → (s : Standing) → StandsFor (stores.StandsFor over_files) desk s → (image : Image)
+        → (s : Standing) → StandsFor (keeper_of over_files) desk s → (image : Image)
         → outcomes D.Disk result.log result.db image → KeepsAt s.office.archive image }
     ensures leaves { AreClean D.Disk result.log result.db → (image : Image)
         → outcomes D.Disk result.log result.db image

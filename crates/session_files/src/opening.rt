@@ -9,8 +9,7 @@ ghost use Rattle.record_archive.specs.Faults.{is_trouble};
 ghost use Rattle.desk_commands.specs.Standing.{opening};
 ghost use Rattle.sqlite.specs.Tree.{Trees};
 ghost use Rattle.record_store.specs.Layouts.{HasArchiveTablesOrNone};
-ghost use Rattle.record_store.specs.Stores as stores;
-ghost use Rattle.record_store.specs.Stores.{TreesKeep};
+ghost use Rattle.record_store.specs.Stores.{TreesKeep, keeper_of};
 ghost use Rattle.filing_desk.specs.Standing.{StandsFor};
 
 use filing_desk::Desk;
@@ -33,7 +32,7 @@ pub(crate) fn open_desk<S: Alter + Drop>(
     ensures clean { IfOk result (λ d. HasCleanDisk (state S.Store d.store.conn)
         → HasCleanDisk (state S.Store conn)) }
     ensures stands { IfOk result (λ d. HasCleanDisk (state S.Store d.store.conn) → (a : Archive)
-        → Finds (state S.Store conn).now a → StandsFor (stores.StandsFor S.Store) d (opening a)) }
+        → Finds (state S.Store conn).now a → StandsFor (keeper_of S.Store) d (opening a)) }
     ensures leaves { IfOk result (λ d. HasCleanDisk (state S.Store d.store.conn) → (a : Archive)
         → Finds (state S.Store conn).now a → (trees : Trees)
         → (state S.Store d.store.conn).may_leave trees → TreesKeep trees a) }

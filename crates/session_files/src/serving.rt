@@ -22,6 +22,8 @@ use std::alloc::Global;
 ///
 /// Refused with 88 where the database is not an archive's, with 89 (`sqlite`) or with 99 (no memory), before anything is
 /// read. The connection is then handed back as `open_desk` leaves it.
+///
+/// It is what `serve_connection`, over files, and `serve_in_memory` have in common.
 pub(crate) fn serve_over<S: Alter + Drop, In: Source, Out: Sink>(
     alloc: Global,
     conn: Connection<S>,

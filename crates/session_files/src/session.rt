@@ -12,8 +12,6 @@ ghost use Rattle.record_archive.specs.Faults.{is_trouble};
 ghost use Rattle.desk_commands.specs.Standing.{Standing};
 ghost use Rattle.session_protocol.specs.Session.{session_in};
 ghost use Rattle.record_store.specs.Layouts.{HasArchiveTablesOrNone};
-ghost use Rattle.record_store.specs.Stores as stores;
-ghost use Rattle.filing_desk.specs.Standing.{StandsFor};
 ghost use Rattle.record_files.specs.Closing.{HasCause, HaveCounted, HoldsLeft, LeavesBy};
 ghost use Rattle.record_files.specs.Files.{FindsAt, HoldsTables, KeepsAt, KeepsFiles, system_file};
 ghost use Rattle.session_files.specs.Refusals.{RefusalHasCause};
@@ -53,6 +51,8 @@ pub enum NoSession<D: Disk> {
 /// Refused with 88 where the database is not an archive's, with 89 (`sqlite`) or with 99 (no memory), before anything is
 /// read. The files are then given back as they are: whatever a crash leaves of them recovers to a database that it might
 /// have left before the call, or to one that stores the archive that was found (`kept`).
+///
+/// `serve_file` opens the connection first. This function stands apart because it holds over any disk.
 pub fn serve_connection<D: Disk + Drop, In: Source, Out: Sink>(
     alloc: Global,
     conn: Connection<FileStore<D>>,
@@ -110,6 +110,9 @@ pub fn serve_connection<D: Disk + Drop, In: Source, Out: Sink>(
 ///
 /// No session is served, and nothing is read, where the files cannot be opened, where they hold no archive (88), and
 /// where the database refuses (89) or there is no memory (99). Over files that hold an archive there is no other cause.
+///
+/// The streams and `S` are parameters, so that this holds of each file and stream of which something is known; `serve_path`
+/// serves the program's own, of which nothing is.
 pub fn serve_file<S: Start, In: Source, Out: Sink>(
     rt: &HostRuntime,
     path: &str,

@@ -23,8 +23,9 @@ pub fn serve_memory(rt: &HostRuntime) -> ExitCode {
     }
 }
 
-/// Serves a session over the store in the file at a path, with the statuses of `serve_memory`. `Unknown` says that no
-/// code knows what the file holds, and that a write which a crash cuts short leaves each octet old or new.
+/// Serves a session over the store in the file at a path by `serve_file`, with the statuses of `serve_memory`: it adds
+/// the program's streams, and what is said on standard error. `Unknown` says that no code knows what the file holds, and
+/// that a write which a crash cuts short leaves each octet old or new.
 pub fn serve_path(rt: &HostRuntime, path: &str) -> ExitCode {
     let mut input = Input::new(rt.stdin());
     let mut output = Output::new(rt.stdout());

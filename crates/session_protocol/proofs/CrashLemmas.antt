@@ -1,6 +1,6 @@
 -- What a crash leaves of a run of desks.
 use Rattle.std.proofs.Common.{◌≡◌, ◌⊎◌, ◌&&◌, inl, inr, zero, suc, List, [], ◌∷◌, Bool, true, false, not, refl, subst}
-use Rattle.record_archive.specs.Archive.{Archive}
+use Rattle.record_archive.specs.Calls.{Keeper}
 use Rattle.desk_commands.specs.Answers.{Answer}
 use Rattle.desk_commands.specs.Calls.{Calls}
 use Rattle.desk_commands.specs.Standing.{Standing, is_refusal}
@@ -14,17 +14,16 @@ both_hold true false e = (refl, refl)
 both_hold true true e = absurd cc
 both_hold false y e = absurd cc
 
-module _ {D I : Type 0} (clean : D → Type 0) (stands : D → Standing → Type 0) (may_leave : D → I → Type 0)
-    (keeps : I → Archive → Type 0) where
+module _ {D : Type 0} (keeper : Keeper D Standing) where
   -- what a crash leaves after the first item, where the archive has carried out nothing after it
   item_leaves : (i : Item) (a : Answer) (items : List Item) (answers : List Answer) (old mid : D)
-      → ItemStep (Calls clean stands may_leave keeps) old i a mid → clean mid → (s : Standing) → stands old s
-      → (image : I) → may_leave mid image → AreUndone items answers
-      → (may_leave old image × AreUndone (i ∷ items) (a ∷ answers)) ⊎ IsLeftOf keeps image s (i ∷ items) (a ∷ answers)
+      → ItemStep (Calls keeper) old i a mid → keeper.clean mid → (s : Standing) → keeper.stands old s
+      → (image : keeper.remains) → keeper.may_leave mid image → AreUndone items answers
+      → (keeper.may_leave old image × AreUndone (i ∷ items) (a ∷ answers)) ⊎ IsLeftOf keeper.keeps image s (i ∷ items) (a ∷ answers)
   item_leaves (Call c) a items answers old mid step ok s there image may undone = go (is_carried_out (Call c) a) refl
     where
       go : (b : Bool) → is_carried_out (Call c) a ≡ b
-          → (may_leave old image × AreUndone (Call c ∷ items) (a ∷ answers)) ⊎ IsLeftOf keeps image s (Call c ∷ items) (a ∷ answers)
+          → (keeper.may_leave old image × AreUndone (Call c ∷ items) (a ∷ answers)) ⊎ IsLeftOf keeper.keeps image s (Call c ∷ items) (a ∷ answers)
       go true carried =
           let is = both_hold (is_item_of_archive (Call c) a) (is_refusal a) carried in
           let one = step.kept is.0 is.1 ok s there image may in
@@ -52,18 +51,18 @@ module _ {D I : Type 0} (clean : D → Type 0) (stands : D → Standing → Type
             })
       ]
   item_leaves UnknownCommand a items answers old mid step ok s there image may undone =
-      inl (let P : D → Type 0 = λ d. may_leave d image in subst P step.1 may, (refl, undone))
+      inl (let P : D → Type 0 = λ d. keeper.may_leave d image in subst P step.1 may, (refl, undone))
   item_leaves WrongWord a items answers old mid step ok s there image may undone =
-      inl (let P : D → Type 0 = λ d. may_leave d image in subst P step.1 may, (refl, undone))
+      inl (let P : D → Type 0 = λ d. keeper.may_leave d image in subst P step.1 may, (refl, undone))
 
   pub run_leaves : (items : List Item) (answers : List Answer) (old new : D)
-      → Run (Calls clean stands may_leave keeps) old items answers new → clean new → (s : Standing) → stands old s
-      → (image : I) → may_leave new image
-      → (may_leave old image × AreUndone items answers) ⊎ IsLeftOf keeps image s items answers
-  run_leaves [] [] old new run ok s there image may = inl (let P : D → Type 0 = λ d. may_leave d image in subst P run may, tt)
+      → Run (Calls keeper) old items answers new → keeper.clean new → (s : Standing) → keeper.stands old s
+      → (image : keeper.remains) → keeper.may_leave new image
+      → (keeper.may_leave old image × AreUndone items answers) ⊎ IsLeftOf keeper.keeps image s items answers
+  run_leaves [] [] old new run ok s there image may = inl (let P : D → Type 0 = λ d. keeper.may_leave d image in subst P run may, tt)
   run_leaves (i ∷ items) (a ∷ answers) old new run ok s there image may =
-      let sure = (run_refines clean stands may_leave keeps items answers run.0 new run.2 ok).0 in
-      let first = (item_refines clean stands may_leave keeps i a old run.0 run.1 sure).1 s there in
+      let sure = (run_refines keeper items answers run.0 new run.2 ok).0 in
+      let first = (item_refines keeper i a old run.0 run.1 sure).1 s there in
       elim (run_leaves items answers run.0 new run.2 ok first.to first.there image may) [
         | inl nothing ↦ item_leaves i a items answers old run.0 run.1 sure s there image nothing.0 nothing.1
         | inr left ↦ inr (record {

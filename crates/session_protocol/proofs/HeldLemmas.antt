@@ -1,37 +1,15 @@
 -- Octets that are held.
-use Rattle.std.proofs.Common.{◌≡◌, ℕ, ◌+◌, ◌-◌, ◌≤◌, ◌++◌, [], ◌∷◌, List, Bool, true, false, length, take, drop, codes}
+use Rattle.std.proofs.Common.{◌≡◌, ℕ, ◌+◌, ◌-◌, ◌++◌, [], ◌∷◌, List, Bool, true, false, length, take, drop, codes}
 use Rattle.std.proofs.Common.{arith, ap, sym, ◌∙◌, refl, append_assoc, length-append}
-use Rattle.std.specs.Prelude.{◌||◌, slice_range}
+use Rattle.std.specs.Prelude.{◌||◌}
 use Rattle.std.proofs.lemmas.Bool.{false≢true}
-use borrow.Rule.Slice.PartMut.{put_mid}
 use Rattle.std.proofs.Math.Seq.{drop-append_seam, drop-append-add}
-use Rattle.std.proofs.lemmas.List.{append-nil, drop-take, drop-append-le, length-take, length-drop, take-append-drop}
+use Rattle.std.proofs.lemmas.List.{append-nil, take-append-drop}
 use Rattle.std.proofs.lemmas.List.Folds.{list_any-append}
-use Rattle.std.proofs.lemmas.Slice.{take-put_mid}
 use Rattle.session_protocol.specs.Session.{ending_octets}
 use Rattle.session_protocol.specs.Written.{has_line_end, SendsLines}
 use Rattle.session_protocol.specs.declared.items.SessionEnd.{SessionEnd}
 use Rattle.session_protocol.specs.declared.items.SessionEnd.TheVariants as ending
-
--- how many octets a part of a buffer has
-pub part_length : (octets : List ℕ) (start end : ℕ) → start ≤ end → end ≤ length octets → length (slice_range octets start end) ≡ end - start
-part_length octets start end below within = omega (arith, length-take (end - start) (drop start octets), length-drop start octets)
-
--- what a buffer holds once octets are put behind its end
-pub held_more : (octets ys : List ℕ) (start end n k : ℕ) → start ≤ end → end ≤ length octets → length ys ≡ n
-    → slice_range (put_mid end k octets ys) start (end + n) ≡ slice_range octets start end ++ ys
-held_more octets ys start end n k below within size =
-    let part : take (end + n) (put_mid end k octets ys) ≡ take end octets
-    ++ ys = take-put_mid end k octets ys (end + n) (ap (λ m. end + m) (sym size)) within in
-    let whole : end + n ≡ start + (end + n - start) = omega (arith, below) in
-    let first : end ≡ start + (end - start) = omega (arith, below) in
-    let fits : start ≤ length (take end octets) = omega (arith, length-take end octets, below, within) in
-    sym (drop-take start (end + n - start) (put_mid end k octets ys))
-    ∙ ap (λ m. drop start (take m (put_mid end k octets ys))) (sym whole)
-    ∙ ap (λ s. drop start s) part
-    ∙ drop-append-le start (take end octets) ys fits
-    ∙ ap (λ m. drop start (take m octets) ++ ys) first
-    ∙ ap (λ s. s ++ ys) (drop-take start (end - start) octets)
 
 neither : (a b : Bool) → (a || b) ≡ false → (a ≡ false) × (b ≡ false)
 neither false b h = (refl, h)

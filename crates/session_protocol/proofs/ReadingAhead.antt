@@ -1,17 +1,9 @@
 -- Octets that are read ahead and taken.
-use Rattle.std.proofs.Common.{◌≡◌, ℕ, ◌+◌, ◌-◌, ◌<◌, ◌≤◌, ◌++◌, [], ◌∷◌, List, Bool, true, false, length, take, drop}
+use Rattle.std.proofs.Common.{◌≡◌, ℕ, ◌<◌, ◌++◌, [], ◌∷◌, List, Bool, true, false, length, take, drop}
 use Rattle.std.proofs.Common.{min, arith, ap, sym, ◌∙◌, refl, append_assoc}
-use Rattle.std.specs.Prelude.{Option, Some, None, IsTrue, ◌↔◌, slice_range}
+use Rattle.std.specs.Prelude.{Option, Some, None, IsTrue, ◌↔◌}
 use Rattle.std.specs.Io.KnownBytes.{Consumes, IsAtEnd, prepend_known}
-use Rattle.std.proofs.lemmas.List.{drop-drop, drop-take, take-append-drop}
-
--- what is left of a part once octets are taken
-pub rest_of : (octets : List ℕ) (start end n : ℕ) → n ≤ end - start → slice_range octets (start + n) end ≡ drop n (slice_range octets start end)
-rest_of octets start end n h =
-    let parts : end - start ≡ n + (end - (start + n)) = omega (arith, h) in
-    ap (take (end - (start + n))) (sym (drop-drop n start octets))
-    ∙ sym (drop-take n (end - (start + n)) (drop start octets))
-    ∙ ap (λ k. drop n (take k (drop start octets))) (sym parts)
+use Rattle.std.proofs.lemmas.List.{take-append-drop}
 
 in_parts : (n : ℕ) (ahead rest room : List ℕ) → take n room ≡ take n ahead → ahead ++ rest ≡ take n room ++ (drop n ahead ++ rest)
 in_parts n ahead rest room e =

@@ -1,6 +1,7 @@
 -- What a crash leaves of what a session has done.
 use Rattle.std.specs.Prelude.{◌≡◌, ◌⊎◌, ◌&&◌, ℕ, Bool, false, not, List, [], ◌∷◌, take, drop}
 use Rattle.record_archive.specs.Archive.{Archive}
+use Rattle.record_archive.specs.Calls.{Keeper}
 use Rattle.desk_commands.specs.Answers.{Answer}
 use Rattle.desk_commands.specs.Calls.{Calls}
 use Rattle.desk_commands.specs.Standing.{Standing, Step, is_refusal}
@@ -37,9 +38,8 @@ pub record IsLeftOf {I : Type 0} (keeps : I → Archive → Type 0) (image : I) 
 
 -- Whatever a crash may leave after a run was left by one before it, and then the archive has carried out nothing; or it
 -- keeps the archive after the first of the items.
-abbrev pub RunsLeave : {D I : Type 0} (clean : D → Type 0) (stands : D → Standing → Type 0) →
-    (may_leave : D → I → Type 0) → (keeps : I → Archive → Type 0) → Type 0
-RunsLeave {D} {I} clean stands may_leave keeps = (items : List Item) (answers : List Answer) (old new : D)
-    → Run (Calls clean stands may_leave keeps) old items answers new → clean new → (s : Standing) → stands old s
-    → (image : I) → may_leave new image
-    → (may_leave old image × AreUndone items answers) ⊎ IsLeftOf keeps image s items answers
+abbrev pub RunsLeave : {D : Type 0} → Keeper D Standing → Type 0
+RunsLeave {D} keeper = (items : List Item) (answers : List Answer) (old new : D)
+    → Run (Calls keeper) old items answers new → keeper.clean new → (s : Standing) → keeper.stands old s
+    → (image : keeper.remains) → keeper.may_leave new image
+    → (keeper.may_leave old image × AreUndone items answers) ⊎ IsLeftOf keeper.keeps image s items answers

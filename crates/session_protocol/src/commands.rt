@@ -56,8 +56,7 @@ fn reply_of_outcome(outcome: Result<Outcome, DeskFault>) -> Reply
 
 /// Executes a command without a payload.
 pub fn do_alone<R: Registry>(registry: &mut R, command: &NoPayload<'_>) -> Reply
-    ensures { Calls R.clean R.stands R.may_leave R.keeps registry.old (command_of command.now)
-        (answer_of result) registry.new }
+    ensures { Calls R.keeper registry.old (command_of command.now) (answer_of result) registry.new }
 {
     match command {
         NoPayload::AddClass(path) => reply_of_done(registry.add_class(path)),
@@ -108,8 +107,7 @@ pub fn limits_of_two(command: TwoPayloads) -> (usize, usize)
 
 /// Executes a command with one payload. A message is moved into the call, and not copied.
 pub fn do_one<R: Registry>(registry: &mut R, command: OnePayload<'_>, payload: Payload) -> Reply
-    ensures { CallsWith R.clean R.stands R.may_leave R.keeps registry.old
-        (one_limit command.entry) payload
+    ensures { CallsWith R.keeper registry.old (one_limit command.entry) payload
         (one_command command.entry) (answer_of result) registry.new }
 {
     match command {
@@ -133,8 +131,7 @@ pub fn do_two<R: Registry>(
     first: &Payload,
     second: &Payload,
 ) -> Reply
-    ensures { CallsWithTwo R.clean R.stands R.may_leave R.keeps registry.now
-        (two_limits command) first.now second.now
+    ensures { CallsWithTwo R.keeper registry.now (two_limits command) first.now second.now
         (two_command command) (answer_of result) registry.now }
 {
     match command {

@@ -6,17 +6,20 @@ ghost use Rattle.std.specs.Io.KnownBytes.{ReadConsumes};
 ghost use Rattle.session_protocol.specs.Known.{octets_left};
 ghost use Rattle.session_protocol.specs.Streams.{no_troubles};
 
-use crate::ahead::Ahead;
 use crate::stream::{Source, Trouble};
 use crate::tally::Tally;
 use crate::trouble::trouble_of;
+use crate::window::Window;
 use std::io::{self, Read};
+
+/// The most octets that are read ahead.
+const MOST_AHEAD: usize = 8192;
 
 /// A reader that is read ahead, so that a session may ask for one octet at a time.
 #[derive(Drop)]
 pub struct Input<R> {
     inner: R,
-    ahead: Ahead,
+    ahead: Window<MOST_AHEAD>,
     tally: Tally,
     /// How many reads met the end of the input. As with `tally`, contracts alone read it.
     ends: u64,
@@ -32,7 +35,7 @@ impl<R: Read> Input<R> {
     {
         Input {
             inner,
-            ahead: Ahead::new(),
+            ahead: Window::new(),
             tally: Tally::new(),
             ends: 0,
         }

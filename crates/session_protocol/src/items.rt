@@ -49,8 +49,7 @@ fn answer_one<S: Source, R: Registry>(
     command: OnePayload<'_>,
     size: usize,
 ) -> Result<Reaction, ReadFault>
-    ensures reaction { IfOk result (λ a. Answers S.tells
-        (Calls R.clean R.stands R.may_leave R.keeps) registry.old
+    ensures reaction { IfOk result (λ a. Answers S.tells (Calls R.keeper) registry.old
         (with_payload size (one_command command.entry) (S.left source.old)) a
         registry.new (S.left source.new)) }
     ensures same { OnErr result (registry.new ≡ registry.old) }
@@ -71,8 +70,7 @@ fn answer_two<S: Source, R: Registry>(
     command: TwoPayloads,
     sizes: (usize, usize),
 ) -> Result<Reaction, ReadFault>
-    ensures reaction { IfOk result (λ a. Answers S.tells
-        (Calls R.clean R.stands R.may_leave R.keeps) registry.now
+    ensures reaction { IfOk result (λ a. Answers S.tells (Calls R.keeper) registry.now
         (with_payloads sizes.0 sizes.1 (two_command command) (S.left source.old)) a
         registry.now (S.left source.new)) }
     ensures ends { TellsEnd (SaysEnd result) (S.ends source.old) (S.ends source.new) }
@@ -92,8 +90,7 @@ fn answer<S: Source, R: Registry>(
     registry: &mut R,
     request: &Request<'_>,
 ) -> Result<Reaction, ReadFault>
-    ensures reaction { IfOk result (λ a. Answers S.tells
-        (Calls R.clean R.stands R.may_leave R.keeps) registry.old
+    ensures reaction { IfOk result (λ a. Answers S.tells (Calls R.keeper) registry.old
         (start_by_request (request_view request.now) (S.left source.old)) a
         registry.new (S.left source.new)) }
     ensures same { OnErr result (registry.new ≡ registry.old) }
@@ -120,8 +117,7 @@ pub fn next<S: Source, R: Registry>(
     registry: &mut R,
     line: &mut LineBuffer,
 ) -> Result<Reaction, ReadFault>
-    ensures reaction { IfOk result (λ a. Answers S.tells
-        (Calls R.clean R.stands R.may_leave R.keeps) registry.old
+    ensures reaction { IfOk result (λ a. Answers S.tells (Calls R.keeper) registry.old
         (start_of (S.left source.old)) a registry.new (S.left source.new)) }
     ensures same { OnErr result (registry.new ≡ registry.old) }
     ensures ends { TellsEnd (SaysEnd result) (S.ends source.old) (S.ends source.new) }

@@ -19,26 +19,23 @@ use desk_commands::Registry;
 /// refusals of tickets and the like are right (`leads`). What a crash leaves keeps the archive after the first of the
 /// commands, among them all that the archive has carried out (`crash`).
 pub fn sessions_refine_states<R: Registry>()
-    ensures sure { RunsAreSure R.clean R.stands R.may_leave R.keeps }
-    ensures leads { RunsLead R.clean R.stands R.may_leave R.keeps }
-    ensures done { (items : List Item) (answers : List Answer) → Refines R.clean R.stands
-        (λ desk. Run (Calls R.clean R.stands R.may_leave R.keeps) desk items answers)
-        (λ s. Run Step s items answers) }
-    ensures served { (session : Session) (old written : List ℕ) → Refines R.clean R.stands
-        (λ desk. IsServed (Calls R.clean R.stands R.may_leave R.keeps) session desk old written)
+    ensures sure { RunsAreSure R.keeper }
+    ensures leads { RunsLead R.keeper }
+    ensures done { (items : List Item) (answers : List Answer) → Refines R.keeper
+        (λ desk. Run (Calls R.keeper) desk items answers) (λ s. Run Step s items answers) }
+    ensures served { (session : Session) (old written : List ℕ) → Refines R.keeper
+        (λ desk. IsServed (Calls R.keeper) session desk old written)
         (λ s. IsServed Step session s old written) }
-    ensures answered { (session : Session) (old written : List ℕ) → Refines R.clean R.stands
-        (λ desk. IsAnswered (Calls R.clean R.stands R.may_leave R.keeps) session desk old written)
+    ensures answered { (session : Session) (old written : List ℕ) → Refines R.keeper
+        (λ desk. IsAnswered (Calls R.keeper) session desk old written)
         (λ s. IsAnswered Step session s old written) }
-    ensures cut_in_answer { (session : Session) (old written : List ℕ) → Refines R.clean R.stands
-        (λ desk. IsCutInAnswer (Calls R.clean R.stands R.may_leave R.keeps)
-        session desk old written)
+    ensures cut_in_answer { (session : Session) (old written : List ℕ) → Refines R.keeper
+        (λ desk. IsCutInAnswer (Calls R.keeper) session desk old written)
         (λ s. IsCutInAnswer Step session s old written) }
-    ensures cut_in_ending { (session : Session) (old written : List ℕ) → Refines R.clean R.stands
-        (λ desk. IsCutInEnding (Calls R.clean R.stands R.may_leave R.keeps)
-        session desk old written)
+    ensures cut_in_ending { (session : Session) (old written : List ℕ) → Refines R.keeper
+        (λ desk. IsCutInEnding (Calls R.keeper) session desk old written)
         (λ s. IsCutInEnding Step session s old written) }
-    ensures crash { RunsLeave R.clean R.stands R.may_leave R.keeps }
+    ensures crash { RunsLeave R.keeper }
 {}
 
 /// The program's streams know their octets over memory: the source over a slice, and the sink over a vector. So what

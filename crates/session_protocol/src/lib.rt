@@ -6,8 +6,8 @@
 //! - `reply`, `due_dates`: what is written;
 //! - `commands`: what each command does at a registry, which is the desk of an office;
 //! - `items`: one line with its payloads, which is read and executed;
-//! - `input`, `output`: a source over a reader, which is read `ahead`, and a sink over a writer, for which the octets of
-//!   a line are `held` until it ends;
+//! - `input`, `output`: a source over a reader, which is read ahead, and a sink over a writer, for which the octets of a
+//!   line are held until it ends; both in a `window`;
 //! - `memory`: a source and a sink for tests;
 //! - `session`: `serve`, whose contract relates the octets written to the octets read and to what the registry has
 //!   done;
@@ -18,12 +18,10 @@
 //! represents, and the octets of the answers.
 #![tactic(auto)]
 
-mod ahead;
 mod commands;
 mod dates;
 mod day;
 mod due_dates;
-mod held;
 mod input;
 mod items;
 mod laws;
@@ -37,6 +35,7 @@ mod session;
 mod stream;
 mod tally;
 mod trouble;
+mod window;
 mod words;
 
 pub use input::Input;

@@ -6,18 +6,21 @@ ghost use Rattle.std.specs.Io.KnownBytes.{Keeps, WriteAppends, append_known};
 ghost use Rattle.session_protocol.specs.Streams.{no_troubles};
 ghost use Rattle.session_protocol.specs.Written.{has_line_end};
 
-use crate::held::Held;
 use crate::stream::{Sink, Trouble};
 use crate::tally::Tally;
 use crate::trouble::trouble_of;
+use crate::window::Window;
 use std::io::{self, Write};
+
+/// The most octets that are held.
+const MOST_HELD: usize = 1024;
 
 /// A writer that is given whole lines as soon as they end, where they are short enough. So whoever waits for a reply
 /// has it before more input is read.
 #[derive(Drop)]
 pub struct Output<W> {
     inner: W,
-    held: Held,
+    held: Window<MOST_HELD>,
     tally: Tally,
     ghost no_line_held: { has_line_end held ≡ false },
 }
@@ -31,7 +34,7 @@ impl<W: Write> Output<W> {
     {
         Output {
             inner,
-            held: Held::new(),
+            held: Window::new(),
             tally: Tally::new(),
         }
     }
@@ -46,7 +49,7 @@ impl<W: Write> Output<W> {
         if octets.contains(&b'\n') {
             return 0;
         }
-        self.held.hold(octets)
+        self.held.put(octets)
     }
 
     /// Writes what is held; false where a write took no octet. What was not written is held on.

@@ -74,19 +74,18 @@ pub fn serve<S: Source, K: Sink, R: Registry>(
     sink: &mut K,
     registry: &mut R,
 ) -> Result<(), ServeFault>
-    ensures done { HasDone (Calls R.clean R.stands R.may_leave R.keeps)
+    ensures done { HasDone (Calls R.keeper)
         (λ items. S.tells → Hears result (session_in (S.left source.old)) items)
         (λ answers. K.tells → Says result (K.written sink.old) answers (K.written sink.new))
         registry.old registry.new }
     ensures ok { S.tells → K.tells
-        → OnOk result (IsServed (Calls R.clean R.stands R.may_leave R.keeps)
-        (session_in (S.left source.old))
+        → OnOk result (IsServed (Calls R.keeper) (session_in (S.left source.old))
         registry.old (K.written sink.old) (K.written sink.new) registry.new) }
     ensures unheard { S.tells → K.tells → IsErrOf result ServeFault.Read →
-        IsAnswered (Calls R.clean R.stands R.may_leave R.keeps) (session_in (S.left source.old))
+        IsAnswered (Calls R.keeper) (session_in (S.left source.old))
         registry.old (K.written sink.old) (K.written sink.new) registry.new }
     ensures unsaid { S.tells → K.tells → IsErrOf result ServeFault.Write →
-        IsCut (Calls R.clean R.stands R.may_leave R.keeps) (session_in (S.left source.old))
+        IsCut (Calls R.keeper) (session_in (S.left source.old))
         registry.old (K.written sink.old) (K.written sink.new) registry.new }
     ensures read { IsErrOf result ServeFault.Read →
         StreamFails (S.troubles source.old) (S.troubles source.new) }

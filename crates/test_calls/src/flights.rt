@@ -21,15 +21,13 @@ const REFUSED: ArchiveFault<()> = ArchiveFault::Refused(ArchiveRefusal::NoArchiv
 impl Records for PlanAlone {
     type Cause = ();
 
-    ghost clean = { λ _. ⊥ };
-
-    ghost stands = { λ _ _. ⊥ };
-
-    ghost remains = { ⊥ };
-
-    ghost may_leave = { λ _ _. ⊥ };
-
-    ghost keeps = { λ _ _. ⊥ };
+    ghost keeper = { record {
+      clean = λ _. ⊥;
+      stands = λ _ _. ⊥;
+      remains = ⊥;
+      may_leave = λ _ _. ⊥;
+      keeps = λ _ _. ⊥;
+    } };
 
     ghost plan_of = { λ s. s.plan };
 

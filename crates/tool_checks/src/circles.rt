@@ -66,16 +66,6 @@ fn write_warning(rt: &HostRuntime, reached: &Reached, circle: &Circle) -> Result
     write_line(rt, &mut line)
 }
 
-/// Whether a text is among others.
-fn is_among(texts: &[String], text: &str) -> bool {
-    for other in texts {
-        if other.as_str() == text {
-            return true;
-        }
-    }
-    false
-}
-
 /// Writes the warning of a circle, unless it was told before.
 fn warn_once(
     rt: &HostRuntime,
@@ -84,7 +74,7 @@ fn warn_once(
     told: &mut Vec<String>,
 ) -> Result<(), Failure> {
     let name = name_of(rt.alloc(), reached, circle)?;
-    if is_among(told, name.as_str()) {
+    if told.iter().any(|other| other.as_str() == name.as_str()) {
         return Ok(());
     }
     told.push(name)?;
@@ -97,22 +87,8 @@ fn read_circles(
     start: &Start<'_>,
     reached: &mut Reached,
 ) -> Result<Vec<Circle>, Failure> {
-    let mut includes = Vec::new(rt.alloc());
-    reached.follow(rt, start, &mut includes)?;
+    let includes = reached.follow(rt, start)?;
     Ok(circles_of(rt.alloc(), includes.as_slice())?)
-}
-
-/// Writes the warnings of circles, but for those that were told before.
-fn warn_of_each(
-    rt: &HostRuntime,
-    reached: &Reached,
-    circles: &[Circle],
-    told: &mut Vec<String>,
-) -> Result<(), Failure> {
-    for circle in circles {
-        warn_once(rt, reached, circle, told)?;
-    }
-    Ok(())
 }
 
 /// Writes a warning for each include that comes back to a script that is still running, among the scripts that a good
@@ -124,6 +100,8 @@ pub fn warn_of_circles(
     told: &mut Vec<String>,
 ) -> Result<(), Failure> {
     let mut reached = Reached::alone(rt.alloc(), start.path, text)?;
-    let circles = read_circles(rt, start, &mut reached)?;
-    warn_of_each(rt, &reached, circles.as_slice(), told)
+    for circle in read_circles(rt, start, &mut reached)?.iter() {
+        warn_once(rt, &reached, circle, told)?;
+    }
+    Ok(())
 }

@@ -7,26 +7,6 @@ use tool_console::{Failure, is_there};
 /// What the name of a script's file ends with.
 pub const SCRIPT_ENDING: &str = ".sieve";
 
-/// The folders of the scripts that can be included; none where the command line names none.
-#[derive(Clone, Copy)]
-pub struct Folders<'a> {
-    /// The folder of the officer's own scripts.
-    pub personal: Option<&'a str>,
-    /// The folder of the scripts that every officer can include.
-    pub global: Option<&'a str>,
-}
-
-impl<'a> Folders<'a> {
-    /// The folder of the scripts of a location.
-    pub fn of(&self, is_global: bool) -> Option<&'a str> {
-        if is_global {
-            self.global
-        } else {
-            self.personal
-        }
-    }
-}
-
 /// The path of a script in a folder, by its name; none where no file can have it.
 pub fn path_in(alloc: Global, folder: &str, name: &[u8]) -> Result<Option<String>, AllocError> {
     match str::from_utf8(name) {

@@ -20,6 +20,6 @@ mod reached;
 mod scripts;
 mod warnings;
 
-pub use folders::{Folders, SCRIPT_ENDING};
+pub use folders::SCRIPT_ENDING;
 pub use plans::{NamedPlan, check_plan, read_plan};
 pub use scripts::{Surroundings, check_script, read_good_script};

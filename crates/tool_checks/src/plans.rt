@@ -35,20 +35,6 @@ fn write_finding(
     write_line(rt, line)
 }
 
-/// Writes findings, a line each.
-fn write_findings(
-    rt: &HostRuntime,
-    line: &mut String,
-    path: &str,
-    text: &[u8],
-    findings: &[Finding],
-) -> Result<(), Failure> {
-    for finding in findings {
-        write_finding(rt, line, path, text, finding)?;
-    }
-    Ok(())
-}
-
 /// Reports all that is wrong with a text that is no plan, its refusal first.
 fn report_plan(rt: &HostRuntime, path: &str, text: &[u8]) -> Result<(), Failure> {
     let Some(report) = judge(rt.alloc(), text)? else {
@@ -56,7 +42,10 @@ fn report_plan(rt: &HostRuntime, path: &str, text: &[u8]) -> Result<(), Failure>
     };
     let mut line = String::new(rt.alloc());
     write_finding(rt, &mut line, path, text, &report.refusal)?;
-    write_findings(rt, &mut line, path, text, report.others.as_slice())
+    for finding in report.others.iter() {
+        write_finding(rt, &mut line, path, text, finding)?;
+    }
+    Ok(())
 }
 
 /// The plan of a text; none where it is refused, which is reported with all that is wrong with it.
@@ -74,13 +63,11 @@ fn plan_of_text(rt: &HostRuntime, path: &str, text: &[u8]) -> Result<Option<Plan
 /// The plan of a file; none where it is refused, which is reported.
 fn read_plan_file(rt: &HostRuntime, path: &str) -> Result<Option<NamedPlan>, Failure> {
     let text = read_file(rt, path, Payload::Plan.limit())?;
-    match plan_of_text(rt, path, &text)? {
-        Some(plan) => Ok(Some(NamedPlan {
-            plan,
-            text: Some(text),
-        })),
-        None => Ok(None),
-    }
+    let plan = plan_of_text(rt, path, &text)?;
+    Ok(plan.map(|plan| NamedPlan {
+        plan,
+        text: Some(text),
+    }))
 }
 
 /// The plan of the file that is named, or the one of `unfiled` alone; none where it is refused, which is reported with

@@ -1,6 +1,7 @@
 //! The scripts that a script can reach by its includes.
 
-use crate::folders::{Folders, path_in};
+use crate::folders::path_in;
+use command_lines::tools::Folders;
 use sieve_syntax::Token;
 use sieve_text::{ScanFault, scan};
 use std::alloc::{AllocError, Global};
@@ -78,18 +79,12 @@ impl Reached {
 
     /// The path of a script, by its number.
     pub fn path(&self, script: usize) -> &str {
-        match self.paths.get(script) {
-            Some(path) => path.as_str(),
-            None => "",
-        }
+        self.paths.get(script).map_or("", |path| path.as_str())
     }
 
     /// The text of a script, by its number.
     pub fn text(&self, script: usize) -> &[u8] {
-        match self.texts.get(script) {
-            Some(text) => text.as_slice(),
-            None => &[],
-        }
+        self.texts.get(script).map_or(&[], |text| text.as_slice())
     }
 
     /// Adds a script.
@@ -101,12 +96,7 @@ impl Reached {
 
     /// The number of the script at a path; none where it was not reached.
     fn number_at(&self, path: &str) -> Option<usize> {
-        for (number, known) in self.paths.iter().enumerate() {
-            if known.as_str() == path {
-                return Some(number);
-            }
-        }
-        None
+        self.paths.iter().position(|known| known.as_str() == path)
     }
 
     /// The number of the script at a path, which is read where it is new; none where there is none.
@@ -147,10 +137,8 @@ impl Reached {
         let Some(path) = start.path_of(rt.alloc(), name, is_global)? else {
             return Ok(None);
         };
-        match self.number_of(rt, path)? {
-            Some(to) => Ok(Some(Edge { to, at, is_once })),
-            None => Ok(None),
-        }
+        let to = self.number_of(rt, path)?;
+        Ok(to.map(|to| Edge { to, at, is_once }))
     }
 
     /// Adds the includes among commands.
@@ -184,19 +172,19 @@ impl Reached {
         Ok(edges)
     }
 
-    /// Reads the scripts that are reached, and adds the includes of each.
+    /// The includes of each script that is reached, all of which are read.
     pub fn follow(
         &mut self,
         rt: &HostRuntime,
         start: &Start<'_>,
-        includes: &mut Vec<Vec<Edge>>,
-    ) -> Result<(), Failure> {
+    ) -> Result<Vec<Vec<Edge>>, Failure> {
+        let mut includes = Vec::new(rt.alloc());
         for script in 0..usize::MAX {
             if script >= self.paths.len() {
                 break;
             }
             includes.push(self.edges_of(rt, start, script)?)?;
         }
-        Ok(())
+        Ok(includes)
     }
 }

@@ -1,10 +1,10 @@
 //! A script in a file, judged.
 
 use crate::circles::warn_of_circles;
-use crate::folders::Folders;
 use crate::reached::Start;
 use crate::warnings::warn_of_names;
 use class_plan::Plan;
+use command_lines::tools::Folders;
 use std::alloc::AllocError;
 use tool_console::{
     Failure, Verdict, push_place, push_quoted, read_file, read_input, text_of, write_line,

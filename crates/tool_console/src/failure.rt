@@ -15,20 +15,22 @@ pub enum Failure {
 }
 
 impl Failure {
-    /// A failure that is reported in these words.
-    pub fn told(alloc: Global, words: &str) -> Failure {
-        match String::from_str(alloc, words) {
+    /// A failure that is reported in the words of a text, where there is memory for it.
+    pub(crate) fn of(text: Result<String, AllocError>) -> Failure {
+        match text {
             Ok(text) => Failure::Message(text),
             Err(_) => Failure::NoMemory,
         }
     }
 
+    /// A failure that is reported in these words.
+    pub fn told(alloc: Global, words: &str) -> Failure {
+        Failure::of(String::from_str(alloc, words))
+    }
+
     /// A failure at a file, a stream or a line, reported with its name and the reason.
     pub fn at<T: Display>(alloc: Global, name: &str, reason: &T) -> Failure {
-        match format!(in alloc; "{name}: {reason}") {
-            Ok(text) => Failure::Message(text),
-            Err(_) => Failure::NoMemory,
-        }
+        Failure::of(format!(in alloc; "{name}: {reason}"))
     }
 }
 

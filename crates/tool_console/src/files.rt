@@ -3,8 +3,11 @@
 use crate::failure::Failure;
 use std::alloc::{AllocError, Global};
 use std::fs::{self, File};
-use std::io::{BufRead, Read};
+use std::io::{BufRead, BufReader, Read};
 use thiserror::Error;
+
+/// What standard input is called.
+const STANDARD_INPUT: &str = "standard input";
 
 /// What is wrong with a file.
 #[derive(Clone, Copy, Debug, Error)]
@@ -17,19 +20,20 @@ enum FileFault {
 
 /// Opens a file for reading. A failure names its path.
 pub fn open(rt: &HostRuntime, path: &str) -> Result<File, Failure> {
-    match fs::open(rt, path) {
-        Ok(file) => Ok(file),
-        Err(error) => Err(Failure::at(rt.alloc(), path, &error)),
-    }
+    fs::open(rt, path).map_err(|error| Failure::at(rt.alloc(), path, &error))
+}
+
+/// A reader of lines over a file or a stream.
+pub fn lines_of<R: Read + Drop>(alloc: Global, reader: R) -> Result<BufReader<R>, Failure> {
+    BufReader::new(alloc, reader).map_err(|_| Failure::NoMemory)
 }
 
 /// The length that a regular file reports; none for a pipe and the like.
 fn told_length(alloc: Global, file: &File, path: &str) -> Result<Option<u64>, Failure> {
-    match file.metadata() {
-        Ok(metadata) if metadata.is_file() => Ok(Some(metadata.len())),
-        Ok(_) => Ok(None),
-        Err(error) => Err(Failure::at(alloc, path, &error)),
-    }
+    let metadata = file
+        .metadata()
+        .map_err(|error| Failure::at(alloc, path, &error))?;
+    Ok(metadata.is_file().then(|| metadata.len()))
 }
 
 /// The octets of a file, which must be as many as the file reported before it was read. A file that reports more than
@@ -42,9 +46,9 @@ pub fn read_file(rt: &HostRuntime, path: &str, limit: u64) -> Result<Vec<u8>, Fa
         return Err(Failure::at(alloc, path, &FileFault::TooLong(limit)));
     }
     let mut octets = Vec::new(alloc);
-    if let Err(error) = file.take(limit.saturating_add(1)).read_to_end(&mut octets) {
-        return Err(Failure::at(alloc, path, &error));
-    }
+    file.take(limit.saturating_add(1))
+        .read_to_end(&mut octets)
+        .map_err(|error| Failure::at(alloc, path, &error))?;
     let length = octets.len() as u64;
     if told.unwrap_or(length) != length {
         return Err(Failure::at(alloc, path, &FileFault::Changed));
@@ -59,15 +63,12 @@ pub fn read_file(rt: &HostRuntime, path: &str, limit: u64) -> Result<Vec<u8>, Fa
 pub fn read_input(rt: &HostRuntime, limit: u64) -> Result<Vec<u8>, Failure> {
     let alloc = rt.alloc();
     let mut octets = Vec::new(alloc);
-    if let Err(error) = rt
-        .stdin()
+    rt.stdin()
         .take(limit.saturating_add(1))
         .read_to_end(&mut octets)
-    {
-        return Err(Failure::at(alloc, "standard input", &error));
-    }
+        .map_err(|error| Failure::at(alloc, STANDARD_INPUT, &error))?;
     if octets.len() as u64 > limit {
-        return Err(Failure::at(alloc, "standard input", &FileFault::TooLong(limit)));
+        return Err(Failure::at(alloc, STANDARD_INPUT, &FileFault::TooLong(limit)));
     }
     Ok(octets)
 }
@@ -80,10 +81,10 @@ pub fn read_line<R: BufRead>(
     line: &mut Vec<u8>,
 ) -> Result<bool, Failure> {
     line.clear();
-    match reader.read_until(b'\n', line) {
-        Ok(count) => Ok(count > 0),
-        Err(error) => Err(Failure::at(alloc, "standard input", &error)),
-    }
+    let count = reader
+        .read_until(b'\n', line)
+        .map_err(|error| Failure::at(alloc, STANDARD_INPUT, &error))?;
+    Ok(count > 0)
 }
 
 /// Whether there is a file at a path.
@@ -107,16 +108,11 @@ fn add_path(
 /// The paths in a folder that have an ending, in byte order. A failure names the path of the folder.
 pub fn paths_in(rt: &HostRuntime, folder: &str, ending: &str) -> Result<Vec<String>, Failure> {
     let alloc = rt.alloc();
-    let entries = match fs::read_dir(rt, folder) {
-        Ok(entries) => entries,
-        Err(error) => return Err(Failure::at(alloc, folder, &error)),
-    };
+    let entries = fs::read_dir(rt, folder).map_err(|error| Failure::at(alloc, folder, &error))?;
     let mut paths = Vec::new(alloc);
     for entry in entries {
-        match entry {
-            Ok(entry) => add_path(alloc, &mut paths, entry.path().to_string_lossy(), ending)?,
-            Err(error) => return Err(Failure::at(alloc, folder, &error)),
-        }
+        let entry = entry.map_err(|error| Failure::at(alloc, folder, &error))?;
+        add_path(alloc, &mut paths, entry.path().to_string_lossy(), ending)?;
     }
     paths.sort()?;
     Ok(paths)
@@ -124,8 +120,5 @@ pub fn paths_in(rt: &HostRuntime, folder: &str, ending: &str) -> Result<Vec<Stri
 
 /// Writes a file in place of what is there. A failure names its path.
 pub fn write_file(rt: &HostRuntime, path: &str, octets: &[u8]) -> Result<(), Failure> {
-    match fs::write(rt, path, octets) {
-        Ok(()) => Ok(()),
-        Err(error) => Err(Failure::at(rt.alloc(), path, &error)),
-    }
+    fs::write(rt, path, octets).map_err(|error| Failure::at(rt.alloc(), path, &error))
 }

@@ -15,10 +15,9 @@ fn write_failure(rt: &HostRuntime, name: &str, error: Error) -> Failure {
 
 /// Writes octets to standard output. `Closed` where its reader has gone.
 pub fn write(rt: &HostRuntime, octets: &[u8]) -> Result<(), Failure> {
-    match rt.stdout().write_all(octets) {
-        Ok(()) => Ok(()),
-        Err(error) => Err(write_failure(rt, "standard output", error)),
-    }
+    rt.stdout()
+        .write_all(octets)
+        .map_err(|error| write_failure(rt, "standard output", error))
 }
 
 /// Ends a line by its LF, writes it to standard output as `write` does, and leaves an empty one.
@@ -43,10 +42,9 @@ pub fn copy_to_output<R: Read>(
     reader: &mut R,
     count: u64,
 ) -> Result<(), Failure> {
-    match copy(&mut reader.by_ref().take(count), &mut rt.stdout()) {
-        Ok(_) => Ok(()),
-        Err(error) => Err(write_failure(rt, "standard input or output", error)),
-    }
+    copy(&mut reader.by_ref().take(count), &mut rt.stdout())
+        .map(|_| ())
+        .map_err(|error| write_failure(rt, "standard input or output", error))
 }
 
 /// Writes something on standard error, after the name of the program.

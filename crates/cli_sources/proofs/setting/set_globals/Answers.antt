@@ -5,14 +5,14 @@ use Rattle.cli_sources.proofs.setting.set_globals.Goals as goal
 
 pub loop-script-preserved : goal.loop-script-preserved
 loop-script-preserved g c =
-    goes_on (Calls g.D.Registry.clean g.D.Registry.stands g.D.Registry.may_leave g.D.Registry.keeps) globally
+    goes_on (Calls g.D.Registry.keeper) globally
     c.args.rules.now.globals.items c.script-item.result _ _ _ _ _
     (next_of c.deref-script-items.result.now c.loop-script.script-index c.script-item.result c.loop-script-test.true c.script-item.is)
     c.loop-script.invariant (rw c.as_bytes.ensures.value at c.in_default.ensures)
 
 pub returns-in-Err-clause-stopped : goal.returns-in-Err-clause-stopped
 returns-in-Err-clause-stopped g c =
-    goes_to_fault (Calls g.D.Registry.clean g.D.Registry.stands g.D.Registry.may_leave g.D.Registry.keeps) globally
+    goes_to_fault (Calls g.D.Registry.keeper) globally
     c.args.rules.now.globals.items c.script-item.result _ _ _ _ _ c.in-Err.fault c.refused.result
     (next_of c.deref-script-items.result.now c.loop-script.script-index c.script-item.result c.loop-script-test.true c.script-item.is)
     c.refused.ensures c.loop-script.invariant (rw c.as_bytes.ensures.value at c.in-Err.ensures)

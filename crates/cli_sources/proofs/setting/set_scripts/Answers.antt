@@ -6,7 +6,7 @@ use Rattle.cli_sources.proofs.setting.set_scripts.Goals as goal
 
 pub loop-script-preserved : goal.loop-script-preserved
 loop-script-preserved g c =
-    goes_on (Calls g.D.Registry.clean g.D.Registry.stands g.D.Registry.may_leave g.D.Registry.keeps)
+    goes_on (Calls g.D.Registry.keeper)
     (by_officer (string_bytes c.args.rules.now.officer))
     c.args.rules.now.scripts.items c.script-item.result _ _ _ _ _
     (next_of c.deref-script-items.result.now c.loop-script.script-index c.script-item.result c.loop-script-test.true c.script-item.is)
@@ -14,7 +14,7 @@ loop-script-preserved g c =
 
 pub returns-in-Err-clause-stopped : goal.returns-in-Err-clause-stopped
 returns-in-Err-clause-stopped g c =
-    goes_to_fault (Calls g.D.Registry.clean g.D.Registry.stands g.D.Registry.may_leave g.D.Registry.keeps)
+    goes_to_fault (Calls g.D.Registry.keeper)
     (by_officer (string_bytes c.args.rules.now.officer))
     c.args.rules.now.scripts.items c.script-item.result _ _ _ _ _ c.in-Err.fault c.refused.result
     (next_of c.deref-script-items.result.now c.loop-script.script-index c.script-item.result c.loop-script-test.true c.script-item.is)

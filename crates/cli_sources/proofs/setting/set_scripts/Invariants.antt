@@ -5,6 +5,6 @@ use Rattle.cli_sources.proofs.Calling.{Goes}
 use Rattle.cli_sources.proofs.setting.set_scripts.Given as goal
 
 abbrev pub invariant-loop-script : goal.invariant-loop-script
-invariant-loop-script g l = Goes (Calls g.D.Registry.clean g.D.Registry.stands g.D.Registry.may_leave g.D.Registry.keeps)
+invariant-loop-script g l = Goes (Calls g.D.Registry.keeper)
     (by_officer (string_bytes l.rules.officer))
     l.rules.scripts.items (drop l.script-index l.script-items) l.initial.desk l.desk

@@ -8,42 +8,35 @@ use Rattle.filing_desk.proofs.archive.file_outcome.Goals as goal
 pub returns-then-not-are_classes-clause-files : goal.returns-then-not-are_classes-clause-files
 returns-then-not-are_classes-clause-files g c =
     let off : c.are_classes.result ≡ false = grind (arith, common_steps) in
-    no_classes g.A.Records.clean g.A.Records.stands g.A.Records.may_leave
-    g.A.Records.keeps c.args.store.now c.plan.result.now c.args.flight.now.message
+    no_classes g.A.Records.keeper c.args.store.now c.plan.result.now c.args.flight.now.message
     (number_of_day c.args.flight.now.day) c.args.classes.now c.are_classes.result _ (λ a stands. c.plan.ensures
     ∙ g.met.A.Records.plan_is c.args.store.now a stands) off c.are_classes.ensures
 
 pub returns-in_err-lines-clause-files : goal.returns-in_err-lines-clause-files
 returns-in_err-lines-clause-files g c =
     let result = c.from_residual.ensures in
-    files_fault g.A.Records.clean g.A.Records.stands g.A.Records.may_leave
-    g.A.Records.keeps _ _ _ _ _ _ _ result.0 result.1
-    (file_refused g.A.Records.clean g.A.Records.stands g.A.Records.may_leave
-    g.A.Records.keeps c.args.store.now _ _ _ _ _ _ c.in_err-lines.field-0.0
+    files_fault g.A.Records.keeper _ _ _ _ _ _ _ result.0 result.1
+    (file_refused g.A.Records.keeper c.args.store.now _ _ _ _ _ _ c.in_err-lines.field-0.0
     c.message.ensures (ap number_of_day c.day.ensures.value) c.in_err-lines.ensures)
 
 pub returns-clause-files : goal.returns-clause-files
 returns-clause-files g c =
-    file_done g.A.Records.clean g.A.Records.stands g.A.Records.may_leave
-    g.A.Records.keeps c.args.store.now c.capture.new.self c.args.flight.now.message
+    file_done g.A.Records.keeper c.args.store.now c.capture.new.self c.args.flight.now.message
     c.message.result.now (number_of_day c.args.flight.now.day) (number_of_day c.day.result) c.args.classes.now
     c.in_ok-lines.lines c.message.ensures (ap number_of_day c.day.ensures.value) c.in_ok-lines.ensures
 
 pub returns-then-not-are_classes-clause-safe : goal.returns-then-not-are_classes-clause-safe
 returns-then-not-are_classes-clause-safe g c =
-    safe_same g.A.Records.clean g.A.Records.stands g.A.Records.may_leave
-    g.A.Records.keeps c.args.store.now _ _ _ _ refl
+    safe_same g.A.Records.keeper c.args.store.now _ _ _ _ refl
 
 pub returns-in_err-lines-clause-safe : goal.returns-in_err-lines-clause-safe
 returns-in_err-lines-clause-safe g c =
-    safe_refused g.A.Records.clean g.A.Records.stands g.A.Records.may_leave
-    g.A.Records.keeps c.args.store.now c.capture.new.self _ _ _ _ _ c.in_err-lines.field-0.0 _
+    safe_refused g.A.Records.keeper c.args.store.now c.capture.new.self _ _ _ _ _ c.in_err-lines.field-0.0 _
     c.from_residual.ensures.0 c.message.ensures (ap number_of_day c.day.ensures.value) c.in_err-lines.ensures
 
 pub returns-clause-safe : goal.returns-clause-safe
 returns-clause-safe g c =
-    safe_done g.A.Records.clean g.A.Records.stands g.A.Records.may_leave
-    g.A.Records.keeps c.args.store.now c.capture.new.self c.args.flight.now.message
+    safe_done g.A.Records.keeper c.args.store.now c.capture.new.self c.args.flight.now.message
     c.message.result.now (number_of_day c.args.flight.now.day) (number_of_day c.day.result) c.args.classes.now
     c.in_ok-lines.lines c.message.ensures (ap number_of_day c.day.ensures.value) c.in_ok-lines.ensures
 

@@ -1,12 +1,13 @@
 use Rattle.std.proofs.Common.{ℕ, List, [], ◌∷◌, ◌++◌, map, Option, Result, Ok, ap, sym, ◌∙◌, subst, inl, inr}
 use Rattle.sieve_meaning.specs.declared.run_fault.RunFault.{RunFault}
+use Rattle.record_archive.specs.Calls.{Keeper}
 use Rattle.record_archive.specs.Lines.{line_view}
 use Rattle.desk_commands.specs.Calls.{Calls}
 use Rattle.desk_commands.specs.CallAnswers.{answer_of_capture}
 use Rattle.desk_commands.specs.Faults.{refused_by}
 use Rattle.desk_commands.specs.Standing.{Standing, finish, flight_of}
 use Rattle.desk_commands.specs.declared.fault.DeskFault.{DeskFault}
-use Rattle.filing_desk.specs.Standing.{IsClean, MayLeave, StandsFor}
+use Rattle.filing_desk.specs.Standing.{desk_keeper}
 use Rattle.filing_desk.specs.Deliveries.{Call, Delivers, TellsFault}
 use Rattle.filing_desk.specs.declared.deliveries.Delivery.{Delivery}
 use Rattle.filing_desk.proofs.CallLemmas.{calls_on, one_call, passed_on}
@@ -19,7 +20,7 @@ returns-in_err-ticket g c = λ m is.
     let fault = c.in_err-ticket.field-0.0 in
     let first = c.in_err-ticket.ensures m is in
     let Told : Result Delivery DeskFault → Type 0 = λ r.
-    Delivers (IsClean g.A.Records.clean) (StandsFor g.A.Records.stands) c.args.desk.now c.args.officer.now c.args.moment
+    Delivers (desk_keeper g.A.Records.keeper) c.args.desk.now c.args.officer.now c.args.moment
     m c.args.on_fault r c.begin_and_run.new.desk in
     subst Told (sym (passed_on out.result fault out.ensures.0 out.ensures.1)) (first.0, inl first.1, first.2, tt)
 
@@ -29,7 +30,7 @@ returns-in_err-fault g c = λ m is.
     let fault = c.in_err-fault.field-0.0 in
     let first = c.in_ok-ticket.ensures m is in
     let Told : Result Delivery DeskFault → Type 0 = λ r.
-    Delivers (IsClean g.A.Records.clean) (StandsFor g.A.Records.stands) c.args.desk.now c.args.officer.now c.args.moment
+    Delivers (desk_keeper g.A.Records.keeper) c.args.desk.now c.args.officer.now c.args.moment
     m c.args.on_fault r c.begin_and_run.new.desk in
     subst Told (sym (passed_on out.result fault out.ensures.0 out.ensures.1)) (
       first.0,
@@ -40,10 +41,7 @@ returns-in_err-fault g c = λ m is.
 
 pub returns-in_err-capture : goal.returns-in_err-capture
 returns-in_err-capture g c = λ m is.
-    let clean = IsClean g.A.Records.clean in
-    let stands = StandsFor g.A.Records.stands in
-    let may_leave = MayLeave g.A.Records.may_leave in
-    let keeps = g.A.Records.keeps in
+    let keeper = desk_keeper g.A.Records.keeper in
     let out = c.from_residual-in_err-capture in
     let fault = c.in_err-capture.field-0.0 in
     let first = c.in_ok-ticket.ensures m is in
@@ -51,32 +49,32 @@ returns-in_err-capture g c = λ m is.
     let mid = c.begin_and_run.new.desk in
     let last : List Call = record { command = finish t; answer = refused_by fault } ∷ [] in
     let Told : Result Delivery DeskFault → Type 0 = λ r.
-    Delivers clean stands c.args.desk.now c.args.officer.now c.args.moment m c.args.on_fault r c.finish.new.self in
-    let Finishes : ℕ → Type 0 = λ n. Calls clean stands may_leave keeps mid (finish n) (refused_by fault) c.finish.new.self in
+    Delivers keeper c.args.desk.now c.args.officer.now c.args.moment m c.args.on_fault r c.finish.new.self in
+    let Finishes : ℕ → Type 0 = λ n. Calls keeper mid (finish n) (refused_by fault) c.finish.new.self in
     subst Told (sym (passed_on out.result fault out.ensures.0 out.ensures.1)) (
       first.0 ++ last,
       inr (inl (t, first.1.0, first.1.1, ap (λ (calls : List Call). calls ++ last) first.1.2)),
-      calls_on clean stands c.args.desk.now mid c.finish.new.self first.0 last first.2
-          (one_call clean stands may_leave keeps mid c.finish.new.self (finish t) (refused_by fault)
+      calls_on keeper c.args.desk.now mid c.finish.new.self first.0 last first.2
+          (one_call keeper mid c.finish.new.self (finish t) (refused_by fault)
           (subst Finishes c.from.ensures c.in_err-capture.ensures)),
       tt,
     )
 
 -- what is reported of the capture of a ticket in each state that the desk represents
-abbrev TellsAll : {D : Type 0} (stands : D → Standing → Type 0) (desk : D) (t : ℕ) → Option RunFault → Type 0
-TellsAll stands desk t told = (z : Standing) → stands desk z → TellsFault (flight_of t z.flights) told
+abbrev TellsAll : {D : Type 0} → Keeper D Standing → (desk : D) (t : ℕ) → Option RunFault → Type 0
+TellsAll keeper desk t told = (z : Standing) → keeper.stands desk z → TellsFault (flight_of t z.flights) told
 
 pub returns-in-Some : goal.returns-in-Some
 returns-in-Some g c = λ m is.
-    let stands = StandsFor g.A.Records.stands in
+    let keeper = desk_keeper g.A.Records.keeper in
     let first = c.in_ok-ticket.ensures m is in
     let t = c.in_ok-ticket.ticket in
     let mid = c.begin_and_run.new.desk in
-    let Tells : Option RunFault → Type 0 = λ f. TellsAll stands mid t f in (
+    let Tells : Option RunFault → Type 0 = λ f. TellsAll keeper mid t f in (
       first.0,
       (t, first.1.0, first.1.1, first.1.2),
       first.2,
-      heeds_given_up (IsClean g.A.Records.clean) stands c.args.desk.now c.args.officer.now c.args.moment m c.args.on_fault
+      heeds_given_up keeper c.args.desk.now c.args.officer.now c.args.moment m c.args.on_fault
           first.0 t first.1.0 first.1.1 c.in-Some.fault mid first.1.2 first.2
           (λ e. subst Tells c.in-Some.is (c.in_ok-fault.ensures.told e))
           (λ e. sym c.in-Some.is ∙ c.in_ok-fault.ensures.none e),
@@ -84,23 +82,20 @@ returns-in-Some g c = λ m is.
 
 pub returns : goal.returns
 returns g c = λ m is.
-    let clean = IsClean g.A.Records.clean in
-    let stands = StandsFor g.A.Records.stands in
-    let may_leave = MayLeave g.A.Records.may_leave in
-    let keeps = g.A.Records.keeps in
+    let keeper = desk_keeper g.A.Records.keeper in
     let first = c.in_ok-ticket.ensures m is in
     let t = c.in_ok-ticket.ticket in
     let mid = c.begin_and_run.new.desk in
     let capture = c.in_ok-capture.capture in
     let last : List Call = record { command = finish t; answer = answer_of_capture (Ok capture) } ∷ [] in
-    let Tells : Option RunFault → Type 0 = λ f. TellsAll stands mid t f in
-    let Finishes : ℕ → Type 0 = λ n. Calls clean stands may_leave keeps mid (finish n) (answer_of_capture (Ok capture)) c.finish.new.self in
+    let Tells : Option RunFault → Type 0 = λ f. TellsAll keeper mid t f in
+    let Finishes : ℕ → Type 0 = λ n. Calls keeper mid (finish n) (answer_of_capture (Ok capture)) c.finish.new.self in
     let call = subst Finishes c.from.ensures c.in_ok-capture.ensures in (
       first.0 ++ last,
       (t, first.1.0, first.1.1, ap (λ (calls : List Call). calls ++ last) first.1.2),
-      calls_on clean stands c.args.desk.now mid c.finish.new.self first.0 last first.2
-          (one_call clean stands may_leave keeps mid c.finish.new.self (finish t) (answer_of_capture (Ok capture)) call),
-      heeds_captured clean stands c.args.desk.now c.args.officer.now c.args.moment m may_leave keeps c.args.on_fault first.0 t
+      calls_on keeper c.args.desk.now mid c.finish.new.self first.0 last first.2
+          (one_call keeper mid c.finish.new.self (finish t) (answer_of_capture (Ok capture)) call),
+      heeds_captured keeper c.args.desk.now c.args.officer.now c.args.moment m c.args.on_fault first.0 t
           capture (map line_view capture.lines.items) mid c.finish.new.self first.2
           (λ e. subst Tells c.in_default.is (c.in_ok-fault.ensures.told e)) call,
     )

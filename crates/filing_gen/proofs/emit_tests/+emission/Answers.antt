@@ -1,5 +1,6 @@
 use Rattle.std.proofs.Common.{◌≡◌, ℕ, [], ◌∷◌, List, refl, false, codes, inl, inr, arith, ap, map, subst, sym, ◌∙◌}
 use Rattle.std.proofs.lemmas.Result.{on_ok_weaker}
+use Rattle.std.proofs.Math.ListN.{drop_of_length-le}
 use Rattle.sieve_syntax.specs.View.{test_of, inner_of}
 use Rattle.sieve_syntax.proofs.Views.{inner_of-None, inner_of-One, inner_of-Listed}
 use Rattle.sieve_syntax.specs.Tree.{InnerTests}
@@ -16,7 +17,7 @@ use Rattle.filing_flow.specs.Structure.{Flow, action, Negate, Push}
 use Rattle.filing_gen.specs.BlockCode.{test_flow, tests_flow}
 use Rattle.filing_gen.specs.Ends.{no_place}
 use Rattle.filing_gen.specs.Adds.{Emits}
-use Rattle.filing_gen.proofs.Emitted.{Completes, leads_first, leads_last, no_turn, emits_sequence, action_emitted, grows}
+use Rattle.filing_gen.proofs.Emitted.{Completes, leads_first, leads_last, emits_sequence, action_emitted, grows}
 use Rattle.filing_gen.proofs.EmittedTests.{Unknown, emits_same, word_flow, row_flow, flow-listed, tests_turn, one_emitted, flow-one}
 use Rattle.filing_gen.proofs.Types.{tests_typed}
 use Rattle.filing_gen.proofs.emit_tests.+emission.Goals as goal
@@ -92,8 +93,7 @@ pub emit_tests-returns-after-loop-test : goal.emit_tests-returns-after-loop-test
 emit_tests-returns-after-loop-test t c =
     record {
       adds = leads_last c.args.out.now c.loop-test.out _ _ Unknown c.loop-test.invariant (ap (λ (ys : List Test).
-          row_flow c.args.stop (map test_of ys)) (no_turn c.as_slice-test-items.result.now c.loop-test.test-index
-          c.loop-test-test.false));
+          row_flow c.args.stop (map test_of ys)) (drop_of_length-le c.as_slice-test-items.result.now c.loop-test-test.false));
     }
 
 pub emit_test-returns-in-True : goal.emit_test-returns-in-True

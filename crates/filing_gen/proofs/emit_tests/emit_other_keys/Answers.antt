@@ -1,6 +1,7 @@
 use Rattle.std.proofs.Common.{ℕ, List, ap}
 use Rattle.filing_gen.specs.BlockCode.{keys_flow}
-use Rattle.filing_gen.proofs.Emitted.{leads_last, no_turn}
+use Rattle.std.proofs.Math.ListN.{drop_of_length-le}
+use Rattle.filing_gen.proofs.Emitted.{leads_last}
 use Rattle.filing_gen.proofs.EmittedTests.{Unknown, keys_turn}
 use Rattle.filing_gen.proofs.emit_tests.emit_other_keys.Goals as goal
 
@@ -12,4 +13,4 @@ loop-key-preserved c =
 
 pub returns : goal.returns
 returns c = leads_last c.args.out.now c.loop-key.out _ _ Unknown c.loop-key.invariant (ap (λ (ys : List (List ℕ)).
-    keys_flow c.args.how ys) (no_turn c.args.keys.now c.loop-key.key-index c.loop-key-test.false))
+    keys_flow c.args.how ys) (drop_of_length-le c.args.keys.now c.loop-key-test.false))

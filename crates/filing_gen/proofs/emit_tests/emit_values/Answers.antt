@@ -9,8 +9,8 @@ use Rattle.filing_gen.proofs.Emitted.{emits_sequence, grows}
 use Rattle.filing_gen.proofs.EmittedTests.{same_values}
 use Rattle.filing_gen.proofs.emit_tests.emit_values.Goals as goal
 
-pub emit_other_values-requires : goal.emit_other_values-requires
-emit_other_values-requires c =
+pub emit_other_names-requires : goal.emit_other_names-requires
+emit_other_names-requires c =
     let first = c.as_slice-first.ensures.value ∙ c.first.ensures in
     let p = grows c.args.out.now c.emit_value.new.out (action (ValuesOf c.as_slice-first.result.now)) [] (c.in_ok-emit_value.ensures []) in
     let same : size (values_flow (others_once c.as_slice-first.result.now c.others.result.now))
@@ -21,12 +21,12 @@ emit_other_values-requires c =
 
 pub returns : goal.returns
 returns c =
-    on_ok_weaker c.emit_other_values.result (λ h ends.
-    subst (λ (a : Flow). Emits c.args.out.now c.emit_other_values.new.out a ends)
+    on_ok_weaker c.emit_other_names.result (λ h ends.
+    subst (λ (a : Flow). Emits c.args.out.now c.emit_other_names.new.out a ends)
     (same_values c.as_slice-first.result.now (first_of c.args.names.now) c.others.result.now
     (others_of c.args.names.now) (c.as_slice-first.ensures.value ∙ c.first.ensures) c.others.ensures)
-    (emits_sequence c.args.out.now c.emit_value.new.out c.emit_other_values.new.out
+    (emits_sequence c.args.out.now c.emit_value.new.out c.emit_other_names.new.out
     (action (ValuesOf c.as_slice-first.result.now))
     (values_flow (others_once c.as_slice-first.result.now c.others.result.now)) ends
-    (c.in_ok-emit_value.ensures ends) (h ends)))
-    c.emit_other_values.ensures
+    (c.in_ok-emit_value.ensures ends) (h ends tt)))
+    c.emit_other_names.ensures

@@ -1,6 +1,5 @@
-use Rattle.std.proofs.Common.{◌≡◌, ℕ, List, Option, Bor, ap, arith}
+use Rattle.std.proofs.Common.{ℕ, List, Option, Bor, ap, arith}
 use Rattle.std.specs.Option.{option_map}
-use Rattle.std.proofs.lemmas.Result.{IfErr-at_err}
 use Rattle.sieve_syntax.specs.View.{tree_of}
 use Rattle.sieve_syntax.specs.declared.tree.Script.{Script}
 use Rattle.sieve_meaning.specs.Reading.{program_of}
@@ -8,8 +7,6 @@ use Rattle.sieve_meaning.specs.Weight.{linked_weight}
 use Rattle.sieve_meaning.proofs.OutcomeLaws.{light_by_weight}
 use Rattle.sieve_library.specs.BorrowedShelves.{scripts_of}
 use Rattle.sieve_library.specs.Libraries.{library_of}
-use Rattle.filing_gen.specs.declared.fault.GenFault.{GenFault}
-use Rattle.filing_gen.specs.declared.fault.GenFault.TheVariants.{NoMemory}
 use Rattle.filing_gen.proofs.program.compile_with.Goals as goal
 
 pub returns-in_ok-image-in-Some-clause-too_large : goal.returns-in_ok-image-in-Some-clause-too_large

@@ -1,4 +1,4 @@
-use Rattle.std.proofs.Common.{◌≡◌, ℕ, List, ap, subst, sym}
+use Rattle.std.proofs.Common.{ℕ, List, ap, subst, sym}
 use Rattle.filing_image.specs.Program.{Program, list_in}
 use Rattle.filing_gen.specs.Pools.{IsOnce}
 use Rattle.filing_gen.specs.Adds.{IsImageOfOutput}

@@ -9,9 +9,7 @@ pub returns-clause-no_memory : goal.returns-clause-no_memory
 returns-clause-no_memory g c = steps_kept
 
 pub returns-clause-registry : goal.returns-clause-registry
-returns-clause-registry g c = unchanged_at_registry g.R.Registry.clean g.R.Registry.stands g.R.Registry.may_leave
-    g.R.Registry.keeps
+returns-clause-registry g c = unchanged_at_registry g.R.Registry.keeper
 
 pub returns-clause-registry_no_memory : goal.returns-clause-registry_no_memory
-returns-clause-registry_no_memory g c = no_memory_at_registry g.R.Registry.clean g.R.Registry.stands g.R.Registry.may_leave
-    g.R.Registry.keeps
+returns-clause-registry_no_memory g c = no_memory_at_registry g.R.Registry.keeper

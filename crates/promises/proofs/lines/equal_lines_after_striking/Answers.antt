@@ -11,11 +11,8 @@ returns g c =
       at_most_one = c.one_tree.ensures;
     } in
     let leads = c.sessions_refine_states.ensures.leads in
-    let clean = g.R.Registry.clean in
-    let stands = g.R.Registry.stands in
-    let may_leave = g.R.Registry.may_leave in
-    let keeps = g.R.Registry.keeps in
+    let keeper = g.R.Registry.keeper in
     record {
-      lines = equal_lines clean stands may_leave keeps leads texts c.one_spelling.ensures c.a_run_ends_once.ensures.outcome;
-      octets = equal_octets clean stands may_leave keeps leads texts c.one_spelling.ensures c.a_run_ends_once.ensures.outcome;
+      lines = equal_lines keeper leads texts c.one_spelling.ensures c.a_run_ends_once.ensures.outcome;
+      octets = equal_octets keeper leads texts c.one_spelling.ensures c.a_run_ends_once.ensures.outcome;
     }

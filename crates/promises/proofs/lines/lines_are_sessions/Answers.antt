@@ -5,5 +5,4 @@ pub returns-clause-steps : goal.returns-clause-steps
 returns-clause-steps g c = commands_run
 
 pub returns-clause-registry : goal.returns-clause-registry
-returns-clause-registry g c = is_session g.R.Registry.clean g.R.Registry.stands g.R.Registry.may_leave
-    g.R.Registry.keeps c.sessions_refine_states.ensures.leads
+returns-clause-registry g c = is_session g.R.Registry.keeper c.sessions_refine_states.ensures.leads

@@ -32,7 +32,7 @@ seen g c =
     leaves_read (FoundBefore g c) sees (λ a is. is.0.stored.schema)
 
 dues_read : (g : Over) (c : In_ok-are_stored g) → Reads g.S.Store IsArchiveSchema c.args.conn.now c.are_dues.new.conn
-dues_read g c = record { sees = search rules; same = c.in_ok-are_stored.ensures.same }
+dues_read g c = record { sees = search rules; same = c.in_ok-are_stored.ensures.frame.same }
 
 pub returns-in_err-are_stored-clause-crash : goal.returns-in_err-are_stored-clause-crash
 returns-in_err-are_stored-clause-crash g c = seen g (goal.at.returns-in_err-are_stored-clause-crash g c).After-are_dues

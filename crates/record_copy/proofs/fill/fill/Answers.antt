@@ -23,8 +23,8 @@ returns-clause-filled g c clean_to clean = λ (s : Tables) stored keyed plan tol
     let same : c.commit.new.self.0 ≡ c.to-2-1.given.0 = search rules in
     let clean_end : HasCleanDisk (state g.T.Store c.commit.new.self.0) = subst (λ h. HasCleanDisk (state g.T.Store h)) (sym same) clean_to in
     let clean3 : HasCleanDisk last = omega (arith, c.commit.ensures.survives.clean, clean_end) in
-    let clean2 : HasCleanDisk second = omega (arith, c.insert_holds.ensures.survives.clean, clean3) in
-    let clean1 : HasCleanDisk first = omega (arith, c.insert_records.ensures.survives.clean, clean2) in
+    let clean2 : HasCleanDisk second = omega (arith, c.insert_holds.ensures.frame.survives.clean, clean3) in
+    let clean1 : HasCleanDisk first = omega (arith, c.insert_records.ensures.frame.survives.clean, clean2) in
     let one : Puts start first HasNoMessages (with_messages s.messages) =
     rw begun at (c.in_ok-copy_messages.ensures.copied clean s stored keyed (c.as_slice.ensures.value ∙ told.messages) clean1 (rw begun)) in
     let two : Puts first second (IsFreshFor rs) (with_records rs) =

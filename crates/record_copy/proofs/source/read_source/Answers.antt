@@ -26,7 +26,7 @@ returns-clause-tells g c clean = λ (t : Tables) stored keyed.
     let old = state g.S.Store c.args.from.now in
     let mid = state g.S.Store c.records.new.conn in
     let last = state g.S.Store c.message_numbers.new.conn in
-    let clean2 : HasCleanDisk last = c.placed_holds.ensures.falls clean in
+    let clean2 : HasCleanDisk last = c.placed_holds.ensures.frame.falls clean in
     let clean1 : HasCleanDisk mid = c.message_numbers.ensures.frame.falls clean2 in
     let one = (c.in_ok-records.ensures.frame.same clean1 (archive_common old.now.schema stored.schema)).0.now_is in
     let then = subst (λ (db : Database). Stores db t) (sym one) stored in
@@ -71,8 +71,8 @@ holds_looked g c =
 pub returns-clause-kept : goal.returns-clause-kept
 returns-clause-kept g c =
     kept_then g.S.Store c.args.from.now c.message_numbers.new.conn c.placed_holds.new.conn
-    (messages_kept g (goal.at.returns-clause-kept g c).In_ok-messages) c.placed_holds.ensures.falls
-    (λ clean has. (c.in_ok-holds.ensures.same clean has).0.now_is)
+    (messages_kept g (goal.at.returns-clause-kept g c).In_ok-messages) c.placed_holds.ensures.frame.falls
+    (λ clean has. (c.in_ok-holds.ensures.frame.same clean has).0.now_is)
 
 pub returns-clause-looks : goal.returns-clause-looks
 returns-clause-looks g c = holds_looked g (goal.at.returns-clause-looks g c).After-placed_holds
@@ -113,7 +113,7 @@ returns-in_err-holds-clause-none g c clean is = λ (a : Archive) archive s.
     let mid = state g.S.Store c.records.new.conn in
     let last = state g.S.Store c.message_numbers.new.conn in
     let e = handed_on c.from_residual-in_err-holds.result c.in_err-holds.field-0.0 c.from_residual-in_err-holds.ensures.1 is in
-    let clean2 : HasCleanDisk last = c.placed_holds.ensures.falls clean in
+    let clean2 : HasCleanDisk last = c.placed_holds.ensures.frame.falls clean in
     let clean1 : HasCleanDisk mid = c.message_numbers.ensures.frame.falls clean2 in
     let one = (c.in_ok-records.ensures.frame.same clean1 (archive_common old.now.schema s.stored.schema)).0.now_is in
     let then = subst (λ (db : Database). Stores db s.tables) (sym one) s.stored in
@@ -125,7 +125,7 @@ pub returns-in_err-dues-clause-none : goal.returns-in_err-dues-clause-none
 returns-in_err-dues-clause-none g c clean is = λ (a : Archive) archive s.
     let old = state g.S.Store c.args.from.now in
     let e = handed_on c.from_residual-in_err-dues.result c.in_err-dues.field-0.0 c.from_residual-in_err-dues.ensures.1 is in
-    let clean1 = c.message_numbers.ensures.frame.falls (c.placed_holds.ensures.falls clean) in
+    let clean1 = c.message_numbers.ensures.frame.falls (c.placed_holds.ensures.frame.falls clean) in
     let rows = ap (map record_of) c.as_slice.ensures.value
     ∙ c.in_ok-records.ensures.all clean1 s.tables (stores_common old.now s.tables s.stored) s.keyed ∙ s.keeps.records in
     c.in_err-dues.ensures.none (ap Err e) (subst AreInOrder (sym rows) (archive_in_order a archive))

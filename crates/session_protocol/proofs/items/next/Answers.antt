@@ -16,5 +16,4 @@ returns-in-Whole-clause-reaction g c =
     let asks : request_view c.read_request.result ≡ request_of text = c.read_request.ensures ∙ ap request_of c.as_slice.ensures in
     let hears : g.S.Source.tells → start_by_request (request_view c.read_request.result) rest ≡ start_of input = λ t.
     ap (λ a. start_by_request a rest) asks ∙ ap start_by_line (sym (subst L c.in-Whole.is (c.in_ok-read_line.ensures.line t))) in
-    answers_along g.S.Source.tells (Calls g.R.Registry.clean g.R.Registry.stands g.R.Registry.may_leave g.R.Registry.keeps)
-    c.answer.result _ _ _ _ _ hears c.answer.ensures.reaction
+    answers_along g.S.Source.tells (Calls g.R.Registry.keeper) c.answer.result _ _ _ _ _ hears c.answer.ensures.reaction

@@ -5,12 +5,12 @@ use Rattle.session_protocol.proofs.laws.sessions_refine_states.Goals as goal
 
 pub returns : goal.returns
 returns g c = record {
-  sure = run_sure g.R.Registry.clean g.R.Registry.stands g.R.Registry.may_leave g.R.Registry.keeps;
-  leads = run_leads g.R.Registry.clean g.R.Registry.stands g.R.Registry.may_leave g.R.Registry.keeps;
-  done = run_refines g.R.Registry.clean g.R.Registry.stands g.R.Registry.may_leave g.R.Registry.keeps;
-  served = served_refines g.R.Registry.clean g.R.Registry.stands g.R.Registry.may_leave g.R.Registry.keeps;
-  answered = answered_refines g.R.Registry.clean g.R.Registry.stands g.R.Registry.may_leave g.R.Registry.keeps;
-  cut_in_answer = cut_in_answer_refines g.R.Registry.clean g.R.Registry.stands g.R.Registry.may_leave g.R.Registry.keeps;
-  cut_in_ending = cut_in_ending_refines g.R.Registry.clean g.R.Registry.stands g.R.Registry.may_leave g.R.Registry.keeps;
-  crash = run_leaves g.R.Registry.clean g.R.Registry.stands g.R.Registry.may_leave g.R.Registry.keeps;
+  sure = run_sure g.R.Registry.keeper;
+  leads = run_leads g.R.Registry.keeper;
+  done = run_refines g.R.Registry.keeper;
+  served = served_refines g.R.Registry.keeper;
+  answered = answered_refines g.R.Registry.keeper;
+  cut_in_answer = cut_in_answer_refines g.R.Registry.keeper;
+  cut_in_ending = cut_in_ending_refines g.R.Registry.keeper;
+  crash = run_leaves g.R.Registry.keeper;
 }

@@ -7,7 +7,7 @@ use Rattle.session_protocol.proofs.session.serve.Given as goal
 
 abbrev pub invariant-loop : goal.invariant-loop
 invariant-loop g l = record {
-  doing : Doing (Calls g.R.Registry.clean g.R.Registry.stands g.R.Registry.may_leave g.R.Registry.keeps) g.S.Source.tells g.K.Sink.tells l.counter
+  doing : Doing (Calls g.R.Registry.keeper) g.S.Source.tells g.K.Sink.tells l.counter
       (session_of 1000000 (g.S.Source.left l.fn.source)) l.fn.registry
       (g.K.Sink.written l.fn.sink) (g.S.Source.left l.source) l.registry (g.K.Sink.written l.sink);
   unread : g.S.Source.tells → left_by 1000000 (g.S.Source.left l.fn.source) ≡ left_by (1000000 - l.counter) (g.S.Source.left l.source);

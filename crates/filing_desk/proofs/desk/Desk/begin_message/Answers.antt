@@ -11,16 +11,14 @@ use Rattle.filing_desk.proofs.desk.Desk.begin_message.Goals as goal
 pub returns-in_err-day : goal.returns-in_err-day
 returns-in_err-day g c = λ m is.
     let result = c.from_residual.ensures in
-    begin_refused g.A.Records.clean g.A.Records.stands g.A.Records.may_leave
-    g.A.Records.keeps g.A.Records.plan_of g.met.A.Records.plan_is
+    begin_refused g.A.Records.keeper g.A.Records.plan_of g.met.A.Records.plan_is
     c.captures_hold_flights.ensures.count c.args.self.now c.args.officer.now c.args.moment m c.in_err-day.field-0.0
     _ (c.in_err-day.ensures.refused m is) (ticket_fault _ _ result.0 result.1)
 
 pub returns-in_err-octets : goal.returns-in_err-octets
 returns-in_err-octets g c = λ m is.
     let result = c.from_residual-in_err-octets.ensures in
-    begin_poor g.A.Records.clean g.A.Records.stands g.A.Records.may_leave
-    g.A.Records.keeps g.A.Records.plan_of g.met.A.Records.plan_is
+    begin_poor g.A.Records.keeper g.A.Records.plan_of g.met.A.Records.plan_is
     c.captures_hold_flights.ensures.count c.args.self.now c.args.self.now c.args.officer.now c.args.moment m
     c.in_err-octets.field-0.0 _ (c.in_ok-day.ensures.allowed m is) c.in_err-octets.ensures.refused
     (ticket_fault _ _ result.0 result.1) (record { store = refl; officers = refl; flights = refl; last = refl })
@@ -30,8 +28,7 @@ pub returns-in_err-flight : goal.returns-in_err-flight
 returns-in_err-flight g c = λ m is.
     let result = c.from_residual-in_err-flight.ensures in
     let entered = c.enter.ensures in
-    begin_poor g.A.Records.clean g.A.Records.stands g.A.Records.may_leave
-    g.A.Records.keeps g.A.Records.plan_of g.met.A.Records.plan_is
+    begin_poor g.A.Records.keeper g.A.Records.plan_of g.met.A.Records.plan_is
     c.captures_hold_flights.ensures.count c.args.self.now _ c.args.officer.now c.args.moment m NoMemory _
     (c.in_ok-day.ensures.allowed m is) refl (ticket_fault _ _ result.0 result.1) entered.same (λ p same there.
     let P : Listing → Type 0 = λ q. AreOpenPaths c.enter.new.self.open_paths q in let Q : Listing
@@ -43,8 +40,7 @@ returns-in_err-push g c = λ m is.
     let result = c.from_residual-in_err-push.ensures in
     let entered = c.enter.ensures in
     let same = entered.same in
-    begin_poor g.A.Records.clean g.A.Records.stands g.A.Records.may_leave
-    g.A.Records.keeps g.A.Records.plan_of g.met.A.Records.plan_is
+    begin_poor g.A.Records.keeper g.A.Records.plan_of g.met.A.Records.plan_is
     c.captures_hold_flights.ensures.count c.args.self.now _ c.args.officer.now c.args.moment m NoMemory _
     (c.in_ok-day.ensures.allowed m is) refl (ticket_fault _ _ result.0 result.1) (record {
       store = same.store;
@@ -64,8 +60,7 @@ returns g c = λ m is.
     let P : List ℕ → Type 0 = λ message.
     IsNewFlight (g.A.Records.plan_of old.store) old c.args.officer.now (old.last + 1) message c.in_ok-day.day x in
     let budget : c.budget-budget.result ≡ x.program.budget = c.budget-budget.ensures ∙ ap (λ (p : Program). p.budget) c.program.ensures in
-    begin_done g.A.Records.clean g.A.Records.stands g.A.Records.may_leave
-    g.A.Records.keeps g.A.Records.plan_of g.met.A.Records.plan_is
+    begin_done g.A.Records.keeper g.A.Records.plan_of g.met.A.Records.plan_is
     c.captures_hold_flights.ensures.count c.captures_hold_flights.ensures.open_paths c.every_run_ends.ensures.ends
     old c.enter.new.self _ c.args.officer.now c.args.moment m c.in_ok-day.day x _ (c.in_ok-day.ensures.allowed m is)
     c.in_ok-day.ensures.day.1 entered.same entered.kept (λ there.

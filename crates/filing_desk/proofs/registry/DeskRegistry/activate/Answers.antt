@@ -13,21 +13,18 @@ pub returns-in_err-activate : goal.returns-in_err-activate
 returns-in_err-activate g c =
     let result = c.from_residual.ensures in
     let refused = c.in_err-activate.ensures in
-    not_set g.A.Records.clean g.A.Records.stands g.A.Records.may_leave
-    g.A.Records.keeps c.args.self.now _ (activate c.args.officer.now c.args.name.now) _
+    not_set g.A.Records.keeper c.args.self.now _ (activate c.args.officer.now c.args.name.now) _
     refl (record { store = refl; flights = refl; last = refl; open_paths = refl }) refused.unchanged (λ x stands.
     let Q : Answer → Type 0 = λ a. OfficeStep x.office (activate c.args.officer.now c.args.name.now) a x.office in
     subst Q (sym (done_fault _ _ result.0 result.1)) (activate_refused x.office c.args.officer.now c.args.name.now
     (officer_at c.args.officer.now c.args.self.now.officers.officers) c.in_err-activate.field-0.0
-    (officer_is g.A.Records.clean g.A.Records.stands g.A.Records.may_leave
-    g.A.Records.keeps c.args.self.now x c.args.officer.now stands) refused.fault
+    (officer_is g.A.Records.keeper c.args.self.now x c.args.officer.now stands) refused.fault
     (λ none. refused.no_script.0 (ap (λ f. Err f) none)) refused.no_script.1))
 
 pub returns : goal.returns
 returns g c =
     let set = c.in_ok-activate.ensures in
-    set_by g.A.Records.clean g.A.Records.stands g.A.Records.may_leave
-    g.A.Records.keeps c.args.self.now _ (activate c.args.officer.now c.args.name.now) (λ s.
+    set_by g.A.Records.keeper c.args.self.now _ (activate c.args.officer.now c.args.name.now) (λ s.
     with_active s c.args.officer.now (script_named c.args.name.now)) refl (record {
       store = refl;
       flights = refl;
@@ -36,7 +33,6 @@ returns g c =
       open_paths = refl;
     }) (λ s. refl) set.done (λ x stands.
     let P : Officer → Type 0 = λ o. is_some (script_at c.args.name.now o.scripts) ≡ true in (
-      subst P (officer_is g.A.Records.clean g.A.Records.stands g.A.Records.may_leave
-          g.A.Records.keeps c.args.self.now x c.args.officer.now stands) set.there,
+      subst P (officer_is g.A.Records.keeper c.args.self.now x c.args.officer.now stands) set.there,
       refl,
     ))

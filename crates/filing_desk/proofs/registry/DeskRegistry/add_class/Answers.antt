@@ -8,8 +8,7 @@ use Rattle.filing_desk.proofs.registry.DeskRegistry.add_class.Goals as goal
 pub returns-in_err-add_class : goal.returns-in_err-add_class
 returns-in_err-add_class g c =
     let result = c.from_residual.ensures in
-    refused_by_archive g.A.Records.clean g.A.Records.stands g.A.Records.may_leave
-    g.A.Records.keeps c.args.self.now _ (add_class c.args.path.now) (λ a.
+    refused_by_archive g.A.Records.keeper c.args.self.now _ (add_class c.args.path.now) (λ a.
     archives.add_class a c.args.path.now) c.in_err-add_class.field-0.0 _ (record {
       for_archive = refl;
       settles =
@@ -23,8 +22,7 @@ returns-in_err-add_class g c =
 
 pub returns : goal.returns
 returns g c =
-    done_by g.A.Records.clean g.A.Records.stands g.A.Records.may_leave
-    g.A.Records.keeps c.args.self.now _ (add_class c.args.path.now) (λ a.
+    done_by g.A.Records.keeper c.args.self.now _ (add_class c.args.path.now) (λ a.
     archives.add_class a c.args.path.now) (record {
       for_archive = refl;
       settles = λ s new h. h;

@@ -5,8 +5,7 @@ use Rattle.filing_desk.proofs.OfficerLemmas.{set_by}
 use Rattle.filing_desk.proofs.registry.DeskRegistry.deactivate.Goals as goal
 
 pub returns : goal.returns
-returns g c = set_by g.A.Records.clean g.A.Records.stands g.A.Records.may_leave
-    g.A.Records.keeps c.args.self.now _ (deactivate c.args.officer.now) (λ s.
+returns g c = set_by g.A.Records.keeper c.args.self.now _ (deactivate c.args.officer.now) (λ s.
     with_active s c.args.officer.now no_program) refl (record {
       store = refl;
       flights = refl;

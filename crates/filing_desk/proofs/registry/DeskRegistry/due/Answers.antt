@@ -7,15 +7,13 @@ use Rattle.filing_desk.proofs.registry.DeskRegistry.due.Goals as goal
 pub returns-in_err-lines : goal.returns-in_err-lines
 returns-in_err-lines g c = λ n is within.
     let result = c.from_residual.ensures in
-    due_given_up g.A.Records.clean g.A.Records.stands g.A.Records.may_leave
-    g.A.Records.keeps c.args.self.now _ n (epoch_day c.args.day)
+    due_given_up g.A.Records.keeper c.args.self.now _ n (epoch_day c.args.day)
     c.in_err-lines.field-0.0 _ (record { officers = refl; flights = refl; last = refl }) refl c.in_err-lines.ensures
     (lines_fault _ _ result.0 result.1)
 
 pub returns : goal.returns
 returns g c = λ n is within.
-    due_told g.A.Records.clean g.A.Records.stands g.A.Records.may_leave
-    g.A.Records.keeps c.args.self.now _ n c.in_ok-lines.lines (record {
+    due_told g.A.Records.keeper c.args.self.now _ n c.in_ok-lines.lines (record {
       officers = refl;
       flights = refl;
       last = refl;

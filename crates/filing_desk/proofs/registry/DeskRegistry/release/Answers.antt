@@ -6,16 +6,14 @@ use Rattle.filing_desk.proofs.registry.DeskRegistry.release.Goals as goal
 pub returns-in_err-number : goal.returns-in_err-number
 returns-in_err-number g c =
     let result = c.from_residual.ensures in
-    number_refused g.A.Records.clean g.A.Records.stands g.A.Records.may_leave
-    g.A.Records.keeps _ _ (releases c.args.name.now) g.met.A.Records.is_archive
+    number_refused g.A.Records.keeper _ _ (releases c.args.name.now) g.met.A.Records.is_archive
     c.args.self.now c.args.number c.in_err-number.field-0.0 _ c.in_err-number.ensures
     (done_fault _ _ result.0 result.1)
 
 pub returns-in_err-release : goal.returns-in_err-release
 returns-in_err-release g c =
     let result = c.from_residual-in_err-release.ensures in
-    record_refused g.A.Records.clean g.A.Records.stands g.A.Records.may_leave
-    g.A.Records.keeps _ _ (releases c.args.name.now) c.args.self.now _
+    record_refused g.A.Records.keeper _ _ (releases c.args.name.now) c.args.self.now _
     c.in_ok-number.number c.args.number c.in_err-release.field-0.0 _ c.in_ok-number.ensures (record {
       officers =
           refl;
@@ -25,8 +23,7 @@ returns-in_err-release g c =
 
 pub returns : goal.returns
 returns g c =
-    record_done g.A.Records.clean g.A.Records.stands g.A.Records.may_leave
-    g.A.Records.keeps _ _ (releases c.args.name.now) c.args.self.now _
+    record_done g.A.Records.keeper _ _ (releases c.args.name.now) c.args.self.now _
     c.in_ok-number.number c.args.number c.in_ok-number.ensures (record {
       officers = refl;
       flights = refl;

@@ -15,8 +15,7 @@ use Rattle.filing_desk.proofs.registry.DeskRegistry.set_global.Goals as goal
 pub returns-in_err-script : goal.returns-in_err-script
 returns-in_err-script g c = λ t is.
     let result = c.from_residual.ensures in
-    refused_part g.A.Records.clean g.A.Records.stands g.A.Records.may_leave
-    g.A.Records.keeps c.args.self.now (set_global c.args.name.now t) (RefusesScript t)
+    refused_part g.A.Records.keeper c.args.self.now (set_global c.args.name.now t) (RefusesScript t)
     greatest_script t c.in_err-script.field-0.0 _ (λ x n r. inl r) (λ x n l.
     l) (done_fault _ _ result.0 result.1) (c.in_err-script.ensures.refused t is)
 
@@ -24,8 +23,7 @@ pub returns-in_err-set_global : goal.returns-in_err-set_global
 returns-in_err-set_global g c = λ t is.
     let result = c.from_residual-in_err-set_global.ensures in
     let refused = c.in_err-set_global.ensures in
-    not_set g.A.Records.clean g.A.Records.stands g.A.Records.may_leave
-    g.A.Records.keeps c.args.self.now _ (set_global c.args.name.now t) _ refl (record {
+    not_set g.A.Records.keeper c.args.self.now _ (set_global c.args.name.now t) _ refl (record {
       store =
           refl;
       flights = refl;
@@ -37,8 +35,7 @@ returns-in_err-set_global g c = λ t is.
     (keep_refused x.office (set_global c.args.name.now t) x.office.globals
     (meanings_of c.args.self.now.officers.globals) c.args.name.now t (tree_of c.in_ok-script.script.script)
     c.in_err-set_global.field-0.0 (λ n r. r) (λ n l.
-    l) (globals_are g.A.Records.clean g.A.Records.stands g.A.Records.may_leave
-    g.A.Records.keeps c.args.self.now x stands)
+    l) (globals_are g.A.Records.keeper c.args.self.now x stands)
     (c.in_ok-script.ensures.good t is) (c.in_ok-script.ensures.short t is) refused.fault (λ full.
     refused.full (ap (λ f. Err f) full))))
 
@@ -46,8 +43,7 @@ pub returns : goal.returns
 returns g c = λ t is.
     let set = c.in_ok-set_global.ensures in
     let main = program_of (tree_of c.in_ok-script.script.script) in
-    set_by g.A.Records.clean g.A.Records.stands g.A.Records.may_leave
-    g.A.Records.keeps c.args.self.now _ (set_global c.args.name.now t) (λ s.
+    set_by g.A.Records.keeper c.args.self.now _ (set_global c.args.name.now t) (λ s.
     with_global_script s c.args.name.now main) refl (record {
       store = refl;
       flights = refl;
@@ -57,8 +53,7 @@ returns g c = λ t is.
     }) (λ s. refl) set.done (λ x stands. (
       put_script c.args.name.now main x.office.globals,
       kept x.office.globals (meanings_of c.args.self.now.officers.globals) c.args.name.now t
-          (tree_of c.in_ok-script.script.script) (globals_are g.A.Records.clean g.A.Records.stands g.A.Records.may_leave
-          g.A.Records.keeps c.args.self.now x
+          (tree_of c.in_ok-script.script.script) (globals_are g.A.Records.keeper c.args.self.now x
           stands) (c.in_ok-script.ensures.good t is) set.has_room,
       refl,
     ))

@@ -11,8 +11,7 @@ use Rattle.filing_desk.proofs.registry.DeskRegistry.set_image.Goals as goal
 pub returns-in_err-program : goal.returns-in_err-program
 returns-in_err-program g c = λ i is.
     let result = c.from_residual.ensures in
-    refused_part g.A.Records.clean g.A.Records.stands g.A.Records.may_leave
-    g.A.Records.keeps c.args.self.now (set_image c.args.officer.now i) (RefusesImage i)
+    refused_part g.A.Records.keeper c.args.self.now (set_image c.args.officer.now i) (RefusesImage i)
     greatest_image i c.in_err-program.field-0.0 _ (λ x n r. r) (λ x n l.
     l) (done_fault _ _ result.0 result.1) (c.in_err-program.ensures.refused i is)
 
@@ -20,8 +19,7 @@ pub returns-in_err-set_image : goal.returns-in_err-set_image
 returns-in_err-set_image g c = λ i is.
     let result = c.from_residual-in_err-set_image.ensures in
     let refused = c.in_err-set_image.ensures in
-    not_set g.A.Records.clean g.A.Records.stands g.A.Records.may_leave
-    g.A.Records.keeps c.args.self.now _ (set_image c.args.officer.now i) _ refl (record {
+    not_set g.A.Records.keeper c.args.self.now _ (set_image c.args.officer.now i) _ refl (record {
       store =
           refl;
       flights = refl;
@@ -34,8 +32,7 @@ returns-in_err-set_image g c = λ i is.
 pub returns : goal.returns
 returns g c = λ i is.
     let set = c.in_ok-set_image.ensures in
-    set_by g.A.Records.clean g.A.Records.stands g.A.Records.may_leave
-    g.A.Records.keeps c.args.self.now _ (set_image c.args.officer.now i) (λ s.
+    set_by g.A.Records.keeper c.args.self.now _ (set_image c.args.officer.now i) (λ s.
     with_active s c.args.officer.now (image c.in_ok-program.program)) refl (record {
       store = refl;
       flights = refl;

@@ -16,8 +16,7 @@ use Rattle.filing_desk.proofs.registry.DeskRegistry.set_script.Goals as goal
 pub returns-in_err-script : goal.returns-in_err-script
 returns-in_err-script g c = λ t is.
     let result = c.from_residual.ensures in
-    refused_part g.A.Records.clean g.A.Records.stands g.A.Records.may_leave
-    g.A.Records.keeps c.args.self.now (set_script c.args.officer.now c.args.name.now t)
+    refused_part g.A.Records.keeper c.args.self.now (set_script c.args.officer.now c.args.name.now t)
     (RefusesScript t) greatest_script t c.in_err-script.field-0.0 _ (λ x n r. inl r) (λ x n l.
     l) (done_fault _ _ result.0 result.1) (c.in_err-script.ensures.refused t is)
 
@@ -25,8 +24,7 @@ pub returns-in_err-set_script : goal.returns-in_err-set_script
 returns-in_err-set_script g c = λ t is.
     let result = c.from_residual-in_err-set_script.ensures in
     let refused = c.in_err-set_script.ensures in
-    not_set g.A.Records.clean g.A.Records.stands g.A.Records.may_leave
-    g.A.Records.keeps c.args.self.now _ (set_script c.args.officer.now c.args.name.now t) _
+    not_set g.A.Records.keeper c.args.self.now _ (set_script c.args.officer.now c.args.name.now t) _
     refl (record { store = refl; flights = refl; last = refl; open_paths = refl }) refused.unchanged (λ x stands.
     let Q : Answer → Type 0 = λ a. OfficeStep x.office (set_script c.args.officer.now c.args.name.now t) a x.office in
     subst Q (sym (done_fault _ _ result.0 result.1))
@@ -35,8 +33,7 @@ returns-in_err-set_script g c = λ t is.
     (officer_at c.args.officer.now c.args.self.now.officers.officers).scripts c.args.name.now t
     (tree_of c.in_ok-script.script.script) c.in_err-set_script.field-0.0 (λ n r. r) (λ n l.
     l) (ap (λ (o : Officer).
-    o.scripts) (officer_is g.A.Records.clean g.A.Records.stands g.A.Records.may_leave
-    g.A.Records.keeps c.args.self.now x c.args.officer.now stands))
+    o.scripts) (officer_is g.A.Records.keeper c.args.self.now x c.args.officer.now stands))
     (c.in_ok-script.ensures.good t is) (c.in_ok-script.ensures.short t is) refused.fault (λ full.
     refused.full (ap (λ f. Err f) full))))
 
@@ -44,8 +41,7 @@ pub returns : goal.returns
 returns g c = λ t is.
     let set = c.in_ok-set_script.ensures in
     let main = program_of (tree_of c.in_ok-script.script.script) in
-    set_by g.A.Records.clean g.A.Records.stands g.A.Records.may_leave
-    g.A.Records.keeps c.args.self.now _ (set_script c.args.officer.now c.args.name.now t)
+    set_by g.A.Records.keeper c.args.self.now _ (set_script c.args.officer.now c.args.name.now t)
     (λ s. with_own_script s c.args.officer.now c.args.name.now main) refl (record {
       store = refl;
       flights = refl;
@@ -57,8 +53,7 @@ returns g c = λ t is.
       kept (x.office.officers c.args.officer.now).scripts
           (officer_at c.args.officer.now c.args.self.now.officers.officers).scripts c.args.name.now t
           (tree_of c.in_ok-script.script.script) (ap (λ (o : Officer).
-          o.scripts) (officer_is g.A.Records.clean g.A.Records.stands g.A.Records.may_leave
-          g.A.Records.keeps c.args.self.now x c.args.officer.now stands))
+          o.scripts) (officer_is g.A.Records.keeper c.args.self.now x c.args.officer.now stands))
           (c.in_ok-script.ensures.good t is) set.has_room,
       refl,
     ))

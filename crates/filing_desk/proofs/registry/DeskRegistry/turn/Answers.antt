@@ -3,5 +3,4 @@ use Rattle.filing_desk.proofs.FlightLemmas.{turned_by}
 use Rattle.filing_desk.proofs.registry.DeskRegistry.turn.Goals as goal
 
 pub returns : goal.returns
-returns g c = turned_by g.A.Records.clean g.A.Records.stands g.A.Records.may_leave
-    g.A.Records.keeps c.args.self.now _ c.args.ticket c.args.count _ refl refl refl refl c.turn.ensures
+returns g c = turned_by g.A.Records.keeper c.args.self.now _ c.args.ticket c.args.count _ refl refl refl refl c.turn.ensures

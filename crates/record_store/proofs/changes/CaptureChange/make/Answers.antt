@@ -12,10 +12,10 @@ returns-clause-ok g c clean inside =
     let last = state g.S.Store c.insert_due_days.new.tx.conn.now in
     let one = c.in_ok-insert_message.ensures.ok (omega (
       arith,
-      c.insert_records.ensures.survives.clean,
-      c.insert_due_days.ensures.survives.clean,
+      c.insert_records.ensures.frame.survives.clean,
+      c.insert_due_days.ensures.frame.survives.clean,
     )) inside in
-    let two = c.in_ok-insert_records.ensures.ok (omega (arith, c.insert_due_days.ensures.survives.clean)) (one.mode ∙ inside) in
+    let two = c.in_ok-insert_records.ensures.ok (omega (arith, c.insert_due_days.ensures.frame.survives.clean)) (one.mode ∙ inside) in
     let three = c.in_ok-insert_due_days.ensures.ok clean (two.mode ∙ one.mode ∙ inside) in
     turned first last _ _ (puts_capture first second third last c.args.self.first _ _ _ one two three)
 
@@ -23,10 +23,10 @@ pub returns-clause-goes_on : goal.returns-clause-goes_on
 returns-clause-goes_on g c clean inside =
     let one = c.in_ok-insert_message.ensures.ok (omega (
       arith,
-      c.insert_records.ensures.survives.clean,
-      c.insert_due_days.ensures.survives.clean,
+      c.insert_records.ensures.frame.survives.clean,
+      c.insert_due_days.ensures.frame.survives.clean,
     )) inside in
-    let two = c.in_ok-insert_records.ensures.ok (omega (arith, c.insert_due_days.ensures.survives.clean)) (one.mode ∙ inside) in
+    let two = c.in_ok-insert_records.ensures.ok (omega (arith, c.insert_due_days.ensures.frame.survives.clean)) (one.mode ∙ inside) in
     let three = c.in_ok-insert_due_days.ensures.ok clean (two.mode ∙ one.mode ∙ inside) in
     record {
       committed = three.committed ∙ two.committed ∙ one.committed;

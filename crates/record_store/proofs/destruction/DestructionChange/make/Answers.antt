@@ -12,8 +12,9 @@ returns-clause-ok g c clean inside =
     let second = state g.S.Store c.delete_due.new.tx.conn.now in
     let third = state g.S.Store c.set_destroyed.new.tx.conn.now in
     let last = state g.S.Store c.delete_body.new.tx.conn.now in
-    let one = c.in_ok-delete_due.ensures.ok (omega (arith, c.set_destroyed.ensures.survives.clean, c.delete_body.ensures.survives.clean)) inside in
-    let two = c.in_ok-set_destroyed.ensures.ok (omega (arith, c.delete_body.ensures.survives.clean)) (one.mode ∙ inside) in
+    let one = c.in_ok-delete_due.ensures.ok
+    (omega (arith, c.set_destroyed.ensures.frame.survives.clean, c.delete_body.ensures.frame.survives.clean)) inside in
+    let two = c.in_ok-set_destroyed.ensures.ok (omega (arith, c.delete_body.ensures.frame.survives.clean)) (one.mode ∙ inside) in
     let three = c.in_ok-delete_body.ensures.ok clean (two.mode ∙ one.mode ∙ inside) in
     turned first last Always _ (puts_then first third last Always Always (λ t.
     with_destruction n (without_due n t)) (without_body c.args.self.last) (λ t h.
@@ -21,8 +22,9 @@ returns-clause-ok g c clean inside =
 
 pub returns-clause-goes_on : goal.returns-clause-goes_on
 returns-clause-goes_on g c clean inside =
-    let one = c.in_ok-delete_due.ensures.ok (omega (arith, c.set_destroyed.ensures.survives.clean, c.delete_body.ensures.survives.clean)) inside in
-    let two = c.in_ok-set_destroyed.ensures.ok (omega (arith, c.delete_body.ensures.survives.clean)) (one.mode ∙ inside) in
+    let one = c.in_ok-delete_due.ensures.ok
+    (omega (arith, c.set_destroyed.ensures.frame.survives.clean, c.delete_body.ensures.frame.survives.clean)) inside in
+    let two = c.in_ok-set_destroyed.ensures.ok (omega (arith, c.delete_body.ensures.frame.survives.clean)) (one.mode ∙ inside) in
     let three = c.in_ok-delete_body.ensures.ok clean (two.mode ∙ one.mode ∙ inside) in
     record {
       committed = three.committed ∙ two.committed ∙ one.committed;

@@ -11,6 +11,6 @@ pub returns : goal.returns
 returns g c =
     let opened = c.ensure_open.ensures in
     carried_out g.S.Store c.args.self.now c.ensure_open.new.self c.add_class-done.new.self _ _ opened.stands opened.falls
-    c.in_ok-ensure_open.ensures.open opened.crash c.add_class-done.ensures.falls c.add_class-done.ensures.crash c.is_idle-idle.ensures.left _
+    c.in_ok-ensure_open.ensures.open opened.crash c.add_class-done.ensures.behaves.falls c.add_class-done.ensures.crash c.is_idle-idle.ensures.left _
     (done_so g.S.Store c.ensure_open.new.self c.add_class-done.new.self _ _ c.add_class-done.result c.add_class-done.ensures.obeys) (λ a
-    s clean on. c.add_class-done.ensures.open clean)
+    s clean on. c.add_class-done.ensures.behaves.open clean)

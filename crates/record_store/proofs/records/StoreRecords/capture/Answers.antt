@@ -11,6 +11,6 @@ pub returns : goal.returns
 returns g c =
     let opened = c.ensure_open.ensures in
     carried_out g.S.Store c.args.self.now c.ensure_open.new.self c.capture-lines.new.self _ _ opened.stands opened.falls
-    c.in_ok-ensure_open.ensures.open opened.crash c.capture-lines.ensures.falls c.capture-lines.ensures.crash c.is_idle-idle.ensures.left _
+    c.in_ok-ensure_open.ensures.open opened.crash c.capture-lines.ensures.behaves.falls c.capture-lines.ensures.crash c.is_idle-idle.ensures.left _
     (done_so g.S.Store c.ensure_open.new.self c.capture-lines.new.self _ _ c.capture-lines.result c.capture-lines.ensures.obeys)
-    (λ a s clean on. c.capture-lines.ensures.open clean)
+    (λ a s clean on. c.capture-lines.ensures.behaves.open clean)

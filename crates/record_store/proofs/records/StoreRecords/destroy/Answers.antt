@@ -11,6 +11,6 @@ pub returns : goal.returns
 returns g c =
     let opened = c.ensure_open.ensures in
     carried_out g.S.Store c.args.self.now c.ensure_open.new.self c.destroy-done.new.self _ _ opened.stands opened.falls
-    c.in_ok-ensure_open.ensures.open opened.crash c.destroy-done.ensures.falls c.destroy-done.ensures.crash c.is_idle-idle.ensures.left _
+    c.in_ok-ensure_open.ensures.open opened.crash c.destroy-done.ensures.behaves.falls c.destroy-done.ensures.crash c.is_idle-idle.ensures.left _
     (done_rows g.S.Store c.ensure_open.new.self c.destroy-done.new.self _ _ c.destroy-done.result c.destroy-done.ensures.obeys) (λ a s
-    clean on. c.destroy-done.ensures.open clean)
+    clean on. c.destroy-done.ensures.behaves.open clean)

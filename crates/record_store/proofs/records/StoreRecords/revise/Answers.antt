@@ -11,6 +11,6 @@ pub returns : goal.returns
 returns g c =
     let opened = c.ensure_open.ensures in
     carried_out g.S.Store c.args.self.now c.ensure_open.new.self c.revise-done.new.self _ _ opened.stands opened.falls
-    c.in_ok-ensure_open.ensures.open opened.crash c.revise-done.ensures.falls c.revise-done.ensures.crash c.is_idle-idle.ensures.left _
+    c.in_ok-ensure_open.ensures.open opened.crash c.revise-done.ensures.behaves.falls c.revise-done.ensures.crash c.is_idle-idle.ensures.left _
     (done_rows g.S.Store c.ensure_open.new.self c.revise-done.new.self _ _ c.revise-done.result c.revise-done.ensures.obeys) (λ a s clean
-    on. c.revise-done.ensures.open clean)
+    on. c.revise-done.ensures.behaves.open clean)

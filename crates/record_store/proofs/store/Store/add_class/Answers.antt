@@ -11,7 +11,7 @@ use Rattle.record_store.specs.Stores.{Becomes, Leaves}
 use Rattle.record_archive.specs.declared.fault.ArchiveRefusal.{ArchiveRefusal}
 use Rattle.record_store.proofs.CommandLemmas.{fell, is_trouble-fault_of, obeys_refused, stands_planned, stands_turned, stands_refused, leaves_turned}
 use Rattle.record_store.proofs.ClassLemmas.{is_added, added_archive, keeps_added, same_dues, leaves_added}
-use Rattle.record_store.proofs.Causes.{never_busy}
+use Rattle.record_store.proofs.Causes.{behaves_busy}
 use Rattle.record_store.proofs.store.Store.add_class.Given.{Over}
 use Rattle.record_store.proofs.store.Store.add_class.Goals.{After-transact}
 use Rattle.record_store.proofs.store.Store.add_class.Goals as goal
@@ -81,6 +81,6 @@ returns-in_err-plan_class-clause-obeys g c =
       λ r is. ap (λ p. plan_answer a (addition p path)) (sym s.plan) ∙ refused.err r is a,
     ))
 
-pub returns-then-not-is_autocommit-clause-cause : goal.returns-then-not-is_autocommit-clause-cause
-returns-then-not-is_autocommit-clause-cause g c = λ (a : Archive) s clean.
-    absurd (never_busy _ _ s.idle c.is_autocommit.ensures.value c.if-not-is_autocommit.true)
+pub returns-then-not-is_autocommit-clause-behaves : goal.returns-then-not-is_autocommit-clause-behaves
+returns-then-not-is_autocommit-clause-behaves g c =
+    behaves_busy g.S.Store _ _ _ c.is_autocommit.ensures.value c.if-not-is_autocommit.true

@@ -20,7 +20,7 @@ left g c =
     (leaves_allowed g.S.Store c.args.self.now c.judge_destruction.new.self c.remove_record.new.self (λ (a : Archive).
     archive.destroy_by a n c.number_from_1970.result (archive.record_at a n)) (λ (a : Archive).
     IsUnheld a n r) (λ (a : Archive). archive.without a r)
-    c.in_ok-record.ensures.tells c.judge_destruction.ensures.crash c.in_ok-record.ensures.open c.remove_record.ensures.crash)
+    c.in_ok-record.ensures.tells c.judge_destruction.ensures.crash c.in_ok-record.ensures.behaves.open c.remove_record.ensures.crash)
 
 pub returns-clause-crash : goal.returns-clause-crash
 returns-clause-crash g c = left g (goal.at.returns-clause-crash g c).After-remove_record

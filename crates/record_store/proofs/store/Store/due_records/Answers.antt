@@ -7,5 +7,5 @@ use Rattle.record_store.proofs.store.Store.due_records.Goals as goal
 pub returns-in-Err-clause-cause : goal.returns-in-Err-clause-cause
 returns-in-Err-clause-cause g c = λ (a : Archive) s clean.
     not_own-lost_or _ c.in-Err.fault c.lost_or.ensures (λ e.
-    let kept = s.rows (c.due_records_by.ensures.falls clean) (c.in-Err.ensures.seen clean (ap Err e)) in
+    let kept = s.rows (c.due_records_by.ensures.frame.falls clean) (c.in-Err.ensures.seen clean (ap Err e)) in
     c.in-Err.ensures.none clean (ap Err e) kept.tables kept.stored kept.keyed (due_records_fit a _ kept c.args.day s.archive))

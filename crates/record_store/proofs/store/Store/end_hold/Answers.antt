@@ -1,11 +1,11 @@
-use Rattle.std.proofs.Common.{rules, arith, ◌≡◌, Ok}
+use Rattle.std.proofs.Common.{arith, ◌≡◌, Ok}
 use Rattle.record_tables.specs.Changes as tables
 use Rattle.record_tables.specs.Changes.{Always}
 use Rattle.record_archive.specs.Archive as archive
 use Rattle.record_archive.specs.Archive.{Archive}
 use Rattle.record_store.proofs.CommandLemmas.{fell, stands_turned, leaves_turned}
 use Rattle.record_store.proofs.HoldLemmas.{released_is_archive, stores_released, count_released, is_there}
-use Rattle.record_store.proofs.Causes.{never_busy}
+use Rattle.record_store.proofs.Causes.{behaves_busy}
 use Rattle.record_store.proofs.store.Store.end_hold.Goals as goal
 
 pub returns-in-Ok-clause-ok : goal.returns-in-Ok-clause-ok
@@ -37,8 +37,5 @@ returns-in-Err-clause-crash g c = λ (a : Archive) s.
     (λ was db kept legal turns. stores_released name n a was db kept turns) c.transact.ensures.live c.transact.ensures.crash
 
 pub returns-then-not-is_autocommit-clause-behaves : goal.returns-then-not-is_autocommit-clause-behaves
-returns-then-not-is_autocommit-clause-behaves g c = record {
-  falls = search rules;
-  cause = λ (a : Archive) s clean. absurd (never_busy _ _ s.idle c.is_autocommit.ensures.value c.if-not-is_autocommit.true);
-  «open» = search rules;
-}
+returns-then-not-is_autocommit-clause-behaves g c =
+    behaves_busy g.S.Store _ _ _ c.is_autocommit.ensures.value c.if-not-is_autocommit.true

@@ -9,13 +9,13 @@ use Rattle.record_store.proofs.store.Store.holds_between.Goals as goal
 
 pub returns-in-Ok : goal.returns-in-Ok
 returns-in-Ok g c =
-    let made = c.holds_between.ensures in
-    let looks = looks_at g.S.Store c.args.self.now.conn c.holds_between.new.conn made.idle made.falls made.still made.survives in
+    let made = c.holds_between.ensures.frame in
+    let looks = looks_at g.S.Store c.args.self.now.conn c.holds_between.new.conn _ made in
     record {
       tells = λ (a : Archive) s. (
         stands_looked g.S.Store c.args.self.now _ a s looks refl refl (λ n. refl) (λ m. refl),
         λ clean.
-            let kept = s.rows (made.falls clean) (c.in-Ok.ensures.was_open clean) in
+            let kept = s.rows (made.falls clean) (c.in-Ok.ensures.frame.was_open clean) in
             c.in-Ok.ensures.all clean kept.tables (sorted_holds a) (are_named kept.tables a kept.keeps.holds s.archive.once) kept.stored kept.keyed,
       );
       falls = made.falls;
@@ -25,8 +25,8 @@ returns-in-Ok g c =
 
 pub returns-in-Err : goal.returns-in-Err
 returns-in-Err g c =
-    let made = c.holds_between.ensures in
-    let looks = looks_at g.S.Store c.args.self.now.conn c.holds_between.new.conn made.idle made.falls made.still made.survives in
+    let made = c.holds_between.ensures.frame in
+    let looks = looks_at g.S.Store c.args.self.now.conn c.holds_between.new.conn _ made in
     record {
       tells = λ (a : Archive) s. (
         stands_looked g.S.Store c.args.self.now _ a s looks refl refl (λ n. refl) (λ m. refl),

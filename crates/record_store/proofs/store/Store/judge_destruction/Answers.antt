@@ -1,4 +1,4 @@
-use Rattle.std.proofs.Common.{◌≡◌, ◌==◌, arith, subst, Some, None, Err}
+use Rattle.std.proofs.Common.{◌≡◌, ◌==◌, arith, subst, Some, None, Err, rules}
 use Rattle.record_tables.specs.CodeRows.{record_of}
 use Rattle.record_archive.specs.Archive.{Archive, destroy_by, record_at}
 use Rattle.record_archive.specs.declared.fault.ArchiveRefusal.TheVariants.{Held}
@@ -45,7 +45,11 @@ returns-in-Ok-clause-tells g c = λ (a : Archive) s.
       ),
     )
 
-pub returns-in-Err-clause-cause : goal.returns-in-Err-clause-cause
-returns-in-Err-clause-cause g c = λ (a : Archive) s clean.
-    let sound = record_is_sound a c.args.number (record_of c.in_ok-record.record) s.archive ((c.in_ok-record.ensures.tells a s).1 clean) in
-    not_own-trouble c.in-Err.fault (λ told. let late = c.in-Err.ensures.lost told in omega (arith, late, sound.day))
+pub returns-in-Err-clause-behaves : goal.returns-in-Err-clause-behaves
+returns-in-Err-clause-behaves g c = record {
+  falls = search rules;
+  cause = λ (a : Archive) s clean.
+      let sound = record_is_sound a c.args.number (record_of c.in_ok-record.record) s.archive ((c.in_ok-record.ensures.tells a s).1 clean) in
+      not_own-trouble c.in-Err.fault (λ told. let late = c.in-Err.ensures.lost told in omega (arith, late, sound.day));
+  «open» = search rules;
+}

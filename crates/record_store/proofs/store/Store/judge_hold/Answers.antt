@@ -5,14 +5,14 @@ use Rattle.record_store.proofs.store.Store.judge_hold.Goals as goal
 pub returns-in_err-has_hold-clause-crash : goal.returns-in_err-has_hold-clause-crash
 returns-in_err-has_hold-clause-crash g c =
     leaves_then g.S.Store c.args.self.now c.record_at.new.self c.has_hold.new.self (λ (a : Archive) s.
-    (c.in_ok-record.ensures.tells a s).0) c.record_at.ensures.crash c.in_ok-record.ensures.open c.has_hold.ensures.crash
+    (c.in_ok-record.ensures.tells a s).0) c.record_at.ensures.crash c.in_ok-record.ensures.behaves.open c.has_hold.ensures.crash
 
 pub returns-then-branch-clause-crash : goal.returns-then-branch-clause-crash
 returns-then-branch-clause-crash g c =
     leaves_then g.S.Store c.args.self.now c.record_at.new.self c.has_hold.new.self (λ (a : Archive) s.
-    (c.in_ok-record.ensures.tells a s).0) c.record_at.ensures.crash c.in_ok-record.ensures.open c.has_hold.ensures.crash
+    (c.in_ok-record.ensures.tells a s).0) c.record_at.ensures.crash c.in_ok-record.ensures.behaves.open c.has_hold.ensures.crash
 
 pub returns-clause-crash : goal.returns-clause-crash
 returns-clause-crash g c =
     leaves_then g.S.Store c.args.self.now c.record_at.new.self c.has_hold.new.self (λ (a : Archive) s.
-    (c.in_ok-record.ensures.tells a s).0) c.record_at.ensures.crash c.in_ok-record.ensures.open c.has_hold.ensures.crash
+    (c.in_ok-record.ensures.tells a s).0) c.record_at.ensures.crash c.in_ok-record.ensures.behaves.open c.has_hold.ensures.crash

@@ -1,10 +1,10 @@
 use Rattle.record_adoption.specs.Counts.{count_at, only_at}
-use Rattle.std.proofs.Common.{◌≡◌, ◌+◌, ◌-◌, length, arith, refl, sym, ap, ◌∙◌, map}
+use Rattle.std.proofs.Common.{◌≡◌, ◌+◌, ◌-◌, length, refl, sym, ap, ◌∙◌, map}
 use Rattle.record_tables.specs.CodeRows.{due_of}
 use Rattle.record_archive.specs.Archive.{Archive, after_capture}
 use Rattle.record_store.specs.Stores.{LeavesChange}
 use Rattle.record_store.proofs.CaptureStands.{Given, stands_captured, leaves_captured}
-use Rattle.record_store.proofs.Causes.{never_busy}
+use Rattle.record_store.proofs.Causes.{behaves_busy}
 use Rattle.record_store.proofs.CommandLemmas.{fell}
 use Rattle.record_store.proofs.store.Store.place_capture.Given.{Over}
 use Rattle.record_store.proofs.store.Store.place_capture.Goals.{After-transact}
@@ -45,6 +45,6 @@ returns-in-Ok-transact-clause-crash g c = left g (goal.at.returns-in-Ok-transact
 pub returns-in-Err-clause-crash : goal.returns-in-Err-clause-crash
 returns-in-Err-clause-crash g c = left g (goal.at.returns-in-Err-clause-crash g c).After-transact
 
-pub returns-then-not-is_autocommit-clause-cause : goal.returns-then-not-is_autocommit-clause-cause
-returns-then-not-is_autocommit-clause-cause g c = λ (a : Archive) s clean.
-    absurd (never_busy _ _ s.idle c.is_autocommit.ensures.value c.if-not-is_autocommit.true)
+pub returns-then-not-is_autocommit-clause-behaves : goal.returns-then-not-is_autocommit-clause-behaves
+returns-then-not-is_autocommit-clause-behaves g c =
+    behaves_busy g.S.Store _ _ _ c.is_autocommit.ensures.value c.if-not-is_autocommit.true

@@ -1,4 +1,4 @@
-use Rattle.std.proofs.Common.{rules, sym, ap, ◌∙◌, ◌≡◌, ◌+◌, Ok}
+use Rattle.std.proofs.Common.{sym, ap, ◌∙◌, ◌≡◌, ◌+◌, Ok}
 use Rattle.record_tables.specs.Changes as tables
 use Rattle.record_tables.specs.Changes.{Always}
 use Rattle.record_archive.specs.Archive as archive
@@ -6,7 +6,7 @@ use Rattle.record_archive.specs.Archive.{Archive}
 use Rattle.record_adoption.specs.Counts.{only_at}
 use Rattle.record_store.proofs.CommandLemmas.{fell, stands_turned, leaves_turned}
 use Rattle.record_store.proofs.HoldLemmas.{held_is_archive, stores_held, count_held}
-use Rattle.record_store.proofs.Causes.{never_busy}
+use Rattle.record_store.proofs.Causes.{behaves_busy}
 use Rattle.record_store.proofs.store.Store.place_hold.Goals as goal
 
 pub returns-in-Ok-transact-clause-ok : goal.returns-in-Ok-transact-clause-ok
@@ -38,8 +38,5 @@ returns-in-Err-clause-crash g c = λ (a : Archive) s.
     c.transact.ensures.crash
 
 pub returns-then-not-is_autocommit-clause-behaves : goal.returns-then-not-is_autocommit-clause-behaves
-returns-then-not-is_autocommit-clause-behaves g c = record {
-  falls = search rules;
-  cause = λ (a : Archive) s clean. absurd (never_busy _ _ s.idle c.is_autocommit.ensures.value c.if-not-is_autocommit.true);
-  «open» = search rules;
-}
+returns-then-not-is_autocommit-clause-behaves g c =
+    behaves_busy g.S.Store _ _ _ c.is_autocommit.ensures.value c.if-not-is_autocommit.true

@@ -9,7 +9,7 @@ use Rattle.record_store.specs.Revisions.{IsRevision, with_plan}
 use Rattle.record_store.specs.Stores.{LeavesAllowed}
 use Rattle.record_store.proofs.CommandLemmas.{fell, stands_turned, leaves_turned}
 use Rattle.record_store.proofs.ReviseLemmas.{revised_is_archive, stores_revised}
-use Rattle.record_store.proofs.Causes.{never_busy}
+use Rattle.record_store.proofs.Causes.{behaves_busy}
 use Rattle.record_store.proofs.store.Store.place_plan.Given.{Over}
 use Rattle.record_store.proofs.store.Store.place_plan.Goals.{After-replace_plan}
 use Rattle.record_store.proofs.store.Store.place_plan.Goals as goal
@@ -52,6 +52,6 @@ returns-in-Ok-clause-crash g c = left g (goal.at.returns-in-Ok-clause-crash g c)
 pub returns-in-Err-clause-crash : goal.returns-in-Err-clause-crash
 returns-in-Err-clause-crash g c = left g (goal.at.returns-in-Err-clause-crash g c).After-replace_plan
 
-pub returns-then-not-is_autocommit-clause-cause : goal.returns-then-not-is_autocommit-clause-cause
-returns-then-not-is_autocommit-clause-cause g c = λ (a : Archive) s clean.
-    absurd (never_busy _ _ s.idle c.is_autocommit.ensures.value c.if-not-is_autocommit.true)
+pub returns-then-not-is_autocommit-clause-behaves : goal.returns-then-not-is_autocommit-clause-behaves
+returns-then-not-is_autocommit-clause-behaves g c =
+    behaves_busy g.S.Store _ _ _ c.is_autocommit.ensures.value c.if-not-is_autocommit.true

@@ -1,4 +1,4 @@
-use Rattle.std.proofs.Common.{find, option_map, ap, sym, refl, ◌∙◌, Err}
+use Rattle.std.proofs.Common.{find, option_map, ap, sym, refl, ◌∙◌, Err, rules}
 use Rattle.record_tables.specs.CodeRows.{record_of}
 use Rattle.record_archive.specs.Archive.{Archive, has_number}
 use Rattle.record_store.proofs.Causes.{not_own-lost_or, fits_kept}
@@ -25,8 +25,11 @@ returns-in-Ok-None-clause-tells g c = λ (a : Archive) s. (
       ),
 )
 
-pub returns-in-Err-clause-cause : goal.returns-in-Err-clause-cause
-returns-in-Err-clause-cause g c = λ (a : Archive) s clean.
-    not_own-lost_or _ c.in-Err.fault c.lost_or.ensures (λ e.
-    let kept = s.rows (c.record_by_number.ensures.looks.falls clean) (c.in-Err.ensures.seen clean (ap Err e)) in
-    c.in-Err.ensures.none clean (ap Err e) kept.tables kept.stored kept.keyed (fits_kept a _ kept s.archive))
+pub returns-in-Err-clause-behaves : goal.returns-in-Err-clause-behaves
+returns-in-Err-clause-behaves g c = record {
+  falls = search rules;
+  cause = λ (a : Archive) s clean. not_own-lost_or _ c.in-Err.fault c.lost_or.ensures (λ e.
+      let kept = s.rows (c.record_by_number.ensures.looks.falls clean) (c.in-Err.ensures.seen clean (ap Err e)) in
+      c.in-Err.ensures.none clean (ap Err e) kept.tables kept.stored kept.keyed (fits_kept a _ kept s.archive));
+  «open» = search rules;
+}

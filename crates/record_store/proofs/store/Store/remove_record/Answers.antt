@@ -6,7 +6,7 @@ use Rattle.record_archive.specs.Archive.{Archive}
 use Rattle.record_store.specs.Destruction.{IsUnheld, with_destruction}
 use Rattle.record_store.proofs.CommandLemmas.{fell, stands_turned, leaves_turned}
 use Rattle.record_store.proofs.DestroyLemmas.{keeps_destroyed, destroyed_archive, count_destroyed, next_destroyed, free_itself}
-use Rattle.record_store.proofs.Causes.{never_busy}
+use Rattle.record_store.proofs.Causes.{behaves_busy}
 use Rattle.record_store.proofs.store.Store.remove_record.Goals as goal
 
 pub returns-in-Ok-clause-ok : goal.returns-in-Ok-clause-ok
@@ -41,6 +41,6 @@ returns-in-Err-clause-crash g c = λ (a : Archive) s.
     keeps_destroyed g.S.Store c.args.self.now a s n r last free c.last_body-last.ensures was db kept turns)
     c.transact.ensures.live c.transact.ensures.crash
 
-pub returns-then-not-is_autocommit-clause-cause : goal.returns-then-not-is_autocommit-clause-cause
-returns-then-not-is_autocommit-clause-cause g c = λ (a : Archive) s clean.
-    absurd (never_busy _ _ s.idle c.is_autocommit.ensures.value c.if-not-is_autocommit.true)
+pub returns-then-not-is_autocommit-clause-behaves : goal.returns-then-not-is_autocommit-clause-behaves
+returns-then-not-is_autocommit-clause-behaves g c =
+    behaves_busy g.S.Store _ _ _ c.is_autocommit.ensures.value c.if-not-is_autocommit.true

@@ -1,4 +1,4 @@
-use Rattle.std.proofs.Common.{◌≡◌, ◌∙◌, ap, map, sym, subst, Ok}
+use Rattle.std.proofs.Common.{◌≡◌, ◌∙◌, ap, map, sym, subst, Ok, rules}
 use Rattle.sqlite.specs.State.{HasCleanDisk}
 use Rattle.sqlite.specs.Held.{state}
 use Rattle.record_tables.specs.CodeRows.{due_of, record_of}
@@ -35,7 +35,7 @@ pub returns-clause-obeys : goal.returns-clause-obeys
 returns-clause-obeys g c =
     obeys_allowed g.S.Store c.args.self.now c.all_records.new.self c.place_plan.new.self (λ (a : Archive). archive.revise a c.args.plan)
     (λ (a : Archive). IsRevision a c.in_ok-kept.kept (map due_of c.as_slice-2.result.now)) (λ (a : Archive). with_plan a c.in_ok-kept.kept)
-    (judged g (goal.at.returns-clause-obeys g c).After-place_plan) c.in_ok-place_plan.ensures.ok c.place_plan.ensures.falls
+    (judged g (goal.at.returns-clause-obeys g c).After-place_plan) c.in_ok-place_plan.ensures.ok c.place_plan.ensures.behaves.falls
 
 pub returns-clause-crash : goal.returns-clause-crash
 returns-clause-crash g c = left g (goal.at.returns-clause-crash g c).After-place_plan
@@ -43,10 +43,12 @@ returns-clause-crash g c = left g (goal.at.returns-clause-crash g c).After-place
 pub returns-in_err-place_plan-clause-crash : goal.returns-in_err-place_plan-clause-crash
 returns-in_err-place_plan-clause-crash g c = left g (goal.at.returns-in_err-place_plan-clause-crash g c).After-place_plan
 
-pub returns-in_err-dues-clause-cause : goal.returns-in_err-dues-clause-cause
-returns-in_err-dues-clause-cause g c =
-    passed_cause g.S.Store c.args.self.now c.all_records.new.self c.from_residual-in_err-dues.result
-    c.in_err-dues.field-0.0 c.from_residual-in_err-dues.ensures.1
-    (λ (a : Archive) s clean.
-    c.in_err-dues.ensures.lost (subst AreInOrder (sym (ap (map record_of) c.as_slice.ensures.value
-    ∙ (c.in_ok-rows.ensures.tells a s).1 clean)) (archive_in_order a s.archive)))
+pub returns-in_err-dues-clause-behaves : goal.returns-in_err-dues-clause-behaves
+returns-in_err-dues-clause-behaves g c = record {
+  falls = search rules;
+  cause = passed_cause g.S.Store c.args.self.now c.all_records.new.self c.from_residual-in_err-dues.result
+      c.in_err-dues.field-0.0 c.from_residual-in_err-dues.ensures.1 (λ (a : Archive) s clean.
+      c.in_err-dues.ensures.lost (subst AreInOrder (sym (ap (map record_of) c.as_slice.ensures.value
+      ∙ (c.in_ok-rows.ensures.tells a s).1 clean)) (archive_in_order a s.archive)));
+  «open» = search rules;
+}

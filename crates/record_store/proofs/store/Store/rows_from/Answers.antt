@@ -7,27 +7,27 @@ use Rattle.record_store.proofs.store.Store.rows_from.Goals as goal
 
 pub returns-in-Ok : goal.returns-in-Ok
 returns-in-Ok g c =
-    let made = c.records_from.ensures in
-    let looks = looks_at g.S.Store c.args.self.now.conn c.records_from.new.conn made.idle made.falls made.still made.survives in
+    let made = c.records_from.ensures.frame in
+    let looks = looks_at g.S.Store c.args.self.now.conn c.records_from.new.conn _ made in
     record {
       tells = λ (a : Archive) s. (
         stands_looked g.S.Store c.args.self.now _ a s looks refl refl (λ n. refl) (λ m. refl),
         λ clean.
-            let kept = s.rows (made.falls clean) (c.in-Ok.ensures.was_open clean) in
+            let kept = s.rows (made.falls clean) (c.in-Ok.ensures.frame.was_open clean) in
             c.in-Ok.ensures.all clean kept.tables kept.stored kept.keyed ∙ from_told a kept.tables c.args.from c.args.most kept.keeps.records,
       );
       falls = made.falls;
       «open» = λ (a : Archive) s clean.
-          let kept = s.rows (made.falls clean) (c.in-Ok.ensures.was_open clean) in
-          (c.in-Ok.ensures.same clean kept.stored.schema).0.is_open;
+          let kept = s.rows (made.falls clean) (c.in-Ok.ensures.frame.was_open clean) in
+          (c.in-Ok.ensures.frame.same clean kept.stored.schema).0.is_open;
       cause = λ a s clean. tt;
       crash = λ (a : Archive) s. leaves_looked g.S.Store c.args.self.now (record c.args.self.now { conn = c.records_from.new.conn }) a s looks;
     }
 
 pub returns-in-Err : goal.returns-in-Err
 returns-in-Err g c =
-    let made = c.records_from.ensures in
-    let looks = looks_at g.S.Store c.args.self.now.conn c.records_from.new.conn made.idle made.falls made.still made.survives in
+    let made = c.records_from.ensures.frame in
+    let looks = looks_at g.S.Store c.args.self.now.conn c.records_from.new.conn _ made in
     record {
       tells = λ (a : Archive) s. (
         stands_looked g.S.Store c.args.self.now _ a s looks refl refl (λ n. refl) (λ m. refl),

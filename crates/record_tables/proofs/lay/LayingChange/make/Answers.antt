@@ -6,7 +6,7 @@ use Rattle.record_tables.proofs.lay.LayingChange.make.Goals as goal
 
 pub returns-clause-ok : goal.returns-clause-ok
 returns-clause-ok g c clean inside =
-    let laid = c.in_ok-lay_tables.ensures.ok (omega (arith, c.fill.ensures.survives.clean)) inside in
+    let laid = c.in_ok-lay_tables.ensures.ok (omega (arith, c.fill.ensures.frame.survives.clean)) inside in
     let put = c.in_ok-fill.ensures.ok clean (laid.mode ∙ inside) in
     record {
       stored = λ free. let empty =
@@ -16,6 +16,6 @@ returns-clause-ok g c clean inside =
 
 pub returns-clause-goes_on : goal.returns-clause-goes_on
 returns-clause-goes_on g c clean inside =
-    let laid = c.in_ok-lay_tables.ensures.ok (omega (arith, c.fill.ensures.survives.clean)) inside in
+    let laid = c.in_ok-lay_tables.ensures.ok (omega (arith, c.fill.ensures.frame.survives.clean)) inside in
     let put = c.in_ok-fill.ensures.ok clean (laid.mode ∙ inside) in
     record { committed = put.committed ∙ laid.committed; mode = put.mode ∙ laid.mode; is_open = put.is_open ∙ laid.is_open }

@@ -12,7 +12,7 @@ returns-in_ok-put_plan-clause-ok g c clean inside =
     let old = state g.S.Store c.args.tx.now.conn.now in
     let mid = state g.S.Store c.empty_dues.new.tx.conn.now in
     let new = state g.S.Store c.put_plan.new.tx.conn.now in
-    let gone = c.in_ok-empty_dues.ensures.ok (omega (arith, c.put_plan.ensures.survives.clean)) inside in
+    let gone = c.in_ok-empty_dues.ensures.ok (omega (arith, c.put_plan.ensures.frame.survives.clean)) inside in
     let has : c.args.self.is_alone ≡ true = search in
     let tells = subst (TellsAlone old.now.schema) has c.requires.0 in
     turned old new Always _

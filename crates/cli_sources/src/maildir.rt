@@ -1,0 +1,126 @@
+//! The folders of a Maildir: new mail lies in `new`, and what was taken over in `cur`.
+//!
+//! No contract knows what a file system does. So these calls are only proved to be safe, and tests show what they do.
+
+use std::alloc::{AllocError, Global};
+use std::fs::{self, DirEntry, File};
+use std::io::{self, Error, ErrorKind};
+
+/// What the name of a message ends with once it was taken over, with no flag.
+const SEEN: &str = ":2,";
+
+/// The name of a file by which a move is tried. It begins with a dot, so it is no message.
+const TRIAL: &str = ".mailfile-store";
+
+/// The new messages of a Maildir.
+#[derive(Drop)]
+pub struct NewMail {
+    /// The names of the messages, in byte order.
+    pub names: Vec<String>,
+    /// How many more have names that are no UTF-8, by which they cannot be opened.
+    pub nameless: usize,
+}
+
+/// The path of a new message.
+pub fn new_path(alloc: Global, maildir: &str, name: &str) -> Result<String, AllocError> {
+    format!(in alloc; "{maildir}/new/{name}")
+}
+
+/// Adds the name of an entry, if it has one.
+fn add_entry(alloc: Global, entry: io::Result<DirEntry>, mail: &mut NewMail) -> io::Result<()> {
+    match entry {
+        Ok(entry) => {
+            let name = entry.file_name();
+            if !name.starts_with('.') {
+                mail.names.push(String::from_str(alloc, name)?)?;
+            }
+            Ok(())
+        }
+        Err(error) if error.kind() == ErrorKind::InvalidFilename => {
+            mail.nameless = mail.nameless.saturating_add(1);
+            Ok(())
+        }
+        Err(error) => Err(error),
+    }
+}
+
+/// The new messages of a Maildir. Names that begin with a dot are none.
+pub fn new_mail(rt: &HostRuntime, maildir: &str) -> io::Result<NewMail> {
+    let alloc = rt.alloc();
+    let folder = format!(in alloc; "{maildir}/new")?;
+    let mut mail = NewMail {
+        names: Vec::new(alloc),
+        nameless: 0,
+    };
+    for entry in fs::read_dir(rt, folder.as_str())? {
+        add_entry(alloc, entry, &mut mail)?;
+    }
+    mail.names.sort()?;
+    Ok(mail)
+}
+
+/// Whether a regular file is at a path. A link is none, whatever it leads to.
+pub fn is_message(rt: &HostRuntime, path: &str) -> io::Result<bool> {
+    Ok(fs::symlink_metadata(rt, path)?.is_file())
+}
+
+/// Whether there is a folder to move messages to.
+pub fn has_cur(rt: &HostRuntime, maildir: &str) -> io::Result<bool> {
+    let folder = format!(in rt.alloc(); "{maildir}/cur")?;
+    match fs::metadata(rt, folder.as_str()) {
+        Ok(found) => Ok(found.is_dir()),
+        Err(error) if error.kind() == ErrorKind::NotFound => Ok(false),
+        Err(error) => Err(error),
+    }
+}
+
+/// Where a message is moved to.
+fn path_in_cur(alloc: Global, maildir: &str, name: &str) -> Result<String, AllocError> {
+    format!(in alloc; "{maildir}/cur/{name}{SEEN}")
+}
+
+/// Tries to move an empty file as messages are moved, and removes it.
+///
+/// An error says that no message of this Maildir can be moved now. A file that is there from an earlier trial is used
+/// again.
+pub fn try_move(rt: &HostRuntime, maildir: &str) -> io::Result<()> {
+    let from = new_path(rt.alloc(), maildir, TRIAL)?;
+    let to = format!(in rt.alloc(); "{maildir}/cur/{TRIAL}")?;
+    match File::create_new(rt, from.as_str()) {
+        Ok(_) => {}
+        Err(error) if error.kind() == ErrorKind::AlreadyExists => {}
+        Err(error) => return Err(error),
+    }
+    match fs::rename(rt, from.as_str(), to.as_str()) {
+        Ok(()) => fs::remove_file(rt, to.as_str()),
+        Err(error) => {
+            let _ = fs::remove_file(rt, from.as_str());
+            Err(error)
+        }
+    }
+}
+
+/// Whether `cur` has a message under the name to which this one would be moved.
+pub fn is_in_cur(rt: &HostRuntime, maildir: &str, name: &str) -> io::Result<bool> {
+    let to = path_in_cur(rt.alloc(), maildir, name)?;
+    fs::exists(rt, to.as_str())
+}
+
+/// Moves a new message to `cur`. Nothing there is replaced.
+pub fn move_to_cur(rt: &HostRuntime, maildir: &str, name: &str) -> io::Result<()> {
+    let alloc = rt.alloc();
+    if is_in_cur(rt, maildir, name)? {
+        return Err(Error::new(ErrorKind::AlreadyExists, "cur has a message of this name"));
+    }
+    let from = new_path(alloc, maildir, name)?;
+    let to = path_in_cur(alloc, maildir, name)?;
+    fs::rename(rt, from.as_str(), to.as_str())
+}
+
+/// Makes the moves so far last over a power cut.
+pub fn settle(rt: &HostRuntime, maildir: &str) -> io::Result<()> {
+    let cur = format!(in rt.alloc(); "{maildir}/cur")?;
+    fs::open(rt, cur.as_str())?.sync_all()?;
+    let new = format!(in rt.alloc(); "{maildir}/new")?;
+    fs::open(rt, new.as_str())?.sync_all()
+}

@@ -1,0 +1,355 @@
+//! The command line of `mailfile-store`: what it asks for, with each value read and judged.
+
+mod words;
+
+use crate::reading::{NoCommand, day_of, has_flag, read_words, required, value_of, values_of};
+use crate::table::Word;
+use clap::ArgMatches;
+use jiff::civil::Date;
+use session_words::is_name;
+use std::alloc::Global;
+
+/// What `mailfile-store` is asked to do, with the store in the file at a path.
+#[derive(Drop)]
+pub struct CommandLine<'a> {
+    pub store: &'a str,
+    pub command: Command<'a>,
+}
+
+/// A subcommand with its values.
+#[derive(Drop)]
+pub enum Command<'a> {
+    /// Makes a new store with the plan in the file at a path.
+    Create {
+        plan: &'a str,
+    },
+    /// Writes the plan as text.
+    WritePlan,
+    /// Replaces the plan by the one in the file at a path.
+    ReplacePlan {
+        plan: &'a str,
+        /// Whether nobody is asked before.
+        is_agreed: bool,
+    },
+    /// Captures the message on standard input.
+    Deliver {
+        /// In seconds since 1970; none for now.
+        moment: Option<u64>,
+        filing: Filing<'a>,
+    },
+    /// Captures the new messages of a Maildir.
+    Intake {
+        maildir: &'a str,
+        filing: Filing<'a>,
+    },
+    List {
+        choice: Choice<'a>,
+        format: Format,
+    },
+    /// Writes the message of a record.
+    Show {
+        record: TypedNumber<'a>,
+        /// Whether the fields of its header are written instead.
+        fields: bool,
+    },
+    /// Writes records to files of a folder.
+    Export {
+        choice: Choice<'a>,
+        folder: &'a str,
+    },
+    /// Makes a copy in a new file at a path.
+    Copy {
+        new: &'a str,
+    },
+    /// Judges the whole store.
+    Check,
+    Why(Why<'a>),
+    Hold(Holding<'a>),
+    /// Ends a hold.
+    Release(Holding<'a>),
+    Dispose(Disposal<'a>),
+    /// Writes a page of HTML.
+    Report {
+        /// The day by which records are due, which may be later than today; none for today.
+        day: Option<Date>,
+    },
+}
+
+/// By which rules mail is filed.
+#[derive(Clone, Copy)]
+pub struct Filing<'a> {
+    /// The path of the folder of rules.
+    pub rules: &'a str,
+    pub officer: &'a str,
+    /// Whether mail goes to `unfiled` where the rules are at fault.
+    pub unfiled_on_fault: bool,
+}
+
+/// Which records a list or an export has: those that meet each condition that is given.
+#[derive(Clone, Copy)]
+pub struct Choice<'a> {
+    /// In this class or below it.
+    pub class: Option<&'a str>,
+    /// Live, and due by this day.
+    pub due: Option<Date>,
+    /// Kept by a hold.
+    pub is_held: bool,
+    /// Not destroyed.
+    pub is_live: bool,
+    /// With this number or a greater one.
+    pub from: u32,
+}
+
+/// How records are listed.
+#[derive(Clone, Copy)]
+pub enum Format {
+    /// A line each.
+    Lines,
+    Csv,
+    Json,
+}
+
+/// The number of a record.
+#[derive(Clone, Copy)]
+pub struct TypedNumber<'a> {
+    /// As it is typed, which names the record where it is refused.
+    pub word: &'a str,
+    pub number: u32,
+}
+
+/// Says why a record is in its class.
+#[derive(Clone, Copy)]
+pub struct Why<'a> {
+    /// The path of the folder of today's rules.
+    pub rules: &'a str,
+    /// The path of the folder of the rules as they were, with which today's are compared.
+    pub formerly: Option<&'a str>,
+    pub officer: &'a str,
+    pub record: TypedNumber<'a>,
+}
+
+/// A hold on records, which is placed or ended.
+#[derive(Drop)]
+pub struct Holding<'a> {
+    /// 1 to 64 octets from 33 to 126.
+    pub name: &'a str,
+    pub records: Vec<TypedNumber<'a>>,
+}
+
+/// The destruction of what is due.
+#[derive(Drop)]
+pub struct Disposal<'a> {
+    /// The day by which records are due; none for today.
+    pub day: Option<Date>,
+    /// Whether records are destroyed, and not only listed.
+    pub destroys: bool,
+    /// The records that are meant; all that are due, where there is none.
+    pub records: Vec<TypedNumber<'a>>,
+}
+
+/// The number of a record, as it is typed: one of 32 bits.
+fn number_of(alloc: Global, word: &str) -> Result<u32, NoCommand> {
+    word.parse().map_err(|_| NoCommand::wrong(alloc, word, "not a number of a record"))
+}
+
+/// The number of a record, which must be given.
+fn record_asked<'a>(alloc: Global, asked: &ArgMatches<'a>) -> Result<TypedNumber<'a>, NoCommand> {
+    let word = required(asked, words::NUMBER)?;
+    Ok(TypedNumber {
+        word,
+        number: number_of(alloc, word)?,
+    })
+}
+
+/// The numbers of records that are given.
+fn records_asked<'a>(
+    alloc: Global,
+    asked: &ArgMatches<'a>,
+) -> Result<Vec<TypedNumber<'a>>, NoCommand> {
+    let typed = values_of(asked, words::NUMBERS).unwrap_or(&[]);
+    let mut records = Vec::with_capacity(alloc, typed.len())?;
+    for word in typed {
+        records.push(TypedNumber {
+            word: *word,
+            number: number_of(alloc, *word)?,
+        })?;
+    }
+    Ok(records)
+}
+
+/// A day, where it is given.
+fn day_asked(alloc: Global, asked: &ArgMatches<'_>, word: Word) -> Result<Option<Date>, NoCommand> {
+    let Some(text) = value_of(asked, word) else {
+        return Ok(None);
+    };
+    match day_of(text) {
+        Some(day) => Ok(Some(day)),
+        None => Err(NoCommand::wrong(alloc, text, "not a day of 1970 to 9999, written YYYY-MM-DD")),
+    }
+}
+
+/// The moment of a capture, where it is given.
+fn moment_asked(alloc: Global, asked: &ArgMatches<'_>) -> Result<Option<u64>, NoCommand> {
+    let Some(word) = value_of(asked, words::AT) else {
+        return Ok(None);
+    };
+    match word.parse() {
+        Ok(moment) => Ok(Some(moment)),
+        Err(_) => Err(NoCommand::wrong(alloc, word, "not a number of seconds since 1970")),
+    }
+}
+
+/// By which rules mail is filed.
+fn filing_asked<'a>(asked: &ArgMatches<'a>) -> Result<Filing<'a>, NoCommand> {
+    Ok(Filing {
+        rules: required(asked, words::RULES)?,
+        officer: required(asked, words::OFFICER)?,
+        unfiled_on_fault: has_flag(asked, words::UNFILED_ON_FAULT),
+    })
+}
+
+/// Which records are chosen.
+fn choice_asked<'a>(alloc: Global, asked: &ArgMatches<'a>) -> Result<Choice<'a>, NoCommand> {
+    let class = value_of(asked, words::CLASS);
+    let due = day_asked(alloc, asked, words::DUE)?;
+    let from = match value_of(asked, words::FROM) {
+        Some(word) => number_of(alloc, word)?,
+        None => 1,
+    };
+    Ok(Choice {
+        class,
+        due,
+        is_held: has_flag(asked, words::HELD),
+        is_live: has_flag(asked, words::LIVE),
+        from,
+    })
+}
+
+/// How records are listed.
+fn format_asked(asked: &ArgMatches<'_>) -> Format {
+    if has_flag(asked, words::CSV) {
+        Format::Csv
+    } else if has_flag(asked, words::JSON) {
+        Format::Json
+    } else {
+        Format::Lines
+    }
+}
+
+/// What is done with the plan. `--yes` is refused where there is no plan to agree to.
+fn plan_asked<'a>(alloc: Global, asked: &ArgMatches<'a>) -> Result<Command<'a>, NoCommand> {
+    let is_agreed = has_flag(asked, words::YES);
+    match value_of(asked, words::NEW_PLAN) {
+        Some(plan) => Ok(Command::ReplacePlan { plan, is_agreed }),
+        None if is_agreed => Err(NoCommand::Wrong(String::from_str(
+            alloc,
+            "--yes needs the plan of --set",
+        )?)),
+        None => Ok(Command::WritePlan),
+    }
+}
+
+/// A hold on records.
+fn holding_asked<'a>(alloc: Global, asked: &ArgMatches<'a>) -> Result<Holding<'a>, NoCommand> {
+    let name = required(asked, words::NAME)?;
+    if !is_name(name.as_bytes()) {
+        return Err(NoCommand::wrong(
+            alloc,
+            name,
+            "a hold's name is 1 to 64 octets from 33 to 126",
+        ));
+    }
+    Ok(Holding {
+        name,
+        records: records_asked(alloc, asked)?,
+    })
+}
+
+/// What is to be destroyed.
+fn disposal_asked<'a>(alloc: Global, asked: &ArgMatches<'a>) -> Result<Disposal<'a>, NoCommand> {
+    Ok(Disposal {
+        day: day_asked(alloc, asked, words::DAY)?,
+        destroys: has_flag(asked, words::YES),
+        records: records_asked(alloc, asked)?,
+    })
+}
+
+/// A subcommand that makes an archive or changes what it keeps, where the name is that of one.
+fn change_asked<'a>(
+    alloc: Global,
+    name: &str,
+    asked: &ArgMatches<'a>,
+) -> Result<Option<Command<'a>>, NoCommand> {
+    Ok(Some(match name {
+        "create" => Command::Create {
+            plan: required(asked, words::PLAN_FILE)?,
+        },
+        "plan" => plan_asked(alloc, asked)?,
+        "deliver" => Command::Deliver {
+            moment: moment_asked(alloc, asked)?,
+            filing: filing_asked(asked)?,
+        },
+        "intake" => Command::Intake {
+            maildir: required(asked, words::MAILDIR)?,
+            filing: filing_asked(asked)?,
+        },
+        "hold" => Command::Hold(holding_asked(alloc, asked)?),
+        "release" => Command::Release(holding_asked(alloc, asked)?),
+        "dispose" => Command::Dispose(disposal_asked(alloc, asked)?),
+        _ => return Ok(None),
+    }))
+}
+
+/// A subcommand that reads an archive, where the name is that of one.
+fn reading_asked<'a>(
+    alloc: Global,
+    name: &str,
+    asked: &ArgMatches<'a>,
+) -> Result<Option<Command<'a>>, NoCommand> {
+    Ok(Some(match name {
+        "list" => Command::List {
+            choice: choice_asked(alloc, asked)?,
+            format: format_asked(asked),
+        },
+        "show" => Command::Show {
+            record: record_asked(alloc, asked)?,
+            fields: has_flag(asked, words::FIELDS),
+        },
+        "export" => Command::Export {
+            choice: choice_asked(alloc, asked)?,
+            folder: required(asked, words::FOLDER)?,
+        },
+        "copy" => Command::Copy {
+            new: required(asked, words::NEW)?,
+        },
+        "check" => Command::Check,
+        "why" => Command::Why(Why {
+            rules: required(asked, words::RULES)?,
+            formerly: value_of(asked, words::FORMERLY),
+            officer: required(asked, words::OFFICER)?,
+            record: record_asked(alloc, asked)?,
+        }),
+        "report" => Command::Report {
+            day: day_asked(alloc, asked, words::DAY)?,
+        },
+        _ => return Ok(None),
+    }))
+}
+
+/// Reads the words of a command line, the program's name first. A value that its option or place cannot have is
+/// `Wrong`; help, and what `clap` refuses, are printed.
+pub fn read_command_line<'a>(
+    rt: &HostRuntime,
+    words: &'a [String],
+) -> Result<CommandLine<'a>, NoCommand> {
+    let matches = read_words(rt, &words::PROGRAM, words)?;
+    let Some((name, asked)) = matches.subcommand() else {
+        return Err(NoCommand::Unread);
+    };
+    let store = required(asked, words::STORE)?;
+    let command = match change_asked(rt.alloc(), name, asked)? {
+        Some(command) => command,
+        None => reading_asked(rt.alloc(), name, asked)?.ok_or(NoCommand::Unread)?,
+    };
+    Ok(CommandLine { store, command })
+}

@@ -1,0 +1,316 @@
+//! The subcommands of `mailfile-store`, each with its words and an example.
+
+use crate::table::{FLAG, Form, OPTION, PLACE, Program, Subcommand, Word};
+
+pub const STORE: Word = Word {
+    name: "store",
+    value: "FILE",
+    is_required: true,
+    help: Some("The file of the store"),
+    ..OPTION
+};
+
+/// The numbers of records.
+pub const NUMBERS: Word = Word {
+    name: "numbers",
+    form: Form::Places,
+    value: "NUMBER",
+    ..PLACE
+};
+
+pub const NUMBER: Word = Word {
+    name: "number",
+    value: "NUMBER",
+    ..PLACE
+};
+
+pub const OFFICER: Word = Word {
+    name: "officer",
+    value: "OFFICER",
+    ..PLACE
+};
+
+pub const PLAN_FILE: Word = Word {
+    name: "plan",
+    value: "PLAN",
+    is_required: true,
+    help: Some("The file of the plan"),
+    ..OPTION
+};
+
+const CREATE: Subcommand = Subcommand {
+    name: "create",
+    about: "Makes a new store with a plan, in a file that only its owner may read and write",
+    example: "Example: mailfile-store create --store records.db --plan plan.toml",
+    words: &[STORE, PLAN_FILE],
+};
+
+pub const YES: Word = Word {
+    name: "yes",
+    ..FLAG
+};
+
+pub const DAY: Word = Word {
+    name: "day",
+    value: "YYYY-MM-DD",
+    ..OPTION
+};
+
+pub const NEW_PLAN: Word = Word {
+    name: "set",
+    value: "PLAN",
+    help: Some("The file of the plan that replaces it"),
+    ..OPTION
+};
+
+const PLAN: Subcommand = Subcommand {
+    name: "plan",
+    about: "Prints the plan of a store as the text of a plan file, or replaces it",
+    example: "Example: mailfile-store plan --store records.db > plan.toml",
+    words: &[
+        STORE,
+        NEW_PLAN,
+        Word {
+            help: Some("Replaces it without asking"),
+            ..YES
+        },
+    ],
+};
+
+/// The rules by which mail is filed.
+pub const RULES: Word = Word {
+    name: "rules",
+    value: "FOLDER",
+    is_required: true,
+    help: Some(
+        "The folder of the rules: OFFICER/main.sieve, and global/NAME.sieve for all officers",
+    ),
+    ..OPTION
+};
+
+pub const UNFILED_ON_FAULT: Word = Word {
+    name: "unfiled-on-fault",
+    help: Some(
+        "Captures mail in unfiled where the officer or a script is missing, or a script or a run is at fault",
+    ),
+    ..FLAG
+};
+
+pub const AT: Word = Word {
+    name: "at",
+    value: "SECONDS",
+    help: Some("The moment of the capture, in seconds since 1970; now if none is given"),
+    ..OPTION
+};
+
+const DELIVER: Subcommand = Subcommand {
+    name: "deliver",
+    about: "Captures the message on standard input, and prints its records",
+    example: "Example: mailfile-store deliver --store records.db --rules rules ann < mail.eml",
+    words: &[STORE, AT, RULES, UNFILED_ON_FAULT, OFFICER],
+};
+
+pub const MAILDIR: Word = Word {
+    name: "maildir",
+    value: "MAILDIR",
+    ..PLACE
+};
+
+const INTAKE: Subcommand = Subcommand {
+    name: "intake",
+    about: "Captures each message in MAILDIR/new, and moves it to MAILDIR/cur once its records are in the file",
+    example: "Example: mailfile-store intake --store records.db --rules rules ann Maildir",
+    words: &[STORE, RULES, UNFILED_ON_FAULT, OFFICER, MAILDIR],
+};
+
+pub const CLASS: Word = Word {
+    name: "class",
+    value: "PATH",
+    help: Some("Records of this class and of those below it"),
+    ..OPTION
+};
+
+pub const DUE: Word = Word {
+    name: "due",
+    value: "YYYY-MM-DD",
+    help: Some("Records that are due by this day, which is not later than today"),
+    ..OPTION
+};
+
+pub const HELD: Word = Word {
+    name: "held",
+    help: Some("Records that a hold keeps"),
+    ..FLAG
+};
+
+pub const LIVE: Word = Word {
+    name: "live",
+    help: Some("Records that are not destroyed"),
+    ..FLAG
+};
+
+pub const FROM: Word = Word {
+    name: "from",
+    value: "N",
+    help: Some("Records with this number or a greater one"),
+    ..OPTION
+};
+
+pub const CSV: Word = Word {
+    name: "csv",
+    help: Some("Prints rows of CSV, with a header"),
+    ..FLAG
+};
+
+pub const JSON: Word = Word {
+    name: "json",
+    help: Some("Prints an array of JSON objects"),
+    conflict: Some("csv"),
+    ..FLAG
+};
+
+const LIST: Subcommand = Subcommand {
+    name: "list",
+    about: "Prints a line for each record: number, class, day, due date or never, holds, and whether it is destroyed",
+    example: "Example: mailfile-store list --store records.db --class finance --live",
+    words: &[STORE, CLASS, DUE, HELD, LIVE, FROM, CSV, JSON],
+};
+
+pub const FIELDS: Word = Word {
+    name: "fields",
+    help: Some("Prints the fields of its header, as the archive reads them"),
+    ..FLAG
+};
+
+const SHOW: Subcommand = Subcommand {
+    name: "show",
+    about: "Prints the message of a record, octet by octet",
+    example: "Example: mailfile-store show --store records.db 1 > mail.eml",
+    words: &[STORE, FIELDS, NUMBER],
+};
+
+pub const FOLDER: Word = Word {
+    name: "folder",
+    value: "FOLDER",
+    ..PLACE
+};
+
+const EXPORT: Subcommand = Subcommand {
+    name: "export",
+    about: "Writes the messages of records to a folder, with manifest.csv and SHA256SUMS; replaces nothing",
+    example: "Example: mailfile-store export --store records.db --class finance for-court",
+    words: &[STORE, CLASS, DUE, HELD, LIVE, FROM, FOLDER],
+};
+
+pub const NEW: Word = Word {
+    name: "new",
+    value: "NEW",
+    ..PLACE
+};
+
+const COPY: Subcommand = Subcommand {
+    name: "copy",
+    about: "Makes a new store with the same archive, without the octets of what was destroyed",
+    example: "Example: mailfile-store copy --store records.db backup.db",
+    words: &[STORE, NEW],
+};
+
+const CHECK: Subcommand = Subcommand {
+    name: "check",
+    about: "Checks a whole store, and prints its totals",
+    example: "Example: mailfile-store check --store records.db",
+    words: &[STORE],
+};
+
+pub const FORMERLY: Word = Word {
+    name: "formerly",
+    value: "FOLDER",
+    help: Some(
+        "The folder of the rules as they were: shows the first test or command that differs",
+    ),
+    ..OPTION
+};
+
+const WHY: Subcommand = Subcommand {
+    name: "why",
+    about: "Says why a record is in its class, and whether the rules of today file its message there again",
+    example: "Example: mailfile-store why --store records.db --rules rules ann 1",
+    words: &[
+        STORE,
+        Word {
+            help: Some("The folder of the rules, as of deliver"),
+            ..RULES
+        },
+        FORMERLY,
+        OFFICER,
+        NUMBER,
+    ],
+};
+
+/// The name of a hold.
+pub const NAME: Word = Word {
+    name: "name",
+    value: "NAME",
+    ..PLACE
+};
+
+const HOLD: Subcommand = Subcommand {
+    name: "hold",
+    about: "Keeps records from destruction by a hold of that name",
+    example: "Example: mailfile-store hold --store records.db audit 1 2 3",
+    words: &[STORE, NAME, NUMBERS],
+};
+
+const RELEASE: Subcommand = Subcommand {
+    name: "release",
+    about: "Ends the hold of that name on records",
+    example: "Example: mailfile-store release --store records.db audit 1 2 3",
+    words: &[STORE, NAME, NUMBERS],
+};
+
+const DISPOSE: Subcommand = Subcommand {
+    name: "dispose",
+    about: "Lists the records that are due and may be destroyed, all or those of some numbers; with --yes destroys them, and prints a certificate for each",
+    example: "Example: mailfile-store dispose --store records.db --yes >> certificates.txt",
+    words: &[
+        STORE,
+        Word {
+            help: Some(
+                "The day by which records are due, which is not later than today; today if none is given",
+            ),
+            ..DAY
+        },
+        Word {
+            help: Some("Destroys the records"),
+            ..YES
+        },
+        Word {
+            is_required: false,
+            ..NUMBERS
+        },
+    ],
+};
+
+const REPORT: Subcommand = Subcommand {
+    name: "report",
+    about: "Prints a page of HTML: classes with their counts, what is due when, holds, and what is due by a day, for signature",
+    example: "Example: mailfile-store report --store records.db --day 2026-12-31 > report.html",
+    words: &[
+        STORE,
+        Word {
+            help: Some(
+                "The day by which records are due, which may be later than today; today if none is given",
+            ),
+            ..DAY
+        },
+    ],
+};
+
+pub const PROGRAM: Program = Program {
+    name: "mailfile-store",
+    about: "Runs an archive of e-mail in a file: captures, lists, shows, exports, holds and destroys records",
+    subcommands: &[
+        CREATE, PLAN, DELIVER, INTAKE, LIST, SHOW, EXPORT, COPY, CHECK, WHY, HOLD, RELEASE,
+        DISPOSE, REPORT,
+    ],
+};

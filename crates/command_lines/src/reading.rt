@@ -1,0 +1,128 @@
+//! Words of a command line, which `clap` reads by a program's table.
+
+use crate::table::{Program, Word, command_of};
+use clap::error::ErrorKind;
+use clap::{ArgMatches, Command, Error};
+use jiff::civil::Date;
+use std::alloc::{AllocError, AllocFailed, Global};
+use std::fmt::Display;
+use std::{env, io};
+
+/// Why a command line has nothing for a program to do.
+#[derive(Drop)]
+pub enum NoCommand {
+    /// It asks for help or for the version, which is printed.
+    Answered,
+    /// `clap` refuses it, and has told why.
+    Told,
+    /// A value is refused for this reason, which is still to be told.
+    Wrong(String),
+    /// A word is not UTF-8.
+    NotText,
+    /// The program reads a word or a subcommand that is not in its table, or has one there that it does not read.
+    Unread,
+    /// There is no memory.
+    NoMemory,
+}
+
+impl NoCommand {
+    /// The refusal of a value as it is typed, with the reason.
+    pub(crate) fn wrong(alloc: Global, typed: &str, reason: &str) -> NoCommand {
+        match format!(in alloc; "{typed}: {reason}") {
+            Ok(text) => NoCommand::Wrong(text),
+            Err(_) => NoCommand::NoMemory,
+        }
+    }
+}
+
+impl From<AllocError> for NoCommand {
+    fn from(_error: AllocError) -> NoCommand {
+        NoCommand::NoMemory
+    }
+}
+
+impl<T: Drop> From<AllocFailed<T>> for NoCommand {
+    fn from(_error: AllocFailed<T>) -> NoCommand {
+        NoCommand::NoMemory
+    }
+}
+
+/// The words with which the process was started, the program's name first.
+pub fn words_of_process(rt: &HostRuntime) -> Result<Vec<String>, NoCommand> {
+    match env::args(rt) {
+        Ok(words) => Ok(words.collect(rt.alloc())?),
+        Err(error) if error.kind() == io::ErrorKind::OutOfMemory => Err(NoCommand::NoMemory),
+        Err(_) => Err(NoCommand::NotText),
+    }
+}
+
+/// Prints what `clap` reports in place of words, unless that is a lack of memory.
+fn tell_report(rt: &HostRuntime, error: &Error) -> NoCommand {
+    if error.kind() == ErrorKind::OutOfMemory {
+        return NoCommand::NoMemory;
+    }
+    let _ = error.print(rt);
+    if error.use_stderr() {
+        NoCommand::Told
+    } else {
+        NoCommand::Answered
+    }
+}
+
+/// Reads words by a command, and prints what `clap` reports where they are none of its.
+pub(crate) fn read_by<'a>(
+    rt: &HostRuntime,
+    command: Command<'a>,
+    words: &'a [String],
+) -> Result<ArgMatches<'a>, NoCommand> {
+    command
+        .try_get_matches_from(words)
+        .map_err(|error| tell_report(rt, &error))
+}
+
+/// Reads words by the table of a program, and prints what `clap` reports where they are none of its.
+pub(crate) fn read_words<'a>(
+    rt: &HostRuntime,
+    program: &Program,
+    words: &'a [String],
+) -> Result<ArgMatches<'a>, NoCommand> {
+    read_by(rt, command_of(rt.alloc(), program)?, words)
+}
+
+/// The value of a word that is given, if it is.
+pub(crate) fn value_of<'a>(asked: &ArgMatches<'a>, word: Word) -> Option<&'a str> {
+    asked.get_str(word.name)
+}
+
+/// The value of a word that must be given.
+pub(crate) fn required<'a>(asked: &ArgMatches<'a>, word: Word) -> Result<&'a str, NoCommand> {
+    value_of(asked, word).ok_or(NoCommand::Unread)
+}
+
+/// The values of a word, in the order in which they are given, if any is.
+pub(crate) fn values_of<'m, 'a>(asked: &'m ArgMatches<'a>, word: Word) -> Option<&'m [&'a str]> {
+    asked.get_strs(word.name)
+}
+
+/// Whether a flag is given.
+pub(crate) fn has_flag(asked: &ArgMatches<'_>, word: Word) -> bool {
+    asked.get_flag(word.name)
+}
+
+/// The number of a word of exactly `count` decimal digits.
+fn digits(word: &str, count: usize) -> Option<i16> {
+    if word.len() != count || !word.bytes().all(|octet| octet.is_ascii_digit()) {
+        return None;
+    }
+    word.parse().ok()
+}
+
+/// The day of a text `YYYY-MM-DD`, of 1970 to 9999; none for any other text.
+pub(crate) fn day_of(text: &str) -> Option<Date> {
+    let (year, rest) = text.split_once('-')?;
+    let (month, day) = rest.split_once('-')?;
+    let year = digits(year, 4).filter(|year| *year >= 1970)?;
+    let month = i8::try_from(digits(month, 2)?).ok()?;
+    let day = i8::try_from(digits(day, 2)?).ok()?;
+    Date::new(year, month, day).ok()
+}

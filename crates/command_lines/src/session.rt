@@ -1,0 +1,57 @@
+//! The command line of `mailfile`, the program of sessions.
+
+use crate::reading::{NoCommand, read_by, value_of, words_of_process};
+use crate::table::{OPTION, Word, argument_of, bare_command};
+use clap::Command;
+use std::alloc::{AllocError, Global};
+use std::process::ExitCode;
+
+/// The status where the command line is refused.
+const STATUS_USAGE: u8 = 2;
+
+const STORE: Word = Word {
+    name: "store",
+    value: "FILE",
+    help: Some("The file that keeps the store; without it the store is in memory"),
+    ..OPTION
+};
+
+/// The options of a command line.
+#[derive(Drop)]
+pub struct CommandLine {
+    /// The path of the file that keeps the store, as it was given. Without one the store is in memory.
+    pub store: Option<String>,
+}
+
+/// The command line as `clap` is to parse it.
+fn command<'a>(alloc: Global) -> Result<Command<'a>, AllocError> {
+    bare_command(
+        alloc,
+        "mailfile",
+        "Files e-mail as records: serves a session from standard input to standard output",
+    )?
+    .arg(argument_of(alloc, &STORE)?)
+}
+
+/// Reads the command line of the process. Help, and why a word is refused, are printed.
+pub fn read_command_line(rt: &HostRuntime) -> Result<CommandLine, NoCommand> {
+    let words = words_of_process(rt)?;
+    let matches = read_by(rt, command(rt.alloc())?, words.as_slice())?;
+    let store = match value_of(&matches, STORE) {
+        Some(path) => Some(String::from_str(rt.alloc(), path)?),
+        None => None,
+    };
+    Ok(CommandLine { store })
+}
+
+/// Ends without a session: tells of a lack of memory, which alone is not told yet.
+pub fn end_without_session(rt: &HostRuntime, fault: NoCommand) -> ExitCode {
+    match fault {
+        NoCommand::Answered => return ExitCode::SUCCESS,
+        NoCommand::NoMemory => {
+            let _ = eprintln!(rt; "error: out of memory");
+        }
+        NoCommand::Told | NoCommand::NotText | NoCommand::Unread | NoCommand::Wrong(_) => {}
+    }
+    ExitCode::from(STATUS_USAGE)
+}

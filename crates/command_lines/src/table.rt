@@ -1,0 +1,179 @@
+//! Command lines as data: a program's subcommands with their words, which `clap` reads.
+//!
+//! `clap` makes and drops many values for each argument that is added, so it is called by a few functions here, once for
+//! all programs, each of which has a table.
+
+use clap::{Arg, ArgAction, Command};
+use std::alloc::{AllocError, Global};
+
+/// How a word stands on a command line.
+#[derive(Clone, Copy)]
+pub enum Form {
+    /// A value, by its place.
+    Place,
+    /// One value or more, by their place.
+    Places,
+    /// A value after two hyphens and the word's name.
+    Option,
+    /// A value after a hyphen and this letter.
+    Letter(char),
+    /// Two hyphens and the word's name, without a value.
+    Flag,
+}
+
+/// A word of a subcommand.
+#[derive(Clone, Copy)]
+pub struct Word {
+    /// What the program asks for it by.
+    pub name: &'static str,
+    pub form: Form,
+    /// What its value is called where it is shown; unused for a flag.
+    pub value: &'static str,
+    pub is_required: bool,
+    /// What the word is for, if that is told.
+    pub help: Option<&'static str>,
+    /// The name of a word that may not stand beside it, if there is one.
+    pub conflict: Option<&'static str>,
+}
+
+/// A word by its place, which must be given, and of which nothing is told.
+pub const PLACE: Word = Word {
+    name: "",
+    form: Form::Place,
+    value: "",
+    is_required: true,
+    help: None,
+    conflict: None,
+};
+
+/// An option that can be left out.
+pub const OPTION: Word = Word {
+    form: Form::Option,
+    is_required: false,
+    ..PLACE
+};
+
+/// A flag.
+pub const FLAG: Word = Word {
+    form: Form::Flag,
+    is_required: false,
+    ..PLACE
+};
+
+/// A subcommand.
+#[derive(Clone, Copy)]
+pub struct Subcommand {
+    pub name: &'static str,
+    /// What it does.
+    pub about: &'static str,
+    /// What stands after its help.
+    pub example: &'static str,
+    /// Its words, in the order in which they are shown.
+    pub words: &'static [Word],
+}
+
+/// The version of the programs.
+pub const VERSION: &str = "0.1.0";
+
+/// The command line of a program, which always has a subcommand.
+#[derive(Clone, Copy)]
+pub struct Program {
+    /// As it is started, and as its help names it.
+    pub name: &'static str,
+    /// What it does.
+    pub about: &'static str,
+    /// Its subcommands, in the order in which they are shown.
+    pub subcommands: &'static [Subcommand],
+}
+
+/// An argument in the form of a word.
+fn formed<'a>(argument: Arg<'a>, word: &Word) -> Arg<'a> {
+    match word.form {
+        Form::Place => argument.value_name(word.value),
+        Form::Places => argument.value_name(word.value).num_args(1..),
+        Form::Option => argument.value_name(word.value).long(word.name),
+        Form::Letter(letter) => argument.value_name(word.value).short(letter),
+        Form::Flag => argument.long(word.name),
+    }
+}
+
+/// What is done with each value of a word.
+fn action_of(form: Form) -> ArgAction {
+    match form {
+        Form::Place | Form::Option | Form::Letter(_) => ArgAction::Set,
+        Form::Places => ArgAction::Append,
+        Form::Flag => ArgAction::SetTrue,
+    }
+}
+
+/// An argument with what is told of a word.
+fn helped<'a>(argument: Arg<'a>, word: &Word) -> Arg<'a> {
+    match word.help {
+        Some(help) => argument.help(help),
+        None => argument,
+    }
+}
+
+/// The argument that a word is.
+pub fn argument_of<'a>(alloc: Global, word: &Word) -> Result<Arg<'a>, AllocError> {
+    let argument = Arg::new(alloc, word.name)
+        .action(action_of(word.form))
+        .required(word.is_required);
+    let argument = helped(formed(argument, word), word);
+    match word.conflict {
+        Some(name) => argument.conflicts_with(name),
+        None => Ok(argument),
+    }
+}
+
+/// Adds a word to a subcommand.
+fn with_word<'a>(
+    alloc: Global,
+    command: Command<'a>,
+    word: &Word,
+) -> Result<Command<'a>, AllocError> {
+    let argument = argument_of(alloc, word)?;
+    command.arg(argument)
+}
+
+/// A subcommand with its words.
+fn subcommand_of<'a>(alloc: Global, described: &Subcommand) -> Result<Command<'a>, AllocError> {
+    let mut command = Command::new(alloc, described.name)
+        .about(described.about)
+        .after_help(described.example);
+    for word in described.words {
+        command = with_word(alloc, command, word)?;
+    }
+    Ok(command)
+}
+
+/// Adds a subcommand to a program.
+fn with_subcommand<'a>(
+    alloc: Global,
+    command: Command<'a>,
+    described: &Subcommand,
+) -> Result<Command<'a>, AllocError> {
+    let subcommand = subcommand_of(alloc, described)?;
+    command.subcommand(subcommand)
+}
+
+/// A command line that has no words yet. `--help` names the program so, whatever the name of its file is.
+pub fn bare_command<'a>(
+    alloc: Global,
+    name: &'a str,
+    about: &'a str,
+) -> Result<Command<'a>, AllocError> {
+    Command::new(alloc, name)
+        .version(VERSION)
+        .about(about)
+        .bin_name(name)
+}
+
+/// The whole command line of a program. The only error is out of memory.
+pub fn command_of<'a>(alloc: Global, program: &Program) -> Result<Command<'a>, AllocError> {
+    let mut command = bare_command(alloc, program.name, program.about)?.subcommand_required(true);
+    for described in program.subcommands {
+        command = with_subcommand(alloc, command, described)?;
+    }
+    Ok(command)
+}

@@ -1,0 +1,236 @@
+//! The command line of `mailfile-tool`: what it asks for, with each value read and judged.
+
+mod words;
+
+use crate::reading::{NoCommand, day_of, has_flag, read_words, required, value_of, values_of};
+use clap::ArgMatches;
+use jiff::civil::Date;
+use std::alloc::{AllocError, Global};
+
+/// The last year in which a message can be captured.
+const LAST_YEAR: i16 = 2199;
+
+/// What is said of a day on which no message can be captured.
+pub const NO_DAY: &str = "the day is not YYYY-MM-DD of the years 1970 to 2199";
+
+/// What `mailfile-tool` is asked to do. Files and folders are named by their paths.
+#[derive(Drop)]
+pub enum Command<'a> {
+    /// Frames commands for a session.
+    Frame {
+        /// The file of the commands; none for standard input.
+        file: Option<&'a str>,
+    },
+    Explain(Explain<'a>),
+    Check(Check<'a>),
+    /// Writes the image of a script.
+    Compile {
+        script: &'a str,
+        folders: Folders<'a>,
+        image: &'a str,
+    },
+    /// Shows an image.
+    Dump {
+        image: &'a str,
+    },
+    Why(Why<'a>),
+}
+
+/// What is explained.
+#[derive(Clone, Copy)]
+pub enum Explain<'a> {
+    /// All numbers.
+    Numbers,
+    Number {
+        /// The number as it is typed.
+        word: &'a str,
+        /// None where it is none of 0 to 255.
+        number: Option<u8>,
+    },
+    /// The replies on standard input.
+    Replies {
+        /// The script that was refused.
+        script: Option<&'a str>,
+    },
+}
+
+/// Judges files.
+#[derive(Drop)]
+pub struct Check<'a> {
+    /// Scripts and plans.
+    pub files: Vec<&'a str>,
+    /// The present plan.
+    pub plan: Option<&'a str>,
+    pub folders: Folders<'a>,
+}
+
+/// The folders of the scripts that can be included; none where the command line names none.
+#[derive(Clone, Copy)]
+pub struct Folders<'a> {
+    /// The folder of the officer's own scripts.
+    pub personal: Option<&'a str>,
+    /// The folder of the scripts that every officer can include.
+    pub global: Option<&'a str>,
+}
+
+impl<'a> Folders<'a> {
+    /// The folder of the scripts of a location.
+    pub fn of(&self, is_global: bool) -> Option<&'a str> {
+        if is_global {
+            self.global
+        } else {
+            self.personal
+        }
+    }
+}
+
+/// Says why a message is filed where it is.
+#[derive(Clone, Copy)]
+pub struct Why<'a> {
+    pub by: Rules<'a>,
+    pub message: &'a str,
+    pub plan: Option<&'a str>,
+    /// The day of the capture, of 1970 to 2199; none for today.
+    pub day: Option<Date>,
+}
+
+/// What files the message.
+#[derive(Clone, Copy)]
+pub enum Rules<'a> {
+    Script {
+        path: &'a str,
+        folders: Folders<'a>,
+        format: Format,
+    },
+    Image(&'a str),
+}
+
+/// How it is said why a script files a message.
+#[derive(Clone, Copy)]
+pub enum Format {
+    Lines,
+    /// One line of JSON.
+    Json,
+    /// The steps of the script's image.
+    Steps,
+}
+
+/// A refusal in these words.
+fn wrong(alloc: Global, words: &str) -> Result<NoCommand, AllocError> {
+    Ok(NoCommand::Wrong(String::from_str(alloc, words)?))
+}
+
+/// The folders of the scripts that can be included.
+fn folders_asked<'a>(asked: &ArgMatches<'a>) -> Folders<'a> {
+    Folders {
+        personal: value_of(asked, words::PERSONAL),
+        global: value_of(asked, words::GLOBAL),
+    }
+}
+
+/// What is explained: all numbers rather than one, and one rather than replies.
+fn explain_asked<'a>(asked: &ArgMatches<'a>) -> Explain<'a> {
+    if has_flag(asked, words::NUMBERS) {
+        return Explain::Numbers;
+    }
+    match value_of(asked, words::NUMBER) {
+        Some(word) => Explain::Number {
+            word,
+            number: word.parse().ok(),
+        },
+        None => Explain::Replies {
+            script: value_of(asked, words::REFUSED),
+        },
+    }
+}
+
+/// What is judged.
+fn check_asked<'a>(alloc: Global, asked: &ArgMatches<'a>) -> Result<Check<'a>, NoCommand> {
+    let files = values_of(asked, words::FILES).unwrap_or(&[]);
+    Ok(Check {
+        files: Vec::from_slice(alloc, files)?,
+        plan: value_of(asked, words::PRESENT_PLAN),
+        folders: folders_asked(asked),
+    })
+}
+
+/// The day of a capture, where it is given.
+fn day_asked(alloc: Global, asked: &ArgMatches<'_>) -> Result<Option<Date>, NoCommand> {
+    let Some(text) = value_of(asked, words::DAY) else {
+        return Ok(None);
+    };
+    match day_of(text) {
+        Some(day) if day.year() <= LAST_YEAR => Ok(Some(day)),
+        _ => Err(wrong(alloc, NO_DAY)?),
+    }
+}
+
+/// How it is said why a script files a message: by its steps rather than as JSON.
+fn format_asked(asked: &ArgMatches<'_>) -> Format {
+    if has_flag(asked, words::STEPS) {
+        Format::Steps
+    } else if has_flag(asked, words::JSON) {
+        Format::Json
+    } else {
+        Format::Lines
+    }
+}
+
+/// What files the message, and the path of the message: the only path where an image is named, and otherwise the second.
+fn rules_asked<'a>(
+    alloc: Global,
+    asked: &ArgMatches<'a>,
+) -> Result<(Rules<'a>, &'a str), NoCommand> {
+    let first = required(asked, words::SCRIPT)?;
+    match (value_of(asked, words::RUN), value_of(asked, words::MESSAGE)) {
+        (Some(image), None) => Ok((Rules::Image(image), first)),
+        (None, Some(message)) => {
+            let script = Rules::Script {
+                path: first,
+                folders: folders_asked(asked),
+                format: format_asked(asked),
+            };
+            Ok((script, message))
+        }
+        _ => Err(wrong(
+            alloc,
+            "why takes a script and a message, or with --image a message alone",
+        )?),
+    }
+}
+
+/// What is asked about a message.
+fn why_asked<'a>(alloc: Global, asked: &ArgMatches<'a>) -> Result<Why<'a>, NoCommand> {
+    let day = day_asked(alloc, asked)?;
+    let (by, message) = rules_asked(alloc, asked)?;
+    Ok(Why {
+        by,
+        message,
+        plan: value_of(asked, words::PLAN),
+        day,
+    })
+}
+
+/// Reads the words of a command line, the program's name first. A day that is not in the calendar of captures, and a
+/// message that is not clear, are `Wrong`; help, and what `clap` refuses, are printed.
+pub fn read_command<'a>(rt: &HostRuntime, words: &'a [String]) -> Result<Command<'a>, NoCommand> {
+    let alloc = rt.alloc();
+    let matches = read_words(rt, &words::PROGRAM, words)?;
+    Ok(match matches.subcommand().ok_or(NoCommand::Unread)? {
+        ("frame", asked) => Command::Frame {
+            file: value_of(asked, words::COMMANDS),
+        },
+        ("explain", asked) => Command::Explain(explain_asked(asked)),
+        ("check", asked) => Command::Check(check_asked(alloc, asked)?),
+        ("compile", asked) => Command::Compile {
+            script: required(asked, words::SCRIPT)?,
+            folders: folders_asked(asked),
+            image: required(asked, words::OUTPUT)?,
+        },
+        ("dump", asked) => Command::Dump {
+            image: required(asked, words::IMAGE)?,
+        },
+        ("why", asked) => Command::Why(why_asked(alloc, asked)?),
+        _ => return Err(NoCommand::Unread),
+    })
+}

@@ -1,0 +1,176 @@
+//! The subcommands of `mailfile-tool`, each with its words and an example.
+
+use crate::table::{FLAG, Form, OPTION, PLACE, Program, Subcommand, Word};
+
+pub const PERSONAL: Word = Word {
+    name: "personal",
+    value: "DIR",
+    help: Some("The officer's own scripts, NAME.sieve each"),
+    ..OPTION
+};
+
+pub const GLOBAL: Word = Word {
+    name: "global",
+    value: "DIR",
+    help: Some("The scripts that every officer can include, NAME.sieve each"),
+    ..OPTION
+};
+
+pub const SCRIPT: Word = Word {
+    name: "script",
+    value: "SCRIPT",
+    ..PLACE
+};
+
+pub const IMAGE: Word = Word {
+    name: "image",
+    value: "IMAGE",
+    ..PLACE
+};
+
+pub const COMMANDS: Word = Word {
+    name: "file",
+    value: "FILE",
+    is_required: false,
+    help: Some("The file of commands; standard input if none is given"),
+    ..PLACE
+};
+
+const FRAME: Subcommand = Subcommand {
+    name: "frame",
+    about: "Reads commands with @PATH in place of lengths, and writes the octets of a session",
+    example: "Example: printf 'FILE @main.sieve @mail.eml\\n' | mailfile-tool frame | mailfile",
+    words: &[COMMANDS],
+};
+
+/// The script that was refused.
+pub const REFUSED: Word = Word {
+    name: "script",
+    value: "FILE",
+    help: Some("The script that was refused: offsets in it are shown as line and column"),
+    ..OPTION
+};
+
+pub const NUMBERS: Word = Word {
+    name: "numbers",
+    help: Some("Prints the texts of all numbers, and reads nothing"),
+    ..FLAG
+};
+
+pub const NUMBER: Word = Word {
+    name: "number",
+    value: "NUMBER",
+    is_required: false,
+    help: Some("Prints the texts of this number, and reads nothing"),
+    ..PLACE
+};
+
+const EXPLAIN: Subcommand = Subcommand {
+    name: "explain",
+    about: "Reads replies, and writes them with a text after each number of a refusal or fault",
+    example: "Example: mailfile < officer.session | mailfile-tool explain",
+    words: &[REFUSED, NUMBERS, NUMBER],
+};
+
+pub const FILES: Word = Word {
+    name: "files",
+    form: Form::Places,
+    value: "FILE",
+    ..PLACE
+};
+
+/// The plan that a new one is to replace.
+pub const PRESENT_PLAN: Word = Word {
+    name: "plan",
+    value: "FILE",
+    help: Some(
+        "The present plan: classes that it does not have, or that are closed, are warnings in a script, and those that a plan leaves out are faults",
+    ),
+    ..OPTION
+};
+
+const CHECK: Subcommand = Subcommand {
+    name: "check",
+    about: "Checks scripts, and plans by the ending .toml: prints nothing for good ones, else FILE:LINE:COLUMN: NUMBER: TEXT for each fault, with status 1",
+    example: "Example: mailfile-tool check plan.toml scripts/*.sieve --plan plan.toml; - is standard input, a script",
+    words: &[FILES, PRESENT_PLAN, PERSONAL, GLOBAL],
+};
+
+pub const OUTPUT: Word = Word {
+    form: Form::Letter('o'),
+    help: Some("The file that the image is written to"),
+    ..IMAGE
+};
+
+const COMPILE: Subcommand = Subcommand {
+    name: "compile",
+    about: "Writes the image of a script, and prints its budget in steps",
+    example: "Example: mailfile-tool compile main.sieve --global shared -o main.image",
+    words: &[SCRIPT, OUTPUT, PERSONAL, GLOBAL],
+};
+
+const DUMP: Subcommand = Subcommand {
+    name: "dump",
+    about: "Shows an image as text, and whether it may run",
+    example: "Example: mailfile-tool dump main.image",
+    words: &[IMAGE],
+};
+
+pub const MESSAGE: Word = Word {
+    name: "message",
+    value: "MESSAGE",
+    is_required: false,
+    ..PLACE
+};
+
+pub const PLAN: Word = Word {
+    name: "plan",
+    value: "FILE",
+    help: Some("The plan; without it the only class is unfiled"),
+    ..OPTION
+};
+
+pub const DAY: Word = Word {
+    name: "day",
+    value: "YYYY-MM-DD",
+    help: Some("The day of the capture, from which due dates are counted; today if none is given"),
+    ..OPTION
+};
+
+pub const STEPS: Word = Word {
+    name: "steps",
+    help: Some("Shows the steps of the script's image in place of its source"),
+    ..FLAG
+};
+
+pub const JSON: Word = Word {
+    name: "json",
+    help: Some("Writes the whole as one line of JSON"),
+    ..FLAG
+};
+
+/// The image that is run in place of a script.
+pub const RUN: Word = Word {
+    name: "image",
+    value: "FILE",
+    help: Some(
+        "Runs this image in place of a script, and shows its steps; only a message is named",
+    ),
+    ..OPTION
+};
+
+const WHY: Subcommand = Subcommand {
+    name: "why",
+    about: "Shows why a message is filed where it is: the commands that chose its classes, its fields, and the way there by the source",
+    example: "Example: mailfile-tool why main.sieve mail.eml --plan plan.toml --day 2026-11-23",
+    words: &[
+        SCRIPT, MESSAGE, PLAN, DAY, STEPS, JSON, RUN, PERSONAL, GLOBAL,
+    ],
+};
+
+/// The whole command line, with all subcommands.
+pub const PROGRAM: Program = Program {
+    name: "mailfile-tool",
+    about: "Tools for mailfile: sessions without counting octets, texts for numbers, script checks, images as text, and why a message is filed",
+    subcommands: &[FRAME, EXPLAIN, CHECK, COMPILE, DUMP, WHY],
+};

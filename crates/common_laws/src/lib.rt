@@ -1,2 +1,0 @@
-#![tactic(auto)]
-//! Laws that several crates cite. It has no code.

@@ -1,0 +1,173 @@
+//! Replies with texts after their numbers.
+
+use crate::failure::Failure;
+use crate::files::{lines_of, read_file, read_line};
+use crate::output::write;
+use std::alloc::{AllocError, Global};
+use std::io::BufRead;
+use std::str;
+use tool_findings::judge;
+use tool_texts::{Payload, fault_text, line_at, place_of, refusal_text};
+
+/// The script that was refused, and its path.
+#[derive(Clone, Copy)]
+struct Script<'a> {
+    path: &'a str,
+    text: &'a [u8],
+}
+
+/// What a line of a reply says.
+#[derive(Clone, Copy)]
+enum Reply {
+    /// A refusal by its number, and perhaps the offset at which it stands.
+    Refused(u8, Option<usize>),
+    /// A fault of a run.
+    Fault(u8),
+    /// Anything else.
+    Other,
+}
+
+/// Reads a refusal from what follows its first word.
+fn read_refusal(words: &str) -> Option<Reply> {
+    match words.split_once(" at ") {
+        Some((number, at)) => Some(Reply::Refused(number.parse().ok()?, Some(at.parse().ok()?))),
+        None => Some(Reply::Refused(words.parse().ok()?, None)),
+    }
+}
+
+/// Reads a line, which comes without its LF.
+fn read_reply(line: &[u8]) -> Reply {
+    let Ok(text) = str::from_utf8(line) else {
+        return Reply::Other;
+    };
+    if let Some(words) = text.strip_prefix("refused ") {
+        return read_refusal(words).unwrap_or(Reply::Other);
+    }
+    text.strip_prefix("fault ")
+        .and_then(|words| words.parse().ok())
+        .map_or(Reply::Other, Reply::Fault)
+}
+
+/// Adds blanks as wide as a part of a line: a tab for a tab, and a space for each other character.
+fn push_blanks(shown: &mut Vec<u8>, part: &[u8]) -> Result<(), AllocError> {
+    for octet in part {
+        match octet {
+            b'\t' => shown.push(b'\t')?,
+            0x80..=0xBF => {}
+            _ => shown.push(b' ')?,
+        }
+    }
+    Ok(())
+}
+
+/// Adds the line of a script in which a place is, and a line with a mark below that column. Columns count from 1.
+fn push_marked(shown: &mut Vec<u8>, line: &[u8], column: usize) -> Result<(), AllocError> {
+    let before = line.len().min(column.saturating_sub(1));
+    shown.extend_from_slice(line)?;
+    shown.extend_from_slice(b"\n  | ")?;
+    push_blanks(shown, &line[..before])?;
+    shown.extend_from_slice(b"^\n")
+}
+
+/// The place of an offset of a script, the line in which it is, and a mark below it.
+fn shown_place(alloc: Global, script: Script<'_>, at: usize) -> Result<Vec<u8>, AllocError> {
+    let place = place_of(script.text, at);
+    let (path, number, column) = (script.path, place.line, place.column);
+    let head = format!(in alloc; "  {path}:{number}:{column}\n  | ")?;
+    let mut shown = head.into_bytes();
+    push_marked(&mut shown, line_at(script.text, at), column)?;
+    Ok(shown)
+}
+
+/// The place of a refusal in its script: the offset that the reply gives, or for 30 to 41 the place where the script is
+/// refused by that number. None where neither is known.
+fn place_of_refusal(
+    alloc: Global,
+    script: Script<'_>,
+    number: u8,
+    told: Option<usize>,
+) -> Result<Option<usize>, AllocError> {
+    if told.is_some() || !matches!(number, 30..=41) {
+        return Ok(told);
+    }
+    match judge(alloc, script.text)? {
+        Some(report) if report.verdict.number == number => Ok(Some(report.verdict.at)),
+        _ => Ok(None),
+    }
+}
+
+/// A line, which comes without its LF, with the text of its number.
+fn explained(alloc: Global, line: &[u8], text: Option<&str>) -> Result<Vec<u8>, AllocError> {
+    let mut explained = Vec::from_slice(alloc, line)?;
+    if let Some(text) = text {
+        explained.extend_from_slice(b": ")?;
+        explained.extend_from_slice(text.as_bytes())?;
+    }
+    explained.push(b'\n')?;
+    Ok(explained)
+}
+
+/// Writes a line, which comes without its LF, and the text of its number.
+fn write_explained(rt: &HostRuntime, line: &[u8], text: Option<&str>) -> Result<(), Failure> {
+    write(rt, &explained(rt.alloc(), line, text)?)
+}
+
+/// Shows the place of a refusal in its script, where it is known.
+fn show_refusal(
+    rt: &HostRuntime,
+    script: Script<'_>,
+    number: u8,
+    told: Option<usize>,
+) -> Result<(), Failure> {
+    match place_of_refusal(rt.alloc(), script, number, told)? {
+        Some(at) => write(rt, &shown_place(rt.alloc(), script, at)?),
+        None => Ok(()),
+    }
+}
+
+/// Writes a line, which comes without its LF, with its explanation.
+fn explain_line(rt: &HostRuntime, line: &[u8], script: Option<Script<'_>>) -> Result<(), Failure> {
+    match read_reply(line) {
+        Reply::Refused(number, told) => {
+            write_explained(rt, line, refusal_text(number))?;
+            match script {
+                Some(script) => show_refusal(rt, script, number, told),
+                None => Ok(()),
+            }
+        }
+        Reply::Fault(number) => write_explained(rt, line, fault_text(number)),
+        Reply::Other => write_explained(rt, line, None),
+    }
+}
+
+/// Reads replies to the end of a reader, and writes each with its text.
+fn explain_all<R: BufRead>(
+    rt: &HostRuntime,
+    reader: &mut R,
+    script: Option<Script<'_>>,
+) -> Result<(), Failure> {
+    let alloc = rt.alloc();
+    let mut line = Vec::new(alloc);
+    for _ in 0..u64::MAX {
+        if !read_line(alloc, reader, &mut line)? {
+            break;
+        }
+        explain_line(rt, line.strip_suffix(b"\n").unwrap_or(&line), script)?;
+    }
+    Ok(())
+}
+
+/// Writes each reply that comes on standard input with the text of its number after it. Where the script of a file was
+/// refused, the place of each refusal in it follows, where it is known.
+pub fn explain(rt: &HostRuntime, script: Option<&str>) -> Result<(), Failure> {
+    let mut replies = lines_of(rt.alloc(), rt.stdin())?;
+    let Some(path) = script else {
+        return explain_all(rt, &mut replies, None);
+    };
+    let text = read_file(rt, path, Payload::Script.limit())?;
+    let script = Script {
+        path,
+        text: text.as_slice(),
+    };
+    explain_all(rt, &mut replies, Some(script))
+}

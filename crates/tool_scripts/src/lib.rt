@@ -1,0 +1,32 @@
+//! Scripts in files, as a command line names them: checked, compiled, and run over a message. Also images, and runs of
+//! them, as text for people.
+//!
+//! - `scripts`: scripts of files, and those of folders that can be included;
+//! - `checks`: scripts and plans judged, for `check`;
+//! - `images`: the image of a script, for `compile`;
+//! - `dumps`: an image with all its parts, and whether it may run, for `dump`;
+//! - `places`: the instruction by which an image is refused;
+//! - `questions`: a message, a plan and a moment that are asked about;
+//! - `runs`: why a message is filed where it is, for `why`;
+//! - `steps`: the fields that a message was read as, and the steps of a run over it;
+//! - `classes`: the classes of a run, with what filed the message in each.
+//!
+//! What becomes of a message is found by `tool_inquiry`, and an image is made by `filing_gen`; their contracts say what
+//! these are. What is read and written here, no contract speaks of: tests of the program show it. It is written to
+//! standard output a line at a time, since a run may have many steps.
+#![tactic(auto)]
+
+mod checks;
+mod classes;
+mod dumps;
+mod images;
+mod places;
+mod questions;
+mod runs;
+mod scripts;
+mod steps;
+
+pub use checks::check_files;
+pub use dumps::dump_image;
+pub use images::compile_script;
+pub use runs::tell_why;

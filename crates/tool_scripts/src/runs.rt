@@ -1,0 +1,181 @@
+//! Why a message is filed in its classes.
+
+use crate::classes::show_classes;
+use crate::dumps::read_image;
+use crate::questions::{Question, read_question};
+use crate::scripts::{read_folders, read_script, unless_full};
+use crate::steps::{show_fields, show_steps};
+use command_lines::tools::{Folders, Format, Rules, Why};
+use filing_machine::{Trace, trace_run};
+use filing_verify::Verified;
+use mail_case::Case;
+use sieve_meaning::{Location, Outcome, RunFault};
+use tool_console::{Failure, Verdict, tell, write, write_refusal};
+use tool_inquiry::{
+    Answer, Form, Inquiry, ScriptFile, Scripts, answer_to, compiled, open_case, outcome_text,
+};
+
+/// A script and those of the folders; none where one is refused, which is reported.
+fn read_scripts(
+    rt: &HostRuntime,
+    path: &str,
+    folders: Folders<'_>,
+) -> Result<Option<Scripts>, Failure> {
+    let Some(main) = read_script(rt, path, Location::Personal)? else {
+        return Ok(None);
+    };
+    match read_folders(rt, folders)? {
+        Some(others) => unless_full(rt, Scripts::new(rt.alloc(), main, others)),
+        None => Ok(None),
+    }
+}
+
+/// Says on standard error where to look for what a run that ended with a fault has missed.
+fn tell_lack(rt: &HostRuntime, asked: &Why<'_>, fault: Option<RunFault>) {
+    let place = match fault {
+        Some(RunFault::ClassNotOpen) if asked.plan.is_none() => {
+            "no --plan is given, so unfiled is the only class"
+        }
+        Some(RunFault::ClassNotOpen) => "check --plan says whether the class is missing or closed",
+        Some(RunFault::ScriptMissing) => {
+            "the scripts to include are those in the folders of --personal and --global"
+        }
+        _ => return,
+    };
+    tell(rt, place);
+}
+
+/// Writes an outcome in the lines of a session.
+fn write_outcome(rt: &HostRuntime, outcome: &Outcome) -> Result<(), Failure> {
+    let text = outcome_text(rt.alloc(), outcome)?;
+    write(rt, &text)
+}
+
+/// Writes an answer: in lines, with the outcome as in a session below, or as one line of JSON.
+fn write_answer(rt: &HostRuntime, answer: &Answer, form: Form) -> Result<(), Failure> {
+    write(rt, answer.text.as_bytes())?;
+    match form {
+        Form::Json => write(rt, b"\n"),
+        Form::Lines => write_outcome(rt, &answer.outcome),
+    }
+}
+
+/// What is asked of scripts.
+fn inquiry_of<'q>(scripts: &'q Scripts, question: &'q Question<'q>) -> Inquiry<'q> {
+    let plan_text = match (question.asked.plan, &question.plan.text) {
+        (Some(path), Some(text)) => Some((path, text.as_slice())),
+        _ => None,
+    };
+    Inquiry {
+        scripts,
+        plan: &question.plan.plan,
+        plan_text,
+        message_name: question.asked.message,
+        message: question.message.as_slice(),
+        moment: question.moment,
+    }
+}
+
+/// Writes a report on the run of a script.
+fn report_run(
+    rt: &HostRuntime,
+    scripts: &Scripts,
+    question: &Question<'_>,
+    form: Form,
+) -> Result<Verdict, Failure> {
+    let inquiry = inquiry_of(scripts, question);
+    let Some(answer) = unless_full(rt, answer_to(rt.alloc(), &inquiry, form))? else {
+        return Ok(Verdict::Refused);
+    };
+    write_answer(rt, &answer, form)?;
+    tell_lack(rt, question.asked, answer.outcome.fault);
+    Ok(Verdict::Good)
+}
+
+/// Writes the steps of a run of an image, with the fields before, and the classes and the outcome after them.
+fn show_run<C: Case>(
+    rt: &HostRuntime,
+    program: &Verified,
+    question: &Question<'_>,
+    case: &C,
+    run: &Trace,
+) -> Result<(), Failure> {
+    let (image, plan) = (program.image(), &question.plan.plan);
+    show_fields(rt, question.message.as_slice(), case)?;
+    show_steps(rt, image, case, run)?;
+    show_classes(rt, image, plan, question.moment, run)?;
+    write_outcome(rt, &run.outcome)
+}
+
+/// Runs an image over the message, and shows the run.
+fn run_image(
+    rt: &HostRuntime,
+    program: &Verified,
+    question: &Question<'_>,
+) -> Result<Verdict, Failure> {
+    let (message, plan) = (question.message.as_slice(), &question.plan.plan);
+    let Some(case) = unless_full(rt, open_case(rt.alloc(), message, plan))? else {
+        return Ok(Verdict::Refused);
+    };
+    let run = trace_run(rt.alloc(), program, &case)?;
+    show_run(rt, program, question, &case, &run)?;
+    Ok(Verdict::Good)
+}
+
+/// Runs the image of a script over the message, and shows the run. A script that is too heavy (5) is refused.
+fn run_compiled(
+    rt: &HostRuntime,
+    scripts: &Scripts,
+    question: &Question<'_>,
+) -> Result<Verdict, Failure> {
+    match unless_full(rt, compiled(rt.alloc(), scripts))? {
+        Some(Some(program)) => run_image(rt, &program, question),
+        Some(None) => {
+            write_refusal(rt, scripts.main.path.as_str(), 5)?;
+            Ok(Verdict::Refused)
+        }
+        None => Ok(Verdict::Refused),
+    }
+}
+
+/// Says why a script files the message.
+fn tell_script(
+    rt: &HostRuntime,
+    scripts: &Scripts,
+    question: &Question<'_>,
+    format: Format,
+) -> Result<Verdict, Failure> {
+    match format {
+        Format::Steps => run_compiled(rt, scripts, question),
+        Format::Json => report_run(rt, scripts, question, Form::Json),
+        Format::Lines => report_run(rt, scripts, question, Form::Lines),
+    }
+}
+
+/// Says why an image files the message.
+fn tell_image(rt: &HostRuntime, path: &str, question: &Question<'_>) -> Result<Verdict, Failure> {
+    match read_image(rt, path)? {
+        Some(program) => run_image(rt, &program, question),
+        None => Ok(Verdict::Refused),
+    }
+}
+
+/// Writes why a message is filed where it is: by a script a report on its run, or the steps of its image where these
+/// are asked for; by an image its steps. What is refused is reported on standard output: the plan, a script, or the
+/// image.
+pub fn tell_why(rt: &HostRuntime, asked: &Why<'_>) -> Result<Verdict, Failure> {
+    let Some(question) = read_question(rt, asked)? else {
+        return Ok(Verdict::Refused);
+    };
+    match asked.by {
+        Rules::Image(path) => tell_image(rt, path, &question),
+        Rules::Script {
+            path,
+            folders,
+            format,
+        } => match read_scripts(rt, path, folders)? {
+            Some(scripts) => tell_script(rt, &scripts, &question, format),
+            None => Ok(Verdict::Refused),
+        },
+    }
+}

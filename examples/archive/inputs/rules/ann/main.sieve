@@ -1,0 +1,3 @@
+require ["fileinto", "include"];
+if header :contains "subject" "tax" { fileinto "finance"; fileinto "finance/tax"; }
+include :global "bills";

@@ -1,0 +1,2 @@
+require "fileinto";
+if header :contains "subject" "bill" { fileinto "finance"; }

@@ -1,0 +1,6 @@
+require "fileinto";
+if header :contains "subject" "invoice" {
+    fileinto "finance";
+} elsif exists "list-id" {
+    fileinto "general";
+}
