@@ -40,8 +40,8 @@ pub fn tell_numbers(rt: &HostRuntime) -> Result<(), Failure> {
 /// Writes the texts of a number that is typed as a word: that of a refusal, that of a fault of a run, or both. A failure
 /// where neither has that number, or the word is no number of theirs.
 pub fn tell_number(rt: &HostRuntime, word: &str, number: Option<u8>) -> Result<(), Failure> {
-    let refusal = number.and_then(refusal_text);
-    let fault = number.and_then(fault_text);
+    let refusal = number.and_then(|number| refusal_text(number));
+    let fault = number.and_then(|number| fault_text(number));
     if refusal.is_none() && fault.is_none() {
         return Err(Failure::of(format!(in rt.alloc();
             "no refusal and no fault has the number {word}"
