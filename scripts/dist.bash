@@ -34,7 +34,8 @@ is_dist_program() {
     gzip -d -c < "$root/dist/${1//_/-}.gz" | cmp - "$root/crates/$1/out/$1"
 }
 
-# Compares the programs that were built with those of dist/, where these are from the same sources, by a kit of the same logic.
+# Compares the programs that were built with those of dist/, where these are from the same sources, by a kit of the same logic. A
+# difference is a failure where it is the same kit, and is told where it is another.
 compare_dist() {
     local name sum kit
     kit=$(kit)
@@ -45,8 +46,12 @@ compare_dist() {
             echo "$name is not compared: dist/ has it by $dist_kit, and this is $kit"
         elif ! sum=$(sum_of "$name") || [[ $dist_sum != "$sum" ]]; then
             echo "$name is not compared: dist/ has it from other sources"
+        elif [[ $dist_kit == "$kit" ]]; then
+            count "$name is not that of dist/, from the same sources and by the same kit" is_dist_program "$name"
+        elif is_dist_program "$name" &> /dev/null; then
+            echo "$name is that of dist/, where it is by $dist_kit"
         else
-            count "$name is another by $kit than in dist/, where it is by $dist_kit, from the same sources" is_dist_program "$name"
+            echo "$name is another by $kit than in dist/, where it is by $dist_kit, from the same sources"
         fi
     done
     group "programs that are those of dist/"

@@ -161,17 +161,28 @@ makes_dist() {
         [[ $(grep -c -E '^mailfile(_tool)? ' "$stage/tree/dist/MANIFEST") -eq 2 ]]
 }
 
-# Whether ./prove, by a kit, says that so many programs are those of dist/, and so many are not.
-compares() (
+# What ./prove, by a kit, says of the programs and those of dist/.
+compared() (
     root=$stage/tree PROGRAMS=(mailfile mailfile_tool) group_passed=0 group_failed=0
     echo "$1" > "$stage/kit/KIT-ID"
-    PATH=$path compare_dist 2>&1 | grep -q ": $2 passed, $3 failed$"
+    PATH=$path compare_dist 2>&1
 )
+
+# Whether it counts so many programs that are those of dist/, and so many that are not.
+compares() {
+    compared "$1" | grep -q ": $2 passed, $3 failed$"
+}
+
+# Whether it tells that of so many programs, which another kit has made, and counts none.
+tells_of_another_kit() {
+    [[ $(compared "$1" | grep -c "$3") -eq $2 ]] && compares "$1" 0 0
+}
 
 compares_with_dist() {
     local program=$stage/tree/crates/mailfile/out/mailfile
-    compares 'kit-1 logic 1' 2 0 && compares 'kit-2 logic 1' 2 0 && compares 'kit-3 logic 3' 0 0 && echo >> "$program" &&
-        compares 'kit-2 logic 1' 1 1 && compares 'kit-1 logic 1' 1 1
+    compares 'kit-1 logic 1' 2 0 && tells_of_another_kit 'kit-2 logic 1' 2 'is that of dist/' &&
+        tells_of_another_kit 'kit-3 logic 3' 2 'is not compared' && echo >> "$program" && compares 'kit-1 logic 1' 1 1 &&
+        tells_of_another_kit 'kit-2 logic 1' 1 'is another by kit-2'
 }
 
 serves_from_dist() {
