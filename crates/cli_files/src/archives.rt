@@ -109,7 +109,10 @@ fn fill_file<S: Start>(
         Ok(conn) => conn,
         Err((error, _)) => return Err(NoStore::of_opening(error, has_log(rt, path))),
     };
-    lay_files(rt.alloc(), conn, plan)
+    match lay_files(rt.alloc(), conn, plan) {
+        Ok(files) => Ok(files),
+        Err(fault) => Err(fault),
+    }
 }
 
 /// Makes a new store with a plan in a new file at a path, which only its owner may read and write. Answers its files. As
@@ -126,9 +129,11 @@ pub fn create_archive<S: Start>(
     ensures { IfOk result (KeepsNew (system_file S.Start) (image_at S.Start) plan) }
 {
     make_file(rt, path)?;
-    let filled = fill_file(rt, path, plan, start);
-    if filled.is_err() {
-        remove_files(rt, path);
+    match fill_file(rt, path, plan, start) {
+        Ok(files) => Ok(files),
+        Err(fault) => {
+            remove_files(rt, path);
+            Err(fault)
+        }
     }
-    filled
 }
