@@ -1,6 +1,6 @@
 #!/usr/bin/env bash
 # shellcheck disable=SC2016,SC2317 # backticks are those of the pages, and count calls its checks by their names
-# Checks what the pages name: other pages and their sections, files, the functions that the way of a capture leads through, and the
+# Checks what the pages name: other pages and their sections, files, the functions that the ways through the code lead to, and the
 # crates with their levels. ./test sources this file; run by itself, it checks the pages.
 
 : "${work:=$(mktemp -d)}"
@@ -29,9 +29,9 @@ paths_of() {
     grep -o -E '`(\./[a-z-]+|(scripts|docs|crates|trials|examples|man|dist)/[A-Za-z0-9_./-]+)' "$1" | sed -E 's/^`(\.\/)?//' | sort -u
 }
 
-# The steps of the way of a capture, a line each.
+# The steps in a part of docs/ARCHITECTURE.md, a line each. The part is given by the beginnings of its first line and of the line after it.
 steps() {
-    sed -n '/^## The way of one capture/,/^## /p' docs/ARCHITECTURE.md | awk '
+    sed -n "/^$1/,/^$2/p" docs/ARCHITECTURE.md | awk '
         /^[0-9]+\. / { if (step) print step; step = $0; next }
         /^    *[^ ]/ && step { sub(/^ +/, " "); step = step $0; next }
         { if (step) print step; step = "" }'
@@ -53,12 +53,22 @@ check_step() {
     done
 }
 
-# Whether the way opens at most that many files, and comes back to one at most that many times.
+# The way of a capture from BEGIN to the due list, with the session around it, and that of a delivery, which takes its middle.
+way_of_capture() {
+    steps '## The way of one capture' '## '
+}
+way_of_delivery() {
+    steps '## The way of a delivery' '## '
+    steps '\*\*BEGIN\*\*' '\*\*DUE\*\*'
+}
+
+# Whether a way opens at most that many files of at most that many crates, and comes back to one at most that many times.
 is_short() {
-    local opened different
-    opened=$(steps | wc -l)
-    different=$(steps | cut -d '`' -f 2 | sort -u | wc -l)
-    ((different <= $1 && opened - different <= $2))
+    local opened files crates
+    opened=$("$1" | cut -d '`' -f 2)
+    files=$(sort -u <<< "$opened")
+    crates=$(cut -d / -f 1 <<< "$files" | sort -u)
+    (($(wc -l <<< "$files") <= $2 && $(wc -l <<< "$crates") <= $3 && $(wc -l <<< "$opened") - $(wc -l <<< "$files") <= $4))
 }
 
 # The crates with their levels, by crates.txt, and by the table of docs/ARCHITECTURE.md.
@@ -89,8 +99,9 @@ pages() {
     done
     while IFS= read -r step; do
         check_step "$step"
-    done < <(steps)
-    count "the way of a capture: at most 40 files, and five returns" is_short 40 5
+    done < <(steps '## The way of one capture' '## Crates')
+    count "the way of a capture: at most 40 files, 15 crates, and five returns" is_short way_of_capture 40 15 5
+    count "the way of a delivery: at most 40 files, 15 crates, and five returns" is_short way_of_delivery 40 15 5
     count "the crates and their levels in docs/ARCHITECTURE.md" has_all_levels
     group "what the pages name"
 }
