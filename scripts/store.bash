@@ -133,6 +133,26 @@ fails_in_a_delivery() {
     ((status == 0 && at > 1 && at < 100)) && [[ $is_doubted == yes ]] || shows_run
 }
 
+# ---- a new store that another one comes before
+
+# Copies a store, and delivers to another one that is made at the same path just before the copy gets its name there.
+copies_beside_another_store() {
+    archive_after captured "$here" || return
+    strace -f -o "$here/trace" -e trace=link,linkat -e inject=link,linkat:delay_enter=5000000 "$(program_of mailfile_store)" copy \
+        --store "$here/records.db" "$here/new.db" > "$work/copied" 2>&1 &
+    local copy=$! tries
+    for ((tries = 0; tries < 500; tries++)); do
+        ! grep -q link "$here/trace" 2> "$work/found" || break
+        sleep 0.01
+    done
+    cp -- "$here/records.db" "$here/new.db" && run deliver --store "$here/new.db" --rules "$here/rules" ann < "$here/mail/bill.eml" || return
+    ((status == 0)) || shows_run || return
+    wait "$copy"
+    status=$?
+    ((status == 73)) && grep -q 'new.db: there is a file already$' "$work/copied" && [[ ! -e $here/new.db.mailfile-new ]] &&
+        run show --store "$here/new.db" 5 && ((status == 0)) && cmp -- "$work/said" "$here/mail/bill.eml" || shows_run
+}
+
 store() {
     local status here=$work/archive
     if ((EUID > 0)) || command -v setpriv > "$work/found"; then
@@ -144,6 +164,7 @@ store() {
     fi
     if strace -o "$work/error" true > "$work/said" 2>&1; then
         count "a disk that fails in a delivery" fails_in_a_delivery
+        count "another store in the place of a copy" copies_beside_another_store
     fi
     group "mailfile-store without permissions, and on a disk that fails"
 }

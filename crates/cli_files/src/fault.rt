@@ -14,6 +14,8 @@ pub enum NoStore {
     There,
     /// A log lies beside the path of a new file: the file that it belongs to was moved or removed.
     StrayLog,
+    /// A new store for the path was begun, and never finished.
+    Unfinished,
     /// The system refuses the file or its folder.
     System(io::Error),
     /// What is at the path is not a regular file, or it has a second name.
@@ -103,6 +105,9 @@ impl NoStore {
             NoStore::There => "there is a file already",
             NoStore::StrayLog => {
                 "a log (-wal) or journal of another file lies beside this path; move it away first"
+            }
+            NoStore::Unfinished => {
+                "a run that did not end has left a new store beside this path (.mailfile-new); remove it first"
             }
             NoStore::NoFile => {
                 "the file cannot be opened for writing: look for the permissions of its folder and of its log (-wal), for a second name of the file (a hard link), and for a journal that sqlite3 has left"

@@ -51,14 +51,29 @@ pub fn look_at(rt: &HostRuntime, path: &str) -> Result<(), NoStore> {
     Ok(())
 }
 
-/// Makes an empty file, where nothing is at the path and no log or journal is beside it.
-pub fn make_file(rt: &HostRuntime, path: &str) -> Result<(), NoStore> {
-    if fs::exists(rt, path)? {
+/// Whether anything is at a path. A link is there, whatever it leads to.
+pub fn is_there(rt: &HostRuntime, path: &str) -> io::Result<bool> {
+    match fs::symlink_metadata(rt, path) {
+        Ok(_) => Ok(true),
+        Err(error) if error.kind() == ErrorKind::NotFound => Ok(false),
+        Err(error) => Err(error),
+    }
+}
+
+/// Finds that a new store may be made at a path: nothing is there, and no log or journal is beside it.
+pub fn judge_place(rt: &HostRuntime, path: &str) -> Result<(), NoStore> {
+    if is_there(rt, path)? {
         return Err(NoStore::There);
     }
     if has_octets(rt, path, "-wal")? || has_octets(rt, path, "-journal")? {
         return Err(NoStore::StrayLog);
     }
+    Ok(())
+}
+
+/// Makes an empty file at a path where a new store may be made.
+pub fn make_file(rt: &HostRuntime, path: &str) -> Result<(), NoStore> {
+    judge_place(rt, path)?;
     OpenOptions::new()
         .write(true)
         .create_new(true)
@@ -67,10 +82,15 @@ pub fn make_file(rt: &HostRuntime, path: &str) -> Result<(), NoStore> {
     Ok(())
 }
 
-/// Removes a file that was just made, and its log.
-pub fn remove_files(rt: &HostRuntime, path: &str) {
+/// Removes the log of a file that was just made.
+pub fn remove_log(rt: &HostRuntime, path: &str) {
     if let Ok(log) = format!(in rt.alloc(); "{path}-wal") {
         let _ = fs::remove_file(rt, log.as_str());
     }
+}
+
+/// Removes a file that was just made, and its log.
+pub fn remove_files(rt: &HostRuntime, path: &str) {
+    remove_log(rt, path);
     let _ = fs::remove_file(rt, path);
 }

@@ -29,11 +29,15 @@ pub trait Archives {
     /// Closes an archive whose store has ended.
     fn close(&self, conn: Connection<Self::Database>) -> Closed;
 
-    /// Makes an archive with a plan at a path where nothing is. Where that fails, nothing is left there.
-    fn create(&self, rt: &HostRuntime, path: &str, plan: Plan) -> Result<(), Failure>;
+    /// Makes an archive with a plan that is to have its place at a path where nothing is. Answers the path of a draft, at
+    /// which it is until then. Where that fails, nothing is left there.
+    fn create(&self, rt: &HostRuntime, path: &str, plan: Plan) -> Result<String, Failure>;
 
-    /// Removes an archive that was just made.
-    fn remove(&self, rt: &HostRuntime, path: &str);
+    /// Gives a draft that is whole its place at a path. Nothing there is replaced.
+    fn give_place(&self, rt: &HostRuntime, draft: &str, path: &str) -> Result<(), Failure>;
+
+    /// Removes a draft.
+    fn remove(&self, rt: &HostRuntime, draft: &str);
 }
 
 /// The same failure with `CannotMake` where the new archive is not there or is none.
@@ -44,16 +48,6 @@ pub fn not_made(failure: Failure) -> Failure {
         }
         other => other,
     }
-}
-
-/// Makes an archive with a plan. `CannotMake` where its place is not one for a new archive.
-pub fn make<A: Archives>(
-    rt: &HostRuntime,
-    archives: &A,
-    path: &str,
-    plan: Plan,
-) -> Result<(), Failure> {
-    archives.create(rt, path, plan).map_err(not_made)
 }
 
 /// What was done with an archive that is closed now. Where it may not keep that, this is the failure, by `TryAgain`; why

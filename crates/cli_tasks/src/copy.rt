@@ -1,6 +1,7 @@
 //! `copy`: a new archive with all that another one has.
 
-use crate::archives::{Archives, Closed, make, not_made, settled};
+use crate::archives::{Archives, Closed, not_made, settled};
+use crate::drafts::{begin, read_back, settle};
 use class_plan::Plan;
 use cli_console::{Failure, Status, write_text};
 use cli_readings::{Summary, summary_of};
@@ -61,15 +62,16 @@ fn kept_of<S: Alter>(rt: &HostRuntime, archive: &mut Store<S>) -> Result<Kept, F
     Ok(Kept { plan, summary })
 }
 
-/// Fills an archive that was just made with what the database of a connection has.
+/// Fills the draft of an archive with what the database of a connection has.
 fn fill<A: Archives>(
     rt: &HostRuntime,
     archives: &A,
     plan: &Plan,
     from: &mut Connection<A::Database>,
+    draft: &str,
     paths: Paths<'_>,
 ) -> Result<(), Failure> {
-    let archive = archives.open(rt, paths.new).map_err(not_made)?;
+    let archive = archives.open(rt, draft).map_err(not_made)?;
     let mut to = archive.into_connection();
     let filled = copy_archive(rt.alloc(), plan, from, &mut to).map_err(|fault| copy_failure(
         rt.alloc(),
@@ -81,86 +83,69 @@ fn fill<A: Archives>(
     filled
 }
 
-/// Reads a whole archive, copies it to one that was just made, and closes it. Answers what was copied, and how the archive
-/// was closed. Where something fails, no new one is left.
+/// Reads a whole archive, copies it to the draft of a new one, and closes it. Answers what was copied, and how the archive
+/// was closed.
 fn copy_all<A: Archives>(
     rt: &HostRuntime,
     archives: &A,
     archive: Store<A::Database>,
+    draft: &str,
     paths: Paths<'_>,
 ) -> (Result<Summary, Failure>, Closed) {
     let mut archive = archive;
     let kept = kept_of(rt, &mut archive);
     let mut from = archive.into_connection();
     let copied = kept.and_then(|kept| {
-        fill(rt, archives, &kept.plan, &mut from, paths)?;
+        fill(rt, archives, &kept.plan, &mut from, draft, paths)?;
         Ok(kept.summary)
     });
-    if copied.is_err() {
-        archives.remove(rt, paths.new);
-    }
     (copied, archives.close(from))
 }
 
-/// Reads a new archive back. All of it is in its file then, and nothing in the log.
-fn read_back<A: Archives>(rt: &HostRuntime, archives: &A, new: &str) -> Result<Summary, Failure> {
-    let mut archive = archives.open(rt, new).map_err(not_made)?;
-    let summed = summary_of(rt, &mut archive);
-    match archives.close(archive.into_connection()) {
-        Closed::Whole => summed,
-        _ => Err(Failure::at(rt.alloc(), Status::TryAgain, new, &"the disk failed")),
-    }
-}
-
-/// Reads a new archive back, and compares it with what was copied.
+/// Reads the draft of an archive back, and compares it with what was copied.
 fn compare<A: Archives>(
     rt: &HostRuntime,
     archives: &A,
     kept: &Summary,
-    new: &str,
+    draft: &str,
 ) -> Result<Summary, Failure> {
-    let copied = read_back(rt, archives, new)?;
+    let copied = read_back(rt, archives, draft)?;
     if copied.sum.as_slice() != kept.sum.as_slice() {
         return Err(Failure::at(
             rt.alloc(),
             Status::TryAgain,
-            new,
+            draft,
             &"the disk has not kept what was written",
         ));
     }
     Ok(copied)
 }
 
-/// Reports how much a new archive has, if it has what was copied. Otherwise it is removed.
-fn settle<A: Archives>(
+/// Gives the draft of an archive its place if it has what was copied, and reports how much that is. Otherwise none is left.
+fn finish<A: Archives>(
     rt: &HostRuntime,
     archives: &A,
-    kept: &Summary,
+    copied: Result<Summary, Failure>,
+    draft: &str,
     new: &str,
 ) -> Result<(), Failure> {
-    match compare(rt, archives, kept, new) {
-        Ok(copied) => {
-            let text = format!(in rt.alloc();
-                "copied records {} messages {} octets {}\n",
-                copied.records, copied.messages, copied.octets
-            )?;
-            write_text(rt, text.as_str())
-        }
-        Err(failure) => {
-            archives.remove(rt, new);
-            Err(failure)
-        }
-    }
+    let found = copied.and_then(|kept| compare(rt, archives, &kept, draft));
+    let copied = settle(rt, archives, draft, new, found)?;
+    let text = format!(in rt.alloc();
+        "copied records {} messages {} octets {}\n",
+        copied.records, copied.messages, copied.octets
+    )?;
+    write_text(rt, text.as_str())
 }
 
-/// Makes a new archive with the plan of another one.
-fn make_alike<A: Archives>(
+/// Makes the draft of a new archive with the plan of another one.
+fn begin_alike<A: Archives>(
     rt: &HostRuntime,
     archives: &A,
     archive: &Store<A::Database>,
     new: &str,
-) -> Result<(), Failure> {
-    make(rt, archives, new, archive.plan().copy()?)
+) -> Result<String, Failure> {
+    begin(rt, archives, new, archive.plan().copy()?)
 }
 
 /// Makes a new archive with all that another one has. Where that fails, no new one is left.
@@ -170,10 +155,13 @@ pub fn copy_to<A: Archives>(
     paths: Paths<'_>,
 ) -> Result<(), Failure> {
     let archive = archives.open(rt, paths.store)?;
-    let (copied, closed) = match make_alike(rt, archives, &archive, paths.new) {
-        Ok(()) => copy_all(rt, archives, archive, paths),
+    let (done, closed) = match begin_alike(rt, archives, &archive, paths.new) {
+        Ok(draft) => {
+            let draft = draft.as_str();
+            let (copied, closed) = copy_all(rt, archives, archive, draft, paths);
+            (finish(rt, archives, copied, draft, paths.new), closed)
+        }
         Err(failure) => (Err(failure), archives.close(archive.into_connection())),
     };
-    let done = copied.and_then(|kept| settle(rt, archives, &kept, paths.new));
     settled(rt, paths.store, done, closed)
 }

@@ -2,6 +2,7 @@
 //!
 //! - `archives`: where archives are kept, and how they are opened and closed;
 //! - `subcommands`: what each subcommand does;
+//! - `drafts`: new archives, which get their places once they are found whole;
 //! - `copy`: a new archive with all that another one has;
 //! - `reports`: why something was not done, for a person and as a status;
 //! - `program`: the command line, and what it asks for.
@@ -12,6 +13,7 @@
 
 mod archives;
 mod copy;
+mod drafts;
 mod program;
 mod reports;
 mod subcommands;

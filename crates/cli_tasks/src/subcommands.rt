@@ -1,7 +1,8 @@
 //! What each subcommand does.
 
-use crate::archives::{Archives, close_after, make, with_archive};
+use crate::archives::{Archives, close_after, with_archive};
 use crate::copy::{Paths, copy_to};
+use crate::drafts::make;
 use class_plan::Date;
 use cli_changes::{
     Change, FilingRules, Intake, change_holds, day_of_disposal, deliver_to, dispose_by,

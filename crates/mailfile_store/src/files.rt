@@ -2,24 +2,33 @@
 
 use class_plan::Plan;
 use cli_console::{Failure, Status};
-use cli_files::{NoStore, create_archive, open_archive};
+use cli_files::{
+    NoStore, create_archive, draft_for, give_place, open_archive, remove_files,
+};
 use cli_tasks::{Archives, Closed};
 use record_files::{Closing, close};
 use record_store::Store;
 use sqlite::{Connection, FileFrom, FileStore, Unknown};
 use std::alloc::Global;
-use std::fs;
 
 /// The failure of a store that cannot be had.
 fn no_store(alloc: Global, path: &str, cause: NoStore) -> Failure {
     let status = match cause {
         NoStore::NotThere | NoStore::NoFile | NoStore::System(_) => Status::NoInput,
-        NoStore::There | NoStore::StrayLog => Status::CannotMake,
+        NoStore::There | NoStore::StrayLog | NoStore::Unfinished => Status::CannotMake,
         NoStore::Busy | NoStore::Full | NoStore::Disk => Status::TryAgain,
         NoStore::NoMemory => return Failure::NoMemory,
         _ => Status::BadData,
     };
     Failure::at(alloc, status, path, &cause)
+}
+
+/// The failure of a store that cannot be made.
+fn not_made(alloc: Global, path: &str, cause: NoStore) -> Failure {
+    match cause {
+        NoStore::NotThere => Failure::at(alloc, Status::CannotMake, path, &"no such folder"),
+        cause => no_store(alloc, path, cause),
+    }
 }
 
 /// How files were closed that were left in this way.
@@ -47,21 +56,20 @@ impl Archives for FileArchives {
         closed_by(closing)
     }
 
-    fn create(&self, rt: &HostRuntime, path: &str, plan: Plan) -> Result<(), Failure> {
-        match create_archive(rt, path, plan, Unknown) {
-            Ok(_files) => Ok(()),
-            Err(NoStore::NotThere) => {
-                Err(Failure::at(rt.alloc(), Status::CannotMake, path, &"no such folder"))
-            }
-            Err(cause) => Err(no_store(rt.alloc(), path, cause)),
+    fn create(&self, rt: &HostRuntime, path: &str, plan: Plan) -> Result<String, Failure> {
+        let draft =
+            draft_for(rt, path).map_err(|cause| not_made(rt.alloc(), path, cause))?;
+        match create_archive(rt, draft.as_str(), plan, Unknown) {
+            Ok(_files) => Ok(draft),
+            Err(cause) => Err(not_made(rt.alloc(), path, cause)),
         }
     }
 
-    fn remove(&self, rt: &HostRuntime, path: &str) {
-        for ending in ["-wal", "-shm", "-journal", ""] {
-            if let Ok(file) = format!(in rt.alloc(); "{path}{ending}") {
-                let _ = fs::remove_file(rt, file.as_str());
-            }
-        }
+    fn give_place(&self, rt: &HostRuntime, draft: &str, path: &str) -> Result<(), Failure> {
+        give_place(rt, draft, path).map_err(|cause| not_made(rt.alloc(), path, cause))
+    }
+
+    fn remove(&self, rt: &HostRuntime, draft: &str) {
+        remove_files(rt, draft);
     }
 }
