@@ -4,6 +4,7 @@ use crate::fault::RulesFault;
 use crate::payloads::payload_of_file;
 use desk_commands::{MAX_SCRIPT_OCTETS, Payload};
 use session_words::is_name;
+use sieve_library::MAX_SCRIPTS;
 use std::alloc::Global;
 use std::fs;
 
@@ -23,7 +24,8 @@ pub struct Script {
     pub text: Payload,
 }
 
-/// The rules of an officer.
+/// The rules of an officer. Of a folder with more scripts than a location may have, they have the first ones up to the one
+/// that is too many.
 #[derive(Drop)]
 pub struct Rules {
     pub officer: String,
@@ -69,10 +71,14 @@ fn read_script(rt: &HostRuntime, folder: &str, name: &str) -> Result<Script, Rul
     })
 }
 
-/// The scripts of a folder, in the byte order of their names.
-fn read_scripts(rt: &HostRuntime, folder: &str) -> Result<Vec<Script>, RulesFault> {
+/// The scripts of these names in a folder, up to the one that is too many for a location: with that one they are refused.
+fn read_scripts(
+    rt: &HostRuntime,
+    folder: &str,
+    names: &[String],
+) -> Result<Vec<Script>, RulesFault> {
     let mut scripts = Vec::new(rt.alloc());
-    for name in &script_names(rt, folder)? {
+    for name in names.iter().take(MAX_SCRIPTS + 1) {
         scripts.push(read_script(rt, folder, name.as_str())?)?;
     }
     Ok(scripts)
@@ -83,7 +89,10 @@ fn read_globals(rt: &HostRuntime, folder: &str) -> Result<Vec<Script>, RulesFaul
     let globals = format!(in rt.alloc(); "{folder}/{GLOBAL}")?;
     match fs::exists(rt, globals.as_str()) {
         Ok(false) => Ok(Vec::new(rt.alloc())),
-        _ => read_scripts(rt, globals.as_str()),
+        _ => {
+            let names = script_names(rt, globals.as_str())?;
+            read_scripts(rt, globals.as_str(), names.as_slice())
+        }
     }
 }
 
@@ -94,13 +103,13 @@ pub fn read_rules(rt: &HostRuntime, folder: &str, officer: &str) -> Result<Rules
         return Err(RulesFault::bad_officer(alloc, officer));
     }
     let own = format!(in alloc; "{folder}/{officer}")?;
-    let scripts = read_scripts(rt, own.as_str())?;
-    if !scripts.iter().any(|script| script.name.as_str() == "main") {
+    let names = script_names(rt, own.as_str())?;
+    if !names.iter().any(|name| name.as_str() == "main") {
         return Err(RulesFault::Missing(format!(in alloc; "{folder}/{officer}/main.sieve")?));
     }
     Ok(Rules {
         officer: String::from_str(alloc, officer)?,
-        scripts,
+        scripts: read_scripts(rt, own.as_str(), names.as_slice())?,
         globals: read_globals(rt, folder)?,
     })
 }
