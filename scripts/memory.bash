@@ -265,15 +265,24 @@ loses_nothing() {
     ((records == moved)) || twice=$((moved + 1))
 }
 
-# Whether all messages are moved and in the archive, in their order, and none twice but the one that is said to be. Where the file has
-# other octets, the days are not compared: they are those of the clock.
+# Whether the archive has the messages that were noted. One for which there was no memory comes after the others.
+has_mail_as_noted() {
+    if (($1 == 0)); then
+        is_as_noted 0 mail
+    else
+        cmp -s -- <(sort -- "$here/mail") <(sort -- "$noted/mail")
+    fi
+}
+
+# Whether all messages are moved and in the archive, and none twice but the one that is said to be. Where the file has other octets, the
+# days are not compared: they are those of the clock.
 has_taken_all() {
     local moved
     has_all_mail && ((moved == 3)) && [[ $(find "$here/Maildir" -type f | wc -l) -eq 3 ]] || return
     is_as_noted "$1" store && (($1 > 0)) && return
     rm -rf -- "$here/out"
     "$keeper" export --store "$here/store" "$here/out" && cut -d , -f 2,7,8 "$here/out/manifest.csv" > "$here/all" || return
-    uniq "$here/all" > "$here/mail" && is_as_noted "$1" mail && (($(wc -l < "$here/all") == 6 + ${#twice})) &&
+    uniq "$here/all" > "$here/mail" && has_mail_as_noted "$1" && (($(wc -l < "$here/all") == 6 + ${#twice})) &&
         [[ $(uniq -d "$here/all") == "${twice:+$(sed -n "$((3 + twice))p" "$noted/mail")}" ]]
 }
 

@@ -8,9 +8,10 @@ use cli_sources::maildir::{
 };
 use cli_sources::payload_of_file;
 use command_lines::archives::Filing;
-use desk_commands::{Capture, MAX_MESSAGE_OCTETS, Payload};
+use desk_commands::{Capture, DeskFault, MAX_MESSAGE_OCTETS, Payload};
 use filing_desk::{Delivery, Desk, deliver};
 use record_archive::Records;
+use sieve_meaning::RunFault;
 use std::fmt::Display;
 use std::io::{self, IsTerminal};
 use tool_texts::named;
@@ -25,7 +26,7 @@ enum Taken {
     Filed,
     /// It stays, for a reason of its own.
     Stays,
-    /// It stays, since its run ended with a fault.
+    /// It stays, since its run ended with a fault, or there was no memory for it.
     GivenUp,
 }
 
@@ -54,20 +55,27 @@ pub struct Intake<'a> {
     filing: FilingRules<'a>,
 }
 
-/// Names a message that stays, with the reason.
+/// Names a message that stays, with the reason. Without memory for the name, it only has the reason.
 fn name_one<T: Display>(rt: &HostRuntime, name: &str, reason: &T) {
-    if let Ok(name) = named(rt.alloc(), name.as_bytes()) {
-        let _ = eprintln!(rt; "mailfile-store: {name} stays: {reason}");
-    }
+    let _ = match named(rt.alloc(), name.as_bytes()) {
+        Ok(name) => eprintln!(rt; "mailfile-store: {name} stays: {reason}"),
+        Err(_) => eprintln!(rt; "mailfile-store: a message stays: {reason}"),
+    };
 }
 
-/// Names a message that stays since its file cannot be had. Without memory for that, the intake fails.
-fn name_unread(rt: &HostRuntime, name: &str, error: io::Error) -> Result<(), Failure> {
+/// Names a message that stays for want of memory.
+fn give_up(rt: &HostRuntime, name: &str) -> Taken {
+    name_one(rt, name, &"out of memory");
+    Taken::GivenUp
+}
+
+/// Names a message that stays since its file cannot be had.
+fn name_unread(rt: &HostRuntime, name: &str, error: io::Error) -> Taken {
     if let io::ErrorKind::OutOfMemory = error.kind() {
-        return Err(Failure::NoMemory);
+        return give_up(rt, name);
     }
     name_one(rt, name, &error);
-    Ok(())
+    Taken::Stays
 }
 
 /// The failure of the Maildir.
@@ -80,54 +88,63 @@ fn maildir_failure(rt: &HostRuntime, maildir: &str, error: io::Error) -> Failure
     Failure::at(rt.alloc(), status, maildir, &error)
 }
 
-/// Whether a message can be taken over; where it cannot, that is reported.
-fn is_for_us(rt: &HostRuntime, maildir: &str, name: &str, path: &str) -> Result<bool, Failure> {
+/// Finds that a message can be taken over. Where it cannot, that is reported.
+fn judge_file(rt: &HostRuntime, maildir: &str, name: &str, path: &str) -> Result<(), Taken> {
     match (is_message(rt, path), is_in_cur(rt, maildir, name)) {
-        (Ok(true), Ok(false)) => return Ok(true),
+        (Ok(true), Ok(false)) => return Ok(()),
         (Ok(false), _) => name_one(rt, name, &"not a regular file"),
         (_, Ok(true)) => name_one(rt, name, &"cur has a message of this name"),
-        (Err(error), _) | (_, Err(error)) => name_unread(rt, name, error)?,
+        (Err(error), _) | (_, Err(error)) => return Err(name_unread(rt, name, error)),
     }
-    Ok(false)
+    Err(Taken::Stays)
 }
 
-/// The octets of a message; none where it stays, which is reported.
-fn read_message(rt: &HostRuntime, maildir: &str, name: &str) -> Result<Option<Payload>, Failure> {
-    let path = new_path(rt.alloc(), maildir, name)?;
-    if !is_for_us(rt, maildir, name, path.as_str())? {
-        return Ok(None);
-    }
+/// The octets of a message. Where it stays, that is reported.
+fn read_message(rt: &HostRuntime, maildir: &str, name: &str) -> Result<Payload, Taken> {
+    let path = new_path(rt.alloc(), maildir, name).map_err(|_| give_up(rt, name))?;
+    judge_file(rt, maildir, name, path.as_str())?;
     match payload_of_file(rt, path.as_str(), MAX_MESSAGE_OCTETS) {
         Ok(Payload::TooLong) => {
             name_one(rt, name, &"more than 8,388,608 octets");
-            Ok(None)
+            Err(Taken::Stays)
         }
-        Ok(message) => Ok(Some(message)),
-        Err(error) => {
-            name_unread(rt, name, error)?;
-            Ok(None)
-        }
+        Ok(message) => Ok(message),
+        Err(error) => Err(name_unread(rt, name, error)),
     }
 }
 
-/// Reports a capture, and moves its message.
-fn file_away(
-    rt: &HostRuntime,
-    maildir: &str,
-    name: &str,
-    capture: &Capture,
-) -> Result<Taken, Failure> {
+/// Reports a capture, each line after the name of its message, as far as there is memory for that.
+fn report_named(rt: &HostRuntime, name: &str, capture: &Capture) {
+    let Ok(shown) = named(rt.alloc(), name.as_bytes()) else {
+        return;
+    };
+    if let Ok(before) = format!(in rt.alloc(); "{shown}: ") {
+        report_capture(rt, before.as_str(), capture);
+    }
+}
+
+/// Moves a message that is captured.
+fn file_away(rt: &HostRuntime, maildir: &str, name: &str) -> Result<Taken, Failure> {
+    let Err(error) = move_to_cur(rt, maildir, name) else {
+        return Ok(Taken::Filed);
+    };
     let shown = named(rt.alloc(), name.as_bytes())?;
-    let before = format!(in rt.alloc(); "{shown}: ")?;
-    report_capture(rt, before.as_str(), capture);
-    match move_to_cur(rt, maildir, name) {
-        Ok(()) => Ok(Taken::Filed),
-        Err(error) => Err(Failure::written(
-            Status::TryAgain,
-            format!(in rt.alloc();
-                "{shown} is captured, but still in new, where the next intake would capture it again: {error}"
-            ),
-        )),
+    Err(Failure::written(
+        Status::TryAgain,
+        format!(in rt.alloc();
+            "{shown} is captured, but still in new, where the next intake would capture it again: {error}"
+        ),
+    ))
+}
+
+/// Names a message whose run ended with a fault.
+fn name_given_up(rt: &HostRuntime, name: &str, fault: RunFault) -> Taken {
+    match given_up_words(rt.alloc(), fault) {
+        Ok(words) => {
+            name_one(rt, name, &words);
+            Taken::GivenUp
+        }
+        Err(_) => give_up(rt, name),
     }
 }
 
@@ -138,17 +155,19 @@ fn take_one<A: Records>(
     job: &Intake<'_>,
     name: &str,
 ) -> Result<Taken, Failure> {
-    let Some(message) = read_message(rt, job.maildir, name)? else {
-        return Ok(Taken::Stays);
+    let message = match read_message(rt, job.maildir, name) {
+        Ok(message) => message,
+        Err(taken) => return Ok(taken),
     };
+    let moment = now(rt)?;
     let filing = &job.filing;
-    let officer = filing.officer.as_bytes();
-    match deliver(desk, officer, now(rt)?, message, filing.on_fault) {
-        Ok(Delivery::Captured(capture)) => file_away(rt, job.maildir, name, &capture),
-        Ok(Delivery::GivenUp(fault)) => {
-            name_one(rt, name, &given_up_words(rt.alloc(), fault)?);
-            Ok(Taken::GivenUp)
+    match deliver(desk, filing.officer.as_bytes(), moment, message, filing.on_fault) {
+        Ok(Delivery::Captured(capture)) => {
+            report_named(rt, name, &capture);
+            file_away(rt, job.maildir, name)
         }
+        Ok(Delivery::GivenUp(fault)) => Ok(name_given_up(rt, name, fault)),
+        Err(DeskFault::NoMemory) => Ok(give_up(rt, name)),
         Err(fault) => Err(desk_failure(rt.alloc(), name, fault)),
     }
 }
@@ -161,7 +180,7 @@ fn show_progress(rt: &HostRuntime, tally: &Tally) {
     }
 }
 
-/// Takes messages over, up to one whose run ends with a fault. Answers how many that were.
+/// Takes messages over, up to one that is given up. Answers how many that were.
 fn take_with<A: Records>(
     rt: &HostRuntime,
     desk: &mut Desk<A>,
@@ -182,8 +201,8 @@ fn take_with<A: Records>(
     Ok(done)
 }
 
-/// Takes messages over at a new desk, up to one whose run ends with a fault: its capture is dropped with the desk.
-/// Answers how many that were.
+/// Takes messages over at a new desk, up to one that is given up: its capture is dropped with the desk. Answers how many
+/// that were.
 fn take_run<A: Records>(
     rt: &HostRuntime,
     archive: A,
