@@ -7,6 +7,7 @@ use command_lines::archives::{Disposal, TypedNumber};
 use record_store::{Line, RecordEntry, Store, StoreFault};
 use sqlite::Alter;
 use std::alloc::{AllocError, Global};
+use std::collections::BTreeMap;
 
 /// How many records are read at a time in a search for others of one message.
 const GROUP: usize = 16;
@@ -128,17 +129,24 @@ fn search_in(page: &[RecordEntry], message: u32, number: u32) -> Search {
     }
 }
 
+/// The number of the message that a record has.
+fn message_of_record<S: Alter>(
+    rt: &HostRuntime,
+    archive: &mut Store<S>,
+    number: u32,
+) -> Result<u32, Failure> {
+    let page = Walk::in_steps(number, 1).next_page(rt, archive)?;
+    Ok(page.first().map_or(number, |entry| entry.message))
+}
+
 /// The first other live record that has the message of a record. The records of a message have one number after another, and the
 /// message has the first of these.
 fn keeper_of<S: Alter>(
     rt: &HostRuntime,
     archive: &mut Store<S>,
+    message: u32,
     number: u32,
 ) -> Result<Option<u32>, Failure> {
-    let message = match Walk::in_steps(number, 1).next_page(rt, archive)?.first() {
-        Some(entry) => entry.message,
-        None => return Ok(None),
-    };
     let mut walk = Walk::in_steps(message, GROUP);
     for _ in 0..u64::MAX {
         let page = walk.next_page(rt, archive)?;
@@ -151,6 +159,39 @@ fn keeper_of<S: Alter>(
     Ok(None)
 }
 
+/// The length and the sum of a message.
+#[derive(Drop)]
+struct Summed {
+    octets: usize,
+    /// Its SHA-256, in hexadecimal digits.
+    sum: String,
+}
+
+/// What was summed of messages that further records have, by the numbers of the messages.
+type Sums = BTreeMap<u32, Summed>;
+
+/// Sums the message of a record, unless that was done for another one.
+fn add_sum<S: Alter>(
+    rt: &HostRuntime,
+    archive: &mut Store<S>,
+    sums: &mut Sums,
+    message: u32,
+    number: u32,
+) -> Result<(), Failure> {
+    if sums.contains_key(&message) {
+        return Ok(());
+    }
+    let octets = archive
+        .message(number)
+        .map_err(|fault| record_failure(rt, number, fault))?;
+    let summed = Summed {
+        octets: octets.len(),
+        sum: sum_of(rt.alloc(), octets.as_slice())?,
+    };
+    sums.insert(message, summed)?;
+    Ok(())
+}
+
 /// A record that was destroyed.
 #[derive(Drop)]
 struct Destroyed {
@@ -159,31 +200,46 @@ struct Destroyed {
     is_gone: bool,
 }
 
-/// Destroys a record.
-fn destroy<S: Alter>(
+/// The certificate of a record that is to be destroyed, of whose message this was summed.
+fn certificate_of(
     rt: &HostRuntime,
-    archive: &mut Store<S>,
     line: &Line,
-    day: Date,
-) -> Result<Destroyed, Failure> {
-    let message = archive
-        .message(line.number)
-        .map_err(|fault| record_failure(rt, line.number, fault))?;
-    let sum = sum_of(rt.alloc(), message.as_slice())?;
-    let kept_by = keeper_of(rt, archive, line.number)?;
+    summed: &Summed,
+    kept_by: Option<u32>,
+) -> Result<String, Failure> {
     let facts = Certificate {
         number: line.number,
         path: line.path.as_slice(),
         due: line.due,
-        octets: message.len(),
-        sum: sum.as_str(),
+        octets: summed.octets,
+        sum: summed.sum.as_str(),
         moment: now(rt)?,
         kept_by,
     };
-    let certificate = certificate_line(rt.alloc(), &facts)?;
+    Ok(certificate_line(rt.alloc(), &facts)?)
+}
+
+/// Destroys a record. A message is summed for the first of its records.
+fn destroy<S: Alter>(
+    rt: &HostRuntime,
+    archive: &mut Store<S>,
+    sums: &mut Sums,
+    line: &Line,
+    day: Date,
+) -> Result<Destroyed, Failure> {
+    let message = message_of_record(rt, archive, line.number)?;
+    add_sum(rt, archive, sums, message, line.number)?;
+    let kept_by = keeper_of(rt, archive, message, line.number)?;
+    let certificate = match sums.get(&message) {
+        Some(summed) => certificate_of(rt, line, summed, kept_by)?,
+        None => return Err(Failure::NoMemory),
+    };
     archive
         .destroy(line.number, day)
         .map_err(|fault| record_failure(rt, line.number, fault))?;
+    if kept_by.is_none() {
+        let _gone = sums.remove(&message);
+    }
     Ok(Destroyed {
         certificate,
         is_gone: kept_by.is_none(),
@@ -209,9 +265,10 @@ fn destroy_all<S: Alter>(
     lines: &[Line],
     day: Date,
 ) -> Result<(), Failure> {
+    let mut sums = BTreeMap::new(rt.alloc());
     let mut is_any_gone = false;
     for line in lines {
-        let done = destroy(rt, archive, line, day)?;
+        let done = destroy(rt, archive, &mut sums, line, day)?;
         is_any_gone = is_any_gone || done.is_gone;
         write_certificate(rt, done.certificate.as_str())?;
     }

@@ -79,13 +79,28 @@ fn path_in_cur(alloc: Global, maildir: &str, name: &str) -> Result<String, Alloc
     format!(in alloc; "{maildir}/cur/{name}{SEEN}")
 }
 
+/// Finds that a path has nothing, or an empty file of an earlier trial.
+fn judge_trial(rt: &HostRuntime, path: &str) -> io::Result<()> {
+    match fs::symlink_metadata(rt, path) {
+        Ok(found) if found.is_file() && found.len() == 0 => Ok(()),
+        Ok(_) => Err(Error::new(
+            ErrorKind::AlreadyExists,
+            "new or cur has something else of the name .mailfile-store; move it away",
+        )),
+        Err(error) if error.kind() == ErrorKind::NotFound => Ok(()),
+        Err(error) => Err(error),
+    }
+}
+
 /// Tries to move an empty file as messages are moved, and removes it.
 ///
 /// An error says that no message of this Maildir can be moved now. A file that is there from an earlier trial is used
-/// again.
+/// again; anything else of its name stays.
 pub fn try_move(rt: &HostRuntime, maildir: &str) -> io::Result<()> {
     let from = new_path(rt.alloc(), maildir, TRIAL)?;
     let to = format!(in rt.alloc(); "{maildir}/cur/{TRIAL}")?;
+    judge_trial(rt, from.as_str())?;
+    judge_trial(rt, to.as_str())?;
     match File::create_new(rt, from.as_str()) {
         Ok(_) => {}
         Err(error) if error.kind() == ErrorKind::AlreadyExists => {}
@@ -100,10 +115,14 @@ pub fn try_move(rt: &HostRuntime, maildir: &str) -> io::Result<()> {
     }
 }
 
-/// Whether `cur` has a message under the name to which this one would be moved.
+/// Whether `cur` has anything under the name to which a message would be moved, be it a link that leads nowhere.
 pub fn is_in_cur(rt: &HostRuntime, maildir: &str, name: &str) -> io::Result<bool> {
     let to = path_in_cur(rt.alloc(), maildir, name)?;
-    fs::exists(rt, to.as_str())
+    match fs::symlink_metadata(rt, to.as_str()) {
+        Ok(_) => Ok(true),
+        Err(error) if error.kind() == ErrorKind::NotFound => Ok(false),
+        Err(error) => Err(error),
+    }
 }
 
 /// Moves a new message to `cur`. Nothing there is replaced.

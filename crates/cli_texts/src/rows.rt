@@ -21,10 +21,30 @@ pub struct Kept<'a> {
     pub sum: &'a str,
 }
 
+/// Whether a spreadsheet could take a cell for a formula, or drop its beginning.
+fn is_formula(field: &[u8]) -> bool {
+    field.first().is_some_and(|first| matches!(*first, b'=' | b'+' | b'-' | b'@')
+        || first.is_ascii_control())
+}
+
+/// A field as a cell that spreadsheets show as text: an apostrophe comes before what they could take for a formula.
+fn cell_of(alloc: Global, field: &[u8]) -> Result<Vec<u8>, AllocError> {
+    let mut cell = Vec::new(alloc);
+    if is_formula(field) {
+        cell.push(b'\'')?;
+    }
+    cell.extend_from_slice(field)?;
+    Ok(cell)
+}
+
 /// A row of CSV, with its line end.
 pub fn csv_row(alloc: Global, fields: &[&[u8]]) -> Result<Vec<u8>, AllocError> {
     let mut writer = WriterBuilder::new().from_writer(Vec::new(alloc));
-    writer.write_fields(fields).map_err(|_| AllocError)?;
+    for field in fields {
+        let cell = cell_of(alloc, *field)?;
+        writer.write_field(cell.as_slice()).map_err(|_| AllocError)?;
+    }
+    writer.end_record().map_err(|_| AllocError)?;
     writer.into_inner().map_err(|_| AllocError)
 }
 
