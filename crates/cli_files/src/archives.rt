@@ -17,7 +17,7 @@ ghost use Rattle.record_files.specs.Files.{FindsAt, HoldsTables, KeepsNew, Keeps
 
 use crate::fault::NoStore;
 use crate::opening::{close_store, open_store};
-use crate::places::{has_log, look_at, make_file, remove_files};
+use crate::places::{has_log, judge_log, look_at, make_file, remove_files};
 use class_plan::Plan;
 use record_files::leave;
 use record_store::Store;
@@ -38,7 +38,15 @@ pub fn open_archive<S: Start>(
         → HoldsTables HasArchiveTables (image_at S.Start)) }
 {
     look_at(rt, path)?;
-    open_store(rt, path, start)
+    let store = match open_store(rt, path, start) {
+        Ok(store) => store,
+        Err(fault) => return Err(fault),
+    };
+    if let Ok(true) = judge_log(rt, path) {
+        return Ok(store);
+    }
+    let (_files, _closing) = close_store(store);
+    Err(NoStore::OpenLog)
 }
 
 /// A new archive with a plan, in a database that has none of its tables.

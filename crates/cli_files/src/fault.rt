@@ -20,6 +20,8 @@ pub enum NoStore {
     System(io::Error),
     /// What is at the path is not a regular file, or it has a second name.
     NoFile,
+    /// The log beside the file lets others read or write than the file does.
+    OpenLog,
     /// Another program has the file.
     Busy,
     /// The file has no octet.
@@ -111,6 +113,9 @@ impl NoStore {
             }
             NoStore::NoFile => {
                 "the file cannot be opened for writing: look for the permissions of its folder and of its log (-wal), for a second name of the file (a hard link), and for a journal that sqlite3 has left"
+            }
+            NoStore::OpenLog => {
+                "the log beside the file (-wal) is open to others than the file: give it the owner and the permissions of the file, or move it away if it is another file's"
             }
             NoStore::Busy => "another program has the file",
             NoStore::Empty => "no archive: the file is empty",

@@ -2,9 +2,7 @@
 
 use class_plan::Plan;
 use cli_console::{Failure, Status};
-use cli_files::{
-    NoStore, create_archive, draft_for, give_place, open_archive, remove_files,
-};
+use cli_files::{NoStore, create_archive, draft_for, give_place, open_archive, remove_files};
 use cli_tasks::{Archives, Closed};
 use record_files::{Closing, close};
 use record_store::Store;
@@ -14,7 +12,9 @@ use std::alloc::Global;
 /// The failure of a store that cannot be had.
 fn no_store(alloc: Global, path: &str, cause: NoStore) -> Failure {
     let status = match cause {
-        NoStore::NotThere | NoStore::NoFile | NoStore::System(_) => Status::NoInput,
+        NoStore::NotThere | NoStore::NoFile | NoStore::OpenLog | NoStore::System(_) => {
+            Status::NoInput
+        },
         NoStore::There | NoStore::StrayLog | NoStore::Unfinished => Status::CannotMake,
         NoStore::Busy | NoStore::Full | NoStore::Disk => Status::TryAgain,
         NoStore::NoMemory => return Failure::NoMemory,
@@ -57,8 +57,7 @@ impl Archives for FileArchives {
     }
 
     fn create(&self, rt: &HostRuntime, path: &str, plan: Plan) -> Result<String, Failure> {
-        let draft =
-            draft_for(rt, path).map_err(|cause| not_made(rt.alloc(), path, cause))?;
+        let draft = draft_for(rt, path).map_err(|cause| not_made(rt.alloc(), path, cause))?;
         match create_archive(rt, draft.as_str(), plan, Unknown) {
             Ok(_files) => Ok(draft),
             Err(cause) => Err(not_made(rt.alloc(), path, cause)),
