@@ -1,7 +1,7 @@
 #!/usr/bin/env bash
 # shellcheck disable=SC2317,SC2015 # count calls its checks by their names, and `|| shows_run` only reports
-# Tests what ./mailfile-store does where no transcript can say it: for a user who may not read or write, and on a disk that fails. ./test
-# sources this file after transcripts.bash; run by itself, it plays these tests.
+# Tests what ./mailfile-store does where no transcript can say it: for a user who may not read or write, on a disk that fails, and where
+# files change while it runs. ./test sources this file after transcripts.bash; run by itself, it plays these tests.
 
 : "${root:=$(dirname -- "$(dirname -- "$(readlink -f -- "$0")")")}" "${work:=$(mktemp -d)}" "${self:=store}"
 
@@ -133,24 +133,65 @@ fails_in_a_delivery() {
     ((status == 0 && at > 1 && at < 100)) && [[ $is_doubted == yes ]] || shows_run
 }
 
-# ---- a new store that another one comes before
+# ---- files that change while the program runs
 
-# Copies a store, and delivers to another one that is made at the same path just before the copy gets its name there.
-copies_beside_another_store() {
-    archive_after captured "$here" || return
-    strace -f -o "$here/trace" -e trace=link,linkat -e inject=link,linkat:delay_enter=5000000 "$(program_of mailfile_store)" copy \
-        --store "$here/records.db" "$here/new.db" > "$work/copied" 2>&1 &
-    local copy=$! tries
-    for ((tries = 0; tries < 500; tries++)); do
-        ! grep -q link "$here/trace" 2> "$work/found" || break
+# Starts a subcommand, which waits for five seconds where it makes a call of the system of that kind for a path. Meanwhile a command of
+# this shell is run. Sets `status`, and leaves what the program wrote in `said` and `error`.
+meanwhile() {
+    local call=$1 path=$2 command=$3 started tries
+    rm -f -- "$work/trace"
+    timeout 60 strace -f -P "$path" -o "$work/trace" -e trace="$call" -e inject="$call:delay_enter=5000000" "$(program_of mailfile_store)" \
+        "${@:4}" > "$work/said" 2> "$work/error" &
+    started=$!
+    for ((tries = 0; tries < 1000; tries++)); do
+        [[ ! -s $work/trace ]] || break
         sleep 0.01
     done
-    cp -- "$here/records.db" "$here/new.db" && run deliver --store "$here/new.db" --rules "$here/rules" ann < "$here/mail/bill.eml" || return
-    ((status == 0)) || shows_run || return
-    wait "$copy"
-    status=$?
-    ((status == 73)) && grep -q 'new.db: there is a file already$' "$work/copied" && [[ ! -e $here/new.db.mailfile-new ]] &&
-        run show --store "$here/new.db" 5 && ((status == 0)) && cmp -- "$work/said" "$here/mail/bill.eml" || shows_run
+    "$command" || return
+    status=0
+    wait "$started" || status=$?
+}
+
+# Makes another store where a copy is to have its place, and captures a message in it.
+makes_another_store() {
+    cp -- "$here/records.db" "$here/new.db" &&
+        "$(program_of mailfile_store)" deliver --store "$here/new.db" --rules "$here/rules" ann < "$here/mail/bill.eml" > "$work/captured"
+}
+
+# A copy that another store comes before takes nothing of it away, and is not left.
+copies_beside_another_store() {
+    archive_after captured "$here" && meanwhile link,linkat "$here/new.db" makes_another_store \
+        copy --store "$here/records.db" "$here/new.db" || return
+    ((status == 73)) && [[ $(< "$work/error") == *'/new.db: there is a file already' && ! -e $here/new.db.mailfile-new ]] ||
+        shows_run || return
+    run show --store "$here/new.db" 5
+    ((status == 0)) && cmp -- "$work/said" "$here/mail/bill.eml" || shows_run
+}
+
+# Puts a pipe, or a link to another file, in the place of a message.
+puts_a_pipe() {
+    rm -- "$here/Maildir/new/a" && mkfifo "$here/Maildir/new/a"
+}
+puts_a_link() {
+    ln -sf -- ../../plan.toml "$here/Maildir/new/a"
+}
+
+# A pipe or a link in the place of a message is neither waited for nor captured.
+takes_nothing_in_the_place_of_a_message() {
+    local command
+    for command in puts_a_pipe puts_a_link; do
+        archive_after maildir "$here" && meanwhile openat "$here/Maildir/new/a" "$command" \
+            intake --store "$here/records.db" --rules "$here/rules" ann "$here/Maildir" || return
+        ((status == 65)) && [[ $(< "$work/error") == 'mailfile-store: a stays: not a regular file' && $(wc -l < "$work/said") -eq 3 ]] ||
+            shows_run || return
+    done
+}
+
+# A log of another user is none of this user's store.
+refuses_a_log_of_another_user() {
+    archive_after captured "$here" && chown 65534 "$here/records.db-wal" || return
+    run list --store "$here/records.db"
+    ((status == 66)) && [[ $(< "$work/error") == *'is open to others than the file'* ]] || shows_run
 }
 
 store() {
@@ -162,11 +203,13 @@ store() {
         count "a Maildir that may not be opened" may_not_open_a_maildir
         count "a store in a folder that may not be written" needs_its_folder
     fi
+    ((EUID > 0)) || count "a log of another user" refuses_a_log_of_another_user
     if strace -o "$work/error" true > "$work/said" 2>&1; then
         count "a disk that fails in a delivery" fails_in_a_delivery
         count "another store in the place of a copy" copies_beside_another_store
+        count "a pipe or a link in the place of a message" takes_nothing_in_the_place_of_a_message
     fi
-    group "mailfile-store without permissions, and on a disk that fails"
+    group "mailfile-store without permissions, on a disk that fails, and where files change"
 }
 
 if [[ ${BASH_SOURCE[0]} == "$0" ]]; then

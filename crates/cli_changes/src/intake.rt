@@ -4,9 +4,9 @@ use crate::deliver::{desk_failure, given_up_words, report_capture};
 use crate::rules::FilingRules;
 use cli_console::{Failure, Status, now};
 use cli_sources::maildir::{
-    NewMail, has_cur, is_in_cur, is_message, move_to_cur, new_mail, new_path, settle, try_move,
+    NewMail, has_cur, is_in_cur, move_to_cur, new_mail, new_path, settle, try_move,
 };
-use cli_sources::payload_of_file;
+use cli_sources::payload_of_no_link;
 use command_lines::archives::Filing;
 use desk_commands::{Capture, DeskFault, MAX_MESSAGE_OCTETS, Payload};
 use filing_desk::{Delivery, Desk, deliver};
@@ -88,22 +88,23 @@ fn maildir_failure(rt: &HostRuntime, maildir: &str, error: io::Error) -> Failure
     Failure::at(rt.alloc(), status, maildir, &error)
 }
 
-/// Finds that a message can be taken over. Where it cannot, that is reported.
-fn judge_file(rt: &HostRuntime, maildir: &str, name: &str, path: &str) -> Result<(), Taken> {
-    match (is_message(rt, path), is_in_cur(rt, maildir, name)) {
-        (Ok(true), Ok(false)) => return Ok(()),
-        (Ok(false), _) => name_one(rt, name, &"not a regular file"),
-        (_, Ok(true)) => name_one(rt, name, &"cur has a message of this name"),
-        (Err(error), _) | (_, Err(error)) => return Err(name_unread(rt, name, error)),
+/// Finds that a message can be moved to `cur`. Where it cannot, that is reported.
+fn judge_name(rt: &HostRuntime, maildir: &str, name: &str) -> Result<(), Taken> {
+    match is_in_cur(rt, maildir, name) {
+        Ok(false) => Ok(()),
+        Ok(true) => {
+            name_one(rt, name, &"cur has a message of this name");
+            Err(Taken::Stays)
+        }
+        Err(error) => Err(name_unread(rt, name, error)),
     }
-    Err(Taken::Stays)
 }
 
 /// The octets of a message. Where it stays, that is reported.
 fn read_message(rt: &HostRuntime, maildir: &str, name: &str) -> Result<Payload, Taken> {
     let path = new_path(rt.alloc(), maildir, name).map_err(|_| give_up(rt, name))?;
-    judge_file(rt, maildir, name, path.as_str())?;
-    match payload_of_file(rt, path.as_str(), MAX_MESSAGE_OCTETS) {
+    judge_name(rt, maildir, name)?;
+    match payload_of_no_link(rt, path.as_str(), MAX_MESSAGE_OCTETS) {
         Ok(Payload::TooLong) => {
             name_one(rt, name, &"more than 8,388,608 octets");
             Err(Taken::Stays)
@@ -161,7 +162,13 @@ fn take_one<A: Records>(
     };
     let moment = now(rt)?;
     let filing = &job.filing;
-    match deliver(desk, filing.officer.as_bytes(), moment, message, filing.on_fault) {
+    match deliver(
+        desk,
+        filing.officer.as_bytes(),
+        moment,
+        message,
+        filing.on_fault,
+    ) {
         Ok(Delivery::Captured(capture)) => {
             report_named(rt, name, &capture);
             file_away(rt, job.maildir, name)

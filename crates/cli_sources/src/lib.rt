@@ -15,6 +15,6 @@ mod reading;
 mod setting;
 
 pub use fault::RulesFault;
-pub use payloads::{payload_of_file, read_payload};
+pub use payloads::{payload_of_file, payload_of_no_link, read_payload};
 pub use reading::{Rules, Script, read_rules};
 pub use setting::set_rules;

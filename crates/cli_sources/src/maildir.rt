@@ -59,11 +59,6 @@ pub fn new_mail(rt: &HostRuntime, maildir: &str) -> io::Result<NewMail> {
     Ok(mail)
 }
 
-/// Whether a regular file is at a path. A link is none, whatever it leads to.
-pub fn is_message(rt: &HostRuntime, path: &str) -> io::Result<bool> {
-    Ok(fs::symlink_metadata(rt, path)?.is_file())
-}
-
 /// Whether there is a folder to move messages to.
 pub fn has_cur(rt: &HostRuntime, maildir: &str) -> io::Result<bool> {
     let folder = format!(in rt.alloc(); "{maildir}/cur")?;
