@@ -7,6 +7,7 @@ use cli_texts::{Kept, MANIFEST_HEADER, manifest_row, sum_of};
 use command_lines::archives::Choice;
 use record_store::{RecordEntry, Store};
 use sqlite::Alter;
+use std::alloc::{AllocError, Global};
 use std::fs::{self, File, OpenOptions};
 use std::io::{self, ErrorKind, Write};
 use std::os::unix::fs::OpenOptionsExt;
@@ -118,6 +119,16 @@ fn write_new<S: Alter>(
     Ok(())
 }
 
+/// The row of a record whose message is in a file.
+fn row_beside(
+    alloc: Global,
+    entry: &RecordEntry,
+    written: &Option<Written>,
+) -> Result<Vec<u8>, AllocError> {
+    let kept = written.as_ref().map(|written| written.kept());
+    manifest_row(alloc, &row_of(entry), kept)
+}
+
 /// Exports a record: its message, unless it is destroyed, and its row.
 fn export_record<S: Alter>(
     rt: &HostRuntime,
@@ -125,13 +136,12 @@ fn export_record<S: Alter>(
     export: &mut ExportFiles<'_>,
     entry: &RecordEntry,
 ) -> Result<(), Failure> {
-    let kept = if entry.destroyed {
-        None
+    let row = if entry.destroyed {
+        manifest_row(rt.alloc(), &row_of(entry), None)?
     } else {
         write_new(rt, archive, export, entry)?;
-        export.last.as_ref().map(|last| last.kept())
+        row_beside(rt.alloc(), entry, &export.last)?
     };
-    let row = manifest_row(rt.alloc(), &row_of(entry), kept)?;
     write_to(rt, export.folder, &mut export.manifest, row.as_slice())
 }
 
