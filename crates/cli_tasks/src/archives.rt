@@ -85,17 +85,3 @@ pub fn close_after<A: Archives, T: Drop>(
     let closed = archives.close(archive.into_connection());
     settled(rt, path, done, closed)
 }
-
-/// Opens the archive at a path, does something with it, and closes it, as `settled` does.
-pub fn with_archive<A: Archives, T: Drop, F: FnOnce(&mut Store<A::Database>) -> Result<T, Failure>>(
-    rt: &HostRuntime,
-    archives: &A,
-    path: &str,
-    work: F,
-) -> Result<T, Failure>
-    requires { F.IsAlwaysCallable work }
-{
-    let mut archive = archives.open(rt, path)?;
-    let done = work(&mut archive);
-    close_after(rt, archives, path, archive, done)
-}

@@ -1,6 +1,6 @@
 //! What each subcommand does.
 
-use crate::archives::{Archives, close_after, with_archive};
+use crate::archives::{Archives, close_after};
 use crate::copy::{Paths, copy_to};
 use crate::drafts::make;
 use class_plan::Date;
@@ -16,6 +16,33 @@ use cli_readings::{
 use command_lines::archives::{
     Choice, Command, CommandLine, Disposal, Filing, Format, Holding, TypedNumber, Why,
 };
+
+/// Writes the plan as text.
+fn show_plan<A: Archives>(rt: &HostRuntime, archives: &A, store: &str) -> Result<(), Failure> {
+    let archive = archives.open(rt, store)?;
+    let done = write_plan(rt, archive.plan());
+    close_after(rt, archives, store, archive, done)
+}
+
+/// Replaces the plan.
+fn revise<A: Archives>(
+    rt: &HostRuntime,
+    archives: &A,
+    store: &str,
+    plan: &str,
+    is_agreed: bool,
+) -> Result<(), Failure> {
+    let mut archive = archives.open(rt, store)?;
+    let done = replace_plan(rt, &mut archive, plan, is_agreed);
+    close_after(rt, archives, store, archive, done)
+}
+
+/// Judges the whole store.
+fn check<A: Archives>(rt: &HostRuntime, archives: &A, store: &str) -> Result<(), Failure> {
+    let mut archive = archives.open(rt, store)?;
+    let done = write_contents(rt, &mut archive);
+    close_after(rt, archives, store, archive, done)
+}
 
 /// Captures the message on standard input. A store that cannot be had, or that may not keep the message, is a reason to
 /// try again, so that a mail server keeps it.
@@ -61,9 +88,9 @@ fn list<A: Archives>(
     format: Format,
 ) -> Result<(), Failure> {
     judge_choice(rt, choice)?;
-    with_archive(rt, archives, store, |archive| {
-        write_list(rt, archive, choice, format)
-    })
+    let mut archive = archives.open(rt, store)?;
+    let done = write_list(rt, &mut archive, choice, format);
+    close_after(rt, archives, store, archive, done)
 }
 
 /// Exports records to a folder.
@@ -75,9 +102,9 @@ fn export<A: Archives>(
     folder: &str,
 ) -> Result<(), Failure> {
     judge_choice(rt, choice)?;
-    with_archive(rt, archives, store, |archive| {
-        export_to(rt, archive, choice, folder)
-    })
+    let mut archive = archives.open(rt, store)?;
+    let done = export_to(rt, &mut archive, choice, folder);
+    close_after(rt, archives, store, archive, done)
 }
 
 /// Writes the message of a record once the archive is closed, or the fields of its header.
@@ -88,9 +115,9 @@ fn show<A: Archives>(
     record: TypedNumber<'_>,
     fields: bool,
 ) -> Result<(), Failure> {
-    let message = with_archive(rt, archives, store, |archive| {
-        message_of_record(rt, archive, record)
-    })?;
+    let mut archive = archives.open(rt, store)?;
+    let done = message_of_record(rt, &mut archive, record);
+    let message = close_after(rt, archives, store, archive, done)?;
     write_message(rt, message.as_slice(), fields)
 }
 
@@ -101,9 +128,9 @@ fn why<A: Archives>(
     store: &str,
     asked: &Why<'_>,
 ) -> Result<(), Failure> {
-    let captured = with_archive(rt, archives, store, |archive| {
-        read_captured(rt, archive, asked.record)
-    })?;
+    let mut archive = archives.open(rt, store)?;
+    let done = read_captured(rt, &mut archive, asked.record);
+    let captured = close_after(rt, archives, store, archive, done)?;
     write_why(rt, asked, &captured)
 }
 
@@ -115,9 +142,9 @@ fn hold<A: Archives>(
     change: Change,
     asked: &Holding<'_>,
 ) -> Result<(), Failure> {
-    with_archive(rt, archives, store, |archive| {
-        change_holds(rt, archive, change, asked)
-    })
+    let mut archive = archives.open(rt, store)?;
+    let done = change_holds(rt, &mut archive, change, asked);
+    close_after(rt, archives, store, archive, done)
 }
 
 /// Lists what is due and may be destroyed, or destroys it.
@@ -128,9 +155,9 @@ fn dispose<A: Archives>(
     asked: &Disposal<'_>,
 ) -> Result<(), Failure> {
     let day = day_of_disposal(rt, asked)?;
-    with_archive(rt, archives, store, |archive| {
-        dispose_by(rt, archive, asked, day)
-    })
+    let mut archive = archives.open(rt, store)?;
+    let done = dispose_by(rt, &mut archive, asked, day);
+    close_after(rt, archives, store, archive, done)
 }
 
 /// Writes a report on the archive by a day, or else by today.
@@ -141,9 +168,9 @@ fn report<A: Archives>(
     day: Option<Date>,
 ) -> Result<(), Failure> {
     let day = day_or_today(rt, day)?;
-    with_archive(rt, archives, store, |archive| {
-        write_report(rt, archive, store, day)
-    })
+    let mut archive = archives.open(rt, store)?;
+    let done = write_report(rt, &mut archive, store, day);
+    close_after(rt, archives, store, archive, done)
 }
 
 /// Does what a command line asks for.
@@ -155,19 +182,15 @@ pub fn execute<A: Archives>(
     let CommandLine { store, command } = line;
     match command {
         Command::Create { plan } => make(rt, archives, store, read_plan(rt, plan)?),
-        Command::WritePlan => with_archive(rt, archives, store, |archive| {
-            write_plan(rt, archive.plan())
-        }),
-        Command::ReplacePlan { plan, is_agreed } => with_archive(rt, archives, store, |archive| {
-            replace_plan(rt, archive, plan, is_agreed)
-        }),
+        Command::WritePlan => show_plan(rt, archives, store),
+        Command::ReplacePlan { plan, is_agreed } => revise(rt, archives, store, plan, is_agreed),
         Command::Deliver { moment, filing } => deliver(rt, archives, store, moment, &filing),
         Command::Intake { maildir, filing } => intake(rt, archives, store, maildir, &filing),
         Command::List { choice, format } => list(rt, archives, store, &choice, format),
         Command::Show { record, fields } => show(rt, archives, store, record, fields),
         Command::Export { choice, folder } => export(rt, archives, store, &choice, folder),
         Command::Copy { new } => copy_to(rt, archives, Paths { store, new }),
-        Command::Check => with_archive(rt, archives, store, |archive| write_contents(rt, archive)),
+        Command::Check => check(rt, archives, store),
         Command::Why(asked) => why(rt, archives, store, &asked),
         Command::Hold(asked) => hold(rt, archives, store, Change::Place, &asked),
         Command::Release(asked) => hold(rt, archives, store, Change::End, &asked),
