@@ -17,17 +17,30 @@ pub enum Closed {
     Doubtful,
 }
 
+/// What is done with an archive that is open.
+pub trait Work: Drop {
+    /// What it comes to.
+    type Answer: Drop;
+
+    /// Does it. The connection is given back whatever fails.
+    fn work<S: Alter>(
+        self,
+        rt: &HostRuntime,
+        archive: Store<S>,
+    ) -> (Connection<S>, Result<Self::Answer, Failure>);
+}
+
 /// Where archives are kept, each at a path. Programs have files there; what is done with an archive knows nothing of them,
 /// and is proved beside them.
 pub trait Archives {
-    /// What holds an archive's database while it is open.
-    type Database: Alter;
-
-    /// Opens the archive at a path.
-    fn open(&self, rt: &HostRuntime, path: &str) -> Result<Store<Self::Database>, Failure>;
-
-    /// Closes an archive whose store has ended.
-    fn close(&self, conn: Connection<Self::Database>) -> Closed;
+    /// Opens the archive at a path, lends it to a work, and closes it. Answers what the work came to, and how the archive
+    /// was closed. The failure is that of an archive that cannot be had.
+    fn lend<W: Work>(
+        &self,
+        rt: &HostRuntime,
+        path: &str,
+        work: W,
+    ) -> Result<(Result<W::Answer, Failure>, Closed), Failure>;
 
     /// Makes an archive with a plan that is to have its place at a path where nothing is. Answers the path of a draft, at
     /// which it is until then. Where that fails, nothing is left there.
@@ -74,14 +87,13 @@ pub fn settled<T: Drop>(
     }
 }
 
-/// Closes the archive at a path, and answers what was done with it, as `settled` does.
-pub fn close_after<A: Archives, T: Drop>(
+/// Does something with the archive at a path, and answers what that came to, as `settled` does.
+pub fn lend<A: Archives, W: Work>(
     rt: &HostRuntime,
     archives: &A,
     path: &str,
-    archive: Store<A::Database>,
-    done: Result<T, Failure>,
-) -> Result<T, Failure> {
-    let closed = archives.close(archive.into_connection());
+    work: W,
+) -> Result<W::Answer, Failure> {
+    let (done, closed) = archives.lend(rt, path, work)?;
     settled(rt, path, done, closed)
 }

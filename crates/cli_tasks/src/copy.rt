@@ -1,6 +1,6 @@
 //! `copy`: a new archive with all that another one has.
 
-use crate::archives::{Archives, Closed, not_made, settled};
+use crate::archives::{Archives, Work, lend, not_made};
 use crate::drafts::{begin, read_back, settle};
 use class_plan::Plan;
 use cli_console::{Failure, Status, write_text};
@@ -63,43 +63,66 @@ fn kept_of<S: Alter>(rt: &HostRuntime, archive: &mut Store<S>) -> Result<Kept, F
 }
 
 /// Fills the draft of an archive with what the database of a connection has.
-fn fill<A: Archives>(
-    rt: &HostRuntime,
-    archives: &A,
-    plan: &Plan,
-    from: &mut Connection<A::Database>,
-    draft: &str,
-    paths: Paths<'_>,
-) -> Result<(), Failure> {
-    let archive = archives.open(rt, draft).map_err(not_made)?;
-    let mut to = archive.into_connection();
-    let filled = copy_archive(rt.alloc(), plan, from, &mut to).map_err(|fault| copy_failure(
-        rt.alloc(),
-        paths,
-        fault,
-    ));
-    // How it is closed shows when it is read back.
-    archives.close(to);
-    filled
+#[derive(Drop)]
+struct FillDraft<'f, S: Alter> {
+    plan: &'f Plan,
+    from: &'f mut Connection<S>,
+    paths: Paths<'f>,
 }
 
-/// Reads a whole archive, copies it to the draft of a new one, and closes it. Answers what was copied, and how the archive
-/// was closed.
-fn copy_all<A: Archives>(
+impl<S: Alter> Work for FillDraft<'_, S> {
+    type Answer = ();
+
+    fn work<T: Alter>(
+        self,
+        rt: &HostRuntime,
+        archive: Store<T>,
+    ) -> (Connection<T>, Result<(), Failure>) {
+        let FillDraft { plan, from, paths } = self;
+        let mut to = archive.into_connection();
+        match copy_archive(rt.alloc(), plan, from, &mut to) {
+            Ok(()) => (to, Ok(())),
+            Err(fault) => (to, Err(copy_failure(rt.alloc(), paths, fault))),
+        }
+    }
+}
+
+/// Fills a draft. How it is closed shows when it is read back.
+fn fill<A: Archives, S: Alter>(
     rt: &HostRuntime,
     archives: &A,
-    archive: Store<A::Database>,
+    draft: &str,
+    work: FillDraft<'_, S>,
+) -> Result<(), Failure> {
+    match archives.lend(rt, draft, work) {
+        Ok((filled, _)) => filled,
+        Err(failure) => Err(not_made(failure)),
+    }
+}
+
+/// Copies an archive to a draft, and answers what was copied.
+fn copy_all<A: Archives, S: Alter>(
+    rt: &HostRuntime,
+    archives: &A,
+    archive: Store<S>,
     draft: &str,
     paths: Paths<'_>,
-) -> (Result<Summary, Failure>, Closed) {
+) -> (Connection<S>, Result<Summary, Failure>) {
     let mut archive = archive;
-    let kept = kept_of(rt, &mut archive);
+    let kept = match kept_of(rt, &mut archive) {
+        Ok(kept) => kept,
+        Err(failure) => return (archive.into_connection(), Err(failure)),
+    };
     let mut from = archive.into_connection();
-    let copied = kept.and_then(|kept| {
-        fill(rt, archives, &kept.plan, &mut from, draft, paths)?;
-        Ok(kept.summary)
-    });
-    (copied, archives.close(from))
+    let work = FillDraft {
+        plan: &kept.plan,
+        from: &mut from,
+        paths,
+    };
+    match fill(rt, archives, draft, work) {
+        Ok(()) => (from, Ok(kept.summary)),
+        Err(failure) => (from, Err(failure)),
+    }
 }
 
 /// Reads the draft of an archive back, and compares it with what was copied.
@@ -139,13 +162,41 @@ fn finish<A: Archives>(
 }
 
 /// Makes the draft of a new archive with the plan of another one.
-fn begin_alike<A: Archives>(
+fn begin_alike<A: Archives, S: Alter>(
     rt: &HostRuntime,
     archives: &A,
-    archive: &Store<A::Database>,
+    archive: &Store<S>,
     new: &str,
 ) -> Result<String, Failure> {
     begin(rt, archives, new, archive.plan().copy()?)
+}
+
+/// Makes a new archive with all that another one has. Where that fails, no new one is left.
+#[derive(Clone, Copy)]
+struct Copying<'a, A> {
+    archives: &'a A,
+    paths: Paths<'a>,
+}
+
+impl<A: Archives> Work for Copying<'_, A> {
+    type Answer = ();
+
+    fn work<S: Alter>(
+        self,
+        rt: &HostRuntime,
+        archive: Store<S>,
+    ) -> (Connection<S>, Result<(), Failure>) {
+        let Copying { archives, paths } = self;
+        let draft = match begin_alike(rt, archives, &archive, paths.new) {
+            Ok(draft) => draft,
+            Err(failure) => return (archive.into_connection(), Err(failure)),
+        };
+        let (from, copied) = copy_all(rt, archives, archive, draft.as_str(), paths);
+        (
+            from,
+            finish(rt, archives, copied, draft.as_str(), paths.new),
+        )
+    }
 }
 
 /// Makes a new archive with all that another one has. Where that fails, no new one is left.
@@ -154,14 +205,5 @@ pub fn copy_to<A: Archives>(
     archives: &A,
     paths: Paths<'_>,
 ) -> Result<(), Failure> {
-    let archive = archives.open(rt, paths.store)?;
-    let (done, closed) = match begin_alike(rt, archives, &archive, paths.new) {
-        Ok(draft) => {
-            let draft = draft.as_str();
-            let (copied, closed) = copy_all(rt, archives, archive, draft, paths);
-            (finish(rt, archives, copied, draft, paths.new), closed)
-        }
-        Err(failure) => (Err(failure), archives.close(archive.into_connection())),
-    };
-    settled(rt, paths.store, done, closed)
+    lend(rt, archives, paths.store, Copying { archives, paths })
 }

@@ -1,9 +1,11 @@
 //! New archives, which get their places once they are found whole.
 
-use crate::archives::{Archives, Closed, not_made};
+use crate::archives::{Archives, Closed, Work, not_made};
 use class_plan::Plan;
 use cli_console::{Failure, Status};
 use cli_readings::{Summary, summary_of};
+use record_store::Store;
+use sqlite::{Alter, Connection};
 
 /// Makes an archive with a plan that is to have its place at a path, and answers its draft. `CannotMake` where the place
 /// is not one for a new archive.
@@ -16,17 +18,34 @@ pub fn begin<A: Archives>(
     archives.create(rt, path, plan).map_err(not_made)
 }
 
+/// Sums up an archive.
+#[derive(Drop)]
+struct SumUp;
+
+impl Work for SumUp {
+    type Answer = Summary;
+
+    fn work<S: Alter>(
+        self,
+        rt: &HostRuntime,
+        archive: Store<S>,
+    ) -> (Connection<S>, Result<Summary, Failure>) {
+        let mut archive = archive;
+        let summed = summary_of(rt, &mut archive);
+        (archive.into_connection(), summed)
+    }
+}
+
 /// Reads a draft back. All of it is in its file then, and nothing in the log.
 pub fn read_back<A: Archives>(
     rt: &HostRuntime,
     archives: &A,
     draft: &str,
 ) -> Result<Summary, Failure> {
-    let mut archive = archives.open(rt, draft).map_err(not_made)?;
-    let summed = summary_of(rt, &mut archive);
-    match archives.close(archive.into_connection()) {
-        Closed::Whole => summed,
-        _ => Err(Failure::at(rt.alloc(), Status::TryAgain, draft, &"the disk failed")),
+    match archives.lend(rt, draft, SumUp) {
+        Ok((summed, Closed::Whole)) => summed,
+        Ok(_) => Err(Failure::at(rt.alloc(), Status::TryAgain, draft, &"the disk failed")),
+        Err(failure) => Err(not_made(failure)),
     }
 }
 

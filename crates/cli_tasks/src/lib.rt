@@ -1,6 +1,6 @@
 //! The subcommands of `mailfile-store`, over archives that are kept anywhere.
 //!
-//! - `archives`: where archives are kept, and how they are opened and closed;
+//! - `archives`: where archives are kept, and how one is lent to a work;
 //! - `subcommands`: what each subcommand does;
 //! - `drafts`: new archives, which get their places once they are found whole;
 //! - `copy`: a new archive with all that another one has;
@@ -18,5 +18,5 @@ mod program;
 mod reports;
 mod subcommands;
 
-pub use archives::{Archives, Closed};
+pub use archives::{Archives, Closed, Work};
 pub use program::serve;

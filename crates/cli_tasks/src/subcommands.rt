@@ -1,6 +1,6 @@
 //! What each subcommand does.
 
-use crate::archives::{Archives, close_after};
+use crate::archives::{Archives, Work, lend, settled};
 use crate::copy::{Paths, copy_to};
 use crate::drafts::make;
 use class_plan::Date;
@@ -10,38 +10,178 @@ use cli_changes::{
 };
 use cli_console::{Failure, day_or_today, now};
 use cli_readings::{
-    export_to, judge_choice, message_of_record, read_captured, write_contents, write_list,
-    write_message, write_report, write_why,
+    Captured, export_to, judge_choice, message_of_record, read_captured, write_contents,
+    write_list, write_message, write_report, write_why,
 };
 use command_lines::archives::{
     Choice, Command, CommandLine, Disposal, Filing, Format, Holding, TypedNumber, Why,
 };
+use desk_commands::Payload;
+use filing_desk::Delivery;
+use record_store::Store;
+use sqlite::{Alter, Connection};
 
-/// Writes the plan as text.
-fn show_plan<A: Archives>(rt: &HostRuntime, archives: &A, store: &str) -> Result<(), Failure> {
-    let archive = archives.open(rt, store)?;
-    let done = write_plan(rt, archive.plan());
-    close_after(rt, archives, store, archive, done)
+/// What is read of an archive, or changed in it, with its words written meanwhile.
+#[derive(Drop)]
+enum Task<'a> {
+    WritePlan,
+    ReplacePlan { plan: &'a str, is_agreed: bool },
+    Check,
+    Hold(Change, Holding<'a>),
+    /// Lists or destroys what is due by a day.
+    Dispose(Disposal<'a>, Date),
+    /// Reports by a day, with the path of the store.
+    Report(&'a str, Date),
 }
 
-/// Replaces the plan.
-fn revise<A: Archives>(
-    rt: &HostRuntime,
-    archives: &A,
-    store: &str,
-    plan: &str,
-    is_agreed: bool,
-) -> Result<(), Failure> {
-    let mut archive = archives.open(rt, store)?;
-    let done = replace_plan(rt, &mut archive, plan, is_agreed);
-    close_after(rt, archives, store, archive, done)
+impl Task<'_> {
+    /// Does it.
+    fn perform<S: Alter>(&self, rt: &HostRuntime, archive: &mut Store<S>) -> Result<(), Failure> {
+        match self {
+            Task::WritePlan => write_plan(rt, archive.plan()),
+            Task::ReplacePlan { plan, is_agreed } => replace_plan(rt, archive, *plan, *is_agreed),
+            Task::Check => write_contents(rt, archive),
+            Task::Hold(change, asked) => change_holds(rt, archive, *change, asked),
+            Task::Dispose(asked, day) => dispose_by(rt, archive, asked, *day),
+            Task::Report(store, day) => write_report(rt, archive, *store, *day),
+        }
+    }
 }
 
-/// Judges the whole store.
-fn check<A: Archives>(rt: &HostRuntime, archives: &A, store: &str) -> Result<(), Failure> {
-    let mut archive = archives.open(rt, store)?;
-    let done = write_contents(rt, &mut archive);
-    close_after(rt, archives, store, archive, done)
+impl Work for Task<'_> {
+    type Answer = ();
+
+    fn work<S: Alter>(
+        self,
+        rt: &HostRuntime,
+        archive: Store<S>,
+    ) -> (Connection<S>, Result<(), Failure>) {
+        let mut archive = archive;
+        let done = self.perform(rt, &mut archive);
+        (archive.into_connection(), done)
+    }
+}
+
+/// Lists records.
+#[derive(Drop)]
+struct ListRecords<'c, 'a> {
+    choice: &'c Choice<'a>,
+    format: Format,
+}
+
+impl Work for ListRecords<'_, '_> {
+    type Answer = ();
+
+    fn work<S: Alter>(
+        self,
+        rt: &HostRuntime,
+        archive: Store<S>,
+    ) -> (Connection<S>, Result<(), Failure>) {
+        let mut archive = archive;
+        let done = write_list(rt, &mut archive, self.choice, self.format);
+        (archive.into_connection(), done)
+    }
+}
+
+/// Exports records to a folder.
+#[derive(Drop)]
+struct ExportRecords<'c, 'a, 'f> {
+    choice: &'c Choice<'a>,
+    folder: &'f str,
+}
+
+impl Work for ExportRecords<'_, '_, '_> {
+    type Answer = ();
+
+    fn work<S: Alter>(
+        self,
+        rt: &HostRuntime,
+        archive: Store<S>,
+    ) -> (Connection<S>, Result<(), Failure>) {
+        let mut archive = archive;
+        let done = export_to(rt, &mut archive, self.choice, self.folder);
+        (archive.into_connection(), done)
+    }
+}
+
+/// Reads the message of a record.
+#[derive(Drop)]
+struct ReadMessage<'a>(TypedNumber<'a>);
+
+impl Work for ReadMessage<'_> {
+    type Answer = Vec<u8>;
+
+    fn work<S: Alter>(
+        self,
+        rt: &HostRuntime,
+        archive: Store<S>,
+    ) -> (Connection<S>, Result<Vec<u8>, Failure>) {
+        let mut archive = archive;
+        let message = message_of_record(rt, &mut archive, self.0);
+        (archive.into_connection(), message)
+    }
+}
+
+/// Reads a record as it was captured.
+#[derive(Drop)]
+struct ReadRecord<'a>(TypedNumber<'a>);
+
+impl Work for ReadRecord<'_> {
+    type Answer = Captured;
+
+    fn work<S: Alter>(
+        self,
+        rt: &HostRuntime,
+        archive: Store<S>,
+    ) -> (Connection<S>, Result<Captured, Failure>) {
+        let mut archive = archive;
+        let captured = read_captured(rt, &mut archive, self.0);
+        (archive.into_connection(), captured)
+    }
+}
+
+/// Delivers a message. What became of it is told once the archive is closed.
+#[derive(Drop)]
+struct DeliverOne<'a> {
+    rules: FilingRules<'a>,
+    moment: u64,
+    message: Payload,
+}
+
+impl Work for DeliverOne<'_> {
+    type Answer = Result<Delivery, Failure>;
+
+    fn work<S: Alter>(
+        self,
+        rt: &HostRuntime,
+        archive: Store<S>,
+    ) -> (Connection<S>, Result<Self::Answer, Failure>) {
+        let DeliverOne {
+            rules,
+            moment,
+            message,
+        } = self;
+        let (archive, delivered) = deliver_to(rt, archive, &rules, moment, message);
+        (archive.into_connection(), Ok(delivered))
+    }
+}
+
+/// Captures the new messages of a Maildir.
+#[derive(Drop)]
+struct TakeNew<'a>(Intake<'a>);
+
+impl Work for TakeNew<'_> {
+    type Answer = ();
+
+    fn work<S: Alter>(
+        self,
+        rt: &HostRuntime,
+        archive: Store<S>,
+    ) -> (Connection<S>, Result<(), Failure>) {
+        let TakeNew(job) = self;
+        let (archive, done) = take_new(rt, archive, &job);
+        (archive.into_connection(), done)
+    }
 }
 
 /// Captures the message on standard input. A store that cannot be had, or that may not keep the message, is a reason to
@@ -59,9 +199,15 @@ fn deliver<A: Archives>(
     };
     let message = read_message(rt)?;
     let rules = FilingRules::read(rt, filing)?;
-    let archive = archives.open(rt, store).map_err(|failure| failure.kept())?;
-    let (archive, delivered) = deliver_to(rt, archive, &rules, moment, message);
-    let delivery = close_after(rt, archives, store, archive, Ok(delivered))??;
+    let work = DeliverOne {
+        rules,
+        moment,
+        message,
+    };
+    let (done, closed) = archives
+        .lend(rt, store, work)
+        .map_err(|failure| failure.kept())?;
+    let delivery = settled(rt, store, done, closed)??;
     report_delivery(rt, &delivery)
 }
 
@@ -74,9 +220,30 @@ fn intake<A: Archives>(
     filing: &Filing<'_>,
 ) -> Result<(), Failure> {
     let job = Intake::read(rt, maildir, filing)?;
-    let archive = archives.open(rt, store)?;
-    let (archive, done) = take_new(rt, archive, &job);
-    close_after(rt, archives, store, archive, done)
+    lend(rt, archives, store, TakeNew(job))
+}
+
+/// Writes the message of a record once the archive is closed, or the fields of its header.
+fn show<A: Archives>(
+    rt: &HostRuntime,
+    archives: &A,
+    store: &str,
+    record: TypedNumber<'_>,
+    fields: bool,
+) -> Result<(), Failure> {
+    let message = lend(rt, archives, store, ReadMessage(record))?;
+    write_message(rt, message.as_slice(), fields)
+}
+
+/// Says why a record is in its class, once the archive is closed.
+fn why<A: Archives>(
+    rt: &HostRuntime,
+    archives: &A,
+    store: &str,
+    asked: &Why<'_>,
+) -> Result<(), Failure> {
+    let captured = lend(rt, archives, store, ReadRecord(asked.record))?;
+    write_why(rt, asked, &captured)
 }
 
 /// Lists records.
@@ -88,9 +255,7 @@ fn list<A: Archives>(
     format: Format,
 ) -> Result<(), Failure> {
     judge_choice(rt, choice)?;
-    let mut archive = archives.open(rt, store)?;
-    let done = write_list(rt, &mut archive, choice, format);
-    close_after(rt, archives, store, archive, done)
+    lend(rt, archives, store, ListRecords { choice, format })
 }
 
 /// Exports records to a folder.
@@ -102,49 +267,7 @@ fn export<A: Archives>(
     folder: &str,
 ) -> Result<(), Failure> {
     judge_choice(rt, choice)?;
-    let mut archive = archives.open(rt, store)?;
-    let done = export_to(rt, &mut archive, choice, folder);
-    close_after(rt, archives, store, archive, done)
-}
-
-/// Writes the message of a record once the archive is closed, or the fields of its header.
-fn show<A: Archives>(
-    rt: &HostRuntime,
-    archives: &A,
-    store: &str,
-    record: TypedNumber<'_>,
-    fields: bool,
-) -> Result<(), Failure> {
-    let mut archive = archives.open(rt, store)?;
-    let done = message_of_record(rt, &mut archive, record);
-    let message = close_after(rt, archives, store, archive, done)?;
-    write_message(rt, message.as_slice(), fields)
-}
-
-/// Says why a record is in its class, once the archive is closed.
-fn why<A: Archives>(
-    rt: &HostRuntime,
-    archives: &A,
-    store: &str,
-    asked: &Why<'_>,
-) -> Result<(), Failure> {
-    let mut archive = archives.open(rt, store)?;
-    let done = read_captured(rt, &mut archive, asked.record);
-    let captured = close_after(rt, archives, store, archive, done)?;
-    write_why(rt, asked, &captured)
-}
-
-/// Places a hold on records, or ends it.
-fn hold<A: Archives>(
-    rt: &HostRuntime,
-    archives: &A,
-    store: &str,
-    change: Change,
-    asked: &Holding<'_>,
-) -> Result<(), Failure> {
-    let mut archive = archives.open(rt, store)?;
-    let done = change_holds(rt, &mut archive, change, asked);
-    close_after(rt, archives, store, archive, done)
+    lend(rt, archives, store, ExportRecords { choice, folder })
 }
 
 /// Lists what is due and may be destroyed, or destroys it.
@@ -152,12 +275,10 @@ fn dispose<A: Archives>(
     rt: &HostRuntime,
     archives: &A,
     store: &str,
-    asked: &Disposal<'_>,
+    asked: Disposal<'_>,
 ) -> Result<(), Failure> {
-    let day = day_of_disposal(rt, asked)?;
-    let mut archive = archives.open(rt, store)?;
-    let done = dispose_by(rt, &mut archive, asked, day);
-    close_after(rt, archives, store, archive, done)
+    let day = day_of_disposal(rt, &asked)?;
+    lend(rt, archives, store, Task::Dispose(asked, day))
 }
 
 /// Writes a report on the archive by a day, or else by today.
@@ -168,9 +289,7 @@ fn report<A: Archives>(
     day: Option<Date>,
 ) -> Result<(), Failure> {
     let day = day_or_today(rt, day)?;
-    let mut archive = archives.open(rt, store)?;
-    let done = write_report(rt, &mut archive, store, day);
-    close_after(rt, archives, store, archive, done)
+    lend(rt, archives, store, Task::Report(store, day))
 }
 
 /// Does what a command line asks for.
@@ -182,19 +301,21 @@ pub fn execute<A: Archives>(
     let CommandLine { store, command } = line;
     match command {
         Command::Create { plan } => make(rt, archives, store, read_plan(rt, plan)?),
-        Command::WritePlan => show_plan(rt, archives, store),
-        Command::ReplacePlan { plan, is_agreed } => revise(rt, archives, store, plan, is_agreed),
+        Command::WritePlan => lend(rt, archives, store, Task::WritePlan),
+        Command::ReplacePlan { plan, is_agreed } => {
+            lend(rt, archives, store, Task::ReplacePlan { plan, is_agreed })
+        }
         Command::Deliver { moment, filing } => deliver(rt, archives, store, moment, &filing),
         Command::Intake { maildir, filing } => intake(rt, archives, store, maildir, &filing),
         Command::List { choice, format } => list(rt, archives, store, &choice, format),
         Command::Show { record, fields } => show(rt, archives, store, record, fields),
         Command::Export { choice, folder } => export(rt, archives, store, &choice, folder),
         Command::Copy { new } => copy_to(rt, archives, Paths { store, new }),
-        Command::Check => check(rt, archives, store),
+        Command::Check => lend(rt, archives, store, Task::Check),
         Command::Why(asked) => why(rt, archives, store, &asked),
-        Command::Hold(asked) => hold(rt, archives, store, Change::Place, &asked),
-        Command::Release(asked) => hold(rt, archives, store, Change::End, &asked),
-        Command::Dispose(asked) => dispose(rt, archives, store, &asked),
+        Command::Hold(asked) => lend(rt, archives, store, Task::Hold(Change::Place, asked)),
+        Command::Release(asked) => lend(rt, archives, store, Task::Hold(Change::End, asked)),
+        Command::Dispose(asked) => dispose(rt, archives, store, asked),
         Command::Report { day } => report(rt, archives, store, day),
     }
 }

@@ -3,10 +3,9 @@
 use class_plan::Plan;
 use cli_console::{Failure, Status};
 use cli_files::{NoStore, create_archive, draft_for, give_place, open_archive, remove_files};
-use cli_tasks::{Archives, Closed};
+use cli_tasks::{Archives, Closed, Work};
 use record_files::{Closing, close};
-use record_store::Store;
-use sqlite::{Connection, FileFrom, FileStore, Unknown};
+use sqlite::Unknown;
 use std::alloc::Global;
 
 /// The failure of a store that cannot be had.
@@ -45,15 +44,20 @@ fn closed_by(closing: Closing) -> Closed {
 pub struct FileArchives;
 
 impl Archives for FileArchives {
-    type Database = FileStore<FileFrom<Unknown>>;
-
-    fn open(&self, rt: &HostRuntime, path: &str) -> Result<Store<Self::Database>, Failure> {
-        open_archive(rt, path, Unknown).map_err(|cause| no_store(rt.alloc(), path, cause))
-    }
-
-    fn close(&self, conn: Connection<Self::Database>) -> Closed {
-        let (_files, closing) = close(conn);
-        closed_by(closing)
+    fn lend<W: Work>(
+        &self,
+        rt: &HostRuntime,
+        path: &str,
+        work: W,
+    ) -> Result<(Result<W::Answer, Failure>, Closed), Failure> {
+        match open_archive(rt, path, Unknown) {
+            Ok(archive) => {
+                let (conn, done) = work.work(rt, archive);
+                let (_files, closing) = close(conn);
+                Ok((done, closed_by(closing)))
+            }
+            Err(cause) => Err(no_store(rt.alloc(), path, cause)),
+        }
     }
 
     fn create(&self, rt: &HostRuntime, path: &str, plan: Plan) -> Result<String, Failure> {
