@@ -5,7 +5,7 @@
 
 : "${work:=$(mktemp -d)}"
 
-PAGES=(README.md docs/*.md sessions/README.md sessions/*/README.md examples/archive/README.md)
+PAGES=(README.md CHANGES.md docs/*.md sessions/README.md sessions/*/README.md examples/archive/README.md)
 
 # The anchors of a page's headings.
 anchors_of() {

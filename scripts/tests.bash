@@ -300,6 +300,29 @@ installs() {
     return "$status"
 }
 
+# What is removed is what was installed, of an earlier tree too, and no file or folder of others.
+removes() {
+    local prefix=$stage/prefix2 before
+    mkdir -p -- "$prefix/bin" "$prefix/share" && touch "$prefix/bin/other" && before=$(cd -- "$prefix" && find . | sort) || return
+    start install "$prefix" && mv -- "$stage/tree/man/mailfile.1" "$stage/page" || return
+    sed -i 's/^PROGRAMS=.*/PROGRAMS=(mailfile_tool)/' "$stage/tree/scripts/programs.bash"
+    start install "$prefix" && [[ ! -e $prefix/bin/mailfile && -x $prefix/bin/mailfile-tool ]] &&
+        (cd -- "$prefix" && sha256sum --quiet -c share/mailfile/SHA256SUMS) && start install --remove "$prefix" &&
+        [[ $(cd -- "$prefix" && find . | sort) == "$before" ]]
+    local status=$?
+    mv -- "$stage/page" "$stage/tree/man/mailfile.1"
+    sed -i 's/^PROGRAMS=.*/PROGRAMS=(mailfile mailfile_tool)/' "$stage/tree/scripts/programs.bash"
+    return "$status"
+}
+
+# A file that was changed since it was installed is named, and stays.
+leaves_what_was_changed() {
+    local prefix=$stage/prefix3
+    start install "$prefix" && echo other > "$prefix/bin/mailfile" || return
+    ! start install --remove ../../prefix3 && grep -q "^install: ../../prefix3/bin/mailfile stays: " "$work/error" &&
+        [[ $(cd -- "$prefix" && find . -type f) == ./bin/mailfile ]] && gives_up 125 "install once more" install --remove ../../prefix3
+}
+
 # Whether no two of the files that a script sources have a function of one name.
 has_no_namesakes() {
     local parts
@@ -343,6 +366,8 @@ starts_from_dist() {
     count "a system without gzip" refuses_without_gzip
     count "a checkout that cannot be written" serves_from_a_fixed_checkout
     count "what is installed" installs
+    count "what is removed again" removes
+    count "what was changed since it was installed" leaves_what_was_changed
 }
 
 scripts() {
