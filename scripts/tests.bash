@@ -8,7 +8,7 @@
 make_stage() {
     stage=$work/$'a|b&c \'d\' "e" $(f) \\1\n#g' && path=$stage/kit/bin:/usr/bin:/bin
     mkdir -p -- "$stage"/kit/bin "$stage"/tree/{docs,man,trials/measures/src,crates/{low,one,two,middle,mailfile,mailfile_tool,apart}/src}
-    cp -r -- mailfile test prove install scripts "$stage/tree/"
+    cp -r -- mailfile test prove install scripts completions "$stage/tree/"
     printf '%s\n' '# crates' low: one: two: 'middle: low thiserror' 'mailfile: one two middle clap' 'mailfile_tool: low' 'apart: low' \
         > "$stage/tree/crates.txt"
     echo 'measures: low' > "$stage/tree/trials/measures/uses"
@@ -384,7 +384,7 @@ scripts() {
         count "functions of $script" has_no_namesakes "$script"
     done
     if command -v shellcheck > "$work/said"; then
-        count "shellcheck" shellcheck -x mailfile* test prove install .ci/run scripts/*.sh scripts/*.bash sessions/*.bash sessions/*/*.bash
+        count "shellcheck" shellcheck -x mailfile* test prove install .ci/run scripts/*.sh scripts/*.bash completions/*.bash sessions/*.bash sessions/*/*.bash
     fi
     group scripts
 }
