@@ -4,12 +4,14 @@
 #
 # It is a Postfix with a configuration, a queue and data of its own, all below the folder of the tests. It listens on a port of the
 # loopback interface alone. It gives mail for records.example to `deliver`, one at a time, and mail for crowd.example many at a time.
-# Mail for maildir.example goes to a Maildir, which `intake` empties.
+# Mail for door.example goes the way of records.example, but at the door a map is asked whether there is such an officer. Mail for
+# maildir.example goes to a Maildir, which `intake` empties.
 
 : "${root:?}" "${work:?}"
 
-# How many mails are sent, by how many senders at once; how many come while the store is locked, and to many deliveries at once.
-readonly MAILS=1000 SENDERS=8 LOCKED=50 CROWD=100
+# How many mails are sent, by how many senders at once; how many come while the store is locked, to many deliveries at once, and beside
+# intakes.
+readonly MAILS=1000 SENDERS=8 LOCKED=50 CROWD=100 BESIDE=200
 
 # A recipient longer than any officer's name.
 LONG=$(printf 'a%.0s' {1..70}) && readonly LONG
@@ -66,8 +68,10 @@ local_recipient_maps =
 local_transport = records
 records_destination_recipient_limit = 1
 crowd_destination_recipient_limit = 1
-transport_maps = inline:{crowd.example=crowd:}
-relay_domains = crowd.example
+transport_maps = inline:{crowd.example=crowd:, door.example=records:}
+relay_domains = crowd.example door.example
+relay_recipient_maps = texthash:$SERVER/officers, inline:{@crowd.example=crowd}
+recipient_delimiter = +
 virtual_mailbox_domains = maildir.example
 virtual_mailbox_base = $SERVER
 virtual_mailbox_maps = static:Maildir/
@@ -79,7 +83,7 @@ END
 # The services of Postfix, and the two that give mail to the archive, the first of them as in docs/GUIDE.md. `--` stands before the
 # recipient, which may begin with `-`.
 write_master() {
-    local deliver="flags=R user=nobody argv=$SERVER/mailfile-store deliver --store $SERVER/store/records --rules $SERVER/rules -- \${user}"
+    local deliver="$SERVER/mailfile-store deliver --store $SERVER/store/records --rules $SERVER/rules -- \${user}"
     cat << END
 127.0.0.1:$port inet n - n - - smtpd
 pickup unix n - n 1 1 pickup
@@ -97,10 +101,20 @@ anvil unix - - n - 1 anvil
 postlog unix-dgram n - n - 1 postlogd
 virtual unix - n n - - virtual
 records unix - n n - 1 pipe
+  flags=Ru user=nobody argv=$(command -v flock) -w 600 -E 75 $SERVER/store/lock
   $deliver
 crowd unix - n n - 10 pipe
-  $deliver
+  flags=R user=nobody argv=$deliver
 END
+}
+
+# The officers of the folder of rules, as recipients that Postfix is to take at the door.
+write_officers() {
+    local script officer
+    for script in "$SERVER/rules/"*/main.sieve; do
+        officer=${script%/main.sieve} && officer=${officer##*/}
+        [[ $officer == global ]] || echo "$officer@door.example $officer/"
+    done
 }
 
 # Starts the server, and sets `port`.
@@ -108,7 +122,7 @@ start_postfix() {
     mkdir -p -- "$SERVER/etc" "$SERVER/queue" "$SERVER/data" && chmod 755 "$work" "$SERVER" && chown postfix "$SERVER/data" &&
         cp -- "$runs" "$SERVER/mailfile-store" && cp -- "$program" "$SERVER/mailfile" && chmod 755 "$SERVER/mailfile"* || return
     find_port
-    write_main > "$SERVER/etc/main.cf" && write_master > "$SERVER/etc/master.cf" && with_postfix postfix start > "$work/said" 2>&1 && return
+    lay_rules && write_main > "$SERVER/etc/main.cf" && write_master > "$SERVER/etc/master.cf" && with_postfix postfix start > "$work/said" 2>&1 && return
     cat -- "$work/said"
     return 1
 }
@@ -122,12 +136,17 @@ archive() {
     as_other "$SERVER/mailfile-store" "$1" --store "$SERVER/store/records" "${@:2}"
 }
 
-# A new store, rules, and a Maildir, for the user for whom Postfix delivers. Nothing is sent yet.
+# The rules and the plan, and the map of the officers.
+lay_rules() {
+    mkdir -p -- "$SERVER/rules/"{ann,bob,global} || return
+    echo 'keep;' | tee "$SERVER/rules/"{ann,bob,global}/main.sieve > "$work/said"
+    echo 'root = "7 years destroy"' > "$SERVER/plan.toml" && write_officers > "$SERVER/officers"
+}
+
+# A new store, and a Maildir, for the user for whom Postfix delivers. Nothing is sent yet.
 lay_records() {
     rm -rf -- "$SERVER/store" "$SERVER/Maildir" "$SERVER/out" "$SENT"
-    mkdir -p -- "$SERVER/rules/"{ann,bob} "$SERVER/store" "$SERVER/Maildir/"{new,cur,tmp} "$SENT" || return
-    echo 'keep;' | tee "$SERVER/rules/"{ann,bob}/main.sieve > "$work/said"
-    echo 'root = "7 years destroy"' > "$SERVER/plan.toml"
+    mkdir -p -- "$SERVER/store" "$SERVER/Maildir/"{new,cur,tmp} "$SENT" || return
     chown -R 65534:65534 "$SERVER/store" "$SERVER/Maildir" && archive create --plan "$SERVER/plan.toml"
 }
 
@@ -276,6 +295,27 @@ takes_each_from_a_maildir() {
     wait "$sending" && await_queue 0 && empty_maildir && [[ -z $(ls -A -- "$SERVER/Maildir/new") ]] && has_each_once "$MAILS"
 }
 
+# Deliveries beside intakes, each of them started by `flock`: none finds the store locked, and none is put off.
+takes_each_beside_intakes() {
+    local sending=() turns=0 sender deferred
+    lay_records || return
+    deferred=$(grep -c 'status=deferred' "$SERVER/log")
+    for sender in smtp1 smtp2; do
+        send_by_smtp "$sender" ann@records.example "$BESIDE" &
+        sending+=($!)
+    done
+    send_by_smtp maildir ann@maildir.example "$BESIDE" &
+    sending+=($!)
+    while kill -0 "${sending[@]}" 2> /dev/null || (($(queued) > 0)); do
+        as_other flock "$SERVER/store/lock" "$SERVER/mailfile-store" intake --store "$SERVER/store/records" --rules "$SERVER/rules" \
+            ann "$SERVER/Maildir" > "$work/answer" || return
+        turns=$((turns + 1))
+    done
+    echo "times that the Maildir was emptied beside deliveries: $turns"
+    wait "${sending[@]}" && await_queue 0 && empty_maildir && has_each_once $((3 * BESIDE)) &&
+        [[ $(grep -c 'status=deferred' "$SERVER/log") -eq $deferred ]]
+}
+
 # Holds the store by a session that waits for its input, which `lock` is.
 lock_store() {
     rm -f -- "$work/lock" "$work/answer"
@@ -338,6 +378,26 @@ strangers_do_nothing() {
     return "$status"
 }
 
+# Whether a recipient is refused at the door.
+is_refused_at_the_door() {
+    printf 'MAIL FROM:<hostile@sender.example>\r\n' >&"$to" && expect 250 && printf 'RCPT TO:<%s@door.example>\r\n' "$1" >&"$to" &&
+        expect 5 && printf 'RSET\r\n' >&"$to" && expect 250
+}
+
+# Whether the officers of the folder of rules have mail, in any case and with an extension, and all others are refused at the door.
+door_knows_the_officers() {
+    local to recipient number=0
+    lay_records && open_smtp door || return
+    for recipient in ann ANN ann+tax Bob+vat; do
+        number=$((number + 1))
+        write_mail door "$number" > "$SENT/door.$number" && send_file door "$recipient@door.example" "$SENT/door.$number" || return
+    done
+    for recipient in carl "${STRANGERS[@]}"; do
+        is_refused_at_the_door "$recipient" || return
+    done
+    close_smtp && await_queue 0 && has_each_once 4
+}
+
 # Whether a mail to two officers is captured once for each.
 takes_it_for_two_officers() {
     lay_records && write_mail both 1 > "$SENT/both.1" && sendmail -C "$SERVER/etc" -i -f both@sender.example -- {ann,bob}@records.example < "$SENT/both.1" &&
@@ -372,9 +432,11 @@ mail_through_postfix() {
     count "$MAILS mails, by a pipe" takes_each_by_a_pipe
     count "$CROWD mails, by deliveries at once" takes_each_of_a_crowd
     count "$MAILS mails, through a Maildir" takes_each_from_a_maildir
+    count "$((3 * BESIDE)) mails, by deliveries beside intakes" takes_each_beside_intakes
     count "a store that another program has, and a pipe" waits_for_a_lock
     count "a store that another program has, and a Maildir" maildir_waits_for_a_lock
     count "mail to recipients that are no officers" strangers_do_nothing
+    count "officers, and others at the door" door_knows_the_officers
     count "a mail to two officers" takes_it_for_two_officers
     count "a mail over the limit" gives_back_what_is_too_long
     stop_postfix
