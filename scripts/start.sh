@@ -22,6 +22,9 @@ start_noted() {
     exec "$program" "$@"
 }
 
+# A file that may not grow any more is then an error, and does not end the program. The program that is started inherits this.
+command trap '' XFSZ 2> /dev/null || :
+
 start_noted "${root:?}/out/${name:?}.note" "$@"
 cache=${XDG_CACHE_HOME:-${HOME:+$HOME/.cache}}
 case $cache in

@@ -187,6 +187,20 @@ takes_nothing_in_the_place_of_a_message() {
     done
 }
 
+# Puts a pipe in the place of a script.
+puts_a_pipe_for_a_script() {
+    rm -- "$here/rules/ann/main.sieve" && mkfifo "$here/rules/ann/main.sieve"
+}
+
+# A pipe in the place of a script is not waited for, and the store is free again.
+waits_for_no_pipe_in_the_place_of_a_script() {
+    archive_after captured "$here" && meanwhile openat "$here/rules/ann/main.sieve" puts_a_pipe_for_a_script \
+        deliver --store "$here/records.db" --rules "$here/rules" ann < "$here/mail/bill.eml" || return
+    ((status == 75)) && [[ $(< "$work/error") == *'/rules/ann/main.sieve: not a regular file' && ! -s $work/said ]] || shows_run || return
+    run list --store "$here/records.db" --from 4
+    ((status == 0)) && [[ $(wc -l < "$work/said") -eq 1 ]] || shows_run
+}
+
 # A log of another user is none of this user's store.
 refuses_a_log_of_another_user() {
     archive_after captured "$here" && chown 65534 "$here/records.db-wal" || return
@@ -208,6 +222,7 @@ store() {
         count "a disk that fails in a delivery" fails_in_a_delivery
         count "another store in the place of a copy" copies_beside_another_store
         count "a pipe or a link in the place of a message" takes_nothing_in_the_place_of_a_message
+        count "a pipe in the place of a script" waits_for_no_pipe_in_the_place_of_a_script
     fi
     group "mailfile-store without permissions, on a disk that fails, and where files change"
 }

@@ -323,6 +323,24 @@ leaves_what_was_changed() {
         [[ $(cd -- "$prefix" && find . -type f) == ./bin/mailfile ]] && gives_up 125 "install once more" install --remove ../../prefix3
 }
 
+# Copies the whole checkout, with the programs that were built here.
+copies_the_checkout() {
+    local built
+    copy_sources "$stage/checkout" || return
+    for built in crates/*/out/*.built; do
+        [[ ! -f $built ]] || { mkdir -p -- "$stage/checkout/${built%/*}" && cp -- "${built%.built}" "$built" "$stage/checkout/${built%/*}/"; } ||
+            return
+    done
+}
+
+# What the programs do in a whole checkout with such a path.
+types_in_a_checkout() {
+    copies_the_checkout || return
+    "$stage/checkout/scripts/transcripts.bash" files/names intake/names files/limited > "$work/said" 2>&1 && return
+    cat -- "$work/said"
+    return 1
+}
+
 # Whether no two of the files that a script sources have a function of one name.
 has_no_namesakes() {
     local parts
@@ -380,6 +398,7 @@ scripts() {
     count "a seed that is no number" gives_up 2 "^usage:" test hostile one
     count "an unknown word for ./test failing" gives_up 2 "^usage:" test failing memory some
     count "an unknown word for ./install" gives_up 2 "^usage:" install --nothing
+    count "transcripts in a whole checkout" types_in_a_checkout
     for script in test scripts/failing.bash scripts/hostile.bash prove; do
         count "functions of $script" has_no_namesakes "$script"
     done
