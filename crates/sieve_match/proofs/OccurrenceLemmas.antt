@@ -7,7 +7,7 @@ use Rattle.std.proofs.lemmas.Bool.{false≢true}
 use Rattle.memchr.specs.Find.{OccursAt, FindsNeedle}
 use Rattle.sieve_meaning.specs.declared.matching.Comparator.{Comparator}
 use Rattle.sieve_meaning.specs.declared.matching.Comparator.TheVariants.{Octet}
-use Rattle.sieve_meaning.specs.Matching.{Contains}
+use Rattle.sieve_meaning.specs.Matching.{fold, Contains}
 use Rattle.sieve_match.proofs.FoldLemmas.{fold-octet}
 
 -- a text around a key
@@ -40,11 +40,11 @@ found_is hay needle None h = (
 )
 found_is hay needle (Some k) h = (λ e. around_from hay needle k h.1, λ a. refl)
 
-pub found_octet : (c : Comparator) (key value : List ℕ) (r : Option ℕ) (b : Bool) → c ≡ Octet
-    → FindsNeedle value key 0 r → b ≡ is_some r → IsTrue b ↔ Contains c key value
-found_octet c key value r b is h e =
-    let f = found_is value key r h in
-    rw (is, e) (
-      λ t. let a = f.0 t in (a.0, a.1, fold-octet value ∙ a.2 ∙ ap (λ (k : List ℕ). a.0 ++ (k ++ a.1)) (sym (fold-octet key))),
-      λ a. f.1 (a.0, a.1, sym (fold-octet value) ∙ a.2 ∙ ap (λ (k : List ℕ). a.0 ++ (k ++ a.1)) (fold-octet key)),
-    )
+-- `i;octet` compares octets as they are
+pub found_octet : (c : Comparator) (key value : List ℕ) (r : Option ℕ) → c ≡ Octet
+    → FindsNeedle value key 0 r → FindsNeedle (fold c value) (fold c key) 0 r
+found_octet c key value r is h = rw (is, fold-octet value, fold-octet key) h
+
+pub contains_found : (c : Comparator) (key value : List ℕ) (r : Option ℕ) (b : Bool)
+    → FindsNeedle (fold c value) (fold c key) 0 r → b ≡ is_some r → IsTrue b ↔ Contains c key value
+contains_found c key value r b h e = rw e (found_is (fold c value) (fold c key) r h)

@@ -1,24 +1,23 @@
 -- What a search for a key under `i;ascii-casemap` knows of the key and of the places that it passes over.
-use Rattle.std.proofs.Common.{◌≡◌, ℕ, ◌+◌, ◌-◌, ◌<◌, ◌≤◌, Bool, true, false, eqb, ◌||◌, List, length, take, drop}
-use Rattle.std.proofs.Common.{slice_index, max, Some, IsTrue, ◌↔◌, ⊎_elim, inl, inr, sym, ap, subst, ◌∙◌, arith}
+use Rattle.std.proofs.Common.{◌≡◌, ℕ, ◌+◌, ◌-◌, ◌<◌, ◌≤◌, true, eqb, ◌||◌, List, length, take, drop}
+use Rattle.std.proofs.Common.{slice_index, max, Option, Some, ⊎_elim, inl, inr, sym, ap, subst, ◌∙◌, arith}
 use Rattle.std.specs.Char.{to_ascii_lowercase, to_ascii_uppercase}
 use Rattle.std.proofs.Math.ListN.{get_or-map}
 use Rattle.std.proofs.lemmas.List.{length-map, length-take-le, length-drop, get_or-take, get_or-drop}
-use Rattle.std.proofs.lemmas.Bool.{cases_lt, false≢true}
+use Rattle.std.proofs.lemmas.Bool.{cases_lt}
 use Rattle.std.proofs.lemmas.Bool.Decides.{nat_tests}
-use Rattle.memchr.specs.Find.{Nowhere, NoneBefore, Passes, OccursAt, is_byte2}
+use Rattle.memchr.specs.Find.{IsFirst, Nowhere, NoneBefore, Passes, OccursAt, FindsNeedle, is_byte2}
 use Rattle.memchr.specs.TwoWay.{IsCut}
 use Rattle.memchr.specs.declared.arch.all.twoway.Shift.TheVariants.{Small, Large}
-use Rattle.memchr.proofs.lemmas.FindLemmas.{Nowhere-then}
+use Rattle.memchr.proofs.lemmas.FindLemmas.{Nowhere-then, Nowhere-wider, IsFirst-agree}
 use Rattle.memchr.proofs.lemmas.SearchLemmas.{Nowhere-right, Nowhere-left, known-next, IsShift-large, IsShift-small}
 use Rattle.sieve_meaning.specs.declared.matching.Comparator.{Comparator}
 use Rattle.sieve_meaning.specs.declared.matching.Comparator.TheVariants.{Casemap}
-use Rattle.sieve_meaning.specs.Matching.{fold_octet, fold, Contains}
+use Rattle.sieve_meaning.specs.Matching.{fold_octet, fold}
 use Rattle.sieve_match.specs.declared.two_way.Order.{Order}
 use Rattle.sieve_match.specs.declared.two_way.Order.TheVariants.{Rising, Falling}
 use Rattle.sieve_match.specs.declared.two_way.Plan.{Plan}
-use Rattle.sieve_match.specs.TwoWay.{folded_octet, StandsAt, StandsIn, Precedes, IsPlan}
-use Rattle.sieve_match.proofs.OccurrenceLemmas.{around_from, place_from}
+use Rattle.sieve_match.specs.TwoWay.{folded_octet, StandsAt, Precedes, IsPlan}
 
 pub Precedes-trans : (order : Order) (a b c : ℕ) → Precedes order a b → Precedes order b c → Precedes order a c
 unfolding Precedes
@@ -67,12 +66,12 @@ stands_from key value k h = record {
   reads = λ j l. sym (read_fold value (k + j)) ∙ h.reads j (rw (length-map key (fold_octet Casemap)) l) ∙ read_fold key j;
 }
 
--- what an answer on places says of a text around the key
-pub stands_casemap : (c : Comparator) (key value : List ℕ) (r : Bool) → c ≡ Casemap → IsTrue r ↔ StandsIn value key → IsTrue r ↔ Contains c key value
-stands_casemap c key value r is h = rw is (
-  λ t. let s = h.0 t in around_from (fold Casemap value) (fold Casemap key) s.0 (occurs_from key value s.0 s.1),
-  λ a. let p = place_from (fold Casemap value) (fold Casemap key) a in h.1 (p.0, stands_from key value p.0 p.1),
-)
+-- the first place of a key is that of its octets as they are compared
+pub found_casemap : (c : Comparator) (key value : List ℕ) (r : Option ℕ) → c ≡ Casemap
+    → IsFirst (StandsAt value key) 0 (length value + 1) r → FindsNeedle (fold c value) (fold c key) 0 r
+found_casemap c key value r is h = rw is (rw (length-map value (fold_octet Casemap))
+    (IsFirst-agree (StandsAt value key) (OccursAt (fold Casemap value) (fold Casemap key)) 0 (length value + 1)
+    (λ k l s. occurs_from key value k s) (λ k l o. stands_from key value k o) r h))
 
 -- the key occurs at no place where its rare octet occurs in neither case
 module _ (key value : List ℕ) (at rare upper lower : ℕ) (inside : rare < length key)
@@ -135,9 +134,10 @@ module _ (key value : List ℕ) (p : Plan) (plan : IsPlan (folded_octet key) (le
       Nowhere-then before (Nowhere-right (folded_octet key) (length key) (folded_octet value) (length value) p.cut
       plan.critical next end (omega arith) below right differs)
 
-  pub found : length key ≤ end → ((k : ℕ) → known ≤ k → k < p.cut → folded_octet key k ≡ folded_octet value (next + k)) → StandsIn value key
+  pub found : length key ≤ end → ((k : ℕ) → known ≤ k → k < p.cut → folded_octet key k ≡ folded_octet value (next + k))
+      → IsFirst (StandsAt value key) 0 (length value + 1) (Some next)
   found full left = (
-    next,
+    record { low = omega arith; high = omega (arith, candidate.1); before = before },
     record {
       fits = omega (arith, candidate.1);
       reads = λ j l. sym (⊎_elim
@@ -167,5 +167,5 @@ kept_below x m p plan some = ⊎_elim (λ none. omega (arith, none)) (λ s. omeg
 
 -- if each place at which the key could be was passed over, it occurs nowhere
 pub stands_nowhere : (key value : List ℕ) (bound : ℕ) → Nowhere (StandsAt value key) 0 bound
-    → length value < bound + length key → IsTrue false ↔ StandsIn value key
-stands_nowhere key value bound h past = (λ e. absurd (false≢true e), λ s. absurd (h s.0 (omega arith) (omega (arith, s.1.fits)) s.1))
+    → length value < bound + length key → Nowhere (StandsAt value key) 0 (length value + 1)
+stands_nowhere key value bound h past = Nowhere-wider (length value + 1) (λ k s. omega (arith, s.fits)) h

@@ -16,9 +16,6 @@ folded_octet text k = fold_octet Casemap (slice_index text k)
 abbrev pub StandsAt : (value key : List ℕ) → ℕ → Type 0
 StandsAt value key k = OccursIn (folded_octet key) (length key) (folded_octet value) (length value) k
 
-abbrev pub StandsIn : (value key : List ℕ) → Type 0
-StandsIn value key = (k : ℕ) × StandsAt value key k
-
 -- which of two octets comes first in an order
 unfoldable pub Precedes : Order → ℕ → ℕ → Type 0
 Precedes Rising a b = a < b

@@ -6,21 +6,26 @@
 //!
 //! - `octets`: octets as they are compared, and `:is`;
 //! - `substring`: `:contains`;
-//! - `wildcards`: `:matches`.
+//! - `covering`: `:matches`;
+//! - `wildcards`: the same with its comparisons counted.
 #![tactic(auto)]
 
 ghost use Rattle.std.specs.Prelude.{◌≡◌};
 ghost use Rattle.sieve_meaning.specs.Matching.{key_matches as key_matches_by};
 
+mod covering;
 mod octets;
+mod pieces;
+mod places;
 mod substring;
 mod two_way;
 mod wildcards;
 
+pub use covering::matches;
 pub use octets::is;
 pub use sieve_meaning::{Comparator, MatchType};
 pub use substring::contains;
-pub use wildcards::{matches, matches_counted};
+pub use wildcards::matches_counted;
 
 /// Whether a key matches a value, by a match type and a comparator.
 pub fn key_matches(match_type: MatchType, key: &[u8], value: &[u8], comparator: Comparator) -> bool

@@ -11,8 +11,9 @@
 ghost use Rattle.std.specs.Prelude.{◌≡◌, ◌≢◌, ◌↔◌, ℕ, ◌+◌, ◌-◌, ◌*◌, ◌<◌, ◌≤◌, Some, length, IsTrue};
 ghost use Rattle.std.specs.Ordering.{MatchOrdering};
 ghost use Rattle.memchr.specs.Critical.{IsSuffixAt, IsCutPlace};
+ghost use Rattle.memchr.specs.Find.{IsFirst};
 ghost use Rattle.memchr.specs.TwoWay.{IsNextCandidate};
-ghost use Rattle.sieve_match.specs.TwoWay.{folded_octet, StandsAt, StandsIn, Precedes, IsPlan};
+ghost use Rattle.sieve_match.specs.TwoWay.{folded_octet, StandsAt, Precedes, IsPlan};
 
 use crate::Comparator;
 use crate::octets::fold;
@@ -20,11 +21,14 @@ use memchr::arch::all::packedpair::Pair;
 use memchr::memchr2;
 use std::cmp::Ordering;
 
-/// Whether a key occurs in a value, as octets are compared.
-pub(crate) fn stands_in(key: &[u8], value: &[u8]) -> bool
-    ensures { IsTrue result ↔ StandsIn value.now key.now }
+/// The first place of a value at which a key occurs, as octets are compared.
+pub(crate) fn find_folded(key: &[u8], value: &[u8]) -> Option<usize>
+    ensures { IsFirst (StandsAt value.now key.now) 0 (length value.now + 1) result }
 {
-    key.is_empty() || Plan::new(key).finds(key, value)
+    if key.is_empty() {
+        return Some(0);
+    }
+    Plan::new(key).find(key, value)
 }
 
 /// An octet of a text, as it is compared.
@@ -215,18 +219,15 @@ impl Plan {
         }
     }
 
-    /// Whether the key occurs in a value.
-    fn finds(&self, key: &[u8], value: &[u8]) -> bool
+    /// The first place of a value at which the key occurs.
+    fn find(&self, key: &[u8], value: &[u8]) -> Option<usize>
         requires some { 0 < length key.now }
         requires plan { IsPlan (folded_octet key.now) (length key.now) self.now }
-        ensures { IsTrue result ↔ StandsIn value.now key.now }
+        ensures { IsFirst (StandsAt value.now key.now) 0 (length value.now + 1) result }
     {
         let (mut at, mut known) = (0, 0);
         'places: while at + key.len() <= value.len() {
-            let Some(next) = self.next_place(key, value, at, known) else {
-                return false;
-            };
-            at = next;
+            at = self.next_place(key, value, at, known)?;
             let end = fits_to(key, value, at, self.cut.max(known));
             if end < key.len() {
                 at += end - self.cut + 1;
@@ -234,12 +235,12 @@ impl Plan {
                 continue;
             }
             if fits_between(key, value, at, known, self.cut) {
-                return true;
+                return Some(at);
             }
             at += self.shift;
             known = self.kept;
         }
-        false
+        None
     }
 
     /// The next place from `at` on that may hold the key, if its first `known` octets are known to fit at `at`.

@@ -1,4 +1,4 @@
-//! `:matches` (RFC 5228, section 2.7.1): patterns with `*` and `?`.
+//! `:matches` with its comparisons counted (RFC 5228, section 2.7.1): patterns with `*` and `?`.
 //!
 //! The search goes back to the last `*` only: if the items after it cover some front of the rest, an earlier `*` has no
 //! better place. So each item is compared at most once for each place of the value.
@@ -27,7 +27,7 @@ pub(crate) enum Step<'a> {
 
 /// The first item of a pattern, and the pattern after it.
 #[tactic(auto, unfolding(sieve_meaning::specs::Matching::items_from))]
-fn next_item(pattern: &[u8]) -> Option<(Item, &[u8])>
+pub(crate) fn next_item(pattern: &[u8]) -> Option<(Item, &[u8])>
     ensures { MatchOption result (items_of pattern.now ≡ [])
         (λ x. items_of pattern.now ≡ x.0 ∷ items_of x.1.now) }
 {
@@ -123,12 +123,4 @@ pub fn matches_counted(pattern: &[u8], value: &[u8], comparator: Comparator) -> 
             }
         }
     }
-}
-
-/// Whether a pattern covers a whole value, as octets are compared: the first answer of `matches_counted`.
-pub fn matches(pattern: &[u8], value: &[u8], comparator: Comparator) -> bool
-    ensures answer { IsTrue result ↔ Matches comparator (items_of pattern.now) value.now }
-    ensures test { result ≡ covers comparator (items_of pattern.now) value.now }
-{
-    matches_counted(pattern, value, comparator).0
 }

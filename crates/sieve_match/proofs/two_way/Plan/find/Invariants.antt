@@ -1,7 +1,7 @@
 use Rattle.std.proofs.Common.{◌≡◌, ℕ, ◌+◌, ◌-◌, ◌<◌, ◌≤◌, length}
 use Rattle.memchr.specs.Find.{Nowhere}
 use Rattle.sieve_match.specs.TwoWay.{folded_octet, StandsAt}
-use Rattle.sieve_match.proofs.two_way.Plan.finds.Given as goal
+use Rattle.sieve_match.proofs.two_way.Plan.find.Given as goal
 
 abbrev pub invariant-places : goal.invariant-places
 invariant-places l = (l.at ≤ length l.value) × Nowhere (StandsAt l.value l.key) 0 l.at
