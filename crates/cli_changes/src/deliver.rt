@@ -75,7 +75,7 @@ pub fn report_capture(rt: &HostRuntime, before: &str, capture: &Capture) {
 /// done later, `TryAgain`.
 pub fn read_message(rt: &HostRuntime) -> Result<Payload, Failure> {
     let message = read_payload(rt.alloc(), rt.stdin(), MAX_MESSAGE_OCTETS).map_err(
-        |error| Failure::at(rt.alloc(), Status::TryAgain, "standard input", &error),
+        |error| Failure::at_thing(rt.alloc(), Status::TryAgain, "standard input", &error),
     )?;
     match message {
         Payload::TooLong => Err(desk_failure(rt.alloc(), "the message", DeskFault::MessageTooLong)),

@@ -175,7 +175,10 @@ fn take_one<A: Records>(
         }
         Ok(Delivery::GivenUp(fault)) => Ok(name_given_up(rt, name, fault)),
         Err(DeskFault::NoMemory) => Ok(give_up(rt, name)),
-        Err(fault) => Err(desk_failure(rt.alloc(), name, fault)),
+        Err(fault) => {
+            let shown = named(rt.alloc(), name.as_bytes())?;
+            Err(desk_failure(rt.alloc(), shown.as_str(), fault))
+        }
     }
 }
 

@@ -4,19 +4,27 @@ use class_plan::{Plan, PlanFault};
 use cli_console::{Failure, Status};
 use cli_sources::payload_of_file;
 use desk_commands::{MAX_PLAN_OCTETS, Payload};
+use std::alloc::{AllocError, Global};
 use std::io::ErrorKind;
-use tool_texts::refusal_text;
+use tool_texts::{Shown, put, refusal_text};
 
 /// The number of a plan's text that is too long.
 const TOO_LONG: u8 = 58;
 
+/// What is said of a plan that is refused by a number.
+fn refusal_words(alloc: Global, path: &str, number: u8) -> Result<Shown, AllocError> {
+    let mut text = Shown::new(alloc);
+    put!(text;
+        named(path.as_bytes()) ": " value(&number)
+        ": " words(refusal_text(number).unwrap_or("refused"))
+        "; mailfile-tool check " named(path.as_bytes()) " says where"
+    )?;
+    Ok(text)
+}
+
 /// The failure of a plan that is refused by a number.
 fn plan_refused(rt: &HostRuntime, path: &str, number: u8) -> Failure {
-    let words = refusal_text(number).unwrap_or("refused");
-    Failure::written(
-        Status::BadData,
-        format!(in rt.alloc(); "{path}: {number}: {words}; mailfile-tool check {path} says where"),
-    )
+    Failure::shown(Status::BadData, refusal_words(rt.alloc(), path, number))
 }
 
 /// The text of a plan's file.

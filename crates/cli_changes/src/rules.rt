@@ -17,7 +17,7 @@ pub struct FilingRules<'a> {
 
 /// Reports a fault of rules. It is no failure where mail may go to `unfiled` then.
 fn excuse(rt: &HostRuntime, fault: &RulesFault, on_fault: OnFault) -> Result<(), Failure> {
-    let failure = Failure::by(rt.alloc(), Status::TryAgain, fault);
+    let failure = Failure::shown(Status::TryAgain, fault.text(rt.alloc()));
     if !fault.is_of_rules() || matches!(on_fault, OnFault::GiveUp) {
         return Err(failure);
     }

@@ -5,7 +5,7 @@ use class_plan::{Date, day_number, day_of};
 use std::time::{SystemTime, UNIX_EPOCH};
 
 /// The failure of a clock.
-fn no_time(rt: &HostRuntime, words: &str) -> Failure {
+fn no_time(rt: &HostRuntime, words: &'static str) -> Failure {
     Failure::told(rt.alloc(), Status::TryAgain, words)
 }
 

@@ -4,7 +4,7 @@ use record_store::{Cause, StoreFault};
 use std::alloc::{AllocError, AllocFailed, Global};
 use std::fmt::Display;
 use std::process::ExitCode;
-use tool_texts::refusal_text;
+use tool_texts::{Shown, put, refusal_text};
 
 /// The statuses of `sysexits` with which the program ends.
 #[derive(Clone, Copy)]
@@ -50,6 +50,35 @@ pub enum Failure {
     Reported(Status),
 }
 
+/// What a reason displays, with escapes.
+fn text_of<T: Display>(alloc: Global, reason: &T) -> Result<String, AllocError> {
+    let mut text = Shown::new(alloc);
+    text.value(reason)?;
+    Ok(text.into_string())
+}
+
+/// The name of something, in quotation marks where it is not visible ASCII, and what is said of it.
+fn text_at<T: Display>(alloc: Global, name: &str, reason: &T) -> Result<String, AllocError> {
+    let mut text = Shown::new(alloc);
+    put!(text; named(name.as_bytes()) ": " value(reason))?;
+    Ok(text.into_string())
+}
+
+/// Something as it is called, and what is said of it, with escapes.
+fn text_at_thing<T: Display>(alloc: Global, thing: &str, reason: &T) -> Result<String, AllocError> {
+    let mut text = Shown::new(alloc);
+    put!(text; value(&thing) ": " value(reason))?;
+    Ok(text.into_string())
+}
+
+/// Something as it is called, and the number of a refusal with its text.
+fn refusal_at(alloc: Global, thing: &str, number: u8) -> Result<String, AllocError> {
+    let words = refusal_text(number).unwrap_or("refused");
+    let mut text = Shown::new(alloc);
+    put!(text; value(&thing) ": " value(&number) ": " words(words))?;
+    Ok(text.into_string())
+}
+
 impl Failure {
     /// A failure that is reported in words that were just written, if there was memory for them.
     pub fn written(status: Status, words: Result<String, AllocError>) -> Failure {
@@ -59,25 +88,34 @@ impl Failure {
         }
     }
 
+    /// A failure that is reported by a text that was just made, if there was memory for it.
+    pub fn shown(status: Status, text: Result<Shown, AllocError>) -> Failure {
+        Failure::written(status, text.map(|text| text.into_string()))
+    }
+
     /// A failure that is reported in these words.
-    pub fn told(alloc: Global, status: Status, words: &str) -> Failure {
+    pub fn told(alloc: Global, status: Status, words: &'static str) -> Failure {
         Failure::written(status, String::from_str(alloc, words))
     }
 
     /// A failure that is reported by the reason alone.
     pub fn by<T: Display>(alloc: Global, status: Status, reason: &T) -> Failure {
-        Failure::written(status, format!(in alloc; "{reason}"))
+        Failure::written(status, text_of(alloc, reason))
     }
 
-    /// A failure at a file, a stream or a record, reported with its name and the reason.
+    /// A failure at a file or a record, reported with the name that was given and the reason.
     pub fn at<T: Display>(alloc: Global, status: Status, name: &str, reason: &T) -> Failure {
-        Failure::written(status, format!(in alloc; "{name}: {reason}"))
+        Failure::written(status, text_at(alloc, name, reason))
+    }
+
+    /// A failure at something that the program names, as a stream, reported with the reason.
+    pub fn at_thing<T: Display>(alloc: Global, status: Status, thing: &str, reason: &T) -> Failure {
+        Failure::written(status, text_at_thing(alloc, thing, reason))
     }
 
     /// The failure of a refusal's number, reported with its text.
     pub fn numbered(alloc: Global, status: Status, name: &str, number: u8) -> Failure {
-        let words = refusal_text(number).unwrap_or("refused");
-        Failure::written(status, format!(in alloc; "{name}: {number}: {words}"))
+        Failure::written(status, refusal_at(alloc, name, number))
     }
 
     /// The failure of a call of the store, at something of this name. A refusal is `BadData` with its number; what the
@@ -86,18 +124,14 @@ impl Failure {
         match fault {
             StoreFault::NoMemory => Failure::NoMemory,
             StoreFault::Database(Cause::Sqlite(error)) => {
-                Failure::at(alloc, Status::TryAgain, name, &error)
+                Failure::at_thing(alloc, Status::TryAgain, name, &error)
             }
             StoreFault::Database(Cause::Lost) => {
-                Failure::at(
-                    alloc,
-                    Status::TryAgain,
-                    name,
-                    &"a row that was written is gone",
-                )
+                let reason = "a row that was written is gone";
+                Failure::at_thing(alloc, Status::TryAgain, name, &reason)
             }
             StoreFault::Database(Cause::Busy) => {
-                Failure::at(alloc, Status::TryAgain, name, &"a transaction is open")
+                Failure::at_thing(alloc, Status::TryAgain, name, &"a transaction is open")
             }
             StoreFault::Refused(refusal) => {
                 Failure::numbered(alloc, Status::BadData, name, refusal.number())

@@ -9,7 +9,7 @@ fn write_failure(alloc: Global, error: Error) -> Failure {
     if error.kind() == ErrorKind::BrokenPipe {
         Failure::Closed
     } else {
-        Failure::at(alloc, Status::NotWritten, "standard output", &error)
+        Failure::at_thing(alloc, Status::NotWritten, "standard output", &error)
     }
 }
 

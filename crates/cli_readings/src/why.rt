@@ -12,7 +12,7 @@ use record_store::{RecordEntry, Store};
 use sieve_meaning::{Location, Outcome};
 use sqlite::Alter;
 use tool_inquiry::{
-    Answer, Form, Inquiry, InquiryFault, ScriptFile, Scripts, answer_to, first_parting,
+    Answer, Form, Inquiry, InquiryFault, ScriptFile, Scripts, Written, answer_to, first_parting,
     is_filed_in, outcome_line, outcome_text, script_of,
 };
 
@@ -41,7 +41,7 @@ fn failure_of(rt: &HostRuntime, fault: InquiryFault) -> Failure {
         InquiryFault::Full(path) => {
             Failure::numbered(rt.alloc(), Status::BadData, path.as_str(), FULL)
         }
-        fault => Failure::at(rt.alloc(), Status::BadData, "why", &fault),
+        fault => Failure::at_thing(rt.alloc(), Status::BadData, "why", &fault),
     }
 }
 
@@ -80,10 +80,9 @@ fn script_file(
 /// The scripts of an officer in a folder of rules.
 fn read_scripts(rt: &HostRuntime, folder: &str, officer: &str) -> Result<Scripts, Failure> {
     let alloc = rt.alloc();
-    let rules = read_rules(rt, folder, officer).map_err(|fault| Failure::by(
-        alloc,
+    let rules = read_rules(rt, folder, officer).map_err(|fault| Failure::shown(
         Status::TryAgain,
-        &fault,
+        fault.text(alloc),
     ))?;
     let mut main = None;
     let mut others = Vec::new(alloc);
@@ -219,11 +218,19 @@ fn write_entry(rt: &HostRuntime, entry: &RecordEntry) -> Result<(), Failure> {
     write_text(rt, listed_line(rt.alloc(), &row_of(entry))?.as_str())
 }
 
+/// Writes a report.
+fn write_report(rt: &HostRuntime, report: &Written) -> Result<(), Failure> {
+    match report {
+        Written::Lines(text) => write_text(rt, text.as_str()),
+        Written::Json(text) => write_text(rt, text.as_str()),
+    }
+}
+
 /// Writes a record, what becomes of its message by the rules of today, and whether they file it there again.
 fn write_answer(rt: &HostRuntime, entry: &RecordEntry, answer: &Answer) -> Result<(), Failure> {
     write_entry(rt, entry)?;
     write_text(rt, "\n")?;
-    write_text(rt, answer.text.as_str())?;
+    write_report(rt, &answer.text)?;
     write(rt, &outcome_text(rt.alloc(), &answer.outcome)?)?;
     write_verdict(rt, entry, answer)
 }

@@ -3,8 +3,8 @@
 ghost use Rattle.cli_sources.specs.Faults.{IsRefusedBy};
 
 use std::alloc::{AllocError, AllocFailed, Global};
-use std::{fmt, io};
-use tool_texts::{Place, refusal_text};
+use std::io;
+use tool_texts::{Place, Shown, put, refusal_text};
 
 /// Why an officer has no rules.
 #[derive(Drop)]
@@ -59,35 +59,50 @@ impl RulesFault {
         }
     }
 
+    /// Adds why there are no rules.
+    fn push(&self, text: &mut Shown) -> Result<(), AllocError> {
+        match self {
+            RulesFault::BadOfficer(officer) => {
+                put!(text; named(officer.as_bytes()) ": not a name of an officer")
+            }
+            RulesFault::Missing(path) => put!(text; named(path.as_bytes()) ": not there"),
+            RulesFault::Unreadable(path, error) => {
+                put!(text; named(path.as_bytes()) ": " value(error))
+            }
+            RulesFault::Refused {
+                path,
+                place,
+                number,
+            } => push_refused(text, path.as_str(), *place, *number),
+            RulesFault::NoMemory => text.words("out of memory"),
+        }
+    }
+
+    /// Why there are no rules, in words.
+    pub fn text(&self, alloc: Global) -> Result<Shown, AllocError> {
+        let mut text = Shown::new(alloc);
+        self.push(&mut text)?;
+        Ok(text)
+    }
+
     /// Whether the officer's own rules are at fault: missing, or with a script that is refused.
     pub fn is_of_rules(&self) -> bool {
         matches!(self, RulesFault::Missing(_) | RulesFault::Refused { .. })
     }
 }
 
-impl fmt::Display for RulesFault {
-    fn fmt<W: fmt::Write>(&self, f: &mut fmt::Formatter<W>) -> fmt::Result {
-        match self {
-            RulesFault::BadOfficer(officer) => write!(f, "{officer}: not a name of an officer"),
-            RulesFault::Missing(path) => write!(f, "{path}: not there"),
-            RulesFault::Unreadable(path, error) => write!(f, "{path}: {error}"),
-            RulesFault::Refused {
-                path,
-                place,
-                number,
-            } => {
-                let text = refusal_text(*number).unwrap_or("refused");
-                match place {
-                    Some(place) => {
-                        let (line, column) = (place.line, place.column);
-                        write!(f, "{path}:{line}:{column}: {number}: {text}")
-                    }
-                    None => write!(f, "{path}: {number}: {text}"),
-                }
-            }
-            RulesFault::NoMemory => f.write_str("out of memory"),
-        }
+/// Adds that a script is refused by a number, with its place where one is known.
+fn push_refused(
+    text: &mut Shown,
+    path: &str,
+    place: Option<Place>,
+    number: u8,
+) -> Result<(), AllocError> {
+    text.named(path.as_bytes())?;
+    if let Some(place) = place {
+        put!(text; ":" value(&place.line) ":" value(&place.column))?;
     }
+    put!(text; ": " value(&number) ": " words(refusal_text(number).unwrap_or("refused")))
 }
 
 impl From<AllocError> for RulesFault {

@@ -34,7 +34,9 @@ pub fn end_without_command(rt: &HostRuntime, none: NoCommand) -> ExitCode {
         NoCommand::Answered => return ExitCode::SUCCESS,
         NoCommand::NoMemory => return end_with(rt, &Failure::NoMemory),
         NoCommand::Told => {}
-        NoCommand::Wrong(text) => tell(rt, text.as_str()),
+        NoCommand::Wrong(text) => {
+            return end_with(rt, &Failure::by(rt.alloc(), Status::Usage, &text));
+        }
         NoCommand::NotText => tell(rt, "a word of the command line is not UTF-8"),
         NoCommand::Unread => tell(rt, "the command line was not read"),
     }

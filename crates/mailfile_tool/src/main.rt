@@ -5,8 +5,9 @@
 use command_lines::tools::{Command, Explain, read_command};
 use command_lines::{NoCommand, words_of_process};
 use std::process::ExitCode;
-use tool_console::{Failure, Verdict, explain, frame, tell, tell_number, tell_numbers};
+use tool_console::{Failure, Verdict, explain, frame, tell, tell_number, tell_numbers, tell_words};
 use tool_scripts::{check_files, compile_script, dump_image, tell_why};
+use tool_texts::Shown;
 
 /// The status where a script or an image is refused.
 const STATUS_REFUSED: u8 = 1;
@@ -43,10 +44,19 @@ fn carry_out(rt: &HostRuntime, command: Command<'_>) -> Result<Verdict, Failure>
 fn tell_failure(rt: &HostRuntime, failure: &Failure) -> ExitCode {
     match failure {
         Failure::Closed => return ExitCode::SUCCESS,
-        Failure::NoMemory => tell(rt, "out of memory"),
-        Failure::Message(text) => tell(rt, text.as_str()),
+        Failure::NoMemory => tell_words(rt, "out of memory"),
+        Failure::Message(text) => tell(rt, text),
     }
     ExitCode::from(STATUS_FAILURE)
+}
+
+/// Reports why a value is refused.
+fn tell_reason(rt: &HostRuntime, reason: &String) {
+    let mut text = Shown::new(rt.alloc());
+    match text.value(reason) {
+        Ok(()) => tell(rt, &text),
+        Err(_) => tell_words(rt, "out of memory"),
+    }
 }
 
 /// Ends where the command line has no command. What `clap` reports is printed already, which for `--help` is no fault.
@@ -54,10 +64,10 @@ fn tell_no_command(rt: &HostRuntime, why: &NoCommand) -> ExitCode {
     match why {
         NoCommand::Answered => return ExitCode::SUCCESS,
         NoCommand::Told => {}
-        NoCommand::Wrong(text) => tell(rt, text.as_str()),
-        NoCommand::NotText => tell(rt, "a word of the command line is not UTF-8"),
-        NoCommand::Unread => tell(rt, "the command line cannot be read"),
-        NoCommand::NoMemory => tell(rt, "out of memory"),
+        NoCommand::Wrong(text) => tell_reason(rt, text),
+        NoCommand::NotText => tell_words(rt, "a word of the command line is not UTF-8"),
+        NoCommand::Unread => tell_words(rt, "the command line cannot be read"),
+        NoCommand::NoMemory => tell_words(rt, "out of memory"),
     }
     ExitCode::from(STATUS_FAILURE)
 }

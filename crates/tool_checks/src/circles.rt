@@ -2,30 +2,31 @@
 
 use crate::reached::{Reached, Start};
 use std::alloc::{AllocError, Global};
-use tool_console::{Failure, push_named, push_place, write_line};
+use tool_console::{Failure, push_place, write_line};
 use tool_findings::{Circle, circles_of};
+use tool_texts::Shown;
 
 /// Adds the path of a script, as it is shown.
-fn push_path(text: &mut String, reached: &Reached, script: usize) -> Result<(), AllocError> {
-    push_named(text, reached.path(script).as_bytes())
+fn push_path(text: &mut Shown, reached: &Reached, script: usize) -> Result<(), AllocError> {
+    text.named(reached.path(script).as_bytes())
 }
 
 /// Adds the paths of scripts, each of which includes the next one.
 fn push_including(
-    text: &mut String,
+    text: &mut Shown,
     reached: &Reached,
     scripts: &[usize],
 ) -> Result<(), AllocError> {
     for script in scripts {
         push_path(text, reached, *script)?;
-        text.push_str(" includes ")?;
+        text.words(" includes ")?;
     }
     Ok(())
 }
 
 /// Adds the scripts of a circle in words, each of which includes the next one, beginning at a place among them.
 fn push_chain(
-    text: &mut String,
+    text: &mut Shown,
     reached: &Reached,
     scripts: &[usize],
     from: usize,
@@ -49,9 +50,9 @@ fn first_of(reached: &Reached, scripts: &[usize]) -> usize {
 }
 
 /// The scripts of a circle in words, which are the same from whichever script the circle was found.
-fn name_of(alloc: Global, reached: &Reached, circle: &Circle) -> Result<String, AllocError> {
+fn name_of(alloc: Global, reached: &Reached, circle: &Circle) -> Result<Shown, AllocError> {
     let scripts = circle.scripts.as_slice();
-    let mut name = String::new(alloc);
+    let mut name = Shown::new(alloc);
     push_chain(&mut name, reached, scripts, first_of(reached, scripts))?;
     Ok(name)
 }
@@ -59,9 +60,9 @@ fn name_of(alloc: Global, reached: &Reached, circle: &Circle) -> Result<String, 
 /// Writes the warning of a circle, with its place.
 fn write_warning(rt: &HostRuntime, reached: &Reached, circle: &Circle) -> Result<(), Failure> {
     let last = circle.scripts.last().copied().unwrap_or(0);
-    let mut line = String::new(rt.alloc());
+    let mut line = Shown::new(rt.alloc());
     push_place(&mut line, reached.path(last), reached.text(last), circle.at)?;
-    line.push_str("warning: this include comes back: ")?;
+    line.words("warning: this include comes back: ")?;
     push_chain(&mut line, reached, circle.scripts.as_slice(), 0)?;
     write_line(rt, &mut line)
 }
@@ -71,7 +72,7 @@ fn warn_once(
     rt: &HostRuntime,
     reached: &Reached,
     circle: &Circle,
-    told: &mut Vec<String>,
+    told: &mut Vec<Shown>,
 ) -> Result<(), Failure> {
     let name = name_of(rt.alloc(), reached, circle)?;
     if told.iter().any(|other| other.as_str() == name.as_str()) {
@@ -97,7 +98,7 @@ pub fn warn_of_circles(
     rt: &HostRuntime,
     start: &Start<'_>,
     text: Vec<u8>,
-    told: &mut Vec<String>,
+    told: &mut Vec<Shown>,
 ) -> Result<(), Failure> {
     let mut reached = Reached::alone(rt.alloc(), start.path, text)?;
     for circle in read_circles(rt, start, &mut reached)?.iter() {

@@ -1,11 +1,9 @@
 //! A plan in a file, judged.
 
 use class_plan::{Plan, PlanFault};
-use tool_console::{
-    Failure, Verdict, push_place, push_quoted, read_file, write_line, write_refusal,
-};
+use tool_console::{Failure, Verdict, push_place, read_file, write_line, write_refusal};
 use tool_plans::{Finding, dropped_paths, judge};
-use tool_texts::Payload;
+use tool_texts::{Payload, Shown, put};
 
 /// A file of up to this number of times the limit of a plan is still read, and refused by its number.
 const LONGER: u64 = 64;
@@ -24,14 +22,13 @@ pub struct NamedPlan {
 /// Writes the line that reports a finding: its path, line, column, number and words.
 fn write_finding(
     rt: &HostRuntime,
-    line: &mut String,
+    line: &mut Shown,
     path: &str,
     text: &[u8],
     finding: &Finding,
 ) -> Result<(), Failure> {
-    let (number, words) = (finding.fault.number(), finding.words.as_str());
     push_place(line, path, text, finding.at)?;
-    write!(line, "{number}: {words}")?;
+    put!(line; value(&finding.fault.number()) ": " value(&finding.words))?;
     write_line(rt, line)
 }
 
@@ -40,7 +37,7 @@ fn report_plan(rt: &HostRuntime, path: &str, text: &[u8]) -> Result<(), Failure>
     let Some(report) = judge(rt.alloc(), text)? else {
         return Ok(());
     };
-    let mut line = String::new(rt.alloc());
+    let mut line = Shown::new(rt.alloc());
     write_finding(rt, &mut line, path, text, &report.refusal)?;
     for finding in report.others.iter() {
         write_finding(rt, &mut line, path, text, finding)?;
@@ -85,19 +82,20 @@ pub fn read_plan(rt: &HostRuntime, path: Option<&str>) -> Result<Option<NamedPla
 /// Writes the line that reports a class that a new plan leaves out (57).
 fn write_dropped(
     rt: &HostRuntime,
-    line: &mut String,
+    line: &mut Shown,
     path: &str,
     class: &[u8],
 ) -> Result<(), Failure> {
-    write!(line, "{path}: 57: the new plan leaves out the class ")?;
-    push_quoted(line, class)?;
-    line.push_str("; list it, and close it by open = false if nothing is to be filed there")?;
+    put!(line;
+        named(path.as_bytes()) ": 57: the new plan leaves out the class " quoted(class)
+        "; list it, and close it by open = false if nothing is to be filed there"
+    )?;
     write_line(rt, line)
 }
 
 /// Reports the first classes that a new plan leaves out.
 fn report_dropped(rt: &HostRuntime, path: &str, classes: &[&[u8]]) -> Result<(), Failure> {
-    let mut line = String::new(rt.alloc());
+    let mut line = Shown::new(rt.alloc());
     for class in classes.iter().take(MAX_DROPPED) {
         write_dropped(rt, &mut line, path, *class)?;
     }

@@ -6,11 +6,9 @@ use crate::warnings::warn_of_names;
 use class_plan::Plan;
 use command_lines::tools::Folders;
 use std::alloc::AllocError;
-use tool_console::{
-    Failure, Verdict, push_place, push_quoted, read_file, read_input, text_of, write_line,
-};
+use tool_console::{Failure, Verdict, push_place, read_file, read_input, text_of, write_line};
 use tool_findings::{Finding, Report, Subject, judge};
-use tool_texts::Payload;
+use tool_texts::{Payload, Shown, put};
 
 /// A file of up to this number of times the limit of a script is still read, and refused by its number.
 const LONGER: u64 = 64;
@@ -52,29 +50,26 @@ fn shown_word(text: &[u8], start: usize, end: usize) -> &[u8] {
 
 /// Adds what is wrong with a word, and the word that was meant or else what the rule advises, if there is either.
 fn push_word(
-    line: &mut String,
+    line: &mut Shown,
     number: u8,
     word: &[u8],
-    meant: Option<&str>,
+    meant: Option<&'static str>,
 ) -> Result<(), AllocError> {
-    line.push_str(fault_of_word(number))?;
-    line.push(' ')?;
-    push_quoted(line, word)?;
+    put!(line; words(fault_of_word(number)) " " quoted(word))?;
     match (meant, text_of(number).split_once("; ")) {
-        (Some(name), _) => write!(line, "; is it {name}?"),
-        (None, Some((_, advice))) => write!(line, "; {advice}"),
+        (Some(name), _) => put!(line; "; is it " words(name) "?"),
+        (None, Some((_, advice))) => put!(line; "; " words(advice)),
         (None, None) => Ok(()),
     }
 }
 
 /// Adds what a finding says.
-fn push_words(line: &mut String, text: &[u8], finding: Finding) -> Result<(), AllocError> {
+fn push_words(line: &mut Shown, text: &[u8], finding: Finding) -> Result<(), AllocError> {
     match finding.subject {
-        Subject::Whole => line.push_str(text_of(finding.number)),
-        Subject::Semicolon(_) => line.push_str("a ; is missing here"),
-        Subject::Capability(name) => write!(
-            line,
-            "\"{name}\" is not required; name it in a require at the script's beginning"
+        Subject::Whole => line.words(text_of(finding.number)),
+        Subject::Semicolon(_) => line.words("a ; is missing here"),
+        Subject::Capability(name) => put!(line;
+            "\"" words(name) "\" is not required; name it in a require at the script's beginning"
         ),
         Subject::Word(start, end, meant) => {
             push_word(line, finding.number, shown_word(text, start, end), meant)
@@ -94,21 +89,21 @@ fn place_shown(finding: Finding) -> usize {
 /// Writes the line that reports a finding: its path, line, column, number and text.
 fn write_finding(
     rt: &HostRuntime,
-    line: &mut String,
+    line: &mut Shown,
     path: &str,
     text: &[u8],
     finding: Finding,
 ) -> Result<(), Failure> {
     let number = finding.number;
     push_place(line, path, text, place_shown(finding))?;
-    write!(line, "{number}: ")?;
+    put!(line; value(&number) ": ")?;
     push_words(line, text, finding)?;
     write_line(rt, line)
 }
 
 /// Writes all findings of a report, a line each, the verdict first.
 fn write_report(rt: &HostRuntime, path: &str, text: &[u8], report: &Report) -> Result<(), Failure> {
-    let mut line = String::new(rt.alloc());
+    let mut line = Shown::new(rt.alloc());
     write_finding(rt, &mut line, path, text, report.verdict)?;
     for finding in report.others.iter() {
         write_finding(rt, &mut line, path, text, *finding)?;
@@ -154,7 +149,7 @@ pub fn check_script(
     path: &str,
     name: &[u8],
     around: &Surroundings<'_>,
-    told: &mut Vec<String>,
+    told: &mut Vec<Shown>,
 ) -> Result<Verdict, Failure> {
     let Some(text) = read_good_script(rt, path)? else {
         return Ok(Verdict::Refused);

@@ -6,8 +6,9 @@ use crate::scripts::Surroundings;
 use class_plan::Plan;
 use sieve_syntax::Token;
 use std::alloc::AllocError;
-use tool_console::{Failure, push_place, push_quoted, write_line};
+use tool_console::{Failure, push_place, write_line};
 use tool_findings::{Front, Named, fronts_of, name_in};
+use tool_texts::{Shown, put};
 
 /// A script in whose commands is looked for what may go wrong.
 #[derive(Clone, Copy)]
@@ -87,21 +88,12 @@ fn warning_of<'a>(
 }
 
 /// Adds what a warning says.
-fn push_warning(line: &mut String, warning: Warning<'_>) -> Result<(), AllocError> {
+fn push_warning(line: &mut Shown, warning: Warning<'_>) -> Result<(), AllocError> {
     match warning {
-        Warning::Closed(path) => {
-            line.push_str("the class ")?;
-            push_quoted(line, path)?;
-            line.push_str(" is closed")
-        }
-        Warning::NoClass(path) => {
-            line.push_str("the plan has no class ")?;
-            push_quoted(line, path)
-        }
+        Warning::Closed(path) => put!(line; "the class " quoted(path) " is closed"),
+        Warning::NoClass(path) => put!(line; "the plan has no class " quoted(path)),
         Warning::NoScript(folder, name) => {
-            line.push_str(folder)?;
-            line.push_str(" has no script ")?;
-            push_quoted(line, name)
+            put!(line; named(folder.as_bytes()) " has no script " quoted(name))
         }
     }
 }
@@ -109,13 +101,13 @@ fn push_warning(line: &mut String, warning: Warning<'_>) -> Result<(), AllocErro
 /// Writes a warning, which is about an offset of a script.
 fn write_warning(
     rt: &HostRuntime,
-    line: &mut String,
+    line: &mut Shown,
     script: &Script<'_>,
     at: usize,
     warning: Warning<'_>,
 ) -> Result<(), Failure> {
     push_place(line, script.path, script.text, at)?;
-    line.push_str("warning: ")?;
+    line.words("warning: ")?;
     push_warning(line, warning)?;
     write_line(rt, line)
 }
@@ -123,7 +115,7 @@ fn write_warning(
 /// Writes the warning of a command, if there is one.
 fn warn_of_command(
     rt: &HostRuntime,
-    line: &mut String,
+    line: &mut Shown,
     script: &Script<'_>,
     around: &Surroundings<'_>,
     front: &Front,
@@ -144,7 +136,7 @@ fn warn_of_commands(
     around: &Surroundings<'_>,
     fronts: &[Front],
 ) -> Result<(), Failure> {
-    let mut line = String::new(rt.alloc());
+    let mut line = Shown::new(rt.alloc());
     for front in fronts.iter() {
         warn_of_command(rt, &mut line, script, around, front)?;
     }

@@ -4,11 +4,11 @@ use crate::clock::now;
 use crate::failure::Failure;
 use crate::faults::failure_of;
 use crate::files::{lines_of, open, read_file, read_line};
-use crate::output::{copy_to_output, write};
+use crate::output::{copy_to_output, write_data};
 use std::alloc::{AllocError, Global};
 use std::io::BufRead;
 use std::str;
-use tool_texts::{Framed, LinePart, Payload, framed_line, line_fault, parts, path_of};
+use tool_texts::{Framed, LinePart, Payload, Shown, framed_line, line_fault, parts, path_of, put};
 
 /// The octets of a payload's file, whose path is given as typed.
 fn read_payload(rt: &HostRuntime, kind: Payload, typed: &[u8]) -> Result<Vec<u8>, Failure> {
@@ -88,7 +88,7 @@ fn write_octets<R: BufRead>(
     reader: &mut R,
 ) -> Result<(), Failure> {
     match word {
-        Framed::File(octets) => write(rt, octets),
+        Framed::File(octets) => write_data(rt, octets),
         Framed::Here(_, count) => copy_to_output(rt, reader, u64::from(*count)),
         Framed::Word(_) | Framed::Moment(_) => Ok(()),
     }
@@ -100,7 +100,7 @@ fn write_words<R: BufRead>(
     words: &[Framed<'_>],
     reader: &mut R,
 ) -> Result<(), Failure> {
-    write(rt, &sound_line(rt.alloc(), words)?)?;
+    write_data(rt, &sound_line(rt.alloc(), words)?)?;
     for word in words.iter() {
         write_octets(rt, word, reader)?;
     }
@@ -113,12 +113,19 @@ fn frame_line<R: BufRead>(rt: &HostRuntime, line: &[u8], reader: &mut R) -> Resu
     write_words(rt, &words, reader)
 }
 
+/// A text after the number of a line.
+fn text_at_line(alloc: Global, number: u64, text: &Shown) -> Result<Shown, AllocError> {
+    let mut numbered = Shown::new(alloc);
+    put!(numbered; "line " value(&number) ": " text(text))?;
+    Ok(numbered)
+}
+
 /// A failure with the number of the line at which it came.
 fn at_line(alloc: Global, number: u64, failure: Failure) -> Failure {
     let Failure::Message(text) = failure else {
         return failure;
     };
-    Failure::of(format!(in alloc; "line {number}: {text}"))
+    Failure::of(text_at_line(alloc, number, &text))
 }
 
 /// Frames the commands of a reader up to its end. A last line without LF is no command, and is written as it is.
@@ -130,7 +137,7 @@ fn frame_all<R: BufRead>(rt: &HostRuntime, reader: &mut R) -> Result<(), Failure
             break;
         }
         let Some(command) = line.strip_suffix(b"\n") else {
-            return write(rt, &line);
+            return write_data(rt, &line);
         };
         if let Err(failure) = frame_line(rt, command, reader) {
             return Err(at_line(alloc, number.saturating_add(1), failure));

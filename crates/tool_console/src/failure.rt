@@ -2,6 +2,7 @@
 
 use std::alloc::{AllocError, AllocFailed, Global};
 use std::fmt::Display;
+use tool_texts::{Shown, put};
 
 /// Why something is not done.
 #[derive(Drop)]
@@ -11,12 +12,37 @@ pub enum Failure {
     /// Reported as out of memory.
     NoMemory,
     /// Reported in these words.
-    Message(String),
+    Message(Shown),
+}
+
+/// The name of a file, and what is said of it.
+fn text_at<T: Display>(alloc: Global, path: &str, reason: &T) -> Result<Shown, AllocError> {
+    let mut text = Shown::new(alloc);
+    put!(text; named(path.as_bytes()) ": " value(reason))?;
+    Ok(text)
+}
+
+/// The name of a stream, and what is said of it.
+fn text_of_stream<T: Display>(
+    alloc: Global,
+    stream: &'static str,
+    reason: &T,
+) -> Result<Shown, AllocError> {
+    let mut text = Shown::new(alloc);
+    put!(text; words(stream) ": " value(reason))?;
+    Ok(text)
+}
+
+/// Words of the program.
+fn text_of_words(alloc: Global, words: &'static str) -> Result<Shown, AllocError> {
+    let mut text = Shown::new(alloc);
+    text.words(words)?;
+    Ok(text)
 }
 
 impl Failure {
-    /// A failure that is reported in the words of a text, where there is memory for it.
-    pub(crate) fn of(text: Result<String, AllocError>) -> Failure {
+    /// A failure that is reported by a text, where there is memory for it.
+    pub fn of(text: Result<Shown, AllocError>) -> Failure {
         match text {
             Ok(text) => Failure::Message(text),
             Err(_) => Failure::NoMemory,
@@ -24,13 +50,18 @@ impl Failure {
     }
 
     /// A failure that is reported in these words.
-    pub fn told(alloc: Global, words: &str) -> Failure {
-        Failure::of(String::from_str(alloc, words))
+    pub fn told(alloc: Global, words: &'static str) -> Failure {
+        Failure::of(text_of_words(alloc, words))
     }
 
-    /// A failure at a file, a stream or a line, reported with its name and the reason.
-    pub fn at<T: Display>(alloc: Global, name: &str, reason: &T) -> Failure {
-        Failure::of(format!(in alloc; "{name}: {reason}"))
+    /// A failure at a file, reported with its path and the reason.
+    pub fn at<T: Display>(alloc: Global, path: &str, reason: &T) -> Failure {
+        Failure::of(text_at(alloc, path, reason))
+    }
+
+    /// A failure at a stream, reported with its name and the reason.
+    pub fn at_stream<T: Display>(alloc: Global, stream: &'static str, reason: &T) -> Failure {
+        Failure::of(text_of_stream(alloc, stream, reason))
     }
 }
 

@@ -66,9 +66,9 @@ pub fn read_input(rt: &HostRuntime, limit: u64) -> Result<Vec<u8>, Failure> {
     rt.stdin()
         .take(limit.saturating_add(1))
         .read_to_end(&mut octets)
-        .map_err(|error| Failure::at(alloc, STANDARD_INPUT, &error))?;
+        .map_err(|error| Failure::at_stream(alloc, STANDARD_INPUT, &error))?;
     if octets.len() as u64 > limit {
-        return Err(Failure::at(alloc, STANDARD_INPUT, &FileFault::TooLong(limit)));
+        return Err(Failure::at_stream(alloc, STANDARD_INPUT, &FileFault::TooLong(limit)));
     }
     Ok(octets)
 }
@@ -83,7 +83,7 @@ pub fn read_line<R: BufRead>(
     line.clear();
     let count = reader
         .read_until(b'\n', line)
-        .map_err(|error| Failure::at(alloc, STANDARD_INPUT, &error))?;
+        .map_err(|error| Failure::at_stream(alloc, STANDARD_INPUT, &error))?;
     Ok(count > 0)
 }
 

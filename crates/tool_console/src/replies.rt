@@ -2,12 +2,12 @@
 
 use crate::failure::Failure;
 use crate::files::{lines_of, read_file, read_line};
-use crate::output::write;
+use crate::output::{write_line, write_text};
 use std::alloc::{AllocError, Global};
 use std::io::BufRead;
 use std::str;
 use tool_findings::judge;
-use tool_texts::{Payload, fault_text, line_at, place_of, refusal_text};
+use tool_texts::{Payload, Shown, fault_text, line_at, place_of, put, refusal_text};
 
 /// The script that was refused, and its path.
 #[derive(Clone, Copy)]
@@ -48,35 +48,61 @@ fn read_reply(line: &[u8]) -> Reply {
         .map_or(Reply::Other, Reply::Fault)
 }
 
-/// Adds blanks as wide as a part of a line: a tab for a tab, and a space for each other character.
-fn push_blanks(shown: &mut Vec<u8>, part: &[u8]) -> Result<(), AllocError> {
-    for octet in part {
-        match octet {
-            b'\t' => shown.push(b'\t')?,
-            0x80..=0xBF => {}
-            _ => shown.push(b' ')?,
-        }
+/// Adds a piece of a line, which ends at a mark or at the end of the line.
+fn push_piece(text: &mut Shown, piece: &[u8]) -> Result<(), AllocError> {
+    match piece {
+        [rest @ .., b'"'] => put!(text; escaped(rest) "\""),
+        [rest @ .., b'\\'] => put!(text; escaped(rest) "\\"),
+        [rest @ .., b'\t'] => put!(text; escaped(rest) "    "),
+        _ => text.escaped(piece),
+    }
+}
+
+/// Adds a line as people read it: its quotation marks and backslashes as they are, and four blanks for a tab.
+fn push_read(text: &mut Shown, line: &[u8]) -> Result<(), AllocError> {
+    for piece in line.split_inclusive(|octet| matches!(*octet, b'"' | b'\\' | b'\t')) {
+        push_piece(text, piece)?;
+    }
+    Ok(())
+}
+
+/// Adds a blank for each character of a text.
+fn push_blanks(text: &mut Shown, shown: &Shown) -> Result<(), AllocError> {
+    for _ in shown.as_str().chars() {
+        text.words(" ")?;
     }
     Ok(())
 }
 
 /// Adds the line of a script in which a place is, and a line with a mark below that column. Columns count from 1.
-fn push_marked(shown: &mut Vec<u8>, line: &[u8], column: usize) -> Result<(), AllocError> {
-    let before = line.len().min(column.saturating_sub(1));
-    shown.extend_from_slice(line)?;
-    shown.extend_from_slice(b"\n  | ")?;
-    push_blanks(shown, &line[..before])?;
-    shown.extend_from_slice(b"^\n")
+fn push_marked(
+    alloc: Global,
+    text: &mut Shown,
+    line: &[u8],
+    column: usize,
+) -> Result<(), AllocError> {
+    let (before, after) = line.split_at(line.len().min(column.saturating_sub(1)));
+    let mut shown = Shown::new(alloc);
+    push_read(&mut shown, before)?;
+    put!(text; "  | " text(&shown))?;
+    push_read(text, after)?;
+    text.end_line()?;
+    text.words("  | ")?;
+    push_blanks(text, &shown)?;
+    text.words("^")?;
+    text.end_line()
 }
 
 /// The place of an offset of a script, the line in which it is, and a mark below it.
-fn shown_place(alloc: Global, script: Script<'_>, at: usize) -> Result<Vec<u8>, AllocError> {
+fn shown_place(alloc: Global, script: Script<'_>, at: usize) -> Result<Shown, AllocError> {
     let place = place_of(script.text, at);
-    let (path, number, column) = (script.path, place.line, place.column);
-    let head = format!(in alloc; "  {path}:{number}:{column}\n  | ")?;
-    let mut shown = head.into_bytes();
-    push_marked(&mut shown, line_at(script.text, at), column)?;
-    Ok(shown)
+    let mut text = Shown::new(alloc);
+    put!(text;
+        "  " named(script.path.as_bytes()) ":" value(&place.line) ":" value(&place.column)
+    )?;
+    text.end_line()?;
+    push_marked(alloc, &mut text, line_at(script.text, at), place.column)?;
+    Ok(text)
 }
 
 /// The place of a refusal in its script: the offset that the reply gives, or for 30 to 41 the place where the script is
@@ -96,20 +122,18 @@ fn place_of_refusal(
     }
 }
 
-/// A line, which comes without its LF, with the text of its number.
-fn explained(alloc: Global, line: &[u8], text: Option<&str>) -> Result<Vec<u8>, AllocError> {
-    let mut explained = Vec::from_slice(alloc, line)?;
-    if let Some(text) = text {
-        explained.extend_from_slice(b": ")?;
-        explained.extend_from_slice(text.as_bytes())?;
-    }
-    explained.push(b'\n')?;
-    Ok(explained)
-}
-
 /// Writes a line, which comes without its LF, and the text of its number.
-fn write_explained(rt: &HostRuntime, line: &[u8], text: Option<&str>) -> Result<(), Failure> {
-    write(rt, &explained(rt.alloc(), line, text)?)
+fn write_explained(
+    rt: &HostRuntime,
+    line: &[u8],
+    text: Option<&'static str>,
+) -> Result<(), Failure> {
+    let mut explained = Shown::new(rt.alloc());
+    push_read(&mut explained, line)?;
+    if let Some(text) = text {
+        put!(explained; ": " words(text))?;
+    }
+    write_line(rt, &mut explained)
 }
 
 /// Shows the place of a refusal in its script, where it is known.
@@ -120,7 +144,7 @@ fn show_refusal(
     told: Option<usize>,
 ) -> Result<(), Failure> {
     match place_of_refusal(rt.alloc(), script, number, told)? {
-        Some(at) => write(rt, &shown_place(rt.alloc(), script, at)?),
+        Some(at) => write_text(rt, &shown_place(rt.alloc(), script, at)?),
         None => Ok(()),
     }
 }

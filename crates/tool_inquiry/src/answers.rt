@@ -27,6 +27,7 @@ use std::collections::BTreeSet;
 use tool_report::{
     Book, Digest, Narration, Narrator, Report, report_json, report_text, sha256_text,
 };
+use tool_texts::Shown;
 
 /// What is asked.
 #[derive(Clone, Copy, Drop)]
@@ -49,13 +50,21 @@ pub enum Form {
     Json,
 }
 
+/// A report as it is written.
+#[derive(Drop)]
+pub enum Written {
+    Lines(Shown),
+    /// One line of JSON, without its line feed.
+    Json(String),
+}
+
 /// What becomes of a message, and why.
 #[derive(Drop)]
 pub struct Answer {
     /// The outcome of the machine's run of the script's image, as a session has it.
     pub outcome: Outcome,
     /// The report on the run.
-    pub text: String,
+    pub text: Written,
     /// What the run came to.
     pub events: Events,
 }
@@ -221,12 +230,12 @@ fn report_on(
     inquiry: &Inquiry<'_>,
     report: &Report<'_, '_, '_>,
     form: Form,
-) -> Result<String, AllocError>
+) -> Result<Written, AllocError>
     requires { IsReportOn inquiry.now report.now }
 {
     match form {
-        Form::Lines => report_text(alloc, report),
-        Form::Json => report_json(alloc, report),
+        Form::Lines => Ok(Written::Lines(report_text(alloc, report)?)),
+        Form::Json => Ok(Written::Json(report_json(alloc, report)?)),
     }
 }
 

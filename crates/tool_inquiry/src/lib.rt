@@ -12,7 +12,7 @@ mod outcomes;
 mod partings;
 mod scripts;
 
-pub use answers::{Answer, Form, Inquiry, answer_to, open_case};
+pub use answers::{Answer, Form, Inquiry, Written, answer_to, open_case};
 pub use faults::InquiryFault;
 pub use outcomes::{is_filed_in, outcome_line, outcome_text};
 pub use partings::{Parting, first_parting};

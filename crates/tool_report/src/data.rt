@@ -18,7 +18,7 @@ use serde_json::{Map, Number, Value, push, put};
 use sieve_evaluator::BorrowedField;
 use sieve_meaning::RunFault;
 use std::alloc::{AllocError, Global};
-use tool_texts::{escaped, fault_text};
+use tool_texts::{Shown, escaped, fault_text};
 
 /// An object that is made member by member.
 #[derive(Drop)]
@@ -84,7 +84,7 @@ fn add_mark(members: &mut Members, book: &Book<'_>, mark: Mark) -> Result<(), Al
         members.count("column", place.column)?;
     }
     let words = words_at(members.alloc, book, mark)?;
-    members.text("words", words)
+    members.text("words", words.into_string())
 }
 
 fn mark_data(alloc: Global, book: &Book<'_>, mark: Mark) -> Result<Value, AllocError> {
@@ -101,10 +101,10 @@ fn mark_if(alloc: Global, book: &Book<'_>, mark: Option<Mark>) -> Result<Value, 
     }
 }
 
-fn lines_data(alloc: Global, lines: Vec<String>) -> Result<Value, AllocError> {
+fn lines_data(alloc: Global, lines: Vec<Shown>) -> Result<Value, AllocError> {
     let mut values = Vec::new(alloc);
     for line in lines {
-        push(&mut values, Value::String(line))?;
+        push(&mut values, Value::String(line.into_string()))?;
     }
     Ok(Value::Array(values))
 }
@@ -173,9 +173,9 @@ fn add_reason(
 
 /// Where a schedule comes from, in words.
 fn stated_words(alloc: Global, stated: StatedBy<'_>) -> Result<String, AllocError> {
-    let mut text = String::new(alloc);
-    push_stated(alloc, &mut text, stated)?;
-    Ok(text)
+    let mut text = Shown::new(alloc);
+    push_stated(&mut text, stated)?;
+    Ok(text.into_string())
 }
 
 /// Adds the schedule of a class, where that comes from, and when a record of the moment is due; nothing where it has none.
@@ -285,9 +285,9 @@ fn told_words(
     node: Node<'_>,
     told: Told,
     next: Option<&Row>,
-) -> Result<String, AllocError> {
-    let mut text = String::new(alloc);
-    push_told(alloc, &mut text, book, node, told, next)?;
+) -> Result<Shown, AllocError> {
+    let mut text = Shown::new(alloc);
+    push_told(&mut text, book, node, told, next)?;
     Ok(text)
 }
 

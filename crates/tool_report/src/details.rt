@@ -2,13 +2,13 @@
 
 use crate::comparisons::{compared_fields, deciding_field, deciding_key};
 use crate::room::Room;
-use crate::words::{push_named, push_quoted};
 use class_paths::Paths;
 use sieve_evaluator::{BorrowedCase, BorrowedField};
 use sieve_meaning::reading::{comparator, match_type, next_string_list};
 use sieve_meaning::{MatchType, TestWord, is_same_word, test_word};
 use sieve_syntax::{Argument, StringList, Test};
 use std::alloc::{AllocError, Global};
+use tool_texts::{Shown, put};
 
 /// What a match type says of a value and a key.
 fn verb(how: MatchType) -> &'static str {
@@ -21,8 +21,7 @@ fn verb(how: MatchType) -> &'static str {
 
 /// Adds a field by its number, from 1, its name and its value; nothing where there is no such field.
 pub fn push_field(
-    alloc: Global,
-    text: &mut String,
+    text: &mut Shown,
     case: &BorrowedCase<'_, Paths>,
     place: usize,
 ) -> Result<(), AllocError> {
@@ -30,44 +29,33 @@ pub fn push_field(
         return Ok(());
     };
     let number = place.saturating_add(1);
-    write!(text, "field {number} ")?;
-    push_named(alloc, text, field.name)?;
-    text.push(' ')?;
-    push_quoted(alloc, text, field.value.as_slice())
+    put!(text;
+        "field " value(&number) " " named(field.name) " " quoted(field.value.as_slice())
+    )
 }
 
 /// Adds a field as it is said beside a test, by its number alone where a report has no room for it.
 fn push_told_field(
-    alloc: Global,
-    text: &mut String,
+    text: &mut Shown,
     case: &BorrowedCase<'_, Paths>,
     place: usize,
     room: &mut Room,
 ) -> Result<(), AllocError> {
     if room.take(case.fields.as_slice(), &[place]) {
-        return push_field(alloc, text, case, place);
+        return push_field(text, case, place);
     }
     let number = place.saturating_add(1);
-    write!(text, "field {number}, which is listed with the message,")
+    put!(text; "field " value(&number) ", which is listed with the message,")
 }
 
 /// Adds how a value meets a key.
-fn push_key(
-    alloc: Global,
-    text: &mut String,
-    how: MatchType,
-    key: &[u8],
-) -> Result<(), AllocError> {
-    text.push(' ')?;
-    text.push_str(verb(how))?;
-    text.push(' ')?;
-    push_quoted(alloc, text, key)
+fn push_key(text: &mut Shown, how: MatchType, key: &[u8]) -> Result<(), AllocError> {
+    put!(text; " " words(verb(how)) " " quoted(key))
 }
 
 /// Adds the field and the key that made a `header` test true. Where a report has no room for the field, its number alone.
 fn push_match(
-    alloc: Global,
-    text: &mut String,
+    text: &mut Shown,
     case: &BorrowedCase<'_, Paths>,
     arguments: &[Argument],
     names: &StringList,
@@ -78,18 +66,18 @@ fn push_match(
     let Some(place) = deciding_field(case.fields.as_slice(), names, keys, how, by) else {
         return Ok(());
     };
-    push_told_field(alloc, text, case, place, room)?;
+    push_told_field(text, case, place, room)?;
     let value = case
         .fields
         .get(place)
         .map_or(&[][..], |field| field.value.as_slice());
     match deciding_key(value, keys, how, by) {
-        Some(key) => push_key(alloc, text, how, key),
+        Some(key) => push_key(text, how, key),
         None => Ok(()),
     }
 }
 
-fn add_line(lines: &mut Vec<String>, line: String) -> Result<(), AllocError> {
+fn add_line(lines: &mut Vec<Shown>, line: Shown) -> Result<(), AllocError> {
     lines.push(line)?;
     Ok(())
 }
@@ -97,19 +85,19 @@ fn add_line(lines: &mut Vec<String>, line: String) -> Result<(), AllocError> {
 /// Adds a line with a field.
 fn add_field(
     alloc: Global,
-    lines: &mut Vec<String>,
+    lines: &mut Vec<Shown>,
     case: &BorrowedCase<'_, Paths>,
     place: usize,
 ) -> Result<(), AllocError> {
-    let mut line = String::new(alloc);
-    push_field(alloc, &mut line, case, place)?;
+    let mut line = Shown::new(alloc);
+    push_field(&mut line, case, place)?;
     add_line(lines, line)
 }
 
 /// Adds a line for each of some fields.
 fn add_fields(
     alloc: Global,
-    lines: &mut Vec<String>,
+    lines: &mut Vec<Shown>,
     case: &BorrowedCase<'_, Paths>,
     places: &[usize],
 ) -> Result<(), AllocError> {
@@ -123,26 +111,29 @@ fn add_fields(
 /// alone.
 fn add_compared(
     alloc: Global,
-    lines: &mut Vec<String>,
+    lines: &mut Vec<Shown>,
     case: &BorrowedCase<'_, Paths>,
     names: &StringList,
     room: &mut Room,
 ) -> Result<(), AllocError> {
     let places = compared_fields(alloc, case.fields.as_slice(), names)?;
     if places.is_empty() {
-        return add_line(lines, String::from_str(alloc, "no field has such a name")?);
+        let mut line = Shown::new(alloc);
+        line.words("no field has such a name")?;
+        return add_line(lines, line);
     }
     if room.take(case.fields.as_slice(), places.as_slice()) {
         return add_fields(alloc, lines, case, places.as_slice());
     }
     let count = places.len();
-    let line = format!(in alloc; "{count} of the fields that are listed with the message")?;
+    let mut line = Shown::new(alloc);
+    put!(line; value(&count) " of the fields that are listed with the message")?;
     add_line(lines, line)
 }
 
 fn add_header(
     alloc: Global,
-    lines: &mut Vec<String>,
+    lines: &mut Vec<Shown>,
     case: &BorrowedCase<'_, Paths>,
     arguments: &[Argument],
     answer: bool,
@@ -157,8 +148,8 @@ fn add_header(
     if !answer {
         return add_compared(alloc, lines, case, names, room);
     }
-    let mut line = String::new(alloc);
-    push_match(alloc, &mut line, case, arguments, names, keys, room)?;
+    let mut line = Shown::new(alloc);
+    push_match(&mut line, case, arguments, names, keys, room)?;
     add_line(lines, line)
 }
 
@@ -183,7 +174,7 @@ fn missing_name<'t>(case: &BorrowedCase<'_, Paths>, names: &'t StringList) -> Op
 
 fn add_missing(
     alloc: Global,
-    lines: &mut Vec<String>,
+    lines: &mut Vec<Shown>,
     case: &BorrowedCase<'_, Paths>,
     arguments: &[Argument],
 ) -> Result<(), AllocError> {
@@ -193,20 +184,21 @@ fn add_missing(
     let Some(name) = missing_name(case, names) else {
         return Ok(());
     };
-    let mut line = String::from_str(alloc, "no field has the name ")?;
-    push_quoted(alloc, &mut line, name)?;
+    let mut line = Shown::new(alloc);
+    put!(line; "no field has the name " quoted(name))?;
     add_line(lines, line)
 }
 
-fn add_size(alloc: Global, lines: &mut Vec<String>, size: u64) -> Result<(), AllocError> {
-    let line = format!(in alloc; "the message has {size} octets")?;
+fn add_size(alloc: Global, lines: &mut Vec<Shown>, size: u64) -> Result<(), AllocError> {
+    let mut line = Shown::new(alloc);
+    put!(line; "the message has " value(&size) " octets")?;
     add_line(lines, line)
 }
 
 /// Adds what a test with this answer was decided by.
 fn add_details(
     alloc: Global,
-    lines: &mut Vec<String>,
+    lines: &mut Vec<Shown>,
     case: &BorrowedCase<'_, Paths>,
     test: &Test,
     answer: bool,
@@ -234,7 +226,7 @@ pub fn detail_lines(
     test: &Test,
     answer: bool,
     room: &mut Room,
-) -> Result<Vec<String>, AllocError> {
+) -> Result<Vec<Shown>, AllocError> {
     let mut lines = Vec::new(alloc);
     add_details(alloc, &mut lines, case, test, answer, room)?;
     Ok(lines)

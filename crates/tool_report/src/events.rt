@@ -8,6 +8,7 @@ use crate::words::{push_mark, push_words};
 use sieve_evaluator::{Act, Inclusion};
 use sieve_meaning::{TestWord, test_word};
 use std::alloc::{AllocError, Global};
+use tool_texts::Shown;
 
 /// A test with its answer, or a command with what it did.
 #[derive(Drop)]
@@ -33,15 +34,14 @@ fn is_event(node: Node<'_>, told: Told) -> bool {
 
 /// Adds what an event came to, without the path of a script.
 fn push_outcome(
-    alloc: Global,
-    text: &mut String,
+    text: &mut Shown,
     book: &Book<'_>,
     node: Node<'_>,
     told: Told,
 ) -> Result<(), AllocError> {
     match told {
-        Told::Included(Inclusion::Enters) | Told::EnteredAgain => text.push_str(": runs it"),
-        _ => push_told(alloc, text, book, node, told, None),
+        Told::Included(Inclusion::Enters) | Told::EnteredAgain => text.words(": runs it"),
+        _ => push_told(text, book, node, told, None),
     }
 }
 
@@ -52,10 +52,10 @@ fn event_words(
     node: Node<'_>,
     told: Told,
 ) -> Result<String, AllocError> {
-    let mut text = String::new(alloc);
-    push_words(alloc, &mut text, node.thing)?;
-    push_outcome(alloc, &mut text, book, node, told)?;
-    Ok(text)
+    let mut text = Shown::new(alloc);
+    push_words(&mut text, node.thing)?;
+    push_outcome(&mut text, book, node, told)?;
+    Ok(text.into_string())
 }
 
 /// The same after the script, line and column.
@@ -66,10 +66,10 @@ fn event_line(
     node: Node<'_>,
     told: Told,
 ) -> Result<String, AllocError> {
-    let mut text = String::new(alloc);
-    push_mark(alloc, &mut text, book, mark)?;
-    push_outcome(alloc, &mut text, book, node, told)?;
-    Ok(text)
+    let mut text = Shown::new(alloc);
+    push_mark(&mut text, book, mark)?;
+    push_outcome(&mut text, book, node, told)?;
+    Ok(text.into_string())
 }
 
 fn event_of(

@@ -2,9 +2,9 @@
 
 use crate::details::push_field;
 use crate::report::Report;
-use crate::words::push_quoted;
 use mail_head::first_field;
 use std::alloc::{AllocError, Global};
+use tool_texts::{Shown, put};
 
 /// The octets of a header after its last field, up to the first line without octets.
 fn header_rest(text: &[u8]) -> &[u8] {
@@ -35,21 +35,21 @@ pub fn passed_over(alloc: Global, message: &[u8]) -> Result<Vec<&[u8]>, AllocErr
 }
 
 /// Adds the lines of a part of a header that is no field.
-fn push_passed_over(alloc: Global, text: &mut String, part: &[u8]) -> Result<(), AllocError> {
+fn push_passed_over(text: &mut Shown, part: &[u8]) -> Result<(), AllocError> {
     for line in part.split(|octet| *octet == b'\n') {
         if !line.is_empty() {
-            text.push_str("  no field: ")?;
-            push_quoted(alloc, text, line.strip_suffix(b"\r").unwrap_or(line))?;
-            text.push('\n')?;
+            text.words("  no field: ")?;
+            text.quoted(line.strip_suffix(b"\r").unwrap_or(line))?;
+            text.end_line()?;
         }
     }
     Ok(())
 }
 
 /// Adds the lines of a header that are no fields.
-fn push_parts(alloc: Global, text: &mut String, message: &[u8]) -> Result<(), AllocError> {
+fn push_parts(alloc: Global, text: &mut Shown, message: &[u8]) -> Result<(), AllocError> {
     for part in passed_over(alloc, message)?.as_slice() {
-        push_passed_over(alloc, text, part)?;
+        push_passed_over(text, part)?;
     }
     Ok(())
 }
@@ -58,15 +58,16 @@ fn push_parts(alloc: Global, text: &mut String, message: &[u8]) -> Result<(), Al
 /// fields.
 pub fn push_fields(
     alloc: Global,
-    text: &mut String,
+    text: &mut Shown,
     report: &Report<'_, '_, '_>,
 ) -> Result<(), AllocError> {
     let size = report.case.size;
-    write!(text, "message of {size} octets\n")?;
+    put!(text; "message of " value(&size) " octets")?;
+    text.end_line()?;
     for place in 0..report.case.fields.len() {
-        text.push_str("  ")?;
-        push_field(alloc, text, report.case, place)?;
-        text.push('\n')?;
+        text.words("  ")?;
+        push_field(text, report.case, place)?;
+        text.end_line()?;
     }
     push_parts(alloc, text, report.message)
 }

@@ -7,12 +7,12 @@ use crate::fields::push_fields;
 use crate::narrator::Narration;
 use crate::verdict::push_verdict;
 use crate::way::{push_line, push_way};
-use crate::words::push_named;
 use class_paths::Paths;
 use class_plan::Plan;
 use sieve_evaluator::BorrowedCase;
 use sieve_meaning::Outcome;
 use std::alloc::{AllocError, Global};
+use tool_texts::{Shown, put};
 
 /// A file that a run was about, by the SHA-256 of its octets in hexadecimal digits.
 #[derive(Drop)]
@@ -36,12 +36,10 @@ pub struct Report<'r, 'a, 'm> {
 }
 
 /// Adds the digests, in the form that `sha256sum` writes and checks.
-fn push_digests(alloc: Global, text: &mut String, digests: &[Digest]) -> Result<(), AllocError> {
+fn push_digests(text: &mut Shown, digests: &[Digest]) -> Result<(), AllocError> {
     for digest in digests {
-        text.push_str(digest.sha256.as_str())?;
-        text.push_str("  ")?;
-        push_named(alloc, text, digest.path.as_bytes())?;
-        text.push('\n')?;
+        put!(text; escaped(digest.sha256.as_bytes()) "  " named(digest.path.as_bytes()))?;
+        text.end_line()?;
     }
     Ok(())
 }
@@ -49,7 +47,7 @@ fn push_digests(alloc: Global, text: &mut String, digests: &[Digest]) -> Result<
 /// Adds the parts of a report, each with an empty line after it.
 fn push_report(
     alloc: Global,
-    text: &mut String,
+    text: &mut Shown,
     report: &Report<'_, '_, '_>,
 ) -> Result<(), AllocError> {
     push_verdict(alloc, text, report)?;
@@ -60,16 +58,16 @@ fn push_report(
         push_way(alloc, text, report)?;
     }
     push_line(text, 0, "")?;
-    push_digests(alloc, text, report.digests)?;
+    push_digests(text, report.digests)?;
     push_line(text, 0, "")
 }
 
 /// The report in lines: the verdict, the message as it was read, the way of the run by the source, and the digests. The
 /// way is left out where no run was reported. The only error is out of memory.
-pub fn report_text(alloc: Global, report: &Report<'_, '_, '_>) -> Result<String, AllocError>
+pub fn report_text(alloc: Global, report: &Report<'_, '_, '_>) -> Result<Shown, AllocError>
     requires { IsOfMessage report.now }
 {
-    let mut text = String::new(alloc);
+    let mut text = Shown::new(alloc);
     push_report(alloc, &mut text, report)?;
     Ok(text)
 }

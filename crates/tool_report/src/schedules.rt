@@ -1,9 +1,9 @@
 //! The schedule of a class, and where it comes from.
 
-use crate::words::push_named;
 use class_plan::{Date, Plan, Schedule, day_of, schedule_text};
 use std::alloc::{AllocError, Global};
 use std::str;
+use tool_texts::{Shown, put};
 
 /// Which class of a plan states the schedule of a class.
 #[derive(Clone, Copy)]
@@ -35,17 +35,13 @@ pub fn stated_by<'p>(classes: &[(&[u8], bool, Option<Schedule>)], path: &'p [u8]
 }
 
 /// Adds where a schedule comes from.
-pub fn push_stated(
-    alloc: Global,
-    text: &mut String,
-    stated: StatedBy<'_>,
-) -> Result<(), AllocError> {
+pub fn push_stated(text: &mut Shown, stated: StatedBy<'_>) -> Result<(), AllocError> {
     match stated {
-        StatedBy::Itself => text.push_str("its own"),
-        StatedBy::Root => text.push_str("the root's"),
+        StatedBy::Itself => text.words("its own"),
+        StatedBy::Root => text.words("the root's"),
         StatedBy::Ancestor(path) => {
-            text.push_str("that of ")?;
-            push_named(alloc, text, path)
+            text.words("that of ")?;
+            text.named(path)
         }
     }
 }
@@ -70,14 +66,9 @@ pub fn due_date(plan: &Plan, path: &[u8], moment: u64) -> Option<Date> {
 }
 
 /// Adds when a record of a moment falls due in a class.
-pub fn push_due(
-    text: &mut String,
-    plan: &Plan,
-    path: &[u8],
-    moment: u64,
-) -> Result<(), AllocError> {
+pub fn push_due(text: &mut Shown, plan: &Plan, path: &[u8], moment: u64) -> Result<(), AllocError> {
     match (day_of(moment), due_date(plan, path, moment)) {
-        (Some(day), Some(due)) => write!(text, "from {day} due {due}"),
-        _ => text.push_str("due never"),
+        (Some(day), Some(due)) => put!(text; "from " value(&day) " due " value(&due)),
+        _ => text.words("due never"),
     }
 }

@@ -5,10 +5,10 @@ use crate::narrator::Narration;
 use crate::report::Report;
 use crate::schedules::{StatedBy, push_due, push_stated, schedule_words, stated_by};
 use crate::way::push_line;
-use crate::words::{push_mark, push_named};
+use crate::words::push_mark;
 use class_plan::Schedule;
 use std::alloc::{AllocError, Global};
-use tool_texts::fault_text;
+use tool_texts::{Shown, fault_text, put};
 
 /// Why a message is in a class.
 #[derive(Clone, Copy)]
@@ -37,75 +37,68 @@ pub fn reason_of(narration: &Narration, has_fault: bool, path: &[u8]) -> Reason 
 
 /// Adds a reason.
 fn push_reason(
-    alloc: Global,
-    text: &mut String,
+    text: &mut Shown,
     report: &Report<'_, '_, '_>,
     reason: Reason,
 ) -> Result<(), AllocError> {
     match reason {
         Reason::Filed(mark) => {
-            text.push_str("filed by ")?;
-            push_mark(alloc, text, report.book, mark)
+            text.words("filed by ")?;
+            push_mark(text, report.book, mark)
         }
         Reason::Kept(mark) => {
-            text.push_str("kept by ")?;
-            push_mark(alloc, text, report.book, mark)
+            text.words("kept by ")?;
+            push_mark(text, report.book, mark)
         }
-        Reason::KeptImplicitly => text.push_str("the implicit keep, which no command cancelled"),
-        Reason::Faulted => text.push_str("as the run ended with a fault"),
+        Reason::KeptImplicitly => text.words("the implicit keep, which no command cancelled"),
+        Reason::Faulted => text.words("as the run ended with a fault"),
     }
 }
 
 /// Adds a schedule and where it comes from.
-fn push_schedule(
-    alloc: Global,
-    text: &mut String,
-    schedule: &str,
-    stated: StatedBy<'_>,
-) -> Result<(), AllocError> {
-    text.push_str("schedule ")?;
-    text.push_str(schedule)?;
-    text.push_str(", ")?;
-    push_stated(alloc, text, stated)?;
-    text.push_str("; ")
+fn push_schedule(text: &mut Shown, schedule: &str, stated: StatedBy<'_>) -> Result<(), AllocError> {
+    put!(text; "schedule " escaped(schedule.as_bytes()) ", ")?;
+    push_stated(text, stated)?;
+    text.words("; ")
 }
 
 /// Adds the schedule of a class, with its origin and the date on which a record of the moment is due.
 fn push_disposal(
     alloc: Global,
-    text: &mut String,
+    text: &mut Shown,
     report: &Report<'_, '_, '_>,
     classes: &[(&[u8], bool, Option<Schedule>)],
     path: &[u8],
 ) -> Result<(), AllocError> {
     let Some(schedule) = schedule_words(alloc, report.plan, path)? else {
-        return text.push_str("no schedule");
+        return text.words("no schedule");
     };
-    push_schedule(alloc, text, schedule.as_str(), stated_by(classes, path))?;
+    push_schedule(text, schedule.as_str(), stated_by(classes, path))?;
     push_due(text, report.plan, path, report.moment)
 }
 
 /// Adds a class with its reason, and on the next line its schedule.
 fn push_class(
     alloc: Global,
-    text: &mut String,
+    text: &mut Shown,
     report: &Report<'_, '_, '_>,
     classes: &[(&[u8], bool, Option<Schedule>)],
     path: &[u8],
 ) -> Result<(), AllocError> {
     let reason = reason_of(report.narration, report.outcome.fault.is_some(), path);
-    push_named(alloc, text, path)?;
-    text.push_str(": ")?;
-    push_reason(alloc, text, report, reason)?;
-    text.push_str("\n  ")?;
+    text.named(path)?;
+    text.words(": ")?;
+    push_reason(text, report, reason)?;
+    text.end_line()?;
+    text.words("  ")?;
     push_disposal(alloc, text, report, classes, path)?;
-    text.push('\n')
+    text.end_line()
 }
 
 /// Adds the classes of the outcome, or that there is none.
 fn push_classes(
     alloc: Global,
-    text: &mut String,
+    text: &mut Shown,
     report: &Report<'_, '_, '_>,
 ) -> Result<(), AllocError> {
     let paths = report.outcome.classes.as_slice();
@@ -120,49 +113,37 @@ fn push_classes(
 }
 
 /// Adds the command that a fault is of, where a script was run.
-fn push_culprit(
-    alloc: Global,
-    text: &mut String,
-    report: &Report<'_, '_, '_>,
-) -> Result<(), AllocError> {
+fn push_culprit(text: &mut Shown, report: &Report<'_, '_, '_>) -> Result<(), AllocError> {
     match report.narration.culprit {
-        Some(culprit) => push_mark(alloc, text, report.book, culprit),
-        None => text.push_str("the script was not run"),
+        Some(culprit) => push_mark(text, report.book, culprit),
+        None => text.words("the script was not run"),
     }
 }
 
 /// Adds a fault, with the command that it is of and the includes that this was run by.
-fn push_fault(
-    alloc: Global,
-    text: &mut String,
-    report: &Report<'_, '_, '_>,
-) -> Result<(), AllocError> {
+fn push_fault(text: &mut Shown, report: &Report<'_, '_, '_>) -> Result<(), AllocError> {
     let Some(fault) = report.outcome.fault else {
         return Ok(());
     };
     let number = fault.number();
-    write!(text, "fault {number}: ")?;
-    push_culprit(alloc, text, report)?;
-    text.push('\n')?;
+    put!(text; "fault " value(&number) ": ")?;
+    push_culprit(text, report)?;
+    text.end_line()?;
     for mark in report.narration.by_way_of.as_slice() {
-        text.push_str("  run by ")?;
-        push_mark(alloc, text, report.book, *mark)?;
-        text.push('\n')?;
+        text.words("  run by ")?;
+        push_mark(text, report.book, *mark)?;
+        text.end_line()?;
     }
     push_line(text, 1, fault_text(number).unwrap_or(""))
 }
 
 /// Adds which command cancelled the implicit keep, where one did.
-fn push_canceller(
-    alloc: Global,
-    text: &mut String,
-    report: &Report<'_, '_, '_>,
-) -> Result<(), AllocError> {
+fn push_canceller(text: &mut Shown, report: &Report<'_, '_, '_>) -> Result<(), AllocError> {
     match report.narration.canceller {
         Some(mark) if report.outcome.fault.is_none() => {
-            text.push_str("the implicit keep: cancelled by ")?;
-            push_mark(alloc, text, report.book, mark)?;
-            text.push('\n')
+            text.words("the implicit keep: cancelled by ")?;
+            push_mark(text, report.book, mark)?;
+            text.end_line()
         }
         _ => Ok(()),
     }
@@ -171,10 +152,10 @@ fn push_canceller(
 /// Adds the verdict: a fault, each class with its reason and its schedule, and what cancelled the implicit keep.
 pub fn push_verdict(
     alloc: Global,
-    text: &mut String,
+    text: &mut Shown,
     report: &Report<'_, '_, '_>,
 ) -> Result<(), AllocError> {
-    push_fault(alloc, text, report)?;
+    push_fault(text, report)?;
     push_classes(alloc, text, report)?;
-    push_canceller(alloc, text, report)
+    push_canceller(text, report)
 }

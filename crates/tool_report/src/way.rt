@@ -12,14 +12,14 @@ use sieve_meaning::reading::include;
 use sieve_meaning::{CommandWord, RunFault, command_word};
 use sieve_syntax::Command;
 use std::alloc::{AllocError, Global};
+use tool_texts::{Shown, put};
 
 /// Adds the fault of a command, after its words.
-fn push_fault(text: &mut String, fault: RunFault) -> Result<(), AllocError> {
-    let number = fault.number();
-    write!(text, ": fault {number}")
+fn push_fault(text: &mut Shown, fault: RunFault) -> Result<(), AllocError> {
+    put!(text; ": fault " value(&fault.number()))
 }
 
-fn push_act(text: &mut String, act: Act) -> Result<(), AllocError> {
+fn push_act(text: &mut Shown, act: Act) -> Result<(), AllocError> {
     let words = match act {
         Act::Nothing => "",
         Act::Passes => ": not tried, as a branch before it was taken",
@@ -31,33 +31,27 @@ fn push_act(text: &mut String, act: Act) -> Result<(), AllocError> {
         Act::Copies => ": files a copy",
         Act::Refuses => return push_fault(text, RunFault::ClassNotOpen),
     };
-    text.push_str(words)
+    text.words(words)
 }
 
 /// Adds that an include runs a script, by its name.
-fn push_runs(
-    alloc: Global,
-    text: &mut String,
-    book: &Book<'_>,
-    command: &Command,
-) -> Result<(), AllocError> {
+fn push_runs(text: &mut Shown, book: &Book<'_>, command: &Command) -> Result<(), AllocError> {
     let script = include(command.arguments.as_slice()).script;
-    text.push_str(": runs ")?;
-    push_label(alloc, text, book, book.page_named(&script))
+    text.words(": runs ")?;
+    push_label(text, book, book.page_named(&script))
 }
 
 fn push_inclusion(
-    alloc: Global,
-    text: &mut String,
+    text: &mut Shown,
     book: &Book<'_>,
     command: &Command,
     inclusion: Inclusion,
 ) -> Result<(), AllocError> {
     match inclusion {
-        Inclusion::Enters => push_runs(alloc, text, book, command),
-        Inclusion::EnteredBefore => text.push_str(": nothing, as the script was entered before"),
+        Inclusion::Enters => push_runs(text, book, command),
+        Inclusion::EnteredBefore => text.words(": nothing, as the script was entered before"),
         Inclusion::Missing if include(command.arguments.as_slice()).is_optional => {
-            text.push_str(": nothing, as there is no such script")
+            text.words(": nothing, as there is no such script")
         }
         Inclusion::Missing => push_fault(text, RunFault::ScriptMissing),
         Inclusion::Active => push_fault(text, RunFault::RecursiveInclude),
@@ -78,8 +72,7 @@ fn branch_words(command: &Command, next: Option<&Row>) -> &'static str {
 }
 
 fn push_command(
-    alloc: Global,
-    text: &mut String,
+    text: &mut Shown,
     book: &Book<'_>,
     command: &Command,
     told: Told,
@@ -87,50 +80,51 @@ fn push_command(
 ) -> Result<(), AllocError> {
     match told {
         Told::Did(act) => push_act(text, act),
-        Told::Included(inclusion) => push_inclusion(alloc, text, book, command, inclusion),
+        Told::Included(inclusion) => push_inclusion(text, book, command, inclusion),
         Told::EnteredAgain => {
-            push_runs(alloc, text, book, command)?;
-            text.push_str(" again, as above")
+            push_runs(text, book, command)?;
+            text.words(" again, as above")
         }
-        Told::Reached | Told::Answered(_) => text.push_str(branch_words(command, next)),
+        Told::Reached | Told::Answered(_) => text.words(branch_words(command, next)),
     }
 }
 
 /// Adds what a command or a test came to, in words that follow its own.
 pub fn push_told(
-    alloc: Global,
-    text: &mut String,
+    text: &mut Shown,
     book: &Book<'_>,
     node: Node<'_>,
     told: Told,
     next: Option<&Row>,
 ) -> Result<(), AllocError> {
     match (node.thing, told) {
-        (Thing::Command(command), _) => push_command(alloc, text, book, command, told, next),
-        (Thing::Test(_), Told::Answered(answer)) => write!(text, ": {answer}"),
+        (Thing::Command(command), _) => push_command(text, book, command, told, next),
+        (Thing::Test(_), Told::Answered(answer)) => put!(text; ": " value(&answer)),
         (Thing::Test(_), _) => Ok(()),
     }
 }
 
 /// Adds a number of indentations of two columns.
-pub fn push_indent(text: &mut String, depth: usize) -> Result<(), AllocError> {
+pub fn push_indent(text: &mut Shown, depth: usize) -> Result<(), AllocError> {
     for _ in 0..depth {
-        text.push_str("  ")?;
+        text.words("  ")?;
     }
     Ok(())
 }
 
 /// Adds a line after a number of indentations.
-pub fn push_line(text: &mut String, depth: usize, line: &str) -> Result<(), AllocError> {
+pub fn push_line(text: &mut Shown, depth: usize, line: &'static str) -> Result<(), AllocError> {
     push_indent(text, depth)?;
-    text.push_str(line)?;
-    text.push('\n')
+    text.words(line)?;
+    text.end_line()
 }
 
 /// Adds lines after a number of indentations.
-fn push_lines(text: &mut String, depth: usize, lines: &[String]) -> Result<(), AllocError> {
+fn push_lines(text: &mut Shown, depth: usize, lines: &[Shown]) -> Result<(), AllocError> {
     for line in lines {
-        push_line(text, depth, line.as_str())?;
+        push_indent(text, depth)?;
+        text.text(line)?;
+        text.end_line()?;
     }
     Ok(())
 }
@@ -138,7 +132,7 @@ fn push_lines(text: &mut String, depth: usize, lines: &[String]) -> Result<(), A
 /// Adds what a row says.
 fn push_row(
     alloc: Global,
-    text: &mut String,
+    text: &mut Shown,
     report: &Report<'_, '_, '_>,
     row: Row,
     next: Option<&Row>,
@@ -150,10 +144,10 @@ fn push_row(
     let depth = row.depth.saturating_add(1);
     push_indent(text, depth)?;
     push_place(text, report.book, row.mark)?;
-    text.push(' ')?;
-    push_words(alloc, text, node.thing)?;
-    push_told(alloc, text, report.book, node, row.told, next)?;
-    text.push('\n')?;
+    text.words(" ")?;
+    push_words(text, node.thing)?;
+    push_told(text, report.book, node, row.told, next)?;
+    text.end_line()?;
     if let (Thing::Test(test), Told::Answered(answer)) = (node.thing, row.told) {
         let lines = detail_lines(alloc, report.case, test, answer, room)?;
         return push_lines(text, depth.saturating_add(1), lines.as_slice());
@@ -164,11 +158,11 @@ fn push_row(
 /// Adds the way of a run: its main script's name, and below that what it came to.
 pub fn push_way(
     alloc: Global,
-    text: &mut String,
+    text: &mut Shown,
     report: &Report<'_, '_, '_>,
 ) -> Result<(), AllocError> {
-    push_label(alloc, text, report.book, 0)?;
-    text.push('\n')?;
+    push_label(text, report.book, 0)?;
+    text.end_line()?;
     let mut room = Room::new();
     let rows = report.narration.rows.as_slice();
     for (index, row) in rows.iter().enumerate() {

@@ -4,6 +4,7 @@ use command_lines::tools::Check;
 use tool_checks::{Surroundings, check_plan, check_script, read_plan};
 use tool_console::{Failure, Verdict};
 use tool_inquiry::script_name;
+use tool_texts::Shown;
 
 /// What the path of a plan's file ends with.
 const PLAN_ENDING: &str = ".toml";
@@ -13,7 +14,7 @@ fn check_file(
     rt: &HostRuntime,
     path: &str,
     around: &Surroundings<'_>,
-    told: &mut Vec<String>,
+    told: &mut Vec<Shown>,
 ) -> Result<Verdict, Failure> {
     if path.ends_with(PLAN_ENDING) {
         check_plan(rt, path, around.plan)

@@ -4,8 +4,8 @@ use class_plan::{Plan, day_of, schedule_text};
 use filing_image::{Image, Operation};
 use filing_machine::{Step, Trace};
 use std::alloc::AllocError;
-use std::str;
-use tool_console::{Failure, push_named, push_quoted, write_line};
+use tool_console::{Failure, write_line};
+use tool_texts::{Shown, put};
 
 /// The command that filed a message in a class.
 #[derive(Clone, Copy)]
@@ -54,31 +54,29 @@ fn keeping_step(image: &Image, steps: &[Step]) -> Option<usize> {
 }
 
 /// Adds the step that filed a message in the class of a path, and its command.
-fn push_filing(line: &mut String, filing: Filing, path: &[u8]) -> Result<(), AllocError> {
+fn push_filing(line: &mut Shown, filing: Filing, path: &[u8]) -> Result<(), AllocError> {
     let number = filing.number;
     let copy = if filing.is_copy { ":copy " } else { "" };
-    write!(line, "step {number}, fileinto {copy}")?;
-    push_quoted(line, path)
+    put!(line; "step " value(&number) ", fileinto " words(copy) quoted(path))
 }
 
 /// Adds the step that kept a message, or that no command did.
-fn push_keep(line: &mut String, keeping: Option<usize>) -> Result<(), AllocError> {
+fn push_keep(line: &mut Shown, keeping: Option<usize>) -> Result<(), AllocError> {
     match keeping {
-        Some(number) => write!(line, "step {number}, keep"),
-        None => { line.push_str("no command, as none filed it without :copy or discarded it") }
+        Some(number) => put!(line; "step " value(&number) ", keep"),
+        None => line.words("no command, as none filed it without :copy or discarded it"),
     }
 }
 
 /// Adds why a message is in a class: a fault, or the step that filed or kept it, or that no command did.
 fn push_reason(
-    line: &mut String,
+    line: &mut Shown,
     image: &Image,
     run: &Trace,
     path: &[u8],
 ) -> Result<(), AllocError> {
     if let Some(fault) = run.outcome.fault {
-        let number = fault.number();
-        return write!(line, "fault {number}");
+        return put!(line; "fault " value(&fault.number()));
     }
     let steps = run.steps.as_slice();
     match first_filing(image, steps, path) {
@@ -89,22 +87,22 @@ fn push_reason(
 
 /// Adds the schedule of a class, and the date on which a record of a moment falls due in it.
 fn push_schedule(
-    line: &mut String,
+    line: &mut Shown,
     plan: &Plan,
     moment: u64,
     path: &[u8],
 ) -> Result<(), AllocError> {
     let Some(schedule) = plan.schedule_of(path) else {
-        return line.push_str("no schedule");
+        return line.words("no schedule");
     };
     let Some(day) = day_of(moment) else {
-        return line.push_str("no day");
+        return line.words("no day");
     };
-    let octets = schedule_text(*line.allocator(), schedule)?;
-    let text = str::from_utf8(&octets).unwrap_or("");
+    let text = schedule_text(line.allocator(), schedule)?;
+    put!(line; "schedule " escaped(text.as_slice()))?;
     match plan.due_of(path, day) {
-        Some(due) => write!(line, "schedule {text}, from {day} due {due}"),
-        None => write!(line, "schedule {text}, due never"),
+        Some(due) => put!(line; ", from " value(&day) " due " value(&due)),
+        None => line.words(", due never"),
     }
 }
 
@@ -117,12 +115,11 @@ pub fn show_classes(
     moment: u64,
     run: &Trace,
 ) -> Result<(), Failure> {
-    let mut line = String::new(rt.alloc());
+    let mut line = Shown::new(rt.alloc());
     for path in run.outcome.classes.as_slice() {
-        push_named(&mut line, path.as_slice())?;
-        line.push_str(" by ")?;
+        put!(line; named(path.as_slice()) " by ")?;
         push_reason(&mut line, image, run, path.as_slice())?;
-        line.push_str("; ")?;
+        line.words("; ")?;
         push_schedule(&mut line, plan, moment, path.as_slice())?;
         write_line(rt, &mut line)?;
     }

@@ -3,30 +3,29 @@
 use crate::places::place_of_fault;
 use filing_image::{Image, Version, decode};
 use filing_verify::{Verified, VerifyFault, verify};
-use tool_console::{Failure, Verdict, read_file, text_of, write, write_line};
-use tool_texts::Payload;
+use tool_console::{Failure, Verdict, read_file, text_of, write_line};
+use tool_texts::{Payload, Shown, put};
 
 /// Writes a refusal with its text.
 fn tell_refused(rt: &HostRuntime, number: u8) -> Result<(), Failure> {
-    let words = text_of(number);
-    let mut line = String::new(rt.alloc());
-    write!(line, "refused {number}: {words}")?;
+    let mut line = Shown::new(rt.alloc());
+    put!(line; "refused " value(&number) ": " words(text_of(number)))?;
     write_line(rt, &mut line)
 }
 
 /// Writes the number of parts of a kind, or another number of an image.
 fn show_count(
     rt: &HostRuntime,
-    line: &mut String,
-    name: &str,
+    line: &mut Shown,
+    name: &'static str,
     count: usize,
 ) -> Result<(), Failure> {
-    write!(line, "{name} {count}")?;
+    put!(line; words(name) " " value(&count))?;
     write_line(rt, line)
 }
 
 /// Writes the number of procedures of an image. Version 1 has none, and no such line.
-fn show_procedure_count(rt: &HostRuntime, line: &mut String, image: &Image) -> Result<(), Failure> {
+fn show_procedure_count(rt: &HostRuntime, line: &mut Shown, image: &Image) -> Result<(), Failure> {
     match image.version() {
         Version::One => Ok(()),
         Version::Two => show_count(rt, line, "procedures", image.first_places().len()),
@@ -34,7 +33,7 @@ fn show_procedure_count(rt: &HostRuntime, line: &mut String, image: &Image) -> R
 }
 
 /// Writes the version of an image and its numbers of parts.
-fn show_counts(rt: &HostRuntime, line: &mut String, image: &Image) -> Result<(), Failure> {
+fn show_counts(rt: &HostRuntime, line: &mut Shown, image: &Image) -> Result<(), Failure> {
     let version = match image.version() {
         Version::One => 1,
         Version::Two => 2,
@@ -54,47 +53,51 @@ fn show_counts(rt: &HostRuntime, line: &mut String, image: &Image) -> Result<(),
 }
 
 /// Writes the texts of an image, a line each, with their places.
-fn show_texts(rt: &HostRuntime, line: &mut String, image: &Image) -> Result<(), Failure> {
+fn show_texts(rt: &HostRuntime, line: &mut Shown, image: &Image) -> Result<(), Failure> {
     for place in 0..image.text_count() {
         let octets = image.text(place).escape_ascii();
-        write!(line, "text {place} \"{octets}\"")?;
+        put!(line; "text " value(&place) " \"" value(&octets) "\"")?;
         write_line(rt, line)?;
     }
     Ok(())
 }
 
 /// Writes the numbers of an image, a line each, with their places.
-fn show_numbers(rt: &HostRuntime, line: &mut String, image: &Image) -> Result<(), Failure> {
+fn show_numbers(rt: &HostRuntime, line: &mut Shown, image: &Image) -> Result<(), Failure> {
     for (place, number) in image.numbers().iter().enumerate() {
-        write!(line, "number {place} {number}")?;
+        put!(line; "number " value(&place) " " value(number))?;
         write_line(rt, line)?;
     }
     Ok(())
 }
 
 /// Writes the first places of the procedures of an image, a line each, with their numbers.
-fn show_first_places(rt: &HostRuntime, line: &mut String, image: &Image) -> Result<(), Failure> {
+fn show_first_places(rt: &HostRuntime, line: &mut Shown, image: &Image) -> Result<(), Failure> {
     for (number, place) in image.first_places().iter().enumerate() {
-        write!(line, "procedure {number} at place {place}")?;
+        put!(line; "procedure " value(&number) " at place " value(place))?;
         write_line(rt, line)?;
     }
     Ok(())
 }
 
 /// Writes the instructions of an image, a line each.
-fn show_code(rt: &HostRuntime, image: &Image) -> Result<(), Failure> {
+fn show_code(rt: &HostRuntime, line: &mut Shown, image: &Image) -> Result<(), Failure> {
     let instructions = format!(in rt.alloc(); "{image}")?;
-    write(rt, instructions.as_bytes())
+    for instruction in instructions.as_str().lines() {
+        line.value(&instruction)?;
+        write_line(rt, line)?;
+    }
+    Ok(())
 }
 
 /// Writes the parts of an image.
 fn show(rt: &HostRuntime, image: &Image) -> Result<(), Failure> {
-    let mut line = String::new(rt.alloc());
+    let mut line = Shown::new(rt.alloc());
     show_counts(rt, &mut line, image)?;
     show_texts(rt, &mut line, image)?;
     show_numbers(rt, &mut line, image)?;
     show_first_places(rt, &mut line, image)?;
-    show_code(rt, image)
+    show_code(rt, &mut line, image)
 }
 
 /// The image of a file; none where its octets are no image, which is reported.
@@ -134,15 +137,22 @@ fn tell_fault(rt: &HostRuntime, image: &Image, fault: VerifyFault) -> Result<(),
     let Some(place) = place_of_fault(rt.alloc(), image, fault)? else {
         return Ok(());
     };
-    let mut line = String::new(rt.alloc());
-    write!(line, "at place {place}")?;
+    let mut line = Shown::new(rt.alloc());
+    put!(line; "at place " value(&place))?;
+    write_line(rt, &mut line)
+}
+
+/// Writes that an image may run.
+fn tell_accepted(rt: &HostRuntime) -> Result<(), Failure> {
+    let mut line = Shown::new(rt.alloc());
+    line.words("accepted")?;
     write_line(rt, &mut line)
 }
 
 /// Judges an image that is shown.
 fn judge_image(rt: &HostRuntime, image: Image) -> Result<Verdict, Failure> {
     let Err((fault, image)) = verify(rt.alloc(), image) else {
-        write(rt, b"accepted\n")?;
+        tell_accepted(rt)?;
         return Ok(Verdict::Good);
     };
     tell_fault(rt, &image, fault)?;

@@ -9,6 +9,7 @@ use sieve_library::Library;
 use sieve_meaning::Location;
 use tool_console::{Failure, Verdict, write_file, write_line, write_refusal};
 use tool_inquiry::{ScriptFile, library_of, script_name};
+use tool_texts::{Shown, put};
 
 /// The library of the scripts that can be included; none where one is refused, which is reported.
 fn read_library(rt: &HostRuntime, folders: Folders<'_>) -> Result<Option<Library>, Failure> {
@@ -58,9 +59,8 @@ fn image_of(
 fn write_image(rt: &HostRuntime, path: &str, program: &Verified) -> Result<(), Failure> {
     let octets = encode(rt.alloc(), program.image())?;
     write_file(rt, path, &octets)?;
-    let budget = program.budget();
-    let mut line = String::new(rt.alloc());
-    write!(line, "budget {budget}")?;
+    let mut line = Shown::new(rt.alloc());
+    put!(line; "budget " value(&program.budget()))?;
     write_line(rt, &mut line)
 }
 

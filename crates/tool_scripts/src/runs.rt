@@ -10,9 +10,10 @@ use filing_machine::{Trace, trace_run};
 use filing_verify::Verified;
 use mail_case::Case;
 use sieve_meaning::{Location, Outcome, RunFault};
-use tool_console::{Failure, Verdict, tell, write, write_refusal};
+use tool_console::{Failure, Verdict, tell_words, write_data, write_refusal, write_text};
 use tool_inquiry::{
-    Answer, Form, Inquiry, ScriptFile, Scripts, answer_to, compiled, open_case, outcome_text,
+    Answer, Form, Inquiry, ScriptFile, Scripts, Written, answer_to, compiled, open_case,
+    outcome_text,
 };
 
 /// A script and those of the folders; none where one is refused, which is reported.
@@ -42,21 +43,26 @@ fn tell_lack(rt: &HostRuntime, asked: &Why<'_>, fault: Option<RunFault>) {
         }
         _ => return,
     };
-    tell(rt, place);
+    tell_words(rt, place);
 }
 
 /// Writes an outcome in the lines of a session.
 fn write_outcome(rt: &HostRuntime, outcome: &Outcome) -> Result<(), Failure> {
     let text = outcome_text(rt.alloc(), outcome)?;
-    write(rt, &text)
+    write_data(rt, &text)
 }
 
 /// Writes an answer: in lines, with the outcome as in a session below, or as one line of JSON.
-fn write_answer(rt: &HostRuntime, answer: &Answer, form: Form) -> Result<(), Failure> {
-    write(rt, answer.text.as_bytes())?;
-    match form {
-        Form::Json => write(rt, b"\n"),
-        Form::Lines => write_outcome(rt, &answer.outcome),
+fn write_answer(rt: &HostRuntime, answer: &Answer) -> Result<(), Failure> {
+    match &answer.text {
+        Written::Json(text) => {
+            write_data(rt, text.as_bytes())?;
+            write_data(rt, b"\n")
+        }
+        Written::Lines(text) => {
+            write_text(rt, text)?;
+            write_outcome(rt, &answer.outcome)
+        }
     }
 }
 
@@ -87,7 +93,7 @@ fn report_run(
     let Some(answer) = unless_full(rt, answer_to(rt.alloc(), &inquiry, form))? else {
         return Ok(Verdict::Refused);
     };
-    write_answer(rt, &answer, form)?;
+    write_answer(rt, &answer)?;
     tell_lack(rt, question.asked, answer.outcome.fault);
     Ok(Verdict::Good)
 }

@@ -5,6 +5,7 @@ use sieve_meaning::Location;
 use tool_checks::{SCRIPT_ENDING, read_good_script};
 use tool_console::{Failure, paths_in, write_refusal};
 use tool_inquiry::{InquiryFault, ScriptFile, script_of};
+use tool_texts::Shown;
 
 /// The script of a file; none where it is refused, which is reported on standard output.
 pub fn read_script(
@@ -102,6 +103,10 @@ pub fn unless_full<T: Drop>(
             write_refusal(rt, path.as_str(), 96)?;
             Ok(None)
         }
-        Err(fault) => Err(Failure::Message(format!(in rt.alloc(); "{fault}")?)),
+        Err(fault) => {
+            let mut text = Shown::new(rt.alloc());
+            text.value(&fault)?;
+            Err(Failure::Message(text))
+        }
     }
 }

@@ -5,12 +5,13 @@ use filing_machine::{Step, Top, Trace};
 use mail_case::Case;
 use mail_head::read_head;
 use std::alloc::{AllocError, Global};
-use tool_console::{Failure, push_named, push_quoted, write_line};
+use tool_console::{Failure, write_line};
+use tool_texts::{Shown, put};
 
 /// Adds the value of a field in quotation marks.
-fn push_value<C: Case>(line: &mut String, case: &C, field: usize) -> Result<(), AllocError> {
+fn push_value<C: Case>(line: &mut Shown, case: &C, field: usize) -> Result<(), AllocError> {
     if field < case.field_count() {
-        return push_quoted(line, case.value(field));
+        return line.quoted(case.value(field));
     }
     Ok(())
 }
@@ -18,15 +19,13 @@ fn push_value<C: Case>(line: &mut String, case: &C, field: usize) -> Result<(), 
 /// Writes a field by its index, and its value.
 fn show_field<C: Case>(
     rt: &HostRuntime,
-    line: &mut String,
+    line: &mut Shown,
     case: &C,
     index: usize,
     name: &[u8],
 ) -> Result<(), Failure> {
     let number = index.saturating_add(1);
-    write!(line, "field {number} ")?;
-    push_named(line, name)?;
-    line.push(' ')?;
+    put!(line; "field " value(&number) " " named(name) " ")?;
     push_value(line, case, index)?;
     write_line(rt, line)
 }
@@ -34,8 +33,8 @@ fn show_field<C: Case>(
 /// Writes the size of a message, and the fields that it was read as, a line each, numbered from 1.
 pub fn show_fields<C: Case>(rt: &HostRuntime, message: &[u8], case: &C) -> Result<(), Failure> {
     let size = case.size();
-    let mut line = String::new(rt.alloc());
-    write!(line, "message of {size} octets")?;
+    let mut line = Shown::new(rt.alloc());
+    put!(line; "message of " value(&size) " octets")?;
     write_line(rt, &mut line)?;
     let head = read_head(rt.alloc(), message)?;
     for (index, field) in head.fields().iter().enumerate() {
@@ -46,31 +45,31 @@ pub fn show_fields<C: Case>(rt: &HostRuntime, message: &[u8], case: &C) -> Resul
 
 /// Adds a truth that a step left, with the field that matched, if there is one.
 fn push_truth<C: Case>(
-    line: &mut String,
+    line: &mut Shown,
     case: &C,
     truth: bool,
     matched: Option<usize>,
 ) -> Result<(), AllocError> {
-    write!(line, ": {truth}")?;
+    put!(line; ": " value(&truth))?;
     let Some(field) = matched else {
         return Ok(());
     };
     let number = field.saturating_add(1);
-    write!(line, ", by field {number} ")?;
+    put!(line; ", by field " value(&number) " ")?;
     push_value(line, case, field)
 }
 
 /// Adds whether a run jumped to a place.
-fn push_jump(line: &mut String, to: u16, next: Option<&Step>) -> Result<(), AllocError> {
+fn push_jump(line: &mut Shown, to: u16, next: Option<&Step>) -> Result<(), AllocError> {
     match next {
-        Some(next) if next.place == usize::from(to) => line.push_str(": goes there"),
-        _ => line.push_str(": goes on"),
+        Some(next) if next.place == usize::from(to) => line.words(": goes there"),
+        _ => line.words(": goes on"),
     }
 }
 
 /// Adds what a step did, in words after its instruction; nothing where there is nothing to show.
 fn push_told<C: Case>(
-    line: &mut String,
+    line: &mut Shown,
     case: &C,
     operation: Operation,
     step: &Step,
@@ -88,10 +87,10 @@ fn push_told<C: Case>(
             Some(Top::Truth(truth)),
         ) => push_truth(line, case, truth, step.matched),
         (Operation::Values(_) | Operation::Join, Some(Top::Values(count))) => {
-            write!(line, ": {count} values")
+            put!(line; ": " value(&count) " values")
         }
         (Operation::Size | Operation::Number(_), Some(Top::Number(number))) => {
-            write!(line, ": {number}")
+            put!(line; ": " value(&number))
         }
         (Operation::JumpIf(to) | Operation::JumpUnless(to), _) => push_jump(line, to, next),
         _ => Ok(()),
@@ -100,7 +99,7 @@ fn push_told<C: Case>(
 
 /// An image whose run is shown, and a line for each of its instructions.
 #[derive(Clone, Copy)]
-struct Shown<'a> {
+struct Listing<'a> {
     code: &'a [Operation],
     lines: &'a [&'a str],
 }
@@ -108,8 +107,8 @@ struct Shown<'a> {
 /// Writes a step by its index: its number from 1, the instruction and its place, and what it left.
 fn show_step<C: Case>(
     rt: &HostRuntime,
-    line: &mut String,
-    shown: Shown<'_>,
+    line: &mut Shown,
+    shown: Listing<'_>,
     case: &C,
     steps: &[Step],
     index: usize,
@@ -122,7 +121,7 @@ fn show_step<C: Case>(
     };
     let number = index.saturating_add(1);
     let instruction = shown.lines.get(step.place).copied().unwrap_or("");
-    write!(line, "step {number}: {instruction}")?;
+    put!(line; "step " value(&number) ": " value(&instruction))?;
     push_told(line, case, operation, step, steps.get(number))?;
     write_line(rt, line)
 }
@@ -147,11 +146,11 @@ pub fn show_steps<C: Case>(
 ) -> Result<(), Failure> {
     let text = format!(in rt.alloc(); "{image}")?;
     let lines = instruction_lines(rt.alloc(), text.as_str())?;
-    let shown = Shown {
+    let shown = Listing {
         code: image.code(),
         lines: lines.as_slice(),
     };
-    let mut line = String::new(rt.alloc());
+    let mut line = Shown::new(rt.alloc());
     for index in 0..run.steps.len() {
         show_step(rt, &mut line, shown, case, run.steps.as_slice(), index)?;
     }

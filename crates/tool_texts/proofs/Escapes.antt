@@ -13,7 +13,7 @@ use Rattle.std.proofs.lemmas.Str.{utf8_valid_len_le, utf8_valid_len-IsUtf8, IsUt
 use Rattle.unicode_width.specs.Width.{char_width}
 use Rattle.tool_texts.specs.Quoting.{is_hidden, is_attached, is_plain, octet_text, shown_of, shown_after, front_text, stray_octets}
 use Rattle.tool_texts.specs.Quoting.{escaped_within, escaped_text, is_bare_octet, is_bare, quoted_text, named_text}
-use Rattle.tool_texts.proofs.Shown.{printable}
+use Rattle.tool_texts.proofs.Visible.{printable}
 
 nil_from_length : (xs : List ℕ) → length xs ≡ 0 → xs ≡ []
 nil_from_length [] none = refl

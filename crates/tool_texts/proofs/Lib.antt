@@ -3,6 +3,6 @@ pub mod Joins
 pub mod Zips
 pub mod Typed
 pub mod Pushes
-pub mod Shown
+pub mod Visible
 pub mod Escapes
 mod Rows

@@ -1,11 +1,11 @@
 -- A text with more characters.
-use Rattle.std.proofs.Common.{◌≡◌, ℕ, ◌<◌, ◌+◌, Bool, false, List, length, drop, get_or, add-one}
+use Rattle.std.proofs.Common.{◌≡◌, ℕ, ◌<◌, ◌+◌, Bool, false, not, List, length, drop, get_or, add-one}
 use Rattle.std.proofs.Common.{drop-cons, [], ◌∷◌, ◌++◌, refl, sym, ap, ◌∙◌, append_assoc, append-nil}
 use Rattle.std.specs.Prelude.{flat_map}
 use Rattle.std.specs.Char.{encode_utf8}
 use Rattle.std.specs.Str.{encode_utf8_all}
 use Rattle.std.proofs.lemmas.Str.{encodes-append}
-use Rattle.tool_texts.specs.Quoting.{shown_of, shown_after, is_plain}
+use Rattle.tool_texts.specs.Quoting.{shown_of, shown_after, is_plain, visible_of, visible_after, needs_number}
 
 -- the first of the characters that are still to come
 pub pushed_next : (t0 t1 all rest0 rest1 : List ℕ) (c : ℕ) → t1 ≡ t0 ++ encode_utf8 c → rest0 ≡ c ∷ rest1
@@ -90,3 +90,30 @@ shown_more t0 t1 t2 cs a c plain before push =
     ∙ ap (λ (t : List ℕ). t0 ++ t) (sym (encodes-append (shown_after false cs) (shown_of a c)))
     ∙ ap (λ (p : Bool). t0 ++ encode_utf8_all (shown_after false cs ++ shown_of p c)) plain
     ∙ ap (λ (t : List ℕ). t0 ++ encode_utf8_all t) (after_more false cs c)
+
+-- whether a character without a column may follow these
+abbrev pub visible_last : (after_plain : Bool) → List ℕ → Bool
+visible_last after_plain [] = after_plain
+visible_last after_plain (c ∷ cs) = visible_last (not (needs_number after_plain c)) cs
+
+pub visible_last_more : (a : Bool) (cs : List ℕ) (c : ℕ) → not (needs_number (visible_last a cs) c) ≡ visible_last a (cs ++ c ∷ [])
+visible_last_more a [] c = refl
+visible_last_more a (d ∷ ds) c = visible_last_more (not (needs_number a d)) ds c
+
+visible_after_more : (a : Bool) (cs : List ℕ) (c : ℕ) → visible_after a cs ++ visible_of (visible_last a cs) c ≡ visible_after a (cs ++ c ∷ [])
+visible_after_more a [] c = sym (append-nil (visible_of a c))
+visible_after_more a (d ∷ ds) c =
+    append_assoc (visible_of a d) (visible_after (not (needs_number a d)) ds) (visible_of (visible_last (not (needs_number a d)) ds) c)
+    ∙ ap (λ (t : List ℕ). visible_of a d ++ t) (visible_after_more (not (needs_number a d)) ds c)
+
+-- one character more of a text in no quotation marks
+pub visible_more : (t0 t1 t2 : List ℕ) (cs : List ℕ) (a : Bool) (c : ℕ) → a ≡ visible_last false cs
+    → t1 ≡ t0 ++ encode_utf8_all (visible_after false cs) → t2 ≡ t1 ++ encode_utf8_all (visible_of a c)
+    → t2 ≡ t0 ++ encode_utf8_all (visible_after false (cs ++ c ∷ []))
+visible_more t0 t1 t2 cs a c plain before push =
+    push
+    ∙ ap (λ (t : List ℕ). t ++ encode_utf8_all (visible_of a c)) before
+    ∙ append_assoc t0 (encode_utf8_all (visible_after false cs)) (encode_utf8_all (visible_of a c))
+    ∙ ap (λ (t : List ℕ). t0 ++ t) (sym (encodes-append (visible_after false cs) (visible_of a c)))
+    ∙ ap (λ (p : Bool). t0 ++ encode_utf8_all (visible_after false cs ++ visible_of p c)) plain
+    ∙ ap (λ (t : List ℕ). t0 ++ encode_utf8_all t) (visible_after_more false cs c)

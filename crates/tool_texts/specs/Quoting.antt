@@ -18,21 +18,41 @@ is_control c = nat_le c 0x1f || is_from 0x7f 0x9f c
 abbrev pub is_mark : ℕ → Bool
 is_mark c = is_from 0x200b 0x200f c || is_from 0x2028 0x202e c || is_from 0x2060 0x206f c
 
--- the soft hyphen, the Arabic letter mark, the Mongolian vowel separator, and the mark of the order of octets
+-- the soft hyphen, the grapheme joiner, the Arabic letter mark, and the mark of the order of octets
 abbrev pub is_formless : ℕ → Bool
-is_formless c = (c == 0xad) || (c == 0x61c) || (c == 0x180e) || (c == 0xfeff)
+is_formless c = (c == 0xad) || (c == 0x34f) || (c == 0x61c) || (c == 0xfeff)
 
--- interlinear marks, and tags
+-- fillers of Hangul, and the pattern of Braille without a dot: each looks like a blank
+abbrev pub is_filler : ℕ → Bool
+is_filler c = is_from 0x115f 0x1160 c || (c == 0x2800) || (c == 0x3164) || (c == 0xffa0)
+
+-- selectors of a character's form, those of Mongolian with its vowel separator, and the inherent vowels of Khmer
+abbrev pub is_selector : ℕ → Bool
+is_selector c = is_from 0xfe00 0xfe0f c || is_from 0x180b 0x180f c || is_from 0x17b4 0x17b5 c
+
+-- controls of shorthand and of music
+abbrev pub is_format : ℕ → Bool
+is_format c = is_from 0x1bca0 0x1bca3 c || is_from 0x1d173 0x1d17a c
+
+-- interlinear marks with what is reserved before them, what stands for an object, and tags with further selectors
 abbrev pub is_tag : ℕ → Bool
-is_tag c = is_from 0xfff9 0xfffb c || is_from 0xe0000 0xe007f c
+is_tag c = is_from 0xfff0 0xfffc c || is_from 0xe0000 0xe0fff c
 
+-- all that Unicode 16.0 lets a display leave out (DerivedCoreProperties.txt, Default_Ignorable_Code_Point), and with it the
+-- controls, the separators of lines and paragraphs, the interlinear marks, U+2800 and U+FFFC
 abbrev pub is_hidden : ℕ → Bool
-is_hidden c = is_control c || is_mark c || is_formless c || is_tag c
+is_hidden c = is_control c || is_mark c || is_formless c || is_filler c || is_selector c || is_format c || is_tag c
 
 -- the text of characters of which none is hidden
 pub record IsShown (text : List ℕ) : Type 0 where
   pub characters : List ℕ
   pub are_shown : list_all (λ c. not (is_hidden c)) characters ≡ true
+  pub spelled : encode_utf8_all characters ≡ text
+
+-- the text of such characters, and of line feeds
+pub record AreLines (text : List ℕ) : Type 0 where
+  pub characters : List ℕ
+  pub are_shown : list_all (λ c. (c == 10) || not (is_hidden c)) characters ≡ true
   pub spelled : encode_utf8_all characters ≡ text
 
 -- ---- the text of a character
@@ -73,12 +93,24 @@ shown_of after_plain c =
     if needs_number after_plain c then number_text c
     else if is_quoting c then backslash ∷ c ∷ [] else c ∷ []
 
+-- a character of a text that stands in no quotation marks
+unfoldable pub visible_of : (after_plain : Bool) → ℕ → List ℕ
+visible_of after_plain c = if needs_number after_plain c then number_text c else c ∷ []
+
 -- ---- the text of octets
 
 -- characters that follow one that is plain, or none
 abbrev pub shown_after : (after_plain : Bool) → List ℕ → List ℕ
 shown_after after_plain [] = []
 shown_after after_plain (c ∷ cs) = shown_of after_plain c ++ shown_after (is_plain after_plain c) cs
+
+-- the same without quotation marks around it
+abbrev pub visible_after : (after_plain : Bool) → List ℕ → List ℕ
+visible_after after_plain [] = []
+visible_after after_plain (c ∷ cs) = visible_of after_plain c ++ visible_after (not (needs_number after_plain c)) cs
+
+abbrev pub visible_text : (text : List ℕ) → List ℕ
+visible_text text = visible_after false (chars text)
 
 -- the characters of the longest front that is UTF-8
 abbrev pub front_text : (octets : List ℕ) → List ℕ

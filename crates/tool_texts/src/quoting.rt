@@ -7,7 +7,7 @@
 ghost use Rattle.std.specs.Prelude.{◌≡◌, ◌++◌, false, flat_map, string_bytes, IfOk, OnOk};
 ghost use Rattle.std.specs.List.{list_all};
 ghost use Rattle.std.specs.Str.{chars, encode_utf8_all};
-ghost use Rattle.tool_texts.specs.Quoting.{is_from as is_from_code, is_control as is_control_code, is_mark as is_mark_code, is_formless as is_formless_code, is_tag as is_tag_code, is_hidden as is_hidden_code, is_attached as is_attached_code, needs_number as needs_number_code, is_quoting as is_quoting_code, is_plain as is_plain_code, is_bare_octet, is_bare as is_bare_octets, octet_text, scalar_text, number_text, shown_of, shown_after, escaped_text, quoted_text, named_text, IsShown};
+ghost use Rattle.tool_texts.specs.Quoting.{is_from as is_from_code, is_control as is_control_code, is_mark as is_mark_code, is_formless as is_formless_code, is_filler as is_filler_code, is_selector as is_selector_code, is_format as is_format_code, is_tag as is_tag_code, is_hidden as is_hidden_code, is_attached as is_attached_code, needs_number as needs_number_code, is_quoting as is_quoting_code, is_plain as is_plain_code, is_bare_octet, is_bare as is_bare_octets, octet_text, scalar_text, number_text, shown_of, shown_after, visible_of, visible_after, visible_text, escaped_text, quoted_text, named_text, IsShown};
 
 use std::alloc::{AllocError, Global};
 use unicode_width::UnicodeWidthChar;
@@ -32,25 +32,52 @@ fn is_mark(code: u32) -> bool
     is_from(0x200b, 0x200f, code) || is_from(0x2028, 0x202e, code) || is_from(0x2060, 0x206f, code)
 }
 
-/// The soft hyphen, the Arabic letter mark, a vowel separator, and the mark of the order of octets.
+/// The soft hyphen, the grapheme joiner, the Arabic letter mark, and the mark of the order of octets.
 fn is_formless(code: u32) -> bool
     ensures { result ≡ is_formless_code code }
 {
-    code == 0xad || code == 0x61c || code == 0x180e || code == 0xfeff
+    code == 0xad || code == 0x34f || code == 0x61c || code == 0xfeff
 }
 
-/// Interlinear marks, and tags.
+/// Fillers of Hangul, and the pattern of Braille without a dot.
+fn is_filler(code: u32) -> bool
+    ensures { result ≡ is_filler_code code }
+{
+    is_from(0x115f, 0x1160, code) || code == 0x2800 || code == 0x3164 || code == 0xffa0
+}
+
+/// Selectors of a character's form, those of Mongolian with its vowel separator, and the inherent vowels of Khmer.
+fn is_selector(code: u32) -> bool
+    ensures { result ≡ is_selector_code code }
+{
+    is_from(0xfe00, 0xfe0f, code) || is_from(0x180b, 0x180f, code) || is_from(0x17b4, 0x17b5, code)
+}
+
+/// Controls of shorthand and of music.
+fn is_format(code: u32) -> bool
+    ensures { result ≡ is_format_code code }
+{
+    is_from(0x1bca0, 0x1bca3, code) || is_from(0x1d173, 0x1d17a, code)
+}
+
+/// Interlinear marks with what is reserved before them, what stands for an object, and tags with further selectors.
 fn is_tag(code: u32) -> bool
     ensures { result ≡ is_tag_code code }
 {
-    is_from(0xfff9, 0xfffb, code) || is_from(0xe0000, 0xe007f, code)
+    is_from(0xfff0, 0xfffc, code) || is_from(0xe0000, 0xe0fff, code)
 }
 
 /// Whether the character of a number is never shown as it is.
 fn is_hidden(code: u32) -> bool
     ensures { result ≡ is_hidden_code code }
 {
-    is_control(code) || is_mark(code) || is_formless(code) || is_tag(code)
+    is_control(code)
+        || is_mark(code)
+        || is_formless(code)
+        || is_filler(code)
+        || is_selector(code)
+        || is_format(code)
+        || is_tag(code)
 }
 
 /// Whether a character takes no column, so that it changes the look of the one before it.
@@ -150,6 +177,32 @@ fn push_characters(text: &mut String, shown: &str) -> Result<(), AllocError>
     Ok(())
 }
 
+/// Adds a character of a text that stands in no quotation marks: by its number, or as it is.
+#[tactic(auto, unfolding(crate::specs::Quoting::visible_of), using(crate::proofs::Pushes::pushed_one))]
+fn push_visible(text: &mut String, c: char, after_plain: bool) -> Result<(), AllocError>
+    ensures { OnOk result (string_bytes text.new
+        ≡ string_bytes text.old ++ encode_utf8_all (visible_of after_plain c)) }
+{
+    if needs_number(c, after_plain) {
+        push_number(text, c)
+    } else {
+        text.push(c)
+    }
+}
+
+/// Adds the characters of a text that stands in no quotation marks.
+fn push_all_visible(text: &mut String, words: &str) -> Result<(), AllocError>
+    ensures { OnOk result (string_bytes text.new
+        ≡ string_bytes text.old ++ encode_utf8_all (visible_text words.now)) }
+{
+    let mut after_plain = false;
+    for c in words.chars() {
+        push_visible(text, c, after_plain)?;
+        after_plain = !needs_number(c, after_plain);
+    }
+    Ok(())
+}
+
 /// Adds octets that are no UTF-8.
 fn push_octets(text: &mut String, octets: &[u8]) -> Result<(), AllocError>
     ensures { OnOk result (string_bytes text.new
@@ -171,6 +224,18 @@ fn push_escaped(text: &mut String, octets: &[u8]) -> Result<(), AllocError>
         push_octets(text, chunk.invalid())?;
     }
     Ok(())
+}
+
+/// A text with the numbers of its hidden characters in place of these. No character of the result is hidden. The only error
+/// is out of memory.
+pub(crate) fn visible(alloc: Global, words: &str) -> Result<String, AllocError>
+    ensures exact { IfOk result
+        (λ t. string_bytes t ≡ encode_utf8_all (visible_text words.now)) }
+    ensures shown { IfOk result (λ t. IsShown (string_bytes t)) }
+{
+    let mut text = String::new(alloc);
+    push_all_visible(&mut text, words)?;
+    Ok(text)
 }
 
 /// Octets as they are shown between quotation marks, without these. No character of the text is hidden. The only error is

@@ -1,7 +1,7 @@
 use Rattle.std.proofs.Common.{◌≡◌, rules, string_bytes}
 use Rattle.std.specs.Str.{encode_utf8_all}
 use Rattle.tool_texts.specs.Quoting.{escaped_text}
-use Rattle.tool_texts.proofs.Shown.{escaped_is}
+use Rattle.tool_texts.proofs.Visible.{escaped_is}
 use Rattle.tool_texts.proofs.quoting.escaped.Goals as goal
 
 pub returns-clause-shown : goal.returns-clause-shown

@@ -2,7 +2,7 @@ use Rattle.std.proofs.Common.{◌≡◌, rules, string_bytes}
 use Rattle.std.specs.Char.{encode_utf8}
 use Rattle.tool_texts.specs.Quoting.{escaped_text}
 use Rattle.tool_texts.proofs.Pushes.{pushed_between}
-use Rattle.tool_texts.proofs.Shown.{quoted_is}
+use Rattle.tool_texts.proofs.Visible.{quoted_is}
 use Rattle.tool_texts.proofs.quoting.quoted.Goals as goal
 
 pub returns-clause-exact : goal.returns-clause-exact

@@ -1,15 +1,16 @@
 -- No character of a text is hidden.
-use Rattle.std.proofs.Common.{◌≡◌, ◌∙◌, ℕ, zero, suc, Bool, true, false, cond, not, List, [], ◌∷◌, ◌++◌, ◌<◌, ◌/◌, ◌%◌, refl, sym, arith}
+use Rattle.std.proofs.Common.{◌≡◌, ◌∙◌, ℕ, zero, suc, Bool, true, false, cond, not, List, [], ◌∷◌, ◌++◌, ◌<◌, ◌/◌, ◌%◌, append-nil, refl, sym, subst, arith}
 use Rattle.std.specs.Prelude.{nat_lt, ◌&&◌, ◌||◌, ◌==◌, flat_map, length}
-use Rattle.std.specs.Char.{digit_char}
+use Rattle.std.specs.Char.{digit_char, encode_utf8}
 use Rattle.std.specs.Char.Escape.{backslash, hex_digit_at}
 use Rattle.std.specs.List.{list_all}
 use Rattle.std.specs.Str.{chars, encode_utf8_all}
 use Rattle.std.specs.Str.Lossy.{utf8_valid_len, after_first_chunk}
-use Rattle.std.proofs.lemmas.Bool.{agree_below_at, or_parts, ltb-true}
+use Rattle.std.proofs.lemmas.Bool.{agree_below_at, and_parts, or_parts, ltb-true}
 use Rattle.std.proofs.lemmas.List.Folds.{list_all-append}
-use Rattle.tool_texts.specs.Quoting.{is_hidden, is_attached, is_plain, IsShown, needs_number, is_quoting, octet_text, scalar_text, number_text}
-use Rattle.tool_texts.specs.Quoting.{shown_of, shown_after, front_text, stray_octets, escaped_within, escaped_text, quoted_text}
+use Rattle.std.proofs.lemmas.Str.{encodes-append}
+use Rattle.tool_texts.specs.Quoting.{is_hidden, is_attached, is_plain, IsShown, AreLines, needs_number, is_quoting, octet_text, scalar_text, number_text}
+use Rattle.tool_texts.specs.Quoting.{visible_of, visible_after, visible_text, shown_of, shown_after, front_text, stray_octets, escaped_within, escaped_text, quoted_text}
 
 abbrev pub AreShown : List ℕ → Type 0
 AreShown cs = list_all (λ c. not (is_hidden c)) cs ≡ true
@@ -117,6 +118,10 @@ one_shown true quoting c k = number_shown c
 one_shown false true c k = shown_cons c [] (k refl) refl
 one_shown false false c k = shown_cons c [] (k refl) refl
 
+visible_by : (numbered : Bool) (c : ℕ) → (numbered ≡ false → not (is_hidden c) ≡ true) → AreShown (cond numbered (number_text c) (c ∷ []))
+visible_by true c k = number_shown c
+visible_by false c k = shown_cons c [] (k refl) refl
+
 character_shown : (a : Bool) (c : ℕ) → AreShown (shown_of a c)
 unfolding shown_of
 character_shown a c = one_shown (needs_number a c) (is_quoting c) c
@@ -148,6 +153,16 @@ escaped_shown octets = within_shown (length octets) octets
 pub quoted_shown : (octets : List ℕ) → AreShown (quoted_text octets)
 quoted_shown octets = shown_both (escaped_text octets) (34 ∷ []) (escaped_shown octets) refl
 
+visible_shown : (a : Bool) (c : ℕ) → AreShown (visible_of a c)
+unfolding visible_of
+visible_shown a c = visible_by (needs_number a c) c
+    (λ e. let visible = (or_parts (is_hidden c) (is_attached c && not a) e).0 in rw visible refl)
+
+all_visible : (a : Bool) (cs : List ℕ) → AreShown (visible_after a cs)
+all_visible a [] = refl
+all_visible a (c ∷ cs) =
+    shown_both (visible_of a c) (visible_after (not (needs_number a c)) cs) (visible_shown a c) (all_visible (not (needs_number a c)) cs)
+
 pub spelled_shown : (text cs : List ℕ) → AreShown cs → text ≡ encode_utf8_all cs → IsShown text
 spelled_shown text cs are is = record {
   characters = cs;
@@ -160,3 +175,55 @@ escaped_is text octets is = spelled_shown text (escaped_text octets) (escaped_sh
 
 pub quoted_is : (text octets : List ℕ) → text ≡ encode_utf8_all (quoted_text octets) → IsShown text
 quoted_is text octets is = spelled_shown text (quoted_text octets) (quoted_shown octets) is
+
+pub visible_is : (text words : List ℕ) → text ≡ encode_utf8_all (visible_text words) → IsShown text
+visible_is text words is = spelled_shown text (visible_text words) (all_visible false (chars words)) is
+
+-- ---- lines
+
+abbrev are_lines : List ℕ → Bool
+are_lines cs = list_all (λ c. (c == 10) || not (is_hidden c)) cs
+
+either : (a b : Bool) → b ≡ true → (a || b) ≡ true
+either true b h = refl
+either false b h = h
+
+shown_lines : (cs : List ℕ) → AreShown cs → are_lines cs ≡ true
+shown_lines [] h = refl
+shown_lines (c ∷ cs) h =
+    let parts = and_parts (not (is_hidden c)) (list_all (λ d. not (is_hidden d)) cs) h in
+    rw (either (c == 10) (not (is_hidden c)) parts.0, shown_lines cs parts.1) refl
+
+pub no_lines : (text : List ℕ) → text ≡ [] → AreLines text
+no_lines text none = record {
+  characters = [];
+  are_shown = refl;
+  spelled = sym none;
+}
+
+pub lines_of_shown : (text : List ℕ) → IsShown text → AreLines text
+lines_of_shown text shown = record {
+  characters = shown.characters;
+  are_shown = shown_lines shown.characters shown.are_shown;
+  spelled = shown.spelled;
+}
+
+pub line_end : AreLines (encode_utf8 10)
+line_end = record {
+  characters = 10 ∷ [];
+  are_shown = refl;
+  spelled = append-nil (encode_utf8 10);
+}
+
+pub more_lines : (before more : List ℕ) → AreLines before → AreLines more → AreLines (before ++ more)
+more_lines before more a b = record {
+  characters = a.characters ++ b.characters;
+  are_shown = list_all-append (λ c. (c == 10) || not (is_hidden c)) a.characters b.characters ∙ rw (a.are_shown, b.are_shown) refl;
+  spelled = encodes-append a.characters b.characters ∙ (λ i. a.spelled i ++ b.spelled i);
+}
+
+-- after a push, which may have failed
+pub lines_after : (pushed : Bool) (before more after : List ℕ) → after ≡ cond pushed (before ++ more) before → AreLines before → AreLines more
+    → AreLines after
+lines_after true before more after is a b = subst AreLines (sym is) (more_lines before more a b)
+lines_after false before more after is a b = subst AreLines (sym is) a
