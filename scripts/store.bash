@@ -158,10 +158,9 @@ makes_another_store() {
         "$(program_of mailfile_store)" deliver --store "$here/new.db" --rules "$here/rules" ann < "$here/mail/bill.eml" > "$work/captured"
 }
 
-# A copy that another store comes before takes nothing of it away, and is not left.
-copies_beside_another_store() {
-    archive_after captured "$here" && meanwhile link,linkat "$here/new.db" makes_another_store \
-        copy --store "$here/records.db" "$here/new.db" || return
+# A copy or a new store that another store comes before takes nothing of it away, and is not left.
+leaves_another_store() {
+    archive_after captured "$here" && meanwhile link,linkat "$here/new.db" makes_another_store "$@" || return
     ((status == 73)) && [[ $(< "$work/error") == *'/new.db: there is a file already' && ! -e $here/new.db.mailfile-new ]] ||
         shows_run || return
     run show --store "$here/new.db" 5
@@ -220,7 +219,8 @@ store() {
     ((EUID > 0)) || count "a log of another user" refuses_a_log_of_another_user
     if strace -o "$work/error" true > "$work/said" 2>&1; then
         count "a disk that fails in a delivery" fails_in_a_delivery
-        count "another store in the place of a copy" copies_beside_another_store
+        count "another store in the place of a copy" leaves_another_store copy --store "$here/records.db" "$here/new.db"
+        count "another store in the place of a new one" leaves_another_store create --store "$here/new.db" --plan "$here/plan.toml"
         count "a pipe or a link in the place of a message" takes_nothing_in_the_place_of_a_message
         count "a pipe in the place of a script" waits_for_no_pipe_in_the_place_of_a_script
     fi

@@ -108,6 +108,26 @@ full_folder_is_named() {
         [[ $(< "$work/answer") == 'main.sieve: 96: '* ]]
 }
 
+# Warnings of 13,000 classes that a plan does not have, all named in one line of a script.
+warnings_of_a_long_line() {
+    { printf 'require "fileinto";' && seq -f ' fileinto "n%05g";' 13000 | tr -d '\n'; } > "$work/line.sieve"
+    timeout 60 ./mailfile-tool check --plan examples/tools/plan.toml "$work/line.sieve" > "$work/answer" || return
+    [[ $(wc -l < "$work/answer") -eq 13000 ]] &&
+        [[ $(tail -n 1 "$work/answer") == "$work/line.sieve:1:247011: warning: the plan has no class \"n13000\"" ]]
+}
+
+# 100,000 replies about offsets in one line of a script. Each has the part of that line that is near its offset.
+replies_of_a_long_line() {
+    yes 'keep; ' | head -n 40000 | tr -d '\n' > "$work/line.sieve"
+    seq -f 'refused 14 at %.0f' 0 2 199998 | timeout 60 ./mailfile-tool explain --script "$work/line.sieve" > "$work/answer" || return
+    {
+        printf '  %s:1:199999\n  | ' "$work/line.sieve"
+        tail -c +199499 "$work/line.sieve" | head -c 1000
+        printf '\n  | %500s^\n' ''
+    } > "$work/said"
+    [[ $(grep -c '^refused 14 at' "$work/answer") -eq 100000 ]] && tail -n 3 "$work/answer" | cmp -s - "$work/said"
+}
+
 # A session without counted octets.
 typed_session() {
     (cd -- examples/tools && ../../mailfile-tool frame typed.txt) | ./mailfile > "$work/answer" &&
@@ -151,6 +171,8 @@ tools() {
     count "frame refuses what a session would misread" frame_agrees
     count "the numbers of the specification have texts, and no others" numbers_have_texts
     count "a reader that goes away" ends_with_its_reader
+    count "warnings of a long line" warnings_of_a_long_line
+    count "replies of a long line" replies_of_a_long_line
     count "a session without counted octets" typed_session
     count "fields that are said once" fields_are_said_once
     count "a folder with too many scripts" full_folder_is_named

@@ -5,6 +5,7 @@ use command_lines::tools::Folders;
 use sieve_syntax::Token;
 use sieve_text::{ScanFault, scan};
 use std::alloc::{AllocError, Global};
+use std::collections::BTreeMap;
 use tool_console::{Failure, is_there, read_file};
 use tool_findings::{Edge, Front, Named, fronts_of, name_in};
 use tool_texts::Payload;
@@ -64,6 +65,8 @@ impl Start<'_> {
 pub struct Reached {
     paths: Vec<String>,
     texts: Vec<Vec<u8>>,
+    /// The number of the script at each path.
+    numbers: BTreeMap<Vec<u8>, usize>,
 }
 
 impl Reached {
@@ -72,6 +75,7 @@ impl Reached {
         let mut reached = Reached {
             paths: Vec::new(alloc),
             texts: Vec::new(alloc),
+            numbers: BTreeMap::new(alloc),
         };
         reached.add(String::from_str(alloc, path)?, text)?;
         Ok(reached)
@@ -89,6 +93,8 @@ impl Reached {
 
     /// Adds a script.
     fn add(&mut self, path: String, text: Vec<u8>) -> Result<(), AllocError> {
+        let key = Vec::from_slice(*self.paths.allocator(), path.as_bytes())?;
+        self.numbers.insert(key, self.paths.len())?;
         self.paths.push(path)?;
         self.texts.push(text)?;
         Ok(())
@@ -96,7 +102,7 @@ impl Reached {
 
     /// The number of the script at a path; none where it was not reached.
     fn number_at(&self, path: &str) -> Option<usize> {
-        self.paths.iter().position(|known| known.as_str() == path)
+        self.numbers.get(path.as_bytes()).copied()
     }
 
     /// The number of the script at a path, which is read where it is new; none where there is none.

@@ -6,8 +6,9 @@ use crate::scripts::Surroundings;
 use class_plan::Plan;
 use sieve_syntax::Token;
 use std::alloc::AllocError;
-use tool_console::{Failure, push_place, write_line};
+use tool_console::{Failure, push_known_place, write_line};
 use tool_findings::{Front, Named, fronts_of, name_in};
+use tool_places::PlaceMap;
 use tool_texts::{Shown, put};
 
 /// A script in whose commands is looked for what may go wrong.
@@ -16,7 +17,7 @@ struct Script<'a> {
     path: &'a str,
     /// What it is known by.
     name: &'a [u8],
-    text: &'a [u8],
+    places: &'a PlaceMap<'a>,
     tokens: &'a [Token],
 }
 
@@ -106,7 +107,7 @@ fn write_warning(
     at: usize,
     warning: Warning<'_>,
 ) -> Result<(), Failure> {
-    push_place(line, script.path, script.text, at)?;
+    push_known_place(line, script.path, script.places.place(at))?;
     line.words("warning: ")?;
     push_warning(line, warning)?;
     write_line(rt, line)
@@ -153,10 +154,11 @@ pub fn warn_of_names(
 ) -> Result<(), Failure> {
     let tokens = tokens_of(rt.alloc(), text)?;
     let fronts = fronts_of(rt.alloc(), &tokens)?;
+    let places = PlaceMap::new(rt.alloc(), text)?;
     let script = Script {
         path,
         name,
-        text,
+        places: &places,
         tokens: tokens.as_slice(),
     };
     warn_of_commands(rt, &script, around, fronts.as_slice())

@@ -1,19 +1,27 @@
 //! Replies with texts after their numbers.
 
+ghost use Rattle.std.specs.Prelude.{◌≤◌, length};
+
 use crate::failure::Failure;
 use crate::files::{lines_of, read_file, read_line};
 use crate::output::{write_line, write_text};
 use std::alloc::{AllocError, Global};
 use std::io::BufRead;
 use std::str;
-use tool_findings::judge;
-use tool_texts::{Payload, Shown, fault_text, line_at, place_of, put, refusal_text};
+use tool_findings::{Finding, judge};
+use tool_places::PlaceMap;
+use tool_texts::{Payload, Shown, fault_text, put, refusal_text};
+
+/// The greatest number of octets of a line that are shown before a place in it, and from there on.
+const MAX_SHOWN: usize = 500;
 
 /// The script that was refused, and its path.
 #[derive(Clone, Copy)]
 struct Script<'a> {
     path: &'a str,
-    text: &'a [u8],
+    places: &'a PlaceMap<'a>,
+    /// The verdict on it; none where it is well made.
+    verdict: Option<Finding>,
 }
 
 /// What a line of a reply says.
@@ -74,6 +82,36 @@ fn push_blanks(text: &mut Shown, shown: &Shown) -> Result<(), AllocError> {
     Ok(())
 }
 
+/// Where the next character begins from an offset on, up to another.
+fn character_from(text: &[u8], from: usize, to: usize) -> usize
+    requires order { from ≤ to }
+    requires within { to ≤ length text.now }
+    ensures least { from ≤ result }
+    ensures most { result ≤ to }
+{
+    for at in from..to {
+        if !matches!(text[at], 0x80..=0xBF) {
+            return at;
+        }
+    }
+    to
+}
+
+/// The part of a line near an offset, and the column of the offset in it. Columns count from 1.
+fn part_at(text: &[u8], at: usize, column: usize) -> (&[u8], usize) {
+    let at = at.min(text.len());
+    let before = column.saturating_sub(1).min(MAX_SHOWN);
+    let start = character_from(text, at.saturating_sub(before), at);
+    let after = text[at..]
+        .iter()
+        .take(MAX_SHOWN)
+        .take_while(|octet| **octet != b'\n')
+        .count();
+    let end = at.saturating_add(after).min(text.len());
+    let end = character_from(text, end, text.len());
+    (&text[start..end], at - start + 1)
+}
+
 /// Adds the line of a script in which a place is, and a line with a mark below that column. Columns count from 1.
 fn push_marked(
     alloc: Global,
@@ -93,33 +131,30 @@ fn push_marked(
     text.end_line()
 }
 
-/// The place of an offset of a script, the line in which it is, and a mark below it.
+/// The place of an offset of a script, the line in which it is, and a mark below it. Of a long line the part near the
+/// offset is shown.
 fn shown_place(alloc: Global, script: Script<'_>, at: usize) -> Result<Shown, AllocError> {
-    let place = place_of(script.text, at);
+    let place = script.places.place(at);
     let mut text = Shown::new(alloc);
     put!(text;
         "  " named(script.path.as_bytes()) ":" value(&place.line) ":" value(&place.column)
     )?;
     text.end_line()?;
-    push_marked(alloc, &mut text, line_at(script.text, at), place.column)?;
+    let (line, column) = part_at(script.places.text(), at, place.column);
+    push_marked(alloc, &mut text, line, column)?;
     Ok(text)
 }
 
 /// The place of a refusal in its script: the offset that the reply gives, or for 30 to 41 the place where the script is
 /// refused by that number. None where neither is known.
-fn place_of_refusal(
-    alloc: Global,
-    script: Script<'_>,
-    number: u8,
-    told: Option<usize>,
-) -> Result<Option<usize>, AllocError> {
+fn place_of_refusal(script: Script<'_>, number: u8, told: Option<usize>) -> Option<usize> {
     if told.is_some() || !matches!(number, 30..=41) {
-        return Ok(told);
+        return told;
     }
-    match judge(alloc, script.text)? {
-        Some(report) if report.verdict.number == number => Ok(Some(report.verdict.at)),
-        _ => Ok(None),
-    }
+    script
+        .verdict
+        .filter(|verdict| verdict.number == number)
+        .map(|verdict| verdict.at)
 }
 
 /// Writes a line, which comes without its LF, and the text of its number.
@@ -143,7 +178,7 @@ fn show_refusal(
     number: u8,
     told: Option<usize>,
 ) -> Result<(), Failure> {
-    match place_of_refusal(rt.alloc(), script, number, told)? {
+    match place_of_refusal(script, number, told) {
         Some(at) => write_text(rt, &shown_place(rt.alloc(), script, at)?),
         None => Ok(()),
     }
@@ -189,9 +224,12 @@ pub fn explain(rt: &HostRuntime, script: Option<&str>) -> Result<(), Failure> {
         return explain_all(rt, &mut replies, None);
     };
     let text = read_file(rt, path, Payload::Script.limit())?;
+    let places = PlaceMap::new(rt.alloc(), text.as_slice())?;
+    let verdict = judge(rt.alloc(), text.as_slice())?.map(|report| report.verdict);
     let script = Script {
         path,
-        text: text.as_slice(),
+        places: &places,
+        verdict,
     };
     explain_all(rt, &mut replies, Some(script))
 }

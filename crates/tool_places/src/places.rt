@@ -8,9 +8,9 @@ use tool_texts::Place;
 
 /// An offset of a text, and its place.
 #[derive(Clone, Copy)]
-struct Stop {
-    offset: usize,
-    place: Place,
+pub(crate) struct Stop {
+    pub(crate) offset: usize,
+    pub(crate) place: Place,
 }
 
 /// The place after an octet.
@@ -33,7 +33,7 @@ fn past(place: Place, octet: u8) -> Place
 }
 
 /// The place of an offset, by a walk from a stop that does not come after it.
-fn walked(text: &[u8], from: Stop, offset: usize) -> Place
+pub(crate) fn walked(text: &[u8], from: Stop, offset: usize) -> Place
     requires at { from.place ≡ place_at text.now from.offset }
     requires order { from.offset ≤ offset }
     requires within { offset ≤ length text.now }
@@ -47,7 +47,7 @@ fn walked(text: &[u8], from: Stop, offset: usize) -> Place
 }
 
 /// The stop at an offset, by a walk from the last stop, or from the beginning where that stop comes after the offset.
-fn next_stop(text: &[u8], last: Stop, offset: usize) -> Stop
+pub(crate) fn next_stop(text: &[u8], last: Stop, offset: usize) -> Stop
     requires at { last.place ≡ place_at text.now last.offset }
     requires within { offset ≤ length text.now }
     ensures place { result.place ≡ place_at text.now offset }
@@ -65,7 +65,7 @@ fn next_stop(text: &[u8], last: Stop, offset: usize) -> Stop
 }
 
 /// The beginning of a text.
-fn beginning() -> Stop
+pub(crate) fn beginning() -> Stop
     ensures offset { result.offset ≡ 0 }
     ensures line { result.place.line ≡ 1 }
     ensures column { result.place.column ≡ 1 }
