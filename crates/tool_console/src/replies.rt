@@ -141,6 +141,7 @@ fn shown_place(alloc: Global, script: Script<'_>, at: usize) -> Result<Shown, Al
     )?;
     text.end_line()?;
     let (line, column) = part_at(script.places.text(), at, place.column);
+    let line = line.strip_suffix(b"\r").unwrap_or(line);
     push_marked(alloc, &mut text, line, column)?;
     Ok(text)
 }
