@@ -172,7 +172,7 @@ lay_mail() {
     done
     printf 'Subject: copy of an invoice\n\nTo be paid.\n' > "$work/letter"
     "$keeper" create --store "$work/store" --plan "$work/plan.toml" &&
-        "$keeper" deliver --store "$work/store" --rules "$work/rules" --at 0 ann < "$work/letter" > "$work/said" &&
+        "$keeper" deliver --store "$work/store" --rules "$work/rules" --at 1700006400 ann < "$work/letter" > "$work/said" &&
         (($(wc -l < "$work/said") == 2))
 }
 
@@ -185,7 +185,7 @@ run_keeper() {
 
 # Delivers the message.
 deliver_letter() {
-    run_keeper "$1" deliver --at 86400 ann < "$work/letter"
+    run_keeper "$1" deliver --at 1700092800 ann < "$work/letter"
 }
 
 # Sets `outcome` to what is wrong with the last run.

@@ -35,7 +35,7 @@ make_held() {
     ./mailfile-store create --store "$store" --plan "$work/plan.toml" || return
     for number in "${!HOSTILE[@]}"; do
         printf 'Subject: <b>%s</b>\n\n' "$number" | ./mailfile-store deliver --store "$store" --rules "$work/rules" --at $((86400 * (number + 1) * 200)) ann \
-            > "$work/said" || return
+            > "$work/said" 2> "$work/error" || return
     done
     shift
     number=0

@@ -1,13 +1,16 @@
 //! `deliver`: one message from standard input.
 
+use crate::moments::{Timing, date_of_clock};
 use crate::rules::FilingRules;
-use cli_console::{Failure, Status, tell, write_text};
+use cli_console::{Failure, Status, is_by, tell, write_text};
 use cli_sources::read_payload;
 use cli_texts::captured_line;
 use desk_commands::{Capture, DeskFault, MAX_MESSAGE_OCTETS, Payload};
 use filing_desk::{Delivery, deliver};
-use record_archive::Records;
+use record_archive::{Line, Records};
+use record_store::Store;
 use sieve_meaning::RunFault;
+use sqlite::Alter;
 use std::alloc::{AllocError, Global};
 use tool_texts::fault_text;
 
@@ -59,11 +62,33 @@ fn record_lines(alloc: Global, before: &str, capture: &Capture) -> Result<String
     Ok(text)
 }
 
+/// What is told of a record that is due as it is captured.
+fn due_words(alloc: Global, before: &str, line: &Line) -> Result<String, AllocError> {
+    let text = captured_line(alloc, line)?;
+    let text = text.trim_end();
+    format!(in alloc; "{before}{text} is due already")
+}
+
+/// Tells of the records of a capture that are due by the day of the clock.
+fn tell_due(rt: &HostRuntime, before: &str, capture: &Capture) {
+    let Some(today) = date_of_clock(rt) else {
+        return;
+    };
+    for line in capture.lines.as_slice() {
+        if is_by(line.due, today) {
+            if let Ok(words) = due_words(rt.alloc(), before, line) {
+                tell(rt, words.as_str());
+            }
+        }
+    }
+}
+
 /// Reports a capture. It is made, so whatever happens to the report is no failure.
 pub fn report_capture(rt: &HostRuntime, before: &str, capture: &Capture) {
     if let Ok(text) = record_lines(rt.alloc(), before, capture) {
         let _ = write_text(rt, text.as_str());
     }
+    tell_due(rt, before, capture);
     if let Some(fault) = capture.fault {
         if let Ok(words) = fault_words(rt.alloc(), fault) {
             tell(rt, words.as_str());
@@ -92,8 +117,8 @@ fn delivery_failure(alloc: Global, fault: DeskFault) -> Failure {
     desk_failure(alloc, name, fault)
 }
 
-/// Delivers a message to an archive by rules, and gives the archive back.
-pub fn deliver_to<A: Records>(
+/// Delivers a message at a moment, in seconds since 1970, to an archive by rules, and gives the archive back.
+fn deliver_at<A: Records>(
     rt: &HostRuntime,
     archive: A,
     filing: &FilingRules<'_>,
@@ -109,6 +134,33 @@ pub fn deliver_to<A: Records>(
         |fault| delivery_failure(rt.alloc(), fault),
     );
     (desk.into_store(), done)
+}
+
+/// The moment of a delivery to a store.
+fn moment_at<S: Alter>(
+    rt: &HostRuntime,
+    archive: &mut Store<S>,
+    timing: Timing,
+) -> Result<u64, Failure> {
+    let mut timing = timing;
+    timing.look(rt, archive)?;
+    timing.moment(rt)
+}
+
+/// Delivers a message to a store by rules, and gives the store back. Where the clock is before the days of the store it
+/// may be done later, `TryAgain`, unless the moment is named.
+pub fn deliver_to<S: Alter>(
+    rt: &HostRuntime,
+    archive: Store<S>,
+    filing: &FilingRules<'_>,
+    timing: Timing,
+    message: Payload,
+) -> (Store<S>, Result<Delivery, Failure>) {
+    let mut archive = archive;
+    match moment_at(rt, &mut archive, timing) {
+        Ok(moment) => deliver_at(rt, archive, filing, moment, message),
+        Err(failure) => (archive, Err(failure)),
+    }
 }
 
 /// Writes the records of a delivery to standard output. Where its message was given up, that is a failure.

@@ -1,8 +1,9 @@
 //! `intake`: the new messages of a Maildir.
 
 use crate::deliver::{desk_failure, given_up_words, report_capture};
+use crate::moments::Timing;
 use crate::rules::FilingRules;
-use cli_console::{Failure, Status, now};
+use cli_console::{Failure, Status};
 use cli_sources::maildir::{
     NewMail, has_cur, is_in_cur, move_to_cur, new_mail, new_path, settle, try_move,
 };
@@ -11,7 +12,9 @@ use command_lines::archives::Filing;
 use desk_commands::{Capture, DeskFault, MAX_MESSAGE_OCTETS, Payload};
 use filing_desk::{Delivery, Desk, deliver};
 use record_archive::Records;
+use record_store::Store;
 use sieve_meaning::RunFault;
+use sqlite::Alter;
 use std::fmt::Display;
 use std::io::{self, IsTerminal};
 use tool_texts::named;
@@ -30,15 +33,16 @@ enum Taken {
     GivenUp,
 }
 
-/// What became of the messages so far.
+/// A run over messages: when they are captured, and what became of those so far.
 #[derive(Clone, Copy)]
-struct Tally {
+struct Run {
+    timing: Timing,
     filed: u64,
     stay: u64,
     given_up: u64,
 }
 
-impl Tally {
+impl Run {
     fn add(&mut self, taken: Taken) {
         match taken {
             Taken::Filed => self.filed = self.filed.saturating_add(1),
@@ -52,6 +56,7 @@ impl Tally {
 #[derive(Drop)]
 pub struct Intake<'a> {
     maildir: &'a str,
+    timing: Timing,
     filing: FilingRules<'a>,
 }
 
@@ -154,13 +159,14 @@ fn take_one<A: Records>(
     rt: &HostRuntime,
     desk: &mut Desk<A>,
     job: &Intake<'_>,
+    run: &mut Run,
     name: &str,
 ) -> Result<Taken, Failure> {
     let message = match read_message(rt, job.maildir, name) {
         Ok(message) => message,
         Err(taken) => return Ok(taken),
     };
-    let moment = now(rt)?;
+    let moment = run.timing.moment(rt)?;
     let filing = &job.filing;
     match deliver(
         desk,
@@ -183,9 +189,9 @@ fn take_one<A: Records>(
 }
 
 /// Shows on a terminal how far the intake is.
-fn show_progress(rt: &HostRuntime, tally: &Tally) {
-    if tally.filed % STEP == 0 && rt.stderr().is_terminal() {
-        let filed = tally.filed;
+fn show_progress(rt: &HostRuntime, run: &Run) {
+    if run.filed % STEP == 0 && rt.stderr().is_terminal() {
+        let filed = run.filed;
         let _ = eprint!(rt; "\r{filed} messages");
     }
 }
@@ -196,14 +202,14 @@ fn take_with<A: Records>(
     desk: &mut Desk<A>,
     job: &Intake<'_>,
     names: &[String],
-    tally: &mut Tally,
+    run: &mut Run,
 ) -> Result<usize, Failure> {
     let mut done: usize = 0;
     for name in names {
-        let taken = take_one(rt, desk, job, name.as_str())?;
-        tally.add(taken);
+        let taken = take_one(rt, desk, job, run, name.as_str())?;
+        run.add(taken);
         done = done.saturating_add(1);
-        show_progress(rt, tally);
+        show_progress(rt, run);
         if let Taken::GivenUp = taken {
             break;
         }
@@ -218,13 +224,13 @@ fn take_run<A: Records>(
     archive: A,
     job: &Intake<'_>,
     names: &[String],
-    tally: &mut Tally,
+    run: &mut Run,
 ) -> (A, Result<usize, Failure>) {
     let mut desk = match job.filing.desk(rt, archive) {
         Ok(desk) => desk,
         Err((archive, failure)) => return (archive, Err(failure)),
     };
-    let done = take_with(rt, &mut desk, job, names, tally);
+    let done = take_with(rt, &mut desk, job, names, run);
     (desk.into_store(), done)
 }
 
@@ -234,7 +240,7 @@ fn take_all<A: Records>(
     archive: A,
     job: &Intake<'_>,
     names: &[String],
-    tally: &mut Tally,
+    run: &mut Run,
 ) -> (A, Result<(), Failure>) {
     let mut archive = archive;
     let mut rest = names;
@@ -242,7 +248,7 @@ fn take_all<A: Records>(
         if rest.is_empty() {
             break;
         }
-        let (back, run) = take_run(rt, archive, job, rest, tally);
+        let (back, run) = take_run(rt, archive, job, rest, run);
         archive = back;
         match run {
             Ok(done) => rest = rest.get(done..).unwrap_or(&[]),
@@ -253,8 +259,8 @@ fn take_all<A: Records>(
 }
 
 /// The status of an intake that came to its end.
-fn end(rt: &HostRuntime, tally: &Tally, nameless: usize) -> Result<(), Failure> {
-    let (stay, given_up) = (tally.stay, tally.given_up);
+fn end(rt: &HostRuntime, run: &Run, nameless: usize) -> Result<(), Failure> {
+    let (stay, given_up) = (run.stay, run.given_up);
     if nameless > 0 {
         let _ = eprintln!(rt;
             "mailfile-store: messages that stay, since their names are no UTF-8: {nameless}"
@@ -279,28 +285,48 @@ fn movable_mail(rt: &HostRuntime, maildir: &str) -> io::Result<NewMail> {
 }
 
 /// Captures the new messages of a Maildir, in the order of their names, and moves them to its folder `cur`.
-pub fn take_new<A: Records>(
+fn take_timed<A: Records>(
     rt: &HostRuntime,
     archive: A,
     job: &Intake<'_>,
+    timing: Timing,
 ) -> (A, Result<(), Failure>) {
     let mail = match movable_mail(rt, job.maildir) {
         Ok(mail) => mail,
         Err(error) => return (archive, Err(maildir_failure(rt, job.maildir, error))),
     };
-    let mut tally = Tally {
+    let mut run = Run {
+        timing,
         filed: 0,
         stay: 0,
         given_up: 0,
     };
-    let (archive, taken) = take_all(rt, archive, job, mail.names.as_slice(), &mut tally);
+    let (archive, taken) = take_all(rt, archive, job, mail.names.as_slice(), &mut run);
     let settled = settle(rt, job.maildir);
     let ended = match (taken, settled) {
         (Err(failure), _) => Err(failure),
         (Ok(()), Err(error)) => Err(maildir_failure(rt, job.maildir, error)),
-        (Ok(()), Ok(())) => end(rt, &tally, mail.nameless),
+        (Ok(()), Ok(())) => end(rt, &run, mail.nameless),
     };
     (archive, ended)
+}
+
+/// Captures the new messages of a Maildir, in the order of their names, and moves them to its folder `cur`. Where the
+/// clock is before the days of the store it may be done later, `TryAgain`, unless the moment is named.
+pub fn take_new<S: Alter>(
+    rt: &HostRuntime,
+    archive: Store<S>,
+    job: &Intake<'_>,
+) -> (Store<S>, Result<(), Failure>) {
+    let mut archive = archive;
+    let mut timing = job.timing;
+    match timing
+        .look(rt, &mut archive)
+        .and_then(|()| timing.moment(rt))
+    {
+        Ok(_) => take_timed(rt, archive, job, timing),
+        Err(failure) => (archive, Err(failure)),
+    }
 }
 
 /// Finds that a folder is a Maildir.
@@ -318,17 +344,19 @@ fn judge_maildir(rt: &HostRuntime, maildir: &str) -> Result<(), Failure> {
 }
 
 impl<'a> Intake<'a> {
-    /// A Maildir, and the rules by which its messages are filed. `NoInput` where there is no Maildir. It may be done
-    /// later, `TryAgain`, where the Maildir cannot be looked at, or where rules are at fault and mail is not to go to
-    /// `unfiled` then.
+    /// A Maildir, and how its messages are filed. `Usage` where their moment is named and has not come; `NoInput` where
+    /// there is no Maildir. It may be done later, `TryAgain`, where the clock is not in the years 1970 to 2199, where the
+    /// Maildir cannot be looked at, or where rules are at fault and mail is not to go to `unfiled` then.
     pub fn read(
         rt: &HostRuntime,
         maildir: &'a str,
         filing: &Filing<'a>,
     ) -> Result<Intake<'a>, Failure> {
+        let timing = Timing::new(rt, filing.moment)?;
         judge_maildir(rt, maildir)?;
         Ok(Intake {
             maildir,
+            timing,
             filing: FilingRules::read(rt, filing)?,
         })
     }

@@ -2,17 +2,18 @@
 //!
 //! - `plan`: the plan, and another one in its place; `plan_file`: a plan that is read from a file;
 //! - `rules`: the rules by which mail is filed;
-//! - `deliver` and `intake`: one message, and those of a Maildir;
+//! - `moments`: when mail is captured; `deliver` and `intake`: one message, and those of a Maildir;
 //! - `holds` and `dispose`: records that must not be destroyed, and the destruction of what is due.
 //!
 //! Each works on a store that is lent to it. What it writes, and what a Maildir or a terminal does, no contract speaks of:
-//! tests of the program show it.
+//! tests of the program show it. `specs/Moments` says when a clock is refused.
 #![tactic(auto)]
 
 mod deliver;
 mod dispose;
 mod holds;
 mod intake;
+mod moments;
 mod plan;
 mod plan_file;
 mod rules;
@@ -21,6 +22,7 @@ pub use deliver::{deliver_to, read_message, report_delivery};
 pub use dispose::{day_of_disposal, dispose_by};
 pub use holds::{Change, change_holds};
 pub use intake::{Intake, take_new};
+pub use moments::{MomentFault, Timing, judge_moment};
 pub use plan::{replace_plan, write_plan};
 pub use plan_file::read_plan;
 pub use rules::FilingRules;

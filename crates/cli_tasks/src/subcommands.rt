@@ -5,10 +5,10 @@ use crate::copy::{Paths, copy_to};
 use crate::drafts::make;
 use class_plan::Date;
 use cli_changes::{
-    Change, FilingRules, Intake, change_holds, day_of_disposal, deliver_to, dispose_by,
+    Change, FilingRules, Intake, Timing, change_holds, day_of_disposal, deliver_to, dispose_by,
     read_message, read_plan, replace_plan, report_delivery, take_new, write_plan,
 };
-use cli_console::{Failure, day_or_today, now};
+use cli_console::{Failure, day_or_today};
 use cli_readings::{
     Captured, export_to, judge_choice, message_of_record, read_captured, write_contents,
     write_list, write_message, write_report, write_why,
@@ -144,7 +144,7 @@ impl Work for ReadRecord<'_> {
 #[derive(Drop)]
 struct DeliverOne<'a> {
     rules: FilingRules<'a>,
-    moment: u64,
+    timing: Timing,
     message: Payload,
 }
 
@@ -158,10 +158,10 @@ impl Work for DeliverOne<'_> {
     ) -> (Connection<S>, Result<Self::Answer, Failure>) {
         let DeliverOne {
             rules,
-            moment,
+            timing,
             message,
         } = self;
-        let (archive, delivered) = deliver_to(rt, archive, &rules, moment, message);
+        let (archive, delivered) = deliver_to(rt, archive, &rules, timing, message);
         (archive.into_connection(), Ok(delivered))
     }
 }
@@ -190,18 +190,14 @@ fn deliver<A: Archives>(
     rt: &HostRuntime,
     archives: &A,
     store: &str,
-    moment: Option<u64>,
     filing: &Filing<'_>,
 ) -> Result<(), Failure> {
-    let moment = match moment {
-        Some(moment) => moment,
-        None => now(rt)?,
-    };
+    let timing = Timing::new(rt, filing.moment)?;
     let message = read_message(rt)?;
     let rules = FilingRules::read(rt, filing)?;
     let work = DeliverOne {
         rules,
-        moment,
+        timing,
         message,
     };
     let (done, closed) = archives
@@ -305,7 +301,7 @@ pub fn execute<A: Archives>(
         Command::ReplacePlan { plan, is_agreed } => {
             lend(rt, archives, store, Task::ReplacePlan { plan, is_agreed })
         }
-        Command::Deliver { moment, filing } => deliver(rt, archives, store, moment, &filing),
+        Command::Deliver(filing) => deliver(rt, archives, store, &filing),
         Command::Intake { maildir, filing } => intake(rt, archives, store, maildir, &filing),
         Command::List { choice, format } => list(rt, archives, store, &choice, format),
         Command::Show { record, fields } => show(rt, archives, store, record, fields),

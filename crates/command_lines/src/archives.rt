@@ -6,7 +6,7 @@ use crate::reading::{NoCommand, day_of, has_flag, read_words, required, value_of
 use crate::table::Word;
 use clap::ArgMatches;
 use jiff::civil::Date;
-use session_words::is_name;
+use session_words::{is_name, read_number};
 use std::alloc::Global;
 
 /// What `mailfile-store` is asked to do, with the store in the file at a path.
@@ -32,11 +32,7 @@ pub enum Command<'a> {
         is_agreed: bool,
     },
     /// Captures the message on standard input.
-    Deliver {
-        /// In seconds since 1970; none for now.
-        moment: Option<u64>,
-        filing: Filing<'a>,
-    },
+    Deliver(Filing<'a>),
     /// Captures the new messages of a Maildir.
     Intake {
         maildir: &'a str,
@@ -75,7 +71,18 @@ pub enum Command<'a> {
     },
 }
 
-/// By which rules mail is filed.
+/// The moment of a capture.
+#[derive(Clone, Copy)]
+pub enum Moment {
+    /// That of the clock, which is judged by the days of the archive.
+    Unnamed,
+    /// That of the clock, whatever days the archive has.
+    Now,
+    /// In seconds since 1970.
+    At(u64),
+}
+
+/// How mail is filed.
 #[derive(Clone, Copy)]
 pub struct Filing<'a> {
     /// The path of the folder of rules.
@@ -83,6 +90,7 @@ pub struct Filing<'a> {
     pub officer: &'a str,
     /// Whether mail goes to `unfiled` where the rules are at fault.
     pub unfiled_on_fault: bool,
+    pub moment: Moment,
 }
 
 /// Which records a list or an export has: those that meet each condition that is given.
@@ -147,9 +155,17 @@ pub struct Disposal<'a> {
     pub records: Vec<TypedNumber<'a>>,
 }
 
-/// The number of a record, as it is typed: one of 32 bits.
+/// The number of a record, as it is typed: one of 32 bits, in decimal digits without a leading zero.
 fn number_of(alloc: Global, word: &str) -> Result<u32, NoCommand> {
-    word.parse().map_err(|_| NoCommand::wrong(alloc, word, "not a number of a record"))
+    match read_number(word.as_bytes(), u64::from(u32::MAX)) {
+        Some(number) => Ok(number as u32),
+        None => Err(NoCommand::wrong(alloc, word, "not a number of a record")),
+    }
+}
+
+/// A number of seconds, as it is typed: one of 64 bits, in decimal digits without a leading zero.
+fn seconds_of(alloc: Global, word: &str, reason: &str) -> Result<u64, NoCommand> {
+    read_number(word.as_bytes(), u64::MAX).ok_or_else(|| NoCommand::wrong(alloc, word, reason))
 }
 
 /// The number of a record, which must be given.
@@ -188,23 +204,25 @@ fn day_asked(alloc: Global, asked: &ArgMatches<'_>, word: Word) -> Result<Option
     }
 }
 
-/// The moment of a capture, where it is given.
-fn moment_asked(alloc: Global, asked: &ArgMatches<'_>) -> Result<Option<u64>, NoCommand> {
-    let Some(word) = value_of(asked, words::AT) else {
-        return Ok(None);
-    };
-    match word.parse() {
-        Ok(moment) => Ok(Some(moment)),
-        Err(_) => Err(NoCommand::wrong(alloc, word, "not a number of seconds since 1970")),
+/// The moment of a capture.
+fn moment_asked(alloc: Global, asked: &ArgMatches<'_>) -> Result<Moment, NoCommand> {
+    match value_of(asked, words::AT) {
+        None => Ok(Moment::Unnamed),
+        Some("now") => Ok(Moment::Now),
+        Some(word) => {
+            let reason = "neither now nor a number of seconds since 1970";
+            Ok(Moment::At(seconds_of(alloc, word, reason)?))
+        }
     }
 }
 
-/// By which rules mail is filed.
-fn filing_asked<'a>(asked: &ArgMatches<'a>) -> Result<Filing<'a>, NoCommand> {
+/// How mail is filed.
+fn filing_asked<'a>(alloc: Global, asked: &ArgMatches<'a>) -> Result<Filing<'a>, NoCommand> {
     Ok(Filing {
         rules: required(asked, words::RULES)?,
         officer: required(asked, words::OFFICER)?,
         unfiled_on_fault: has_flag(asked, words::UNFILED_ON_FAULT),
+        moment: moment_asked(alloc, asked)?,
     })
 }
 
@@ -285,13 +303,10 @@ fn change_asked<'a>(
             plan: required(asked, words::PLAN_FILE)?,
         },
         "plan" => plan_asked(alloc, asked)?,
-        "deliver" => Command::Deliver {
-            moment: moment_asked(alloc, asked)?,
-            filing: filing_asked(asked)?,
-        },
+        "deliver" => Command::Deliver(filing_asked(alloc, asked)?),
         "intake" => Command::Intake {
             maildir: required(asked, words::MAILDIR)?,
-            filing: filing_asked(asked)?,
+            filing: filing_asked(alloc, asked)?,
         },
         "hold" => Command::Hold(holding_asked(alloc, asked)?),
         "release" => Command::Release(holding_asked(alloc, asked)?),

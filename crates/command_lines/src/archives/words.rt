@@ -99,7 +99,9 @@ pub const UNFILED_ON_FAULT: Word = Word {
 pub const AT: Word = Word {
     name: "at",
     value: "SECONDS",
-    help: Some("The moment of the capture, in seconds since 1970; now if none is given"),
+    help: Some(
+        "The moment of the capture, in seconds since 1970 and not later than now; now takes the clock as it is; if none is given, the clock, unless it stands before the days of the store",
+    ),
     ..OPTION
 };
 
@@ -120,7 +122,7 @@ const INTAKE: Subcommand = Subcommand {
     name: "intake",
     about: "Captures each message in MAILDIR/new, and moves it to MAILDIR/cur once its records are in the file",
     example: "Example: mailfile-store intake --store records.db --rules rules ann Maildir",
-    words: &[STORE, RULES, UNFILED_ON_FAULT, OFFICER, MAILDIR],
+    words: &[STORE, AT, RULES, UNFILED_ON_FAULT, OFFICER, MAILDIR],
 };
 
 pub const CLASS: Word = Word {
