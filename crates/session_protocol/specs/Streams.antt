@@ -1,5 +1,5 @@
 -- What sources and sinks report about their octets and their troubles.
-use Rattle.std.specs.Prelude.{◌≡◌, ℕ, ◌+◌, ◌-◌, ◌^◌, ◌≤◌, ◌⊎◌, List, ◌++◌, take, Bool, true, false, not, ◌&&◌, ◌==◌, nat_lt, min, max, Result, Ok, Err, OnOk, OnErr}
+use Rattle.std.specs.Prelude.{◌≡◌, ℕ, ◌+◌, ◌-◌, ◌^◌, ◌≤◌, ◌⊎◌, ◌↔◌, List, ◌++◌, take, Bool, true, false, not, ◌&&◌, ◌==◌, nat_lt, min, max, Result, Ok, Err, OnOk, OnErr}
 use Rattle.session_protocol.specs.declared.tally.Tally.{Tally}
 use Rattle.session_protocol.specs.declared.stream.Trouble.{Trouble}
 use Rattle.session_protocol.specs.declared.stream.Trouble.TheVariants.{Interrupted, Failed}
@@ -32,6 +32,11 @@ fails_to_write size (Err e) = is_failed e
 abbrev pub is_interrupted : Result ℕ Trouble → Bool
 is_interrupted (Ok n) = false
 is_interrupted (Err e) = not (is_failed e)
+
+-- a trouble is told as an interruption exactly where its error is one
+abbrev pub TellsKind : (was_interrupted : Bool) → Result ℕ Trouble → Type 0
+TellsKind was_interrupted (Ok n) = Unit {0}
+TellsKind was_interrupted (Err e) = (e ≡ Interrupted) ↔ (was_interrupted ≡ true)
 
 -- how many octets a call moved
 abbrev pub transfer_length : Result ℕ Trouble → ℕ

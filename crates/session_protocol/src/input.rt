@@ -1,16 +1,17 @@
 //! A reader as a session's source. Nothing is claimed about the octets of a terminal, a file or a pipe. Where the
 //! readers of a type know what they have left, exactly that is read.
 
-ghost use Rattle.std.specs.Prelude.{◌<◌, ◌≤◌, ◌≡◌, [], length, IfOk};
+ghost use Rattle.std.specs.Prelude.{◌<◌, ◌≤◌, ◌≡◌, ◌↔◌, [], length, true, IfErr, IfOk};
 ghost use Rattle.std.specs.Io.KnownBytes.{ReadConsumes};
+ghost use Rattle.std.specs.IoError.{error_kind};
 ghost use Rattle.session_protocol.specs.Known.{octets_left};
 ghost use Rattle.session_protocol.specs.Streams.{no_troubles};
 
 use crate::stream::{Source, Trouble};
 use crate::tally::Tally;
-use crate::trouble::trouble_of;
+use crate::trouble::{is_interruption, trouble_of};
 use crate::window::Window;
-use std::io::{self, Read};
+use std::io::{self, ErrorKind, Read};
 
 /// The most octets that are read ahead.
 const MOST_AHEAD: usize = 8192;
@@ -23,6 +24,8 @@ pub struct Input<R> {
     tally: Tally,
     /// How many reads met the end of the input. As with `tally`, contracts alone read it.
     ends: u64,
+    /// Whether the last error that the reader gave is an interruption. As with `tally`, contracts alone read it.
+    was_interrupted: bool,
 }
 
 impl<R: Read> Input<R> {
@@ -38,6 +41,7 @@ impl<R: Read> Input<R> {
             ahead: Window::new(),
             tally: Tally::new(),
             ends: 0,
+            was_interrupted: false,
         }
     }
 
@@ -50,11 +54,16 @@ impl<R: Read> Input<R> {
             (octets_left R.remaining self.new) result room.new }
         ensures tally { self.new.tally ≡ self.old.tally }
         ensures ends { self.new.ends ≡ self.old.ends }
+        ensures kind { IfErr result (λ e. (self.new.was_interrupted ≡ true)
+            ↔ (error_kind e ≡ ErrorKind.Interrupted)) }
     {
         if !self.ahead.is_empty() {
             return Ok(self.ahead.take(room));
         }
-        self.ahead.fill(&mut self.inner)?;
+        if let Err(error) = self.ahead.fill(&mut self.inner) {
+            self.was_interrupted = is_interruption(error.kind());
+            return Err(error);
+        }
         Ok(self.ahead.take(room))
     }
 }
@@ -70,6 +79,8 @@ impl<R: Read> Source for Input<R> {
     ghost troubles = { λ s. s.tally };
 
     ghost ends = { λ s. s.ends };
+
+    ghost was_interrupted = { λ s. s.was_interrupted };
 
     fn read(&mut self, room: &mut [u8]) -> Result<usize, Trouble> {
         if room.is_empty() {

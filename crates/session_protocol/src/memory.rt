@@ -69,7 +69,7 @@ impl<'a> MemorySource<'a> {
 
 impl Source for MemorySource<'_> {
     ghost use Rattle.std.specs.Prelude.{ℕ, List};
-    ghost use Rattle.session_protocol.specs.Memory.{left_of};
+    ghost use Rattle.session_protocol.specs.Memory.{ends_interrupted, left_of};
 
     ghost tells = { Unit {0} };
 
@@ -78,6 +78,8 @@ impl Source for MemorySource<'_> {
     ghost troubles = { λ s. s.tally };
 
     ghost ends = { λ s. s.ends };
+
+    ghost was_interrupted = { λ s. ends_interrupted s.tally };
 
     fn read(&mut self, room: &mut [u8]) -> Result<usize, Trouble> {
         let mut count = room.len().min(self.rest.len()).min(self.piece.max(1));
@@ -191,7 +193,7 @@ impl Sink for MemorySink {
     ghost use Rattle.std.specs.Prelude.{ℕ, List, refl, []};
     ghost use Rattle.std.proofs.Common.{sym};
     ghost use Rattle.std.proofs.lemmas.List.{append-nil};
-    ghost use Rattle.session_protocol.specs.Memory.{written_of};
+    ghost use Rattle.session_protocol.specs.Memory.{ends_interrupted, written_of};
 
     ghost tells = { Unit {0} };
 
@@ -200,6 +202,8 @@ impl Sink for MemorySink {
     ghost sent = { written_of };
 
     ghost troubles = { λ s. s.tally };
+
+    ghost was_interrupted = { λ s. ends_interrupted s.tally };
 
     fn write(&mut self, octets: &[u8]) -> Result<usize, Trouble> {
         let mut count = octets.len().min(self.piece.max(1));

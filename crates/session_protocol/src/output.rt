@@ -1,16 +1,17 @@
 //! A writer as a session's sink. Nothing is claimed about the octets of a terminal, a file or a pipe. Where the writers
 //! of a type know what they have taken, exactly what is written is given to them.
 
-ghost use Rattle.std.specs.Prelude.{◌≡◌, ◌≤◌, ◌++◌, [], length, take, false, true, IfOk, Ok};
+ghost use Rattle.std.specs.Prelude.{◌≡◌, ◌≤◌, ◌↔◌, ◌++◌, [], length, take, false, true, IfErr, IfOk, Ok};
 ghost use Rattle.std.specs.Io.KnownBytes.{Keeps, WriteAppends, append_known};
+ghost use Rattle.std.specs.IoError.{error_kind};
 ghost use Rattle.session_protocol.specs.Streams.{no_troubles};
 ghost use Rattle.session_protocol.specs.Written.{has_line_end};
 
 use crate::stream::{Sink, Trouble};
 use crate::tally::Tally;
-use crate::trouble::trouble_of;
+use crate::trouble::{is_interruption, trouble_of};
 use crate::window::Window;
-use std::io::{self, Write};
+use std::io::{self, ErrorKind, Write};
 
 /// The most octets that are held.
 const MOST_HELD: usize = 1024;
@@ -22,6 +23,8 @@ pub struct Output<W> {
     inner: W,
     held: Window<MOST_HELD>,
     tally: Tally,
+    /// Whether the last error that the writer gave is an interruption. As with `tally`, contracts alone read it.
+    was_interrupted: bool,
     ghost no_line_held: { has_line_end held ≡ false },
 }
 
@@ -36,6 +39,7 @@ impl<W: Write> Output<W> {
             inner,
             held: Window::new(),
             tally: Tally::new(),
+            was_interrupted: false,
         }
     }
 
@@ -71,7 +75,7 @@ impl<W: Write> Output<W> {
 
     /// Writes what is held and then these octets, and answers how many of these the writer took. The answer is 0 also
     /// where a write of what is held took no octet.
-    fn write_through(&mut self, octets: &[u8]) -> io::Result<usize>
+    fn send_and_write(&mut self, octets: &[u8]) -> io::Result<usize>
         ensures within { IfOk result (λ n. n ≤ length octets.now) }
         ensures octets { WriteAppends (append_known (W.contents self.old.inner) self.old.held)
             (append_known (W.contents self.new.inner) self.new.held) result octets.now }
@@ -81,6 +85,22 @@ impl<W: Write> Output<W> {
             return Ok(0);
         }
         self.inner.write(octets)
+    }
+
+    /// The same, and the kind of an error is kept.
+    fn write_through(&mut self, octets: &[u8]) -> io::Result<usize>
+        ensures within { IfOk result (λ n. n ≤ length octets.now) }
+        ensures octets { WriteAppends (append_known (W.contents self.old.inner) self.old.held)
+            (append_known (W.contents self.new.inner) self.new.held) result octets.now }
+        ensures tally { self.new.tally ≡ self.old.tally }
+        ensures kind { IfErr result (λ e. (self.new.was_interrupted ≡ true)
+            ↔ (error_kind e ≡ ErrorKind.Interrupted)) }
+    {
+        let written = self.send_and_write(octets);
+        if let Err(error) = &written {
+            self.was_interrupted = is_interruption(error.kind());
+        }
+        written
     }
 }
 
@@ -95,6 +115,8 @@ impl<W: Write> Sink for Output<W> {
     ghost sent = { λ s. known (W.contents s.inner) };
 
     ghost troubles = { λ s. s.tally };
+
+    ghost was_interrupted = { λ s. s.was_interrupted };
 
     fn write(&mut self, octets: &[u8]) -> Result<usize, Trouble> {
         if octets.is_empty() {

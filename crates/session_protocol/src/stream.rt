@@ -4,8 +4,8 @@
 //! it claims to know its octets (`tells`). Every type can count failures, interruptions, and reads that met the end of
 //! the input. The program reads from the `Input` of the module `input`, and writes to the `Output` of `output`.
 
-ghost use Rattle.std.specs.Prelude.{◌≡◌, ℕ, List, ◌+◌, ◌<◌, ◌≤◌, ◌++◌, ◌∷◌, [], length, take, drop, IfOk, OnErr, IfSome, IfNone, true, Ok, None, max, flat_map};
-ghost use Rattle.session_protocol.specs.Streams.{Counts, CountsInARow, tells_end, fails_to_read, fails_to_write, is_interrupted, transfer_length, TellsEnd, TellsTroubles};
+ghost use Rattle.std.specs.Prelude.{◌≡◌, ℕ, Bool, List, ◌+◌, ◌<◌, ◌≤◌, ◌++◌, ◌∷◌, [], length, take, drop, IfOk, OnErr, IfSome, IfNone, true, Ok, None, max, flat_map};
+ghost use Rattle.session_protocol.specs.Streams.{Counts, CountsInARow, tells_end, fails_to_read, fails_to_write, is_interrupted, transfer_length, TellsEnd, TellsKind, TellsTroubles};
 ghost use Rattle.session_protocol.specs.declared.tally.Tally.{Tally};
 ghost use Rattle.session_protocol.specs.Written.{SendsLines, Writes};
 
@@ -32,6 +32,9 @@ pub trait Source {
     /// How many reads met the end of the input. The count stays at its greatest value, 2^64 - 1.
     ghost ends: { Self → ℕ };
 
+    /// Whether the last error by which a read met trouble is an interruption, by its kind.
+    ghost was_interrupted: { Self → Bool };
+
     /// Reads octets into the front of `room`, and answers how many. With room for one octet or more, 0 means the end of
     /// the input, which is no trouble.
     fn read(&mut self, room: &mut [u8]) -> Result<usize, Trouble>
@@ -49,7 +52,8 @@ pub trait Source {
         ensures all { Counts (is_interrupted result) (troubles self.old).all_interruptions
             (troubles self.new).all_interruptions }
         ensures ends { Counts (tells_end (length room.old) result)
-            (ends self.old) (ends self.new) };
+            (ends self.old) (ends self.new) }
+        ensures kind { TellsKind (was_interrupted self.new) result };
 }
 
 /// A sink of octets.
@@ -66,6 +70,9 @@ pub trait Sink {
     /// How many writes failed, and how many were interrupted. One that took no octet of one or more has failed.
     ghost troubles: { Self → Tally };
 
+    /// Whether the last error by which a write met trouble is an interruption, by its kind.
+    ghost was_interrupted: { Self → Bool };
+
     /// Takes octets from the front of `octets`, and answers how many.
     fn write(&mut self, octets: &[u8]) -> Result<usize, Trouble>
         ensures within { IfOk result (λ n. n ≤ length octets.now) }
@@ -78,7 +85,8 @@ pub trait Sink {
         ensures most { (troubles self.new).most_interruptions
             ≡ max (troubles self.old).most_interruptions (troubles self.new).interruptions }
         ensures all { Counts (is_interrupted result) (troubles self.old).all_interruptions
-            (troubles self.new).all_interruptions };
+            (troubles self.new).all_interruptions }
+        ensures kind { TellsKind (was_interrupted self.new) result };
 
     ghost lines_are_sent: { (s : Self) → SendsLines (sent s) (written s) };
 }

@@ -9,6 +9,6 @@ returns-then-not-is_empty-clause-octets g c = (
 
 pub returns-clause-octets : goal.returns-clause-octets
 returns-clause-octets g c = (
-  filled _ _ _ _ _ _ _ (c.is_empty.ensures.0 c.if-not-is_empty.false) c.in_ok-fill.ensures.bytes c.take-2.ensures.taken c.take-2.ensures.rest,
-  λ z pos. ended _ _ _ _ _ c.in_ok-fill.ensures.end c.take-2.ensures.rest c.take-2.ensures.count c.requires z,
+  filled _ _ _ _ _ _ _ (c.is_empty.ensures.0 c.if-not-is_empty.false) c.in_default.ensures.bytes c.take-2.ensures.taken c.take-2.ensures.rest,
+  λ z pos. ended _ _ _ _ _ c.in_default.ensures.end c.take-2.ensures.rest c.take-2.ensures.count c.requires z,
 )
