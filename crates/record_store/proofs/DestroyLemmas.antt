@@ -1,7 +1,8 @@
 -- What the destruction of a record makes of the archive and of the tables.
 use Rattle.std.proofs.Common.{◌≡◌, ◌+◌, ◌-◌, ◌<◌, ◌≤◌, ◌==◌, ℕ, max, pos, int_eq, Bool, true, false, not, cond, ◌&&◌}
 use Rattle.std.proofs.Common.{◌||◌, List, [], ◌∷◌, map, filter, find, Option, Some, None, MatchOption, Result, Ok, Err}
-use Rattle.std.proofs.Common.{refl, sym, ap, subst, ◌∙◌, arith, true≢false}
+use Rattle.std.proofs.Common.{nat_lt, refl, sym, ap, subst, ◌∙◌, arith, true≢false}
+use Rattle.std.proofs.lemmas.Bool.Decides.{nat_tests}
 use Rattle.std.specs.List.{AllByRecursion, list_any}
 use Rattle.std.proofs.lemmas.List.Elements.{All-from_recursion, recursion_from_All}
 use Rattle.sqlite_trees.specs.Tree.{IsAscending}
@@ -502,3 +503,20 @@ keeps_destroyed g old a s n r last free counted was db kept turns =
     let own = free_itself a n r free in
     stores_destroyed a r last (goes a r (count_at old.others r.message) last s.archive own (s.others r.message) counted) was db kept
     (subst (λ k. IsDestruction k last was db) (sym (own_number a n r free)) turns)
+
+-- another live record has the message where one beyond the first is counted
+pub shared_counted : (a : Archive) (r : Record) (k : ℕ) → IsArchive a → record_at a r.number ≡ Some r → r.destroyed ≡ false
+    → k ≡ live_count a r.message - 1 → nat_lt 0 k ≡ is_shared a r
+shared_counted a r k is found live counted = go (nat_lt 0 k) refl
+  where
+    go : (b : Bool) → nat_lt 0 k ≡ b → b ≡ is_shared a r
+    go true e =
+        let sum = one_more r.number r a.records is.in_order found live in
+        let some : 0 < k = grind (arith, nat_tests, e) in
+        let more : 0 < tally (is_other r.number r.message) a.records = omega (arith, counted, sum, some) in
+        sym (held_if (is_other r.number r.message) a.records more)
+    go false e =
+        let sum = one_more r.number r a.records is.in_order found live in
+        let none : k ≤ 0 = grind (arith, nat_tests, e) in
+        let most : tally (is_other r.number r.message) a.records ≤ 0 = omega (arith, counted, sum, none) in
+        sym (free_if (is_other r.number r.message) a.records most)

@@ -27,7 +27,8 @@ use Rattle.record_adoption.specs.Adoption.{named_hold, sorted_holds}
 use Rattle.record_adoption.specs.Keeping.{hold_count}
 use Rattle.record_adoption.proofs.AdoptHolds.{named_total, cmp_is, holds_apart, holds_rise, holds_permuted}
 use Rattle.record_adoption.proofs.Sorting.{all-sort, filter-sort_by}
-use Rattle.record_store.specs.Entries.{listed, entry_of, hold_names, records_from, names_at_front}
+use Rattle.record_choice.specs.Entries.{listed, entry_of, hold_names, records_from}
+use Rattle.record_store.specs.Entries.{names_at_front}
 use Rattle.record_store.specs.Entries.{listed_beside, is_on_any, AreHoldsOf, IsPage}
 use Rattle.record_store.proofs.DueLemmas.{map_same_on, free_if}
 use Rattle.record_store.proofs.EntryReads.{all_taken}

@@ -12,7 +12,8 @@ use Rattle.class_plan.specs.Dates.{IsLater}
 use Rattle.class_plan.specs.Plans.{Listing}
 use Rattle.record_archive.specs.Archive.{Record}
 use Rattle.record_tables.specs.Reads.{HoldEntry}
-use Rattle.record_store.specs.Entries.{RecordEntry, listed, due_if_live, names_at_front, listed_beside}
+use Rattle.record_choice.specs.Entries.{RecordEntry, listed, due_if_live}
+use Rattle.record_store.specs.Entries.{names_at_front, listed_beside}
 
 -- ---- the names at the front
 

@@ -13,7 +13,8 @@ use Rattle.record_tables.specs.Rows.{Tables}
 use Rattle.record_reads.specs.Lookups.{Looks}
 use Rattle.record_reads.specs.Quiet.{ReadsQuietly}
 use Rattle.record_reads.specs.Pages as pages
-use Rattle.record_store.specs.Entries.{records_from, IsListableRecord}
+use Rattle.record_choice.specs.Entries.{records_from}
+use Rattle.record_store.specs.Entries.{IsListableRecord}
 use Rattle.record_store.proofs.DueLemmas.{le_is}
 
 -- a read of the archive's tables is a look at them

@@ -7,7 +7,7 @@ use Rattle.class_plan.specs.declared.schedules.Schedule.TheVariants.{Permanent, 
 use Rattle.class_plan.specs.Plans.{open_row}
 use Rattle.jiff_core.specs.Calendar.{days_from_civil, day_count, days_of_years, days_of_months}
 use Rattle.record_archive.specs.Archive.{Record, Archive}
-use Rattle.record_store.specs.Entries.{RecordEntry, entries_from}
+use Rattle.record_choice.specs.Entries.{RecordEntry, entries_from}
 
 -- captured on 2023-11-14, day 19675
 abbrev kept : ℕ → Record

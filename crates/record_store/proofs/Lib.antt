@@ -19,3 +19,4 @@ pub mod EntryLemmas
 pub mod EntryLoops
 pub mod EntryReads
 pub mod EntryRows
+pub mod RepositoryLemmas

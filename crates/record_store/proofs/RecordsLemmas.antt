@@ -16,7 +16,7 @@ use Rattle.record_store.specs.Stores.{Becomes, Falls, Leaves, LeavesNow, Obeys, 
 use Rattle.record_store.specs.Stores.{Fate, Left, ShutAfter, FateKeeps, MayMeet, keeper_of}
 use Rattle.record_store.specs.declared.store.Store.{Store}
 
-made : {S : Type 0} (g : Ghosts S) (new : Store S) (r : Result Archive ArchiveRefusal) → Becomes g new r → Makes (StandsFor g new) r
+pub made : {S : Type 0} (g : Ghosts S) (new : Store S) (r : Result Archive ArchiveRefusal) → Becomes g new r → Makes (StandsFor g new) r
 made g new (Ok a) h = h
 made g new (Err r) h = h
 

@@ -16,9 +16,10 @@ ghost use Rattle.record_store.specs.Stores.{StandsFor, ObeysRows, Tells, Leaves,
 use crate::dues::number_from_1970;
 use crate::fault::{BUSY, LOST, StoreFault, fault_of};
 use crate::store::Store;
-use class_plan::{Action, Date, Plan, Schedule};
+use class_plan::{Date, Plan};
 use record_adoption::{LAST_CAPTURE_DAY, due_day_of};
 use record_archive::ArchiveRefusal;
+use record_choice::destroys;
 use record_tables::rows::RecordRow;
 use record_tables::transact::{Change, transact};
 use record_tables::writes::{delete_due, delete_message, set_destroyed};
@@ -52,19 +53,6 @@ impl Change for Destruction {
         delete_body(tx, self.last)?;
         Ok(())
     }
-}
-
-/// Whether a schedule's action is to destroy.
-fn destroys(schedule: Option<Schedule>) -> bool
-    ensures { result ≡ archive.destroys schedule }
-{
-    matches!(
-        schedule,
-        Some(Schedule::After {
-            action: Action::Destroy,
-            ..
-        })
-    )
 }
 
 /// Whether there is a day and a due day, which is not after it.

@@ -7,36 +7,20 @@ ghost use Rattle.record_archive.specs.Faults.{is_trouble};
 ghost use Rattle.record_reads.specs.Pages.{is_between};
 ghost use Rattle.record_tables.specs.CodeRows.{record_of, hold_entry_of};
 ghost use Rattle.record_adoption.specs.Adoption.{sorted_holds};
-ghost use Rattle.record_store.specs.Entries.{entry_view, name_list, listed, names_at_front, listed_beside, records_from, entries_from, AreHoldsOf, IsPage, IsListableRecord, is_counted};
+ghost use Rattle.record_choice.specs.Entries.{entry_view, name_list, listed, records_from, entries_from};
+ghost use Rattle.record_store.specs.Entries.{names_at_front, listed_beside, AreHoldsOf, IsPage, IsListableRecord, is_counted};
 ghost use Rattle.record_store.specs.Faults.{is_own};
 ghost use Rattle.record_store.specs.Stores.{StandsFor, Tells, LeavesAll, Falls, IsOpenOnOk, IsNeverOwn};
 
 use crate::fault::{LOST, StoreFault, lost_or};
 use crate::store::Store;
-use class_plan::{Date, Plan, date_of};
+use class_plan::{Plan, date_of};
 use record_adoption::{Counts, LAST_CAPTURE_DAY};
+use record_choice::RecordEntry;
 use record_reads::pages::{holds_between, records_from};
 use record_tables::rows::{HoldRow, RecordRow};
 use sqlite::Alter;
 use std::alloc::{AllocError, Global};
-
-/// A record as it is listed: all that is kept of it but the octets of its message.
-#[derive(Drop)]
-pub struct RecordEntry {
-    pub number: u32,
-    /// The path of its class.
-    pub path: Vec<u8>,
-    /// The day of its capture.
-    pub day: Date,
-    /// The date on which it falls due by the present plan. `None` where its schedule is permanent, and where it is
-    /// destroyed.
-    pub due: Option<Date>,
-    /// The number of its message.
-    pub message: u32,
-    pub destroyed: bool,
-    /// The names of its holds, in byte order.
-    pub holds: Vec<Vec<u8>>,
-}
 
 /// A limit as a parameter: no archive has more records than this.
 fn limit_of(most: usize) -> u32

@@ -12,11 +12,12 @@ mod fault;
 mod holds;
 mod messages;
 mod records;
+mod repository;
 mod revisions;
 mod store;
 
-pub use entries::RecordEntry;
 pub use fault::{Cause, StoreFault};
 pub use record_adoption::Counts;
 pub use record_archive::{ArchiveRefusal, Line, are_classes};
+pub use record_choice::RecordEntry;
 pub use store::Store;

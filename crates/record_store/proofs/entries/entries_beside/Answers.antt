@@ -2,7 +2,8 @@ use Rattle.std.proofs.Common.{◌≡◌, ◌++◌, ◌∙◌, map, drop, sym, ap
 use Rattle.std.specs.List.{AllByRecursion}
 use Rattle.std.proofs.lemmas.List.{length-map, take_rest}
 use Rattle.record_tables.specs.CodeRows.{record_of, hold_entry_of}
-use Rattle.record_store.specs.Entries.{entry_view, name_list, names_at_front, listed_beside, IsListableRecord}
+use Rattle.record_choice.specs.Entries.{entry_view, name_list}
+use Rattle.record_store.specs.Entries.{names_at_front, listed_beside, IsListableRecord}
 use Rattle.record_store.proofs.Causes.{passed_own}
 use Rattle.record_store.proofs.EntryLoops.{entry_next, still_low}
 use Rattle.record_store.proofs.entries.entries_beside.Goals as goal

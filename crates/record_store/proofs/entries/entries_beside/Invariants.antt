@@ -1,7 +1,8 @@
 use Rattle.std.proofs.Common.{◌≤◌, length, map}
 use Rattle.std.specs.List.{AllByRecursion}
 use Rattle.record_tables.specs.CodeRows.{record_of, hold_entry_of}
-use Rattle.record_store.specs.Entries.{entry_view, listed_beside, IsListableRecord}
+use Rattle.record_choice.specs.Entries.{entry_view}
+use Rattle.record_store.specs.Entries.{listed_beside, IsListableRecord}
 use Rattle.record_store.proofs.EntryLoops.{EntriesSoFar}
 use Rattle.record_store.proofs.entries.entries_beside.Given as goal
 

@@ -3,7 +3,7 @@ use Rattle.std.proofs.lemmas.Int.{ints}
 use Rattle.jiff.specs.Words.{epoch_day}
 use Rattle.class_plan.specs.Calendar.{due_on}
 use Rattle.record_tables.specs.CodeRows.{record_of}
-use Rattle.record_store.specs.Entries.{due_if_live, name_list}
+use Rattle.record_choice.specs.Entries.{due_if_live, name_list}
 use Rattle.record_store.proofs.EntryLoops.{due_seen, due_none, due_live}
 use Rattle.record_store.proofs.entries.entry_of.Goals as goal
 use Rattle.record_store.proofs.entries.entry_of.Goals.{then-row, else-row}

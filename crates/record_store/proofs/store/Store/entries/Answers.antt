@@ -3,7 +3,8 @@ use Rattle.std.specs.List.{AllByRecursion}
 use Rattle.std.proofs.lemmas.List.{take-map}
 use Rattle.record_archive.specs.Archive.{Archive}
 use Rattle.record_tables.specs.CodeRows.{record_of, hold_entry_of}
-use Rattle.record_store.specs.Entries.{entry_of, records_from, listed_beside, IsPage, IsListableRecord}
+use Rattle.record_choice.specs.Entries.{entry_of, records_from}
+use Rattle.record_store.specs.Entries.{listed_beside, IsPage, IsListableRecord}
 use Rattle.record_store.proofs.Causes.{passed_cause}
 use Rattle.record_store.proofs.CommandLemmas.{leaves_then}
 use Rattle.record_store.proofs.EntryLemmas.{page_is, limited_is}

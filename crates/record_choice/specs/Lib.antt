@@ -1,0 +1,6 @@
+pub mod Choices
+pub mod Disposals
+pub mod Entries
+pub mod Reasons
+pub mod Views
+pub mod Walks
