@@ -6,6 +6,7 @@ ghost use Rattle.cli_changes.specs.Moments.{IsMoment, IsRefused, day_of_moment};
 use class_plan::{Date, date_of, day_number};
 use cli_console::{Failure, Status, Walk, now};
 use command_lines::archives::Moment;
+use record_choice::Choice;
 use record_store::{RecordEntry, Store};
 use sqlite::Alter;
 use std::alloc::{AllocError, Global};
@@ -117,13 +118,13 @@ fn last_of(last: Option<u32>, entries: &[RecordEntry]) -> Option<u32> {
 /// The last day on which a record of a store was captured, in days since 1970-01-01; none where there is no record. The
 /// failure is that of the store.
 fn last_day<S: Alter>(rt: &HostRuntime, archive: &mut Store<S>) -> Result<Option<u32>, Failure> {
-    let mut walk = Walk::from(1);
+    let every = Choice::every();
+    let mut walk = Walk::from(&every, 1);
     let mut last = None;
     for _ in 0..u64::MAX {
-        let page = walk.next_page(rt, archive)?;
-        if page.is_empty() {
+        let Some(page) = walk.next_page(rt, archive)? else {
             break;
-        }
+        };
         last = last_of(last, page.as_slice());
     }
     Ok(last)

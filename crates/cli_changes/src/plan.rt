@@ -1,10 +1,10 @@
 //! `plan`: the plan of an archive, and another one in its place.
 
-use crate::dispose::destroys;
 use crate::plan_file::read_plan;
 use class_plan::{Date, Plan, day_number};
 use cli_console::{Failure, Status, Walk, agrees, is_by, today, write_text};
 use cli_texts::{due_by, plan_of_text, plan_text};
+use record_choice::{Choice, destroys};
 use record_store::{RecordEntry, Store};
 use sqlite::Alter;
 
@@ -23,7 +23,7 @@ impl DueToday {
         let path = entry.path.as_slice();
         if is_by(due_by(plan, path, entry.day), today) {
             self.all = self.all.saturating_add(1);
-            if entry.holds.is_empty() && destroys(plan, path) {
+            if entry.holds.is_empty() && destroys(plan.schedule_of(path)) {
                 self.destroyable = self.destroyable.saturating_add(1);
             }
         }
@@ -75,13 +75,13 @@ fn changes_by<S: Alter>(
         before: none,
         after: none,
     };
-    let mut walk = Walk::from(1);
+    let live = Choice::live();
+    let mut walk = Walk::from(&live, 1);
     for _ in 0..u64::MAX {
-        let page = walk.next_page(rt, archive)?;
-        if page.is_empty() {
+        let Some(page) = walk.next_page(rt, archive)? else {
             break;
-        }
-        for entry in page.iter().filter(|entry| !entry.destroyed) {
+        };
+        for entry in page.iter() {
             changes.add(entry, archive.plan(), plan, today);
         }
     }

@@ -1,49 +1,53 @@
-//! A walk over the records of an archive.
+//! A walk over the chosen records of an archive. Which these are, `record_choice` decides.
 
 use crate::failure::Failure;
-use record_store::{RecordEntry, Store};
+use record_choice::{Choice, WalkFault, choose_page};
+use record_store::{RecordEntry, Store, StoreFault};
 use sqlite::Alter;
+use std::alloc::Global;
 
-/// How many records a walk reads at a time.
+/// How many records a walk looks at in a step.
 const PAGE: usize = 4_000;
 
-/// A walk over the records of an archive, by number.
-#[derive(Clone, Copy)]
-pub struct Walk {
+/// A walk over the chosen records of an archive, by number.
+#[derive(Drop)]
+pub struct Walk<'a> {
+    choice: &'a Choice,
     /// The number from which it goes on, if it does.
     from: Option<u32>,
-    /// How many records are read at a time.
-    step: usize,
 }
 
-impl Walk {
-    /// A walk that begins with a number.
-    pub fn from(number: u32) -> Walk {
-        Walk::in_steps(number, PAGE)
+/// The failure of a walk.
+fn walk_failure(alloc: Global, fault: WalkFault<StoreFault>) -> Failure {
+    match fault {
+        WalkFault::Repository(fault) => Failure::of_store(alloc, "the store", fault),
+        WalkFault::NoMemory => Failure::NoMemory,
     }
+}
 
-    /// The same, with so many records at a time.
-    pub fn in_steps(number: u32, step: usize) -> Walk {
+impl<'a> Walk<'a> {
+    /// A walk over the records of a choice, from a number on.
+    pub fn from(choice: &'a Choice, number: u32) -> Walk<'a> {
         Walk {
+            choice,
             from: Some(number),
-            step,
         }
     }
 
-    /// The next records; none at the end. A failure is that of the store.
+    /// The next chosen records, which may be none; `None` at the end. A failure is that of the store.
     pub fn next_page<S: Alter>(
         &mut self,
         rt: &HostRuntime,
         archive: &mut Store<S>,
-    ) -> Result<Vec<RecordEntry>, Failure> {
+    ) -> Result<Option<Vec<RecordEntry>>, Failure> {
         let Some(from) = self.from else {
-            return Ok(Vec::new(rt.alloc()));
+            return Ok(None);
         };
-        let page = archive
-            .entries(from, self.step)
-            .map_err(|fault| Failure::of_store(rt.alloc(), "the store", fault))?;
-        self.from = page.last().and_then(|last| last.number.checked_add(1));
-        Ok(page)
+        let page = choose_page(rt.alloc(), archive, self.choice, from, PAGE).map_err(
+            |fault| walk_failure(rt.alloc(), fault),
+        )?;
+        self.from = page.next;
+        Ok(Some(page.chosen))
     }
 }
 

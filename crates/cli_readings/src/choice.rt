@@ -1,9 +1,14 @@
 //! Which records a list or an export has.
 
+ghost use Rattle.std.specs.Prelude.{◌≡◌, IfOk};
+ghost use Rattle.record_choice.specs.Views.{choice_view};
+ghost use Rattle.cli_readings.specs.Asked.{asked_choice};
+
 use class_plan::Plan;
-use cli_console::{Failure, Status, is_by, judge_day};
+use cli_console::{Failure, Status, judge_day};
 use command_lines::archives::Choice;
-use record_store::RecordEntry;
+use record_choice::Holder;
+use std::alloc::{AllocError, Global};
 
 /// Finds that the day of a choice has come.
 pub fn judge_choice(rt: &HostRuntime, choice: &Choice<'_>) -> Result<(), Failure> {
@@ -26,25 +31,27 @@ pub fn judge_class(rt: &HostRuntime, choice: &Choice<'_>, plan: &Plan) -> Result
     }
 }
 
-/// Whether a path is that of a class, or of one below it.
-fn is_within(path: &[u8], class: &str) -> bool {
-    match path.strip_prefix(class.as_bytes()) {
-        Some(rest) => rest.is_empty() || rest.starts_with(b"/"),
-        None => false,
-    }
-}
-
-/// Whether a record is chosen.
-pub fn has(choice: &Choice<'_>, entry: &RecordEntry) -> bool {
-    let in_class = match choice.class {
-        Some(class) => is_within(entry.path.as_slice(), class),
-        None => true,
+/// The choice that a command line asks for. Its first number is where a walk begins.
+pub fn choice_of(alloc: Global, asked: &Choice<'_>) -> Result<record_choice::Choice, AllocError>
+    ensures { IfOk result (λ c. choice_view c ≡ asked_choice asked.now) }
+{
+    let class = match asked.class {
+        Some(class) => Some(Vec::from_slice(alloc, class.as_bytes())?),
+        None => None,
     };
-    let is_due = match choice.due {
-        Some(day) => !entry.destroyed && is_by(entry.due, day),
-        None => true,
+    let held = if asked.is_held {
+        Some(Holder::Anyone)
+    } else {
+        None
     };
-    let is_held = !choice.is_held || !entry.holds.is_empty();
-    let is_live = !choice.is_live || !entry.destroyed;
-    in_class && is_due && is_held && is_live
+    Ok(record_choice::Choice {
+        numbers: None,
+        class,
+        is_live: asked.is_live,
+        is_destroyed: false,
+        held,
+        since: None,
+        until: None,
+        due: asked.due,
+    })
 }

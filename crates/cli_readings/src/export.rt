@@ -1,6 +1,6 @@
 //! `export`: records as files, with a manifest.
 
-use crate::choice::{has, judge_class};
+use crate::choice::{choice_of, judge_class};
 use crate::list::row_of;
 use cli_console::{Failure, Status, Walk, message_of};
 use cli_texts::{Kept, MANIFEST_HEADER, manifest_row, sum_of};
@@ -152,13 +152,13 @@ fn export_records<S: Alter>(
     export: &mut ExportFiles<'_>,
     choice: &Choice<'_>,
 ) -> Result<(), Failure> {
-    let mut walk = Walk::from(choice.from);
+    let chosen = choice_of(rt.alloc(), choice)?;
+    let mut walk = Walk::from(&chosen, choice.from);
     for _ in 0..u64::MAX {
-        let page = walk.next_page(rt, archive)?;
-        if page.is_empty() {
+        let Some(page) = walk.next_page(rt, archive)? else {
             break;
-        }
-        for entry in page.iter().filter(|entry| has(choice, *entry)) {
+        };
+        for entry in page.iter() {
             export_record(rt, archive, export, entry)?;
         }
     }

@@ -2,6 +2,7 @@
 
 use class_plan::Date;
 use cli_console::{Failure, Walk, is_by, message_of, today, write_text};
+use record_choice::Choice;
 use record_store::{RecordEntry, Store};
 use sqlite::Alter;
 
@@ -76,12 +77,12 @@ fn contents_of<S: Alter>(rt: &HostRuntime, archive: &mut Store<S>) -> Result<Con
         last: 0,
         message: 0,
     };
-    let mut walk = Walk::from(1);
+    let every = Choice::every();
+    let mut walk = Walk::from(&every, 1);
     for _ in 0..u64::MAX {
-        let page = walk.next_page(rt, archive)?;
-        if page.is_empty() {
+        let Some(page) = walk.next_page(rt, archive)? else {
             break;
-        }
+        };
         for entry in page.iter() {
             contents.add(rt, archive, entry, today)?;
         }

@@ -1,6 +1,6 @@
 //! `list`: the records, a line each.
 
-use crate::choice::{has, judge_class};
+use crate::choice::{choice_of, judge_class};
 use cli_console::{Failure, Walk, write, write_text};
 use cli_texts::{LIST_HEADER, Row, json_object, listed_line, listed_row};
 use command_lines::archives::{Choice, Format};
@@ -43,21 +43,18 @@ fn push_record(
     }
 }
 
-/// Writes the chosen records of a page. Answers whether there is still none before the next.
+/// Writes the records of a page. Answers whether there is still none before the next.
 fn write_page(
     rt: &HostRuntime,
     page: &[RecordEntry],
-    choice: &Choice<'_>,
     format: Format,
     is_first: bool,
 ) -> Result<bool, Failure> {
     let mut text = Vec::new(rt.alloc());
     let mut is_first = is_first;
     for entry in page {
-        if has(choice, entry) {
-            push_record(rt.alloc(), &mut text, entry, format, is_first)?;
-            is_first = false;
-        }
+        push_record(rt.alloc(), &mut text, entry, format, is_first)?;
+        is_first = false;
     }
     write(rt, text.as_slice())?;
     Ok(is_first)
@@ -70,14 +67,14 @@ fn write_records<S: Alter>(
     choice: &Choice<'_>,
     format: Format,
 ) -> Result<(), Failure> {
-    let mut walk = Walk::from(choice.from);
+    let chosen = choice_of(rt.alloc(), choice)?;
+    let mut walk = Walk::from(&chosen, choice.from);
     let mut is_first = true;
     for _ in 0..u64::MAX {
-        let page = walk.next_page(rt, archive)?;
-        if page.is_empty() {
+        let Some(page) = walk.next_page(rt, archive)? else {
             break;
-        }
-        is_first = write_page(rt, page.as_slice(), choice, format, is_first)?;
+        };
+        is_first = write_page(rt, page.as_slice(), format, is_first)?;
     }
     Ok(())
 }

@@ -4,6 +4,7 @@ use class_plan::{Date, Plan};
 use cli_console::{Failure, Status, Walk, now, today, write_text};
 use cli_page::{Heading, Page, Record, Report, ReportFault};
 use cli_texts::moment_text;
+use record_choice::Choice;
 use record_store::{RecordEntry, Store};
 use sqlite::Alter;
 
@@ -51,12 +52,12 @@ fn add_records<S: Alter>(
     archive: &mut Store<S>,
     report: &mut Report,
 ) -> Result<(), Failure> {
-    let mut walk = Walk::from(1);
+    let every = Choice::every();
+    let mut walk = Walk::from(&every, 1);
     for _ in 0..u64::MAX {
-        let page = walk.next_page(rt, archive)?;
-        if page.is_empty() {
+        let Some(page) = walk.next_page(rt, archive)? else {
             break;
-        }
+        };
         add_page(rt, archive.plan(), report, page.as_slice())?;
     }
     Ok(())

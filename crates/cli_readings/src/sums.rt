@@ -3,6 +3,7 @@
 use class_plan::day_number;
 use cli_console::{Failure, Walk, message_of};
 use cli_texts::plan_text;
+use record_choice::Choice;
 use record_store::{RecordEntry, Store};
 use sha2::{Digest, Sha256};
 use sqlite::Alter;
@@ -82,12 +83,12 @@ impl Summing {
         rt: &HostRuntime,
         archive: &mut Store<S>,
     ) -> Result<(), Failure> {
-        let mut walk = Walk::from(1);
+        let every = Choice::every();
+        let mut walk = Walk::from(&every, 1);
         for _ in 0..u64::MAX {
-            let page = walk.next_page(rt, archive)?;
-            if page.is_empty() {
+            let Some(page) = walk.next_page(rt, archive)? else {
                 break;
-            }
+            };
             for entry in page.iter() {
                 self.add_record(entry);
                 self.add_message(rt, archive, entry)?;

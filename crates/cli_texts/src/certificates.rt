@@ -31,8 +31,14 @@ pub fn sum_of(alloc: Global, octets: &[u8]) -> Result<String, AllocError>
 {
     let mut hasher = Sha256::new();
     hasher.update(octets);
-    let sum = hasher.finalize();
-    hex::encode(alloc, sum.as_slice())
+    sum_text(alloc, hasher.finalize().as_slice())
+}
+
+/// The octets of a sum, in hexadecimal digits.
+pub fn sum_text(alloc: Global, sum: &[u8]) -> Result<String, AllocError>
+    ensures { IfOk result (λ s. string_bytes s ≡ encode_lower sum.now) }
+{
+    hex::encode(alloc, sum)
 }
 
 /// A moment in UTC, as `2023-11-14T22:13:20Z`; in seconds where it is after 2199.

@@ -7,7 +7,7 @@ mod plans;
 mod records;
 mod rows;
 
-pub use certificates::{Certificate, certificate_line, moment_text, sum_of};
+pub use certificates::{Certificate, certificate_line, moment_text, sum_of, sum_text};
 pub use plans::{due_by, plan_of_text, plan_text};
 pub use records::{Row, captured_line, json_object, listed_line};
 pub use rows::{Kept, LIST_HEADER, MANIFEST_HEADER, csv_row, listed_row, manifest_row};
