@@ -1,7 +1,5 @@
 //! `dispose`: what is due, and its destruction. Which records these are, `record_choice` decides.
 
-ghost use Rattle.std.specs.Prelude.{◌≡◌, map, IfOk};
-
 use class_plan::{Action, Date, Schedule};
 use cli_console::{Failure, Status, judge_day, now, tell, today, write_text};
 use cli_texts::{Certificate, captured_line, certificate_line, sum_text};
@@ -149,9 +147,7 @@ fn refused(
 }
 
 /// The numbers of records that were asked for.
-fn numbers_asked(alloc: Global, records: &[TypedNumber<'_>]) -> Result<Vec<u32>, AllocError>
-    ensures { IfOk result (λ v. v.items ≡ map (λ r. r.number) records.now) }
-{
+fn numbers_asked(alloc: Global, records: &[TypedNumber<'_>]) -> Result<Vec<u32>, AllocError> {
     let mut numbers = Vec::with_capacity(alloc, records.len())?;
     for record in records {
         numbers.push(record.number)?;

