@@ -1,6 +1,6 @@
 -- How pages of records are joined.
 use Rattle.std.specs.Prelude.{◌≡◌, ℕ, ◌+◌, ◌^◌, nat_lt, not, ◌&&◌, Bool, true, false, if◌then◌else◌, List, [], ◌∷◌, ◌++◌, map, filter}
-use Rattle.std.specs.Prelude.{Option, Some, None, Result, Ok, Err, concat}
+use Rattle.std.specs.Prelude.{Option, Some, None, Result, Ok, Err, flat_map}
 use Rattle.record_archive.specs.Archive.{Record, Archive, IsArchive, message}
 use Rattle.record_archive.specs.declared.fault.ArchiveRefusal.{ArchiveRefusal}
 use Rattle.record_choice.specs.Choices.{Choice, Question, is_yes, meets_asked, chosen}
@@ -51,4 +51,4 @@ IsWalk q c a (Some n) (page ∷ pages) = (next : Option ℕ) × IsPageOf q c a (
 
 -- THE LAW: the pages of a whole walk, joined, are the chosen records
 abbrev pub WalkJoins : Question → Choice → Archive → List (List RecordEntry) → Type 0
-WalkJoins q c a pages = IsArchive a → IsWalk q c a (Some 1) pages → concat pages ≡ map (entry_of a) (chosen q c a)
+WalkJoins q c a pages = IsArchive a → IsWalk q c a (Some 1) pages → flat_map (λ page. page) pages ≡ map (entry_of a) (chosen q c a)

@@ -18,7 +18,7 @@ pub use choice::{Choice, Holder, Span, is_within};
 pub use destruction::{Destroyed, End};
 pub use disposal::{DisposeFault, Disposed, asked_lines, dispose, these_and_no_other};
 pub use entry::RecordEntry;
-pub use pages::{Page, WalkFault, choose_page};
+pub use pages::{Page, WalkFault, choose_page, walks_join};
 pub use questions::{Anything, Both, Judge};
 pub use reasons::{Reason, destroys, why_not};
 pub use registrar::Registrar;

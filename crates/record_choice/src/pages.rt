@@ -1,11 +1,11 @@
 //! A walk over the records that a command is about, page by page.
 
-ghost use Rattle.std.specs.Prelude.{◌≡◌, ◌≤◌, ◌<◌, ◌++◌, map, filter, option_map, None, IfOk, OnOk, IfSome, Some};
+ghost use Rattle.std.specs.Prelude.{◌≡◌, ◌≤◌, ◌<◌, ◌++◌, List, map, filter, option_map, None, IfOk, OnOk, IfSome, Some};
 ghost use Rattle.record_archive.specs.Archive.{Archive};
-ghost use Rattle.record_choice.specs.Choices.{where_asked};
-ghost use Rattle.record_choice.specs.Entries.{entry_view};
+ghost use Rattle.record_choice.specs.Choices.{Choice as Chosen, Question, where_asked};
+ghost use Rattle.record_choice.specs.Entries.{RecordEntry as Listed, entry_view};
 ghost use Rattle.record_choice.specs.Views.{choice_view, shows};
-ghost use Rattle.record_choice.specs.Walks.{last_of, above, shows_answer, kept_if, IsPageOf};
+ghost use Rattle.record_choice.specs.Walks.{last_of, above, shows_answer, kept_if, IsPageOf, WalkJoins};
 
 use crate::choice::Choice;
 use crate::entry::RecordEntry;
@@ -138,7 +138,7 @@ fn keep_asked<R: Repository, J: Judge>(
     ensures falls { R.clean records.new → R.clean records.old }
     ensures kept { IfOk result (λ v. R.clean records.new → (a : Archive) → R.stands records.old a
         → map entry_view v.items ≡ filter (λ e. where_asked (λ asks. shows_answer a asks e)
-        (option_map (λ j. J.asks j.now) question)) (map entry_view entries.items)) }
+        (option_map (λ j. J.asks j.now) question.entry)) (map entry_view entries.items)) }
 {
     match question {
         None => Ok(entries),
@@ -161,7 +161,7 @@ pub fn choose_page<R: Repository, J: Judge>(
     ensures stands { (a : Archive) → R.stands records.old a → R.stands records.new a }
     ensures falls { R.clean records.new → R.clean records.old }
     ensures page { IfOk result (λ p. R.clean records.new → (a : Archive) → R.stands records.old a
-        → IsPageOf (option_map (λ j. J.asks j.now) question) (choice_view choice.now) a (Some from)
+        → IsPageOf (option_map (λ j. J.asks j.now) question.entry) (choice_view choice.now) a (Some from)
         (map entry_view p.chosen.items) p.next) }
     ensures on { IfOk result (λ p. R.clean records.new → (a : Archive) → R.stands records.old a
         → IfSome p.next (λ n. from < n)) }
@@ -177,3 +177,10 @@ pub fn choose_page<R: Repository, J: Judge>(
         next: number_above(last),
     })
 }
+
+/// The law of `IsWalk` of the definitions: the pages of a walk from number 1 to its end, joined, are the chosen records. The
+/// function does nothing.
+pub fn walks_join()
+    ensures { (q : Question) (c : Chosen) (a : Archive) (pages : List (List Listed))
+        → WalkJoins q c a pages }
+{}

@@ -41,7 +41,7 @@ fn answer<J: Judge>(
     message: &[u8],
 ) -> Result<bool, AllocError>
     ensures { IfOk result (λ b. b ≡ where_asked (λ asks. asks message.now)
-        (option_map (λ j. J.asks j.now) question)) }
+        (option_map (λ j. J.asks j.now) question.entry)) }
 {
     match question {
         None => Ok(true),
