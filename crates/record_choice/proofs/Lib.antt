@@ -5,3 +5,4 @@ pub mod Judged
 pub mod DestructionLaws
 pub mod Keepers
 pub mod Asked
+mod Rows

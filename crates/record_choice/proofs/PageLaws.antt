@@ -1,6 +1,6 @@
 -- Pages, joined, are what is chosen.
-use Rattle.std.proofs.Common.{◌≡◌, ◌<◌, ◌≤◌, ◌+◌, ◌^◌, ℕ, zero, suc, Bool, true, false, ◌&&◌, cond, List, [], ◌∷◌, ◌++◌, map, filter, take, drop}
-use Rattle.std.proofs.Common.{subst, find, ◌==◌, nat_le, nat_lt, Option, Some, None, refl, sym, ap, ap₂, ◌∙◌, arith}
+use Rattle.std.proofs.Common.{◌≡◌, ◌<◌, ◌≤◌, ◌+◌, ◌^◌, ℕ, zero, suc, Bool, true, false, cond, List, [], ◌∷◌, ◌++◌, map, filter, take, drop}
+use Rattle.std.proofs.Common.{subst, find, nat_le, nat_lt, Option, Some, None, refl, sym, ap, ap₂, ◌∙◌, arith}
 use Rattle.std.specs.Prelude.{IfSome}
 use Rattle.std.specs.List.{AllByRecursion}
 use Rattle.std.proofs.lemmas.Bool.Decides.{nat_tests}
@@ -47,7 +47,8 @@ filter_none : {X : Type 0} (p : X → Bool) (xs : List X) → AllByRecursion (λ
 filter_none p [] h = refl
 filter_none p (x ∷ xs) h = ap₂ (λ b l. cond b (x ∷ l) l) h.0 (filter_none p xs h.1)
 
-mapped_one : {X Y : Type 0} (b : Bool) (f : X → Y) (x : X) (l : List Y) (rest : List X) → l ≡ map f rest → cond b (f x ∷ l) l ≡ map f (cond b (x ∷ rest) rest)
+mapped_one : {X Y : Type 0} (b : Bool) (f : X → Y) (x : X) (l : List Y) (rest : List X) → l ≡ map f rest
+    → cond b (f x ∷ l) l ≡ map f (cond b (x ∷ rest) rest)
 mapped_one true f x l rest more = ap (λ k. f x ∷ k) more
 mapped_one false f x l rest more = more
 
@@ -81,7 +82,8 @@ last_high r [] (suc k) up = omega arith
 last_high r (s ∷ rs) (suc k) up = let more = last_high s rs k up.1 in let less = up.0.0 in omega (arith, more, less)
 
 -- what comes after the first records are those with greater numbers
-cut : (r : Record) (rs : List Record) (k : ℕ) → IsAscending Below (r ∷ rs) → filter (is_from (last_from r.number (take k rs) + 1)) (r ∷ rs) ≡ drop k rs
+cut : (r : Record) (rs : List Record) (k : ℕ) → IsAscending Below (r ∷ rs)
+    → filter (is_from (last_from r.number (take k rs) + 1)) (r ∷ rs) ≡ drop k rs
 cut r rs zero up =
     ap (λ b. cond b (r ∷ filter (is_from (r.number + 1)) rs) (filter (is_from (r.number + 1)) rs)) (no (r.number + 1) r.number (omega arith))
     ∙ filter_all (is_from (r.number + 1)) rs (all_weaker (Below r) (λ x. is_from (r.number + 1) x ≡ true)
@@ -92,7 +94,8 @@ cut r (s ∷ rs) (suc k) up =
     let top = last_from s.number (take k rs) in
     let high = last_high s rs k up.1 in
     let less = up.0.0 in
-    ap (λ b. cond b (r ∷ filter (is_from (top + 1)) (s ∷ rs)) (filter (is_from (top + 1)) (s ∷ rs))) (no (top + 1) r.number (omega (arith, high, less)))
+    ap (λ b. cond b (r ∷ filter (is_from (top + 1)) (s ∷ rs)) (filter (is_from (top + 1)) (s ∷ rs)))
+    (no (top + 1) r.number (omega (arith, high, less)))
     ∙ cut s rs k up.1
 
 -- the last entry of a page has the number of its last record

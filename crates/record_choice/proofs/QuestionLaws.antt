@@ -8,7 +8,7 @@ use Rattle.std.proofs.lemmas.List.Elements.{recursion_from_All}
 use Rattle.record_archive.specs.Lists.{IsAscending}
 use Rattle.record_archive.specs.Archive.{Archive, Record, IsArchive, IsRecord, has_number, record_at, body_of, message_one}
 use Rattle.record_archive.specs.declared.fault.ArchiveRefusal.TheVariants as refusal
-use Rattle.record_choice.specs.Choices.{Choice, Question, where_asked, is_yes, message_of, meets_asked, chosen}
+use Rattle.record_choice.specs.Choices.{Choice, Question, where_asked, is_yes, message_of, meets_asked}
 use Rattle.record_choice.specs.Entries.{RecordEntry, entry_of, records_from, entries_from}
 use Rattle.record_choice.specs.Views.{shows}
 use Rattle.record_choice.specs.Walks.{chosen_after, last_of, above, is_told, shows_answer, IsPageOf, IsWalk, WalkJoins}

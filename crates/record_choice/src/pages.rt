@@ -161,8 +161,8 @@ pub fn choose_page<R: Repository, J: Judge>(
     ensures stands { (a : Archive) → R.stands records.old a → R.stands records.new a }
     ensures falls { R.clean records.new → R.clean records.old }
     ensures page { IfOk result (λ p. R.clean records.new → (a : Archive) → R.stands records.old a
-        → IsPageOf (option_map (λ j. J.asks j.now) question.entry) (choice_view choice.now) a (Some from)
-        (map entry_view p.chosen.items) p.next) }
+        → IsPageOf (option_map (λ j. J.asks j.now) question.entry) (choice_view choice.now) a
+        (Some from) (map entry_view p.chosen.items) p.next) }
     ensures on { IfOk result (λ p. R.clean records.new → (a : Archive) → R.stands records.old a
         → IfSome p.next (λ n. from < n)) }
 {

@@ -35,11 +35,7 @@ pub struct Both<'a, A, B> {
 }
 
 /// The answer to a question, which is yes where nothing is asked.
-fn answer<J: Judge>(
-    alloc: Global,
-    question: Option<&J>,
-    message: &[u8],
-) -> Result<bool, AllocError>
+fn answer<J: Judge>(alloc: Global, question: Option<&J>, message: &[u8]) -> Result<bool, AllocError>
     ensures { IfOk result (λ b. b ≡ where_asked (λ asks. asks message.now)
         (option_map (λ j. J.asks j.now) question.entry)) }
 {
@@ -50,7 +46,8 @@ fn answer<J: Judge>(
 }
 
 impl<'a, A: Judge, B: Judge> Judge for Both<'a, A, B> {
-    ghost asks = { λ both message. where_asked (λ asks. asks message) (option_map (λ j. A.asks j.now) both.first)
+    ghost asks = { λ both message.
+        where_asked (λ asks. asks message) (option_map (λ j. A.asks j.now) both.first)
         && where_asked (λ asks. asks message) (option_map (λ j. B.asks j.now) both.second) };
 
     fn judge(&self, alloc: Global, message: &[u8]) -> Result<bool, AllocError> {
