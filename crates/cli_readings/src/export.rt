@@ -5,6 +5,7 @@ use crate::list::row_of;
 use cli_console::{Failure, Status, Walk, message_of};
 use cli_texts::{Kept, MANIFEST_HEADER, manifest_row, sum_of};
 use command_lines::archives::Choice;
+use record_question::TestQuestion;
 use record_store::{RecordEntry, Store};
 use sqlite::Alter;
 use std::alloc::{AllocError, Global};
@@ -151,9 +152,10 @@ fn export_records<S: Alter>(
     archive: &mut Store<S>,
     export: &mut ExportFiles<'_>,
     choice: &Choice<'_>,
+    question: Option<&TestQuestion>,
 ) -> Result<(), Failure> {
     let chosen = choice_of(rt.alloc(), choice)?;
-    let mut walk = Walk::from(&chosen, choice.from);
+    let mut walk = Walk::asking(&chosen, question, choice.from);
     for _ in 0..u64::MAX {
         let Some(page) = walk.next_page(rt, archive)? else {
             break;
@@ -165,12 +167,13 @@ fn export_records<S: Alter>(
     Ok(())
 }
 
-/// Exports the chosen records to a folder in which none of the files is yet. `BadData` where the class is none of the
-/// plan.
+/// Exports the records that meet a choice, and to whose message the answer to a question is yes where one is asked, to a
+/// folder in which none of the files is yet. `BadData` where the class is none of the plan.
 pub fn export_to<S: Alter>(
     rt: &HostRuntime,
     archive: &mut Store<S>,
     choice: &Choice<'_>,
+    question: Option<&TestQuestion>,
     folder: &str,
 ) -> Result<(), Failure> {
     judge_class(rt, choice, archive.plan())?;
@@ -183,5 +186,5 @@ pub fn export_to<S: Alter>(
         sums: make_file(rt, folder, "SHA256SUMS")?,
         last: None,
     };
-    export_records(rt, archive, &mut export, choice)
+    export_records(rt, archive, &mut export, choice, question)
 }

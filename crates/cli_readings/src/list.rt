@@ -4,6 +4,7 @@ use crate::choice::{choice_of, judge_class};
 use cli_console::{Failure, Walk, write, write_text};
 use cli_texts::{LIST_HEADER, Row, json_object, listed_line, listed_row};
 use command_lines::archives::{Choice, Format};
+use record_question::TestQuestion;
 use record_store::{RecordEntry, Store};
 use sqlite::Alter;
 use std::alloc::{AllocError, Global};
@@ -40,60 +41,76 @@ fn push_record(
             })?;
             text.extend_from_slice(json_object(alloc, &row)?.as_bytes())
         }
+        Format::Numbers => {
+            let line = format!(in alloc; "{}\n", entry.number)?;
+            text.extend_from_slice(line.as_bytes())
+        }
+        Format::Count => Ok(()),
     }
 }
 
-/// Writes the records of a page. Answers whether there is still none before the next.
+/// Writes the records of a page, which come after so many others.
 fn write_page(
     rt: &HostRuntime,
     page: &[RecordEntry],
     format: Format,
-    is_first: bool,
-) -> Result<bool, Failure> {
+    before: u64,
+) -> Result<(), Failure> {
     let mut text = Vec::new(rt.alloc());
-    let mut is_first = is_first;
+    let mut is_first = before == 0;
     for entry in page {
         push_record(rt.alloc(), &mut text, entry, format, is_first)?;
         is_first = false;
     }
-    write(rt, text.as_slice())?;
-    Ok(is_first)
+    write(rt, text.as_slice())
 }
 
-/// Writes the chosen records.
+/// Writes the chosen records. Answers how many there are.
 fn write_records<S: Alter>(
     rt: &HostRuntime,
     archive: &mut Store<S>,
     choice: &Choice<'_>,
+    question: Option<&TestQuestion>,
     format: Format,
-) -> Result<(), Failure> {
+) -> Result<u64, Failure> {
     let chosen = choice_of(rt.alloc(), choice)?;
-    let mut walk = Walk::from(&chosen, choice.from);
-    let mut is_first = true;
+    let mut walk = Walk::asking(&chosen, question, choice.from);
+    let mut count: u64 = 0;
     for _ in 0..u64::MAX {
         let Some(page) = walk.next_page(rt, archive)? else {
             break;
         };
-        is_first = write_page(rt, page.as_slice(), format, is_first)?;
+        write_page(rt, page.as_slice(), format, count)?;
+        count = count.saturating_add(page.len() as u64);
     }
-    Ok(())
+    Ok(count)
 }
 
-/// Writes the chosen records to standard output, with what a format has before and after them. `BadData` where the class
-/// is none of the plan.
+/// What a format has after so many records.
+fn text_after(alloc: Global, format: Format, count: u64) -> Result<String, AllocError> {
+    match format {
+        Format::Lines | Format::Csv | Format::Numbers => Ok(String::new(alloc)),
+        Format::Json => String::from_str(alloc, "\n]\n"),
+        Format::Count => format!(in alloc; "{count}\n"),
+    }
+}
+
+/// Writes the records that meet a choice, and to whose message the answer to a question is yes where one is asked, with
+/// what a format has before and after them. `BadData` where the class is none of the plan.
 pub fn write_list<S: Alter>(
     rt: &HostRuntime,
     archive: &mut Store<S>,
     choice: &Choice<'_>,
+    question: Option<&TestQuestion>,
     format: Format,
 ) -> Result<(), Failure> {
-    let (before, after) = match format {
-        Format::Lines => ("", ""),
-        Format::Csv => (LIST_HEADER, ""),
-        Format::Json => ("[", "\n]\n"),
+    let before = match format {
+        Format::Lines | Format::Numbers | Format::Count => "",
+        Format::Csv => LIST_HEADER,
+        Format::Json => "[",
     };
     judge_class(rt, choice, archive.plan())?;
     write_text(rt, before)?;
-    write_records(rt, archive, choice, format)?;
-    write_text(rt, after)
+    let count = write_records(rt, archive, choice, question, format)?;
+    write_text(rt, text_after(rt.alloc(), format, count)?.as_str())
 }

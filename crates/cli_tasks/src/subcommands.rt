@@ -18,6 +18,7 @@ use command_lines::archives::{
 };
 use desk_commands::Payload;
 use filing_desk::Delivery;
+use record_question::TestQuestion;
 use record_store::Store;
 use sqlite::{Alter, Connection};
 
@@ -66,6 +67,7 @@ impl Work for Task<'_> {
 #[derive(Drop)]
 struct ListRecords<'c, 'a> {
     choice: &'c Choice<'a>,
+    question: Option<TestQuestion>,
     format: Format,
 }
 
@@ -78,7 +80,8 @@ impl Work for ListRecords<'_, '_> {
         archive: Store<S>,
     ) -> (Connection<S>, Result<(), Failure>) {
         let mut archive = archive;
-        let done = write_list(rt, &mut archive, self.choice, self.format);
+        let question = self.question.as_ref();
+        let done = write_list(rt, &mut archive, self.choice, question, self.format);
         (archive.into_connection(), done)
     }
 }
@@ -87,6 +90,7 @@ impl Work for ListRecords<'_, '_> {
 #[derive(Drop)]
 struct ExportRecords<'c, 'a, 'f> {
     choice: &'c Choice<'a>,
+    question: Option<TestQuestion>,
     folder: &'f str,
 }
 
@@ -99,7 +103,8 @@ impl Work for ExportRecords<'_, '_, '_> {
         archive: Store<S>,
     ) -> (Connection<S>, Result<(), Failure>) {
         let mut archive = archive;
-        let done = export_to(rt, &mut archive, self.choice, self.folder);
+        let question = self.question.as_ref();
+        let done = export_to(rt, &mut archive, self.choice, question, self.folder);
         (archive.into_connection(), done)
     }
 }
@@ -250,8 +255,13 @@ fn list<A: Archives>(
     choice: &Choice<'_>,
     format: Format,
 ) -> Result<(), Failure> {
-    judge_choice(rt, choice)?;
-    lend(rt, archives, store, ListRecords { choice, format })
+    let question = judge_choice(rt, choice)?;
+    let task = ListRecords {
+        choice,
+        question,
+        format,
+    };
+    lend(rt, archives, store, task)
 }
 
 /// Exports records to a folder.
@@ -262,8 +272,13 @@ fn export<A: Archives>(
     choice: &Choice<'_>,
     folder: &str,
 ) -> Result<(), Failure> {
-    judge_choice(rt, choice)?;
-    lend(rt, archives, store, ExportRecords { choice, folder })
+    let question = judge_choice(rt, choice)?;
+    let task = ExportRecords {
+        choice,
+        question,
+        folder,
+    };
+    lend(rt, archives, store, task)
 }
 
 /// Lists what is due and may be destroyed, or destroys it.

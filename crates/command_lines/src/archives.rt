@@ -100,10 +100,17 @@ pub struct Choice<'a> {
     pub class: Option<&'a str>,
     /// Live, and due by this day.
     pub due: Option<Date>,
+    /// Captured on this day or later.
+    pub since: Option<Date>,
+    /// Captured on this day or before.
+    pub until: Option<Date>,
     /// Kept by a hold.
     pub is_held: bool,
     /// Not destroyed.
     pub is_live: bool,
+    pub is_destroyed: bool,
+    /// With a message that meets this test, as it is typed.
+    pub test: Option<&'a str>,
     /// With this number or a greater one.
     pub from: u32,
 }
@@ -115,6 +122,10 @@ pub enum Format {
     Lines,
     Csv,
     Json,
+    /// The numbers alone, a line each.
+    Numbers,
+    /// How many there are.
+    Count,
 }
 
 /// The number of a record.
@@ -226,32 +237,69 @@ fn filing_asked<'a>(alloc: Global, asked: &ArgMatches<'a>) -> Result<Filing<'a>,
     })
 }
 
+/// The days of capture from which and up to which records are asked for, where they are given.
+fn days_asked(
+    alloc: Global,
+    asked: &ArgMatches<'_>,
+) -> Result<(Option<Date>, Option<Date>), NoCommand> {
+    let since = day_asked(alloc, asked, words::SINCE)?;
+    let until = day_asked(alloc, asked, words::UNTIL)?;
+    match (since, until) {
+        (Some(first), Some(last)) if last < first => Err(NoCommand::Wrong(String::from_str(
+            alloc,
+            "the day of --until is before that of --since",
+        )?)),
+        days => Ok(days),
+    }
+}
+
+/// The number of the first record that is looked at.
+fn first_asked(alloc: Global, asked: &ArgMatches<'_>) -> Result<u32, NoCommand> {
+    match value_of(asked, words::FROM) {
+        Some(word) => number_of(alloc, word),
+        None => Ok(1),
+    }
+}
+
 /// Which records are chosen.
 fn choice_asked<'a>(alloc: Global, asked: &ArgMatches<'a>) -> Result<Choice<'a>, NoCommand> {
     let class = value_of(asked, words::CLASS);
     let due = day_asked(alloc, asked, words::DUE)?;
-    let from = match value_of(asked, words::FROM) {
-        Some(word) => number_of(alloc, word)?,
-        None => 1,
-    };
+    let (since, until) = days_asked(alloc, asked)?;
     Ok(Choice {
         class,
         due,
+        since,
+        until,
         is_held: has_flag(asked, words::HELD),
         is_live: has_flag(asked, words::LIVE),
-        from,
+        is_destroyed: has_flag(asked, words::DESTROYED),
+        test: value_of(asked, words::WHERE),
+        from: first_asked(alloc, asked)?,
     })
 }
 
-/// How records are listed.
-fn format_asked(asked: &ArgMatches<'_>) -> Format {
-    if has_flag(asked, words::CSV) {
-        Format::Csv
-    } else if has_flag(asked, words::JSON) {
-        Format::Json
-    } else {
-        Format::Lines
+/// The formats that a list can have, with the flags that ask for them.
+const FORMATS: [(Word, Format); 4] = [
+    (words::CSV, Format::Csv),
+    (words::JSON, Format::Json),
+    (words::ONLY_NUMBERS, Format::Numbers),
+    (words::COUNT, Format::Count),
+];
+
+/// How records are listed. Two formats at once are refused.
+fn format_asked(alloc: Global, asked: &ArgMatches<'_>) -> Result<Format, NoCommand> {
+    let mut format = None;
+    for (word, named) in FORMATS {
+        if has_flag(asked, word) {
+            if format.is_some() {
+                let reason = "--csv, --json, --numbers and --count cannot be used together";
+                return Err(NoCommand::Wrong(String::from_str(alloc, reason)?));
+            }
+            format = Some(named);
+        }
     }
+    Ok(format.unwrap_or(Format::Lines))
 }
 
 /// What is done with the plan. `--yes` is refused where there is no plan to agree to.
@@ -324,7 +372,7 @@ fn reading_asked<'a>(
     Ok(Some(match name {
         "list" => Command::List {
             choice: choice_asked(alloc, asked)?,
-            format: format_asked(asked),
+            format: format_asked(alloc, asked)?,
         },
         "show" => Command::Show {
             record: record_asked(alloc, asked)?,

@@ -23,4 +23,4 @@ pub use case::{BorrowedCase, BorrowedField};
 pub use laws::acts_are_done;
 pub use observer::{Act, Inclusion, Observer};
 pub use outcome::{evaluate, evaluate_observed};
-pub use truth::{has_listed_key, has_listed_name};
+pub use truth::{has_listed_key, has_listed_name, is_only_true};

@@ -158,6 +158,48 @@ pub const FROM: Word = Word {
     ..OPTION
 };
 
+pub const SINCE: Word = Word {
+    name: "since",
+    value: "YYYY-MM-DD",
+    help: Some("Records that were captured on this day or later"),
+    ..OPTION
+};
+
+pub const UNTIL: Word = Word {
+    name: "until",
+    value: "YYYY-MM-DD",
+    help: Some("Records that were captured on this day or before"),
+    ..OPTION
+};
+
+pub const DESTROYED: Word = Word {
+    name: "destroyed",
+    help: Some("Records that are destroyed"),
+    conflict: Some("live"),
+    ..FLAG
+};
+
+pub const WHERE: Word = Word {
+    name: "where",
+    value: "TEST",
+    help: Some(
+        "Records whose message meets this test, written as in a rule; none that are destroyed",
+    ),
+    ..OPTION
+};
+
+pub const ONLY_NUMBERS: Word = Word {
+    name: "numbers",
+    help: Some("Prints the numbers alone, a line each"),
+    ..FLAG
+};
+
+pub const COUNT: Word = Word {
+    name: "count",
+    help: Some("Prints how many records there are"),
+    ..FLAG
+};
+
 pub const CSV: Word = Word {
     name: "csv",
     help: Some("Prints rows of CSV, with a header"),
@@ -175,7 +217,22 @@ const LIST: Subcommand = Subcommand {
     name: "list",
     about: "Prints a line for each record: number, class, day, due date or never, holds, and whether it is destroyed",
     example: "Example: mailfile-store list --store records.db --class finance --live",
-    words: &[STORE, CLASS, DUE, HELD, LIVE, FROM, CSV, JSON],
+    words: &[
+        STORE,
+        CLASS,
+        DUE,
+        SINCE,
+        UNTIL,
+        HELD,
+        LIVE,
+        DESTROYED,
+        WHERE,
+        FROM,
+        CSV,
+        JSON,
+        ONLY_NUMBERS,
+        COUNT,
+    ],
 };
 
 pub const FIELDS: Word = Word {
@@ -201,7 +258,9 @@ const EXPORT: Subcommand = Subcommand {
     name: "export",
     about: "Writes the messages of records to a folder, with manifest.csv and SHA256SUMS; replaces nothing",
     example: "Example: mailfile-store export --store records.db --class finance for-court",
-    words: &[STORE, CLASS, DUE, HELD, LIVE, FROM, FOLDER],
+    words: &[
+        STORE, CLASS, DUE, SINCE, UNTIL, HELD, LIVE, DESTROYED, WHERE, FROM, FOLDER,
+    ],
 };
 
 pub const NEW: Word = Word {
