@@ -1,5 +1,5 @@
 -- A test of a rule as a question on messages.
-use Rattle.std.specs.Prelude.{◌≡◌, ℕ, Bool, true, false, List, [], ◌∷◌, Option, Some, None, Result, Ok, Err}
+use Rattle.std.specs.Prelude.{◌≡◌, ℕ, Bool, true, false, codes, List, [], ◌∷◌, Option, Some, None, Result, Ok, Err}
 use Rattle.sieve_syntax.specs.Tree.{TestTree, InnerTests, one_test, CommandTree, command, EndingTree, block, CommandTrees, no_commands, command_then}
 use Rattle.sieve_syntax.specs.View.{tree_of}
 use Rattle.sieve_text.specs.Questions.{IsTest, ExplainsTest}
@@ -7,7 +7,7 @@ use Rattle.sieve_text.specs.declared.fault.TextFault.TheVariants as texts
 use Rattle.sieve_check.specs.Rules.{refusal_of}
 use Rattle.sieve_check.specs.Faults.{number_of}
 use Rattle.sieve_meaning.specs.Program.{Test, always}
-use Rattle.sieve_meaning.specs.Reading.{codes, only_in}
+use Rattle.sieve_meaning.specs.Reading.{only_in}
 use Rattle.sieve_meaning.specs.Truth.{truth}
 use Rattle.mail_case.specs.Message.{case_of, is_among}
 use Rattle.record_question.specs.declared.fault.QuestionFault.{QuestionFault}

@@ -1,6 +1,6 @@
 //! A question that is one test.
 
-ghost use Rattle.std.specs.Prelude.{◌≡◌, ◌×◌, IfOk, IfErr};
+ghost use Rattle.std.specs.Prelude.{◌≡◌, IfOk, IfErr};
 ghost use Rattle.sieve_syntax.specs.Tree.{TestTree};
 ghost use Rattle.sieve_syntax.specs.View.{test_of, tree_of};
 ghost use Rattle.sieve_meaning.specs.Reading.{test_in};
