@@ -237,6 +237,14 @@ fn filing_asked<'a>(alloc: Global, asked: &ArgMatches<'a>) -> Result<Filing<'a>,
     })
 }
 
+/// Whether a first day is after a last one.
+fn is_backwards(first: Option<Date>, last: Option<Date>) -> bool {
+    match (first, last) {
+        (Some(first), Some(last)) => last < first,
+        _ => false,
+    }
+}
+
 /// The days of capture from which and up to which records are asked for, where they are given.
 fn days_asked(
     alloc: Global,
@@ -244,13 +252,11 @@ fn days_asked(
 ) -> Result<(Option<Date>, Option<Date>), NoCommand> {
     let since = day_asked(alloc, asked, words::SINCE)?;
     let until = day_asked(alloc, asked, words::UNTIL)?;
-    match (since, until) {
-        (Some(first), Some(last)) if last < first => Err(NoCommand::Wrong(String::from_str(
-            alloc,
-            "the day of --until is before that of --since",
-        )?)),
-        days => Ok(days),
+    if is_backwards(since, until) {
+        let reason = "the day of --until is before that of --since";
+        return Err(NoCommand::Wrong(String::from_str(alloc, reason)?));
     }
+    Ok((since, until))
 }
 
 /// The number of the first record that is looked at.
