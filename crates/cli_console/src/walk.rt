@@ -54,8 +54,9 @@ impl<'a, J: Judge> Walk<'a, J> {
         let Some(from) = self.from else {
             return Ok(None);
         };
-        let page = choose_page(rt.alloc(), archive, self.choice, self.question, from, PAGE)
-            .map_err(|fault| walk_failure(rt.alloc(), fault))?;
+        let page = choose_page(rt.alloc(), archive, self.choice, self.question, from, PAGE).map_err(
+            |fault| walk_failure(rt.alloc(), fault),
+        )?;
         self.from = page.next;
         Ok(Some(page.chosen))
     }
