@@ -1,8 +1,8 @@
 //! A charset, and its name.
 
-ghost use Rattle.std.specs.Prelude.{◌≡◌, ◌==◌, not, take};
-ghost use Rattle.std.specs.List.{prefix_len};
-ghost use Rattle.mail_charsets.specs.Names.{without_language, charset_called, charset_named};
+ghost use Rattle.std.specs.Prelude.{◌≡◌, ◌≤◌, ◌==◌, not, length, option_map};
+ghost use Rattle.std.specs.List.{prefix_len, find};
+ghost use Rattle.mail_charsets.specs.Names.{is_named, charset_called, charset_named};
 
 use crate::names::NAMES;
 
@@ -67,22 +67,38 @@ pub enum Charset {
     Koi8U,
 }
 
-/// The name without the language that "*" may put after it (RFC 2231, section 5).
-fn without_language(name: &[u8]) -> &[u8]
-    ensures { result.now ≡ without_language name.now }
+/// How many octets a name has before the language that "*" may put after it (RFC 2231, section 5).
+fn name_len(name: &[u8]) -> usize
+    ensures value { result ≡ prefix_len (λ b. not (b == 42)) name.now }
+    ensures within { result ≤ length name.now }
 {
-    let len = name.iter().take_while(|octet| **octet != b'*').count();
-    &name[..len]
+    name.iter().take_while(|octet| **octet != b'*').count()
+}
+
+/// Whether two names are equal in any case of their letters.
+fn is_called(name: &[u8], other: &[u8]) -> bool
+    ensures { result ≡ is_named name.now other.now }
+{
+    name.eq_ignore_ascii_case(other)
+}
+
+/// The charset that a list of names has for a name. The first one counts.
+fn charset_in(names: &[(&str, Charset)], name: &[u8]) -> Option<Charset>
+    ensures { result
+        ≡ option_map (λ known. known.1) (find (λ known. is_named name.now known.0.now) names.now) }
+{
+    let known = names
+        .iter()
+        .find(|known| is_called(name, known.0.as_bytes()))?;
+    Some(known.1)
 }
 
 /// The charset of a name that has no language after it.
+#[tactic(auto, unfolding(crate::specs::Names::charset_called))]
 fn charset_called(name: &[u8]) -> Option<Charset>
     ensures { result ≡ charset_called name.now }
 {
-    NAMES
-        .iter()
-        .find(|known| name.eq_ignore_ascii_case(known.0.as_bytes()))
-        .map(|known| known.1)
+    charset_in(&NAMES, name)
 }
 
 impl Charset {
@@ -92,6 +108,7 @@ impl Charset {
     pub fn named(name: &[u8]) -> Option<Charset>
         ensures { result ≡ charset_named name.now }
     {
-        charset_called(without_language(name))
+        let (name, _) = name.split_at(name_len(name));
+        charset_called(name)
     }
 }

@@ -3,6 +3,7 @@
 ghost use Rattle.std.specs.Prelude.{◌≡◌, ◌==◌, ◌<◌, ◌≤◌, ◌++◌, length, map, count_by, IfOk, OnOk, IsTrue, string_bytes, encode_utf8_all};
 ghost use Rattle.std.specs.Str.{is_utf8};
 ghost use Rattle.std.specs.Str.Lossy.{utf8_lossy};
+ghost use Rattle.mail_charsets.specs.declared.charset.Charset.TheVariants.{Utf8};
 ghost use Rattle.mail_charsets.specs.Tables.{upper_of, code_point};
 ghost use Rattle.mail_charsets.specs.Decoding.{text_of, unread_of};
 
@@ -88,24 +89,31 @@ fn by_table(alloc: Global, charset: Charset, octets: &[u8]) -> Result<String, Al
     ensures { IfOk result (λ t. string_bytes t
         ≡ encode_utf8_all (map (code_point charset) octets.now)) }
 {
-    let mut text = String::with_capacity(alloc, octets.len())?;
-    for octet in octets {
-        text.push(character(charset, *octet))?;
-    }
-    Ok(text)
+    octets
+        .iter()
+        .map(|octet| character(charset, *octet))
+        .collect(alloc)
+}
+
+fn is_well_formed(octets: &[u8]) -> bool
+    ensures { result ≡ is_utf8 octets.now }
+{
+    str::from_utf8(octets).is_ok()
 }
 
 /// One where the octets are no well-formed UTF-8, otherwise nought.
+#[tactic(auto, unfolding(crate::specs::Decoding::unread_of))]
 fn unread_utf8(octets: &[u8]) -> usize
-    ensures { result ≡ unread_of Charset.Utf8 octets.now }
+    ensures { result ≡ unread_of Utf8 octets.now }
 {
-    usize::from(str::from_utf8(octets).is_err())
+    if is_well_formed(octets) { 0 } else { 1 }
 }
 
 /// The text of octets in a charset, and how much of it could not be read. In UTF-8 each ill-formed part becomes one
 /// U+FFFD, as Unicode's chapter 3.9 recommends, and all of them count as one. In another charset each octet is the
 /// character that the charset's table has for it, or U+FFFD where it has none, and each of those counts. The one error
 /// is out of memory.
+#[tactic(auto, unfolding(crate::specs::Decoding::text_of, crate::specs::Decoding::unread_of))]
 pub fn decode(alloc: Global, charset: Charset, octets: &[u8]) -> Result<Decoded, AllocError>
     ensures text { IfOk result (λ d. string_bytes d.text ≡ text_of charset octets.now) }
     ensures unread { IfOk result (λ d. d.unread ≡ unread_of charset octets.now) }

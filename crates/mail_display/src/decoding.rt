@@ -1,0 +1,97 @@
+//! What an encoded word says (RFC 2047, sections 3 and 4).
+
+ghost use Rattle.std.specs.Prelude.{◌≡◌, IfOk};
+ghost use Rattle.mail_display.specs.Decoding.{b_octets, octets_of, read_octets, readable_at};
+ghost use Rattle.mail_display.specs.Vecs.{IsVecOf};
+
+use crate::quoted::decode_q;
+use crate::words::front_word;
+use base64::DecodeAllocError;
+use base64::engine::general_purpose::STANDARD_PAD_INDIFFERENT;
+use mail_charsets::{Charset, decode};
+use std::alloc::{AllocError, Global};
+use std::marker::Model;
+
+/// A word at the front of a text that could be decoded, in UTF-8, and the rest of the text.
+#[derive(Drop)]
+pub struct ReadableWord<'a> {
+    pub octets: Vec<u8>,
+    /// Whether each of its octets has a character in its charset.
+    pub is_whole: bool,
+    pub rest: &'a [u8],
+}
+
+impl<'a> Model for ReadableWord<'a> {
+    ghost use Rattle.mail_display.specs.Decoding.{Readable};
+
+    ghost Value = { Readable };
+
+    ghost view = { λ w. record {
+      octets = w.octets.items;
+      is_whole = w.is_whole;
+      rest = w.rest.now;
+    } };
+}
+
+/// The octets that B text encodes, padded or not (RFC 2047, section 4.1). None where it is no base64.
+fn decode_b(alloc: Global, text: &[u8]) -> Result<Option<Vec<u8>>, AllocError>
+    ensures { IfOk result (λ octets. IsVecOf (b_octets text.now) octets) }
+{
+    match STANDARD_PAD_INDIFFERENT.decode(alloc, text) {
+        Ok(octets) => Ok(Some(octets)),
+        Err(DecodeAllocError::OutOfMemory) => Err(AllocError),
+        Err(_) => Ok(None),
+    }
+}
+
+/// The octets that a word's text encodes, by the letter of its encoding. None where the letter is none of B, b, Q and
+/// q, or the text is bad.
+fn octets_of(alloc: Global, encoding: u8, text: &[u8]) -> Result<Option<Vec<u8>>, AllocError>
+    ensures { IfOk result (λ octets. IsVecOf (octets_of encoding text.now) octets) }
+{
+    match encoding {
+        b'B' | b'b' => decode_b(alloc, text),
+        b'Q' | b'q' => decode_q(alloc, text),
+        _ => Ok(None),
+    }
+}
+
+/// The octets of a charset in UTF-8 and whether each has a character. Those of UTF-8 stay as they are, since a
+/// character may be split over two words.
+fn in_utf8(
+    alloc: Global,
+    charset: Charset,
+    octets: Vec<u8>,
+) -> Result<(Vec<u8>, bool), AllocError>
+    ensures octets { IfOk result (λ r. r.0.items ≡ (read_octets charset octets.items).0) }
+    ensures whole { IfOk result (λ r. r.1 ≡ (read_octets charset octets.items).1) }
+{
+    match charset {
+        Charset::Utf8 => Ok((octets, true)),
+        _ => {
+            let decoded = decode(alloc, charset, octets.as_slice())?;
+            Ok((decoded.text.into_bytes(), decoded.unread == 0))
+        }
+    }
+}
+
+/// The word at the front of a text, if one stands there whose charset is known and whose text is good.
+pub fn readable_word(alloc: Global, text: &[u8]) -> Result<Option<ReadableWord<'_>>, AllocError>
+    ensures { IfOk result (λ word. word ≡ readable_at text.now) }
+{
+    let Some(front) = front_word(text) else {
+        return Ok(None);
+    };
+    let Some(charset) = Charset::named(front.charset) else {
+        return Ok(None);
+    };
+    let Some(octets) = octets_of(alloc, front.encoding, front.text)? else {
+        return Ok(None);
+    };
+    let (octets, is_whole) = in_utf8(alloc, charset, octets)?;
+    Ok(Some(ReadableWord {
+        octets,
+        is_whole,
+        rest: front.rest,
+    }))
+}
