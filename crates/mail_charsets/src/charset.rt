@@ -1,10 +1,10 @@
 //! A charset, and its name.
 
-ghost use Rattle.std.specs.Prelude.{◌≡◌, ◌≤◌, ◌==◌, not, length, option_map};
-ghost use Rattle.std.specs.List.{prefix_len, find};
-ghost use Rattle.mail_charsets.specs.Names.{is_named, charset_called, charset_named};
+ghost use Rattle.std.specs.Prelude.{◌≡◌, ◌≤◌, ◌==◌, not, length};
+ghost use Rattle.std.specs.List.{prefix_len};
+ghost use Rattle.mail_charsets.specs.Named.{charset_called, charset_named};
 
-use crate::names::NAMES;
+use crate::names::has_name;
 
 /// A charset of which texts are read.
 #[derive(Clone, Copy)]
@@ -67,6 +67,38 @@ pub enum Charset {
     Koi8U,
 }
 
+/// All charsets.
+static CHARSETS: [Charset; 28] = [
+    Charset::UsAscii,
+    Charset::Utf8,
+    Charset::Iso8859_1,
+    Charset::Iso8859_2,
+    Charset::Iso8859_3,
+    Charset::Iso8859_4,
+    Charset::Iso8859_5,
+    Charset::Iso8859_6,
+    Charset::Iso8859_7,
+    Charset::Iso8859_8,
+    Charset::Iso8859_9,
+    Charset::Iso8859_10,
+    Charset::Iso8859_11,
+    Charset::Iso8859_13,
+    Charset::Iso8859_14,
+    Charset::Iso8859_15,
+    Charset::Iso8859_16,
+    Charset::Windows1250,
+    Charset::Windows1251,
+    Charset::Windows1252,
+    Charset::Windows1253,
+    Charset::Windows1254,
+    Charset::Windows1255,
+    Charset::Windows1256,
+    Charset::Windows1257,
+    Charset::Windows1258,
+    Charset::Koi8R,
+    Charset::Koi8U,
+];
+
 /// How many octets a name has before the language that "*" may put after it (RFC 2231, section 5).
 fn name_len(name: &[u8]) -> usize
     ensures value { result ≡ prefix_len (λ b. not (b == 42)) name.now }
@@ -75,30 +107,15 @@ fn name_len(name: &[u8]) -> usize
     name.iter().take_while(|octet| **octet != b'*').count()
 }
 
-/// Whether two names are equal in any case of their letters.
-fn is_called(name: &[u8], other: &[u8]) -> bool
-    ensures { result ≡ is_named name.now other.now }
-{
-    name.eq_ignore_ascii_case(other)
-}
-
-/// The charset that a list of names has for a name. The first one counts.
-fn charset_in(names: &[(&str, Charset)], name: &[u8]) -> Option<Charset>
-    ensures { result
-        ≡ option_map (λ known. known.1) (find (λ known. is_named name.now known.0.now) names.now) }
-{
-    let known = names
-        .iter()
-        .find(|known| is_called(name, known.0.as_bytes()))?;
-    Some(known.1)
-}
-
 /// The charset of a name that has no language after it.
-#[tactic(auto, unfolding(crate::specs::Names::charset_called))]
+#[tactic(auto, unfolding(crate::specs::Named::charset_called))]
 fn charset_called(name: &[u8]) -> Option<Charset>
     ensures { result ≡ charset_called name.now }
 {
-    charset_in(&NAMES, name)
+    CHARSETS
+        .iter()
+        .copied()
+        .find(|charset| has_name(*charset, name))
 }
 
 impl Charset {

@@ -5,7 +5,7 @@ use Rattle.base64.specs.GeneralPurpose.{decode_of}
 use Rattle.base64.specs.Engines.{standard_pad_indifferent}
 use Rattle.mail_charsets.specs.declared.charset.Charset.{Charset}
 use Rattle.mail_charsets.specs.declared.charset.Charset.TheVariants.{Utf8}
-use Rattle.mail_charsets.specs.Names.{charset_named}
+use Rattle.mail_charsets.specs.Named.{charset_named}
 use Rattle.mail_charsets.specs.Decoding.{text_of, unread_of}
 use Rattle.mail_display.specs.declared.quoted.Place.TheVariants.{Plain}
 use Rattle.mail_display.specs.Quoted.{q_octets}

@@ -1,7 +1,7 @@
 -- The first field of a name, and what is shown of its body.
 use Rattle.std.specs.Prelude.{◌≡◌, ℕ, List, Option, Some, None, option_map, MatchOption, string_bytes}
 use Rattle.std.specs.List.{find}
-use Rattle.mail_display.specs.declared.display.DisplayText.{DisplayText}
+use Rattle.mail_display.specs.declared.showing.DisplayText.{DisplayText}
 use Rattle.mail_display.specs.Display.{display_text, display_unread}
 use Rattle.mail_display.specs.Groups.{is_called}
 

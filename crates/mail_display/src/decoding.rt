@@ -58,11 +58,7 @@ fn octets_of(alloc: Global, encoding: u8, text: &[u8]) -> Result<Option<Vec<u8>>
 
 /// The octets of a charset in UTF-8 and whether each has a character. Those of UTF-8 stay as they are, since a
 /// character may be split over two words.
-fn in_utf8(
-    alloc: Global,
-    charset: Charset,
-    octets: Vec<u8>,
-) -> Result<(Vec<u8>, bool), AllocError>
+fn in_utf8(alloc: Global, charset: Charset, octets: Vec<u8>) -> Result<(Vec<u8>, bool), AllocError>
     ensures octets { IfOk result (λ r. r.0.items ≡ (read_octets charset octets.items).0) }
     ensures whole { IfOk result (λ r. r.1 ≡ (read_octets charset octets.items).1) }
 {

@@ -4,8 +4,8 @@ ghost use Rattle.std.specs.Prelude.{◌≡◌, codes, option_or, IfOk, MatchOpti
 ghost use Rattle.mail_head.specs.Fields.{fields_of};
 ghost use Rattle.mail_display.specs.Fields.{body_called, IsShownOf};
 
-use crate::display::{DisplayText, display};
 use crate::groups::is_called;
+use crate::showing::{DisplayText, display};
 use mail_head::first_field;
 use std::alloc::{AllocError, Global};
 
@@ -25,11 +25,7 @@ fn body_called<'a>(message: &'a [u8], name: &[u8]) -> Option<&'a [u8]>
 }
 
 /// What is shown of the body of a message's first field of a name, if it has one.
-fn shown(
-    alloc: Global,
-    message: &[u8],
-    name: &[u8],
-) -> Result<Option<DisplayText>, AllocError>
+fn shown(alloc: Global, message: &[u8], name: &[u8]) -> Result<Option<DisplayText>, AllocError>
     ensures { IfOk result (IsShownOf (body_called name.now (fields_of message.now))) }
 {
     match body_called(message, name) {

@@ -5,9 +5,9 @@ ghost use Rattle.mail_head.specs.Fields.{fields_of};
 ghost use Rattle.mail_display.specs.Folding.{folded};
 ghost use Rattle.mail_display.specs.Question.{key_of, finding, with_group, unread_in, asks, folded_key, first_empty};
 
-use crate::display::display;
 use crate::folding::fold;
 use crate::groups::{FieldGroup, group_of};
+use crate::showing::display;
 use mail_head::{Field, first_field};
 use sieve_match::{Comparator, contains};
 use std::alloc::{AllocError, Global};
