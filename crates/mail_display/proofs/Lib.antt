@@ -1,0 +1,3 @@
+mod ShownLemmas
+mod QuotedLemmas
+mod QuestionLemmas

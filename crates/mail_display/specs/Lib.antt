@@ -1,4 +1,3 @@
-pub mod Vecs
 pub mod Quoted
 pub mod Words
 pub mod Decoding

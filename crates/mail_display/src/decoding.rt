@@ -1,8 +1,7 @@
 //! What an encoded word says (RFC 2047, sections 3 and 4).
 
-ghost use Rattle.std.specs.Prelude.{◌≡◌, IfOk};
+ghost use Rattle.std.specs.Prelude.{◌≡◌, IfOk, MatchOption};
 ghost use Rattle.mail_display.specs.Decoding.{b_octets, octets_of, read_octets, readable_at};
-ghost use Rattle.mail_display.specs.Vecs.{IsVecOf};
 
 use crate::quoted::decode_q;
 use crate::words::front_word;
@@ -35,7 +34,7 @@ impl<'a> Model for ReadableWord<'a> {
 
 /// The octets that B text encodes, padded or not (RFC 2047, section 4.1). None where it is no base64.
 fn decode_b(alloc: Global, text: &[u8]) -> Result<Option<Vec<u8>>, AllocError>
-    ensures { IfOk result (λ octets. IsVecOf (b_octets text.now) octets) }
+    ensures { IfOk result (λ octets. MatchOption octets (b_octets text.now ≡ None) (λ v. b_octets text.now ≡ Some v.items)) }
 {
     match STANDARD_PAD_INDIFFERENT.decode(alloc, text) {
         Ok(octets) => Ok(Some(octets)),
@@ -47,7 +46,8 @@ fn decode_b(alloc: Global, text: &[u8]) -> Result<Option<Vec<u8>>, AllocError>
 /// The octets that a word's text encodes, by the letter of its encoding. None where the letter is none of B, b, Q and
 /// q, or the text is bad.
 fn octets_of(alloc: Global, encoding: u8, text: &[u8]) -> Result<Option<Vec<u8>>, AllocError>
-    ensures { IfOk result (λ octets. IsVecOf (octets_of encoding text.now) octets) }
+    ensures { IfOk result (λ octets. MatchOption octets (octets_of encoding text.now ≡ None)
+        (λ v. octets_of encoding text.now ≡ Some v.items)) }
 {
     match encoding {
         b'B' | b'b' => decode_b(alloc, text),

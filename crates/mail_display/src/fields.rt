@@ -1,6 +1,7 @@
 //! The fields that a list of messages has.
 
-ghost use Rattle.std.specs.Prelude.{◌≡◌, codes, option_or, IfOk, MatchOption, None, Some};
+ghost use Rattle.std.specs.Prelude.{◌≡◌, codes, IfOk, MatchOption, None, Some};
+ghost use Rattle.std.specs.Option.{option_or};
 ghost use Rattle.mail_head.specs.Fields.{fields_of};
 ghost use Rattle.mail_display.specs.Fields.{body_called, IsShownOf};
 

@@ -3,7 +3,7 @@
 ghost use Rattle.std.specs.Prelude.{◌≡◌, ◌+◌, ◌≤◌, ◌||◌, [], length, IfOk, IfErr, MatchOption, IsSome, is_none, string_bytes};
 ghost use Rattle.mail_head.specs.Fields.{fields_of};
 ghost use Rattle.mail_display.specs.Folding.{folded};
-ghost use Rattle.mail_display.specs.Question.{key_of, finding, with_group, unread_in, asks, folded_key, first_empty};
+ghost use Rattle.mail_display.specs.Question.{key_of, finding, with_group, unread_in, asks};
 
 use crate::folding::fold;
 use crate::groups::{FieldGroup, group_of};

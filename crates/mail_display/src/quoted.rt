@@ -1,8 +1,7 @@
 //! Q text (RFC 2047, section 4.2).
 
-ghost use Rattle.std.specs.Prelude.{◌≡◌, ◌<◌, ◌==◌, IfOk, IfSome, if◌then◌else◌};
+ghost use Rattle.std.specs.Prelude.{◌≡◌, ◌<◌, ◌==◌, IfOk, IfSome, MatchOption, if◌then◌else◌};
 ghost use Rattle.mail_display.specs.Quoted.{hex_value, q_octets};
-ghost use Rattle.mail_display.specs.Vecs.{IsVecOf};
 ghost use Rattle.mail_display.specs.declared.quoted.Place.TheVariants.{Plain};
 
 use std::alloc::{AllocError, Global};
@@ -39,7 +38,8 @@ fn plain_octet(octet: u8) -> u8
 /// out of memory.
 #[tactic(auto, unfolding(crate::specs::Quoted::q_octets))]
 pub fn decode_q(alloc: Global, text: &[u8]) -> Result<Option<Vec<u8>>, AllocError>
-    ensures { IfOk result (λ octets. IsVecOf (q_octets Plain text.now) octets) }
+    ensures { IfOk result (λ octets. MatchOption octets (q_octets Plain text.now ≡ None)
+        (λ v. q_octets Plain text.now ≡ Some v.items)) }
 {
     let mut octets = Vec::with_capacity(alloc, text.len())?;
     let mut place = Place::Plain;

@@ -6,7 +6,7 @@ ghost use Rattle.std.specs.Str.Lossy.{utf8_lossy};
 ghost use Rattle.mail_words.specs.Unfolding.{without_line_ends, without_outer_blanks};
 ghost use Rattle.mail_display.specs.Decoding.{readable_at};
 ghost use Rattle.mail_display.specs.Words.{begins_word};
-ghost use Rattle.mail_display.specs.Display.{gap_len, word_after_gap, shown_line, display_text, display_unread};
+ghost use Rattle.mail_display.specs.Display.{word_after_gap, shown_line, display_text, display_unread};
 
 use crate::decoding::{ReadableWord, readable_word};
 use crate::unfolding::{blank_len, trimmed, unfolded};
