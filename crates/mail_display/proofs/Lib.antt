@@ -1,3 +1,4 @@
 mod ShownLemmas
 mod QuotedLemmas
 mod QuestionLemmas
+mod UnfoldingLemmas

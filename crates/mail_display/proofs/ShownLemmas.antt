@@ -1,8 +1,14 @@
 -- A line that is shown piece by piece.
 use Rattle.std.proofs.Common.{◌≡◌, ℕ, zero, suc, ◌+◌, ◌<◌, ◌≤◌, Bool, true, false, cond, List, [], ◌∷◌, ◌++◌, length, refl}
-use Rattle.std.proofs.Common.{sym, ap, ◌∙◌, arith, Option, Some, None, append_assoc}
+use Rattle.std.proofs.Common.{sym, ap, ◌∙◌, arith, Option, Some, None, append_assoc, subst}
 use Rattle.std.proofs.lemmas.List.{append-nil}
 use Rattle.mail_display.specs.Words.{begins_word}
+use Rattle.std.specs.Prelude.{IfSome}
+use Rattle.mail_charsets.specs.declared.charset.Charset.TheVariants.{Utf8}
+use Rattle.mail_charsets.specs.Decoding.{unread_of}
+use Rattle.std.specs.Str.{is_utf8}
+use Rattle.mail_display.specs.declared.decoding.ReadableWord.{ReadableWord}
+use Rattle.mail_display.specs.Readable.{IsReadable}
 use Rattle.mail_display.specs.Decoding.{Readable}
 use Rattle.mail_display.specs.Display.{word_after_gap, unread_front, shown_piece, shown, shown_line}
 
@@ -27,12 +33,12 @@ unfolding shown
 shown_cons n after b bs = refl
 
 pub Showing-done : (line rest out : List ℕ) (unread : ℕ) (after : Bool) → rest ≡ [] → Showing line rest out unread after
-    → (out, unread) ≡ shown_line line
+    → (out ≡ (shown_line line).0) × (unread ≡ (shown_line line).1)
 Showing-done line rest out unread after e h =
-    let none : shown h.turns after rest ≡ ([], 0) = ap (shown h.turns after) e ∙ shown_nil h.turns after in
-    let octets : out ≡ (shown_line line).0 = sym (append-nil out) ∙ ap (λ s. out ++ s.0) (sym none) ∙ h.octets in
-    let count : unread ≡ (shown_line line).1 = omega (arith, h.count, ap (λ s. s.1) none) in
-    ap (λ x. (x, unread)) octets ∙ ap (λ n. ((shown_line line).0, n)) count
+    let none : shown h.turns after rest ≡ ([], 0) = ap (shown h.turns after) e ∙ shown_nil h.turns after in (
+      sym (append-nil out) ∙ ap (λ s. out ++ s.0) (sym none) ∙ h.octets,
+      omega (arith, h.count, ap (λ s. s.1) none),
+    )
 
 -- a word is shown
 pub Showing-word : (line rest bs out new : List ℕ) (unread more b : ℕ) (after : Bool) (w : Readable) → rest ≡ b ∷ bs
@@ -93,3 +99,25 @@ Showing-octet line rest bs out new unread more b after cut h none put counted = 
         one : (t : Bool) → cond t 1 0 ≤ 1
         one true = omega arith
         one false = omega arith
+
+-- the word that was decoded
+abbrev pub readable_of : ReadableWord → Readable
+readable_of w = record { octets = w.octets.items; is_whole = w.is_whole; rest = w.rest.now }
+
+pub is_some : (o : Option Readable) (r : Option ReadableWord) (w : ReadableWord) → IsReadable o r → r ≡ Some w → Some (readable_of w) ≡ o
+is_some o r w h e = let P : Option ReadableWord → Type 0 = λ x. IsReadable o x in sym (let is : P (Some w) = subst P e h in is)
+
+pub is_none : (o : Option Readable) (r : Option ReadableWord) → IsReadable o r → r ≡ None → None ≡ o
+is_none o r h e = let P : Option ReadableWord → Type 0 = λ x. IsReadable o x in sym (let is : P None = subst P e h in is)
+
+pub is_shorter : (n : ℕ) (r : Option ReadableWord) (w : ReadableWord) → IfSome r (λ w. length w.rest.now < n) → r ≡ Some w
+    → length w.rest.now < n
+is_shorter n r w h e = let P : Option ReadableWord → Type 0 = λ x. IfSome x (λ w. length w.rest.now < n) in subst P e h
+
+pub utf8_unread : (octets : List ℕ) → unread_of Utf8 octets ≤ 1
+unfolding unread_of
+utf8_unread octets = one (is_utf8 octets)
+  where
+    one : (t : Bool) → cond t 0 1 ≤ 1
+    one true = omega arith
+    one false = omega arith

@@ -57,6 +57,14 @@ abbrev pub is_unasked : Option (List ℕ) → Bool
 is_unasked None = true
 is_unasked (Some key) = false
 
+-- the texts that are not asked for
+abbrev pub unasked : Asked → Seen
+unasked q = record { sender = is_unasked q.sender; recipient = is_unasked q.recipient; subject = is_unasked q.subject }
+
+-- each text was seen, or is not asked for
+abbrev pub is_all : Seen → Bool
+is_all seen = (seen.sender && seen.recipient) && seen.subject
+
 -- a group's text is not asked for, or one of the fields has it
 abbrev pub holds : Asked → FieldGroup → List (List ℕ × List ℕ) → Bool
 holds q group fields = is_unasked (key_of q group) || list_any (λ f. is_group group (finding q f).0) fields

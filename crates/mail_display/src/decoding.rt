@@ -1,7 +1,8 @@
 //! What an encoded word says (RFC 2047, sections 3 and 4).
 
-ghost use Rattle.std.specs.Prelude.{◌≡◌, IfOk, MatchOption};
+ghost use Rattle.std.specs.Prelude.{◌≡◌, ◌<◌, length, IfOk, IfSome, MatchOption};
 ghost use Rattle.mail_display.specs.Decoding.{b_octets, octets_of, read_octets, readable_at};
+ghost use Rattle.mail_display.specs.Readable.{IsReadable};
 
 use crate::quoted::decode_q;
 use crate::words::front_word;
@@ -9,7 +10,6 @@ use base64::DecodeAllocError;
 use base64::engine::general_purpose::STANDARD_PAD_INDIFFERENT;
 use mail_charsets::{Charset, decode};
 use std::alloc::{AllocError, Global};
-use std::marker::Model;
 
 /// A word at the front of a text that could be decoded, in UTF-8, and the rest of the text.
 #[derive(Drop)]
@@ -18,18 +18,6 @@ pub struct ReadableWord<'a> {
     /// Whether each of its octets has a character in its charset.
     pub is_whole: bool,
     pub rest: &'a [u8],
-}
-
-impl<'a> Model for ReadableWord<'a> {
-    ghost use Rattle.mail_display.specs.Decoding.{Readable};
-
-    ghost Value = { Readable };
-
-    ghost view = { λ w. record {
-      octets = w.octets.items;
-      is_whole = w.is_whole;
-      rest = w.rest.now;
-    } };
 }
 
 /// The octets that B text encodes, padded or not (RFC 2047, section 4.1). None where it is no base64.
@@ -72,8 +60,10 @@ fn in_utf8(alloc: Global, charset: Charset, octets: Vec<u8>) -> Result<(Vec<u8>,
 }
 
 /// The word at the front of a text, if one stands there whose charset is known and whose text is good.
+#[tactic(auto, unfolding(crate::specs::Decoding::readable_at))]
 pub fn readable_word(alloc: Global, text: &[u8]) -> Result<Option<ReadableWord<'_>>, AllocError>
-    ensures { IfOk result (λ word. word ≡ readable_at text.now) }
+    ensures value { IfOk result (λ word. IsReadable (readable_at text.now) word) }
+    ensures shorter { IfOk result (λ word. IfSome word (λ w. length w.rest.now < length text.now)) }
 {
     let Some(front) = front_word(text) else {
         return Ok(None);

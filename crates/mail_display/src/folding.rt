@@ -9,6 +9,7 @@ use unicode_normalization::to_nfd;
 
 /// A text without case, and with each letter decomposed: two texts have the same one where they match canonically
 /// without case (The Unicode Standard, section 3.13, D145).
+#[tactic(auto, unfolding(crate::specs::Folding::folded))]
 pub fn fold(alloc: Global, text: &str) -> Result<String, AllocError>
     ensures { IfOk result (λ t. string_bytes t ≡ folded text.now) }
 {

@@ -1,9 +1,10 @@
 //! Whether a message has given texts in its fields.
 
-ghost use Rattle.std.specs.Prelude.{◌≡◌, ◌+◌, ◌≤◌, ◌||◌, [], length, IfOk, IfErr, MatchOption, IsSome, is_none, string_bytes};
+ghost use Rattle.std.specs.Prelude.{◌≡◌, ◌+◌, ◌≤◌, ◌||◌, [], length, IfOk, IfErr, MatchOption, None, false, option_map, string_bytes};
 ghost use Rattle.mail_head.specs.Fields.{fields_of};
 ghost use Rattle.mail_display.specs.Folding.{folded};
-ghost use Rattle.mail_display.specs.Question.{key_of, finding, with_group, unread_in, asks};
+ghost use Rattle.mail_display.specs.Asking.{folded_text, is_empty_text, asked_of, first_empty, IsFaultOf, IsFaultIn};
+ghost use Rattle.mail_display.specs.Question.{key_of, finding, with_group, is_unasked, is_all, unasked, unread_in, asks};
 
 use crate::folding::fold;
 use crate::groups::{FieldGroup, group_of};
@@ -70,6 +71,13 @@ struct Seen {
 }
 
 impl Seen {
+    /// Whether no text is left.
+    fn is_all(self) -> bool
+        ensures { result ≡ is_all self }
+    {
+        self.sender && self.recipient && self.subject
+    }
+
     /// The same with one more text found.
     fn with(self, group: Option<FieldGroup>) -> Seen
         ensures { result ≡ with_group group self }
@@ -92,12 +100,25 @@ impl Seen {
     }
 }
 
+/// Whether a text is not asked for.
+fn is_unasked(text: &Option<String>) -> bool
+    ensures { result ≡ is_unasked (option_map string_bytes text.now) }
+{
+    match text {
+        Some(_) => false,
+        None => true,
+    }
+}
+
 /// A text as it is compared, if there is one. An empty one is refused.
 fn folded_text(
     alloc: Global,
     group: FieldGroup,
     text: Option<&str>,
-) -> Result<Option<String>, FieldQuestionFault> {
+) -> Result<Option<String>, FieldQuestionFault>
+    ensures ok { IfOk result (λ key. (option_map string_bytes key ≡ folded_text text) × (is_empty_text text ≡ false)) }
+    ensures err { IfErr result (λ e. IsFaultOf group text e) }
+{
     let Some(text) = text else {
         return Ok(None);
     };
@@ -116,12 +137,27 @@ impl FieldQuestion {
         sender: Option<&str>,
         recipient: Option<&str>,
         subject: Option<&str>,
-    ) -> Result<FieldQuestion, FieldQuestionFault> {
+    ) -> Result<FieldQuestion, FieldQuestionFault>
+        ensures ok { IfOk result (λ q. q ≡ asked_of sender recipient subject) }
+        ensures some { IfOk result (λ q. first_empty sender recipient subject ≡ None) }
+        ensures err { IfErr result (λ e. IsFaultIn (first_empty sender recipient subject) e) }
+    {
         Ok(FieldQuestion {
             sender: folded_text(alloc, FieldGroup::Sender, sender)?,
             recipient: folded_text(alloc, FieldGroup::Recipient, recipient)?,
             subject: folded_text(alloc, FieldGroup::Subject, subject)?,
         })
+    }
+
+    /// The texts that are not asked for.
+    fn unasked(&self) -> Seen
+        ensures { result ≡ unasked self.now }
+    {
+        Seen {
+            sender: is_unasked(&self.sender),
+            recipient: is_unasked(&self.recipient),
+            subject: is_unasked(&self.subject),
+        }
     }
 
     /// The text that fields of a group are to have, if there is one.
@@ -136,6 +172,7 @@ impl FieldQuestion {
         }
     }
 
+    #[tactic(auto, unfolding(crate::specs::Question::finding))]
     fn judge_field(&self, alloc: Global, field: &Field<'_>) -> Result<Finding, AllocError>
         ensures group { IfOk result (λ f. f.group ≡ (finding self.now field.now).0) }
         ensures unread { IfOk result (λ f. f.unread ≡ (finding self.now field.now).1) }
@@ -170,11 +207,7 @@ impl FieldQuestion {
         ensures found { IfOk result (λ f. f.is_found ≡ asks self.now message.now) }
         ensures unread { IfOk result (λ f. f.unread ≡ unread_in self.now message.now) }
     {
-        let mut seen = Seen {
-            sender: self.sender.is_none(),
-            recipient: self.recipient.is_none(),
-            subject: self.subject.is_none(),
-        };
+        let mut seen = self.unasked();
         let mut unread = 0;
         let mut rest = message;
         while let Some(found) = first_field(rest) {
@@ -184,7 +217,7 @@ impl FieldQuestion {
             rest = found.after;
         }
         Ok(Found {
-            is_found: seen.sender && seen.recipient && seen.subject,
+            is_found: seen.is_all(),
             unread,
         })
     }

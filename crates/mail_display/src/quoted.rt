@@ -44,18 +44,18 @@ pub fn decode_q(alloc: Global, text: &[u8]) -> Result<Option<Vec<u8>>, AllocErro
     let mut octets = Vec::with_capacity(alloc, text.len())?;
     let mut place = Place::Plain;
     let mut rest = text;
-    while let Some((&octet, following)) = rest.split_first() {
+    while let Some((octet, following)) = rest.split_first() {
         place = match place {
-            Place::Plain if octet == b'=' => Place::Escape,
+            Place::Plain if *octet == b'=' => Place::Escape,
             Place::Plain => {
-                octets.push(plain_octet(octet))?;
+                octets.push(plain_octet(*octet))?;
                 Place::Plain
             }
-            Place::Escape => match hex_digit(octet) {
+            Place::Escape => match hex_digit(*octet) {
                 Some(high) => Place::Digit(high),
                 None => return Ok(None),
             },
-            Place::Digit(high) => match hex_digit(octet) {
+            Place::Digit(high) => match hex_digit(*octet) {
                 Some(low) => {
                     octets.push(high * 16 + low)?;
                     Place::Plain

@@ -1,19 +1,19 @@
 //! The text that people are shown for a field's body.
 
-ghost use Rattle.std.specs.Prelude.{◌≡◌, ◌+◌, ◌≤◌, length, IfOk, string_bytes};
+ghost use Rattle.std.specs.Prelude.{◌≡◌, ◌+◌, ◌<◌, ◌≤◌, length, IfOk, IfSome, string_bytes, if◌then◌else◌};
 ghost use Rattle.std.specs.Str.{is_utf8};
 ghost use Rattle.std.specs.Str.Lossy.{utf8_lossy};
 ghost use Rattle.mail_words.specs.Unfolding.{without_line_ends, without_outer_blanks};
 ghost use Rattle.mail_display.specs.Decoding.{readable_at};
+ghost use Rattle.mail_display.specs.Readable.{IsReadable};
 ghost use Rattle.mail_display.specs.Words.{begins_word};
-ghost use Rattle.mail_display.specs.Display.{word_after_gap, shown_line, display_text, display_unread};
+ghost use Rattle.mail_display.specs.Display.{word_after_gap, unread_front, shown_line, display_text, display_unread};
 
 use crate::decoding::{ReadableWord, readable_word};
 use crate::unfolding::{blank_len, trimmed, unfolded};
 use crate::words::begins_as_word;
 use mail_charsets::{Charset, decode};
 use std::alloc::{AllocError, Global};
-use std::marker::Model;
 
 /// A field's body as people read it.
 #[derive(Drop)]
@@ -32,21 +32,14 @@ struct ShownLine {
     unread: usize,
 }
 
-impl Model for ShownLine {
-    ghost use Rattle.std.specs.Prelude.{ℕ, List};
-
-    ghost Value = { List ℕ × ℕ };
-
-    ghost view = { λ l. (l.octets.items, l.unread) };
-}
-
 /// The next word that can be read, where it stands at the front of a text or, after another such word, behind blanks.
 fn word_after_gap(
     alloc: Global,
     text: &[u8],
     is_after_word: bool,
 ) -> Result<Option<ReadableWord<'_>>, AllocError>
-    ensures { IfOk result (λ word. word ≡ word_after_gap is_after_word text.now) }
+    ensures value { IfOk result (λ word. IsReadable (word_after_gap is_after_word text.now) word) }
+    ensures shorter { IfOk result (λ word. IfSome word (λ w. length w.rest.now < length text.now)) }
 {
     if is_after_word {
         let (_, rest) = text.split_at(blank_len(text));
@@ -56,30 +49,43 @@ fn word_after_gap(
     }
 }
 
+/// How many words are unread where a word was decoded.
+fn unread_octets(is_whole: bool) -> usize
+    ensures value { result ≡ (if is_whole then 0 else 1) }
+    ensures few { result ≤ 1 }
+{
+    if is_whole { 0 } else { 1 }
+}
+
+/// How many words are unread that begin a text where none was decoded.
+fn unread_words(text: &[u8]) -> usize
+    ensures value { result ≡ unread_front text.now }
+    ensures few { result ≤ 1 }
+{
+    if begins_as_word(text) { 1 } else { 0 }
+}
+
 /// A line with its words decoded, and without the blanks between them.
 fn shown_line(alloc: Global, line: &[u8]) -> Result<ShownLine, AllocError>
-    ensures value { IfOk result (λ shown. shown ≡ shown_line line.now) }
-    ensures few { IfOk result (λ shown. shown.1 ≤ length line.now) }
+    ensures octets { IfOk result (λ shown. shown.octets.items ≡ (shown_line line.now).0) }
+    ensures unread { IfOk result (λ shown. shown.unread ≡ (shown_line line.now).1) }
+    ensures few { IfOk result (λ shown. shown.unread ≤ length line.now) }
 {
     let mut octets = Vec::with_capacity(alloc, line.len())?;
     let mut unread = 0;
     let mut is_after_word = false;
     let mut rest = line;
-    while let Some((&octet, following)) = rest.split_first() {
+    while let Some((octet, following)) = rest.split_first() {
         match word_after_gap(alloc, rest, is_after_word)? {
             Some(word) => {
                 octets.extend_from_slice(word.octets.as_slice())?;
-                if !word.is_whole {
-                    unread += 1;
-                }
+                unread += unread_octets(word.is_whole);
                 is_after_word = true;
                 rest = word.rest;
             }
             None => {
-                if begins_as_word(rest) {
-                    unread += 1;
-                }
-                octets.push(octet)?;
+                unread += unread_words(rest);
+                octets.push(*octet)?;
                 is_after_word = false;
                 rest = following;
             }
@@ -95,6 +101,7 @@ fn shown_line(alloc: Global, line: &[u8]) -> Result<ShownLine, AllocError>
 /// `mail_charsets` and with a language (RFC 2231, section 5); its B text may lack padding. A character of UTF-8 that is
 /// split over words is put together. What is no such word stays as it was sent and is read as UTF-8, with U+FFFD for
 /// each ill-formed part. The one error is out of memory.
+#[tactic(auto, unfolding(crate::specs::Display::display_text, crate::specs::Display::display_unread))]
 pub fn display(alloc: Global, value: &[u8]) -> Result<DisplayText, AllocError>
     ensures text { IfOk result (λ d. string_bytes d.text ≡ display_text value.now) }
     ensures unread { IfOk result (λ d. d.unread ≡ display_unread value.now) }

@@ -47,7 +47,8 @@ fn last_blank_len(text: &[u8]) -> usize
 
 /// The text without the blanks at both ends.
 pub fn trimmed(text: &[u8]) -> &[u8]
-    ensures { result.now ≡ without_outer_blanks text.now }
+    ensures value { result.now ≡ without_outer_blanks text.now }
+    ensures within { length result.now ≤ length text.now }
 {
     let (_, rest) = text.split_at(blank_len(text));
     let (front, _) = rest.split_at(rest.len() - last_blank_len(rest));
@@ -56,13 +57,14 @@ pub fn trimmed(text: &[u8]) -> &[u8]
 
 /// The octets of a body as one line.
 pub fn unfolded(alloc: Global, body: &[u8]) -> Result<Vec<u8>, AllocError>
-    ensures { IfOk result (λ line. line.items ≡ without_line_ends body.now) }
+    ensures value { IfOk result (λ line. line.items ≡ without_line_ends body.now) }
+    ensures within { IfOk result (λ line. length line.items ≤ length body.now) }
 {
     let mut line = Vec::with_capacity(alloc, body.len())?;
     let mut rest = body;
-    while let Some((&octet, following)) = rest.split_first() {
+    while let Some((octet, following)) = rest.split_first() {
         if !stands_at_line_end(rest) {
-            line.push(octet)?;
+            line.push(*octet)?;
         }
         rest = following;
     }

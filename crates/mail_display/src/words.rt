@@ -1,12 +1,10 @@
 //! Encoded words as they are written (RFC 2047, section 2), in a text without line ends.
 
-ghost use Rattle.std.specs.Prelude.{◌≡◌, ◌<◌, ◌≤◌, ◌==◌, not, length, IfSome};
+ghost use Rattle.std.specs.Prelude.{◌≡◌, ◌<◌, ◌≤◌, ◌==◌, not, length, IfSome, MatchOption};
 ghost use Rattle.std.specs.List.{prefix_len};
 ghost use Rattle.mail_words.specs.Words.{is_charset_octet};
 ghost use Rattle.mail_words.specs.Unfolding.{begins_with};
 ghost use Rattle.mail_display.specs.Words.{is_text_octet, word_at, begins_word};
-
-use std::marker::Model;
 
 /// The parts of an encoded word at the front of a text, and the rest of the text.
 #[derive(Drop)]
@@ -16,19 +14,6 @@ pub struct FrontWord<'a> {
     pub encoding: u8,
     pub text: &'a [u8],
     pub rest: &'a [u8],
-}
-
-impl<'a> Model for FrontWord<'a> {
-    ghost use Rattle.mail_display.specs.Words.{Front};
-
-    ghost Value = { Front };
-
-    ghost view = { λ w. record {
-      charset = w.charset.now;
-      encoding = w.encoding;
-      text = w.text.now;
-      rest = w.rest.now;
-    } };
 }
 
 /// Whether an octet may stand in the name of a charset (RFC 2047, section 2).
@@ -78,7 +63,9 @@ fn text_len(text: &[u8]) -> usize
 /// section 2). The text may be empty and have any octets but "?", and the encoding is any one octet.
 #[tactic(auto, unfolding(crate::specs::Words::word_at))]
 pub fn front_word(text: &[u8]) -> Option<FrontWord<'_>>
-    ensures { result ≡ word_at text.now }
+    ensures value { MatchOption result (word_at text.now ≡ None) (λ w. word_at text.now ≡ Some
+        (record { charset = w.charset.now; encoding = w.encoding; text = w.text.now; rest = w.rest.now })) }
+    ensures shorter { IfSome result (λ w. length w.rest.now < length text.now) }
 {
     let [b'=', b'?', opened @ ..] = text else {
         return None;
