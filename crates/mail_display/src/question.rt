@@ -116,8 +116,9 @@ fn folded_text(
     group: FieldGroup,
     text: Option<&str>,
 ) -> Result<Option<String>, FieldQuestionFault>
-    ensures ok { IfOk result (λ key. (option_map string_bytes key ≡ folded_text text) × (is_empty_text text ≡ false)) }
-    ensures err { IfErr result (λ e. IsFaultOf group text e) }
+    ensures ok { IfOk result (λ key. option_map string_bytes key ≡ folded_text text.entry) }
+    ensures some { IfOk result (λ key. is_empty_text text.entry ≡ false) }
+    ensures err { IfErr result (λ e. IsFaultOf group text.entry e) }
 {
     let Some(text) = text else {
         return Ok(None);
@@ -125,7 +126,10 @@ fn folded_text(
     if text.is_empty() {
         return Err(FieldQuestionFault::Empty(group));
     }
-    Ok(Some(fold(alloc, text)?))
+    match fold(alloc, text) {
+        Ok(key) => Ok(Some(key)),
+        Err(error) => Err(FieldQuestionFault::NoMemory(error)),
+    }
 }
 
 impl FieldQuestion {
@@ -138,9 +142,9 @@ impl FieldQuestion {
         recipient: Option<&str>,
         subject: Option<&str>,
     ) -> Result<FieldQuestion, FieldQuestionFault>
-        ensures ok { IfOk result (λ q. q ≡ asked_of sender recipient subject) }
-        ensures some { IfOk result (λ q. first_empty sender recipient subject ≡ None) }
-        ensures err { IfErr result (λ e. IsFaultIn (first_empty sender recipient subject) e) }
+        ensures ok { IfOk result (λ q. q ≡ asked_of sender.entry recipient.entry subject.entry) }
+        ensures some { IfOk result (λ q. first_empty sender.entry recipient.entry subject.entry ≡ None) }
+        ensures err { IfErr result (λ e. IsFaultIn (first_empty sender.entry recipient.entry subject.entry) e) }
     {
         Ok(FieldQuestion {
             sender: folded_text(alloc, FieldGroup::Sender, sender)?,
