@@ -1,0 +1,1 @@
+mod Utf8Lemmas

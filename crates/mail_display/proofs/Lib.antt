@@ -1,0 +1,4 @@
+mod ShownLemmas
+mod QuotedLemmas
+mod QuestionLemmas
+mod UnfoldingLemmas

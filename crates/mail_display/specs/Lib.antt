@@ -1,0 +1,10 @@
+pub mod Quoted
+pub mod Words
+pub mod Decoding
+pub mod Readable
+pub mod Display
+pub mod Folding
+pub mod Groups
+pub mod Fields
+pub mod Question
+pub mod Asking

@@ -1,0 +1,25 @@
+//! Header fields as people read them: for showing, and for searches by people. Rules read fields by other crates, in
+//! fewer charsets and more strictly.
+//!
+//! `unfolding` reads a folded body as one line (RFC 5322, section 2.2.3). `words` takes an encoded word apart (RFC 2047,
+//! section 2), wherever it stands, and `decoding` decodes it, by `quoted` where its encoding is Q. `showing` puts the
+//! text together. `fields` shows the fields that a list of messages has. `folding` makes texts comparable without case,
+//! and `question` answers whether a message has given texts in its fields.
+#![tactic(auto)]
+
+mod decoding;
+mod fields;
+mod folding;
+mod groups;
+mod question;
+mod quoted;
+mod showing;
+#[cfg(test)]
+mod tests;
+mod unfolding;
+mod words;
+
+pub use fields::{date, sender, subject};
+pub use groups::FieldGroup;
+pub use question::{FieldQuestion, FieldQuestionFault, Found};
+pub use showing::{DisplayText, display};

@@ -1,0 +1,182 @@
+use super::*;
+use std::alloc::{AllocError, Global};
+
+/// Each body of a field, and how people read it. The first five are those of RFC 2047, section 8; the next is that of
+/// RFC 2231, section 5. Those after them were made by Python's `email.header`.
+const BODIES: [(&[u8], &str, usize); 24] = [
+    (b"(=?ISO-8859-1?Q?a?=)", "(a)", 0),
+    (b"(=?ISO-8859-1?Q?a?= b)", "(a b)", 0),
+    (b"(=?ISO-8859-1?Q?a?=  =?ISO-8859-1?Q?b?=)", "(ab)", 0),
+    (b"(=?ISO-8859-1?Q?a?=\r\n    =?ISO-8859-1?Q?b?=)", "(ab)", 0),
+    (b"(=?ISO-8859-1?Q?a?= =?ISO-8859-2?Q?_b?=)", "(a b)", 0),
+    (
+        b"=?US-ASCII*EN?Q?Keith_Moore?= <moore@cs.utk.edu>",
+        "Keith Moore <moore@cs.utk.edu>",
+        0,
+    ),
+    (
+        b"=?iso-8859-1?q?M=FCller=2C_Gr=F6=DFe?=",
+        "Müller, Größe",
+        0,
+    ),
+    (
+        b"=?iso-8859-2?q?=AElu=BBou=E8k=FD_k=F9=F2?=",
+        "Žluťoučký kůň",
+        0,
+    ),
+    (b"=?koi8-r?b?8NLJ18XULCDNydI=?=", "Привет, мир", 0),
+    (b"=?windows-1253?b?xfXx/vDn?=", "Ευρώπη", 0),
+    (
+        b"=?windows-1252?q?=93Zahlung=94_=96_5_=80?=",
+        "“Zahlung” – 5 €",
+        0,
+    ),
+    (
+        b"=?utf-8?b?5pel5pys6Kqe44Gu5Lu25ZCN?=\r\n =?utf-8?b?44Gu5L6L?=",
+        "日本語の件名の例",
+        0,
+    ),
+    // a character of UTF-8 that is split over two words
+    (b"=?utf-8?q?caf=C3?= =?utf-8?q?=A9?=", "café", 0),
+    // beside a comma, in quotation marks, and directly beside another word
+    (
+        b"\"=?utf-8?q?M=C3=BCller?=\", =?utf-8?q?=C3=96z?=,x",
+        "\"Müller\", Öz,x",
+        0,
+    ),
+    (b"=?utf-8?q?a?==?latin1?q?=FC?=", "aü", 0),
+    // padding left out, and blanks in Q text
+    (b"=?utf8?b?w7w?=", "ü", 0),
+    (b"=?utf-8?q?two words?=", "two words", 0),
+    // octets above 127 that are UTF-8, and such that are not
+    (b"f\xC3\xBCr", "für", 0),
+    (b"f\xFCr", "f\u{FFFD}r", 1),
+    // words that cannot be read
+    (b"=?x-unknown?q?a?= b", "=?x-unknown?q?a?= b", 1),
+    (b"=?utf-8?q?=4?=", "=?utf-8?q?=4?=", 1),
+    (b"=?utf-8?x?a?=", "=?utf-8?x?a?=", 1),
+    (b"=?windows-1252?q?a=81?=", "a\u{FFFD}", 1),
+    // no word
+    (b"what is x=?", "what is x=?", 0),
+];
+
+#[test]
+fn shows_bodies(rt: HostRuntime) -> Result<(), AllocError> {
+    for (body, text, unread) in BODIES {
+        let shown = display(rt.alloc(), body)?;
+        assert_eq!(rt; shown.text.as_str(), text);
+        assert_eq!(rt; shown.unread, unread, "in {text}");
+    }
+    Ok(())
+}
+
+/// A message with its names in several charsets.
+const MESSAGE: &[u8] =
+    b"From: =?iso-8859-1?q?J=FCrgen_Stra=DFe?= <j@example.org>\r\nSender: office@example.org\r\nTo: a@example.org\r\nCC: =?utf-8?q?Andre=CC=81?= <b@example.org>\r\nSubject: first\r\nsubject: =?koi8-r?b?8NLJ18XULCDNydI=?=\r\nX-Note: hidden\r\nDate: Sat, 28 Nov 2026 04:00:00 +0000\r\n\r\nbody text\r\n";
+
+fn answers(
+    alloc: Global,
+    sender: &str,
+    recipient: &str,
+    subject: &str,
+) -> Result<bool, FieldQuestionFault> {
+    let given = |text: &str| !text.is_empty();
+    let question = FieldQuestion::new(
+        alloc,
+        if given(sender) { Some(sender) } else { None },
+        if given(recipient) {
+            Some(recipient)
+        } else {
+            None
+        },
+        if given(subject) { Some(subject) } else { None },
+    )?;
+    Ok(question.judge(alloc, MESSAGE)?.is_found)
+}
+
+#[test]
+fn answers_questions(rt: HostRuntime) -> Result<(), FieldQuestionFault> {
+    for (sender, recipient, subject, answer) in [
+        ("JÜRGEN", "", "", true),
+        // decomposed, and with the full folding of ß
+        ("ju\u{308}rgen STRASSE", "", "", true),
+        ("jurgen", "", "", false),
+        ("office", "", "", true),
+        ("", "andré", "", true),
+        ("", "", "ПРИВЕТ", true),
+        ("", "", "first", true),
+        ("", "", "hidden", false),
+        ("", "", "body", false),
+        ("", "office", "", false),
+        ("jürgen", "andré", "мир", true),
+        ("jürgen", "nobody", "мир", false),
+    ] {
+        assert_eq!(rt;
+            answers(rt.alloc(), sender, recipient, subject)?,
+            answer,
+            "{sender} {recipient} {subject}"
+        );
+    }
+    Ok(())
+}
+
+#[test]
+fn refuses_empty_texts(rt: HostRuntime) {
+    let question = FieldQuestion::new(rt.alloc(), Some("a"), Some(""), None);
+    assert!(rt;
+        matches!(
+            question,
+            Err(FieldQuestionFault::Empty(FieldGroup::Recipient))
+        )
+    );
+}
+
+#[test]
+fn counts_what_is_unread(rt: HostRuntime) -> Result<(), FieldQuestionFault> {
+    let alloc = rt.alloc();
+    let question = FieldQuestion::new(alloc, Some("a"), None, None)?;
+    let message: &[u8] = b"From: =?x-unknown?q?b?=\nSubject: =?x-unknown?q?b?=\nSender: \xFF\n\n";
+    let found = question.judge(alloc, message)?;
+    assert!(rt; !found.is_found);
+    assert_eq!(rt; found.unread, 2);
+    Ok(())
+}
+
+#[test]
+fn shows_first_fields(rt: HostRuntime) -> Result<(), AllocError> {
+    let alloc = rt.alloc();
+    if let Some(shown) = sender(alloc, MESSAGE)? {
+        assert_eq!(rt; shown.text.as_str(), "Jürgen Straße <j@example.org>");
+    }
+    if let Some(shown) = subject(alloc, MESSAGE)? {
+        assert_eq!(rt; shown.text.as_str(), "first");
+    }
+    if let Some(shown) = date(alloc, MESSAGE)? {
+        assert_eq!(rt; shown.text.as_str(), "Sat, 28 Nov 2026 04:00:00 +0000");
+    }
+    let none = sender(alloc, b"To: a\n\n")?;
+    assert!(rt; none.is_none());
+    Ok(())
+}
+
+/// A body of a million octets that begins words without end is read in time linear in it.
+#[test]
+fn reads_hostile_bodies(rt: HostRuntime) -> Result<(), AllocError> {
+    let alloc = rt.alloc();
+    for piece in [
+        "=?",
+        "=?x?q?",
+        "=?utf-8?q?a",
+        "=?utf-8?q?a?= ",
+        " ",
+        "=?utf-8?q?a?=\t\t\t\t",
+    ] {
+        let mut body = Vec::new(alloc);
+        while body.len() < 50_000 {
+            body.extend_from_slice(piece.as_bytes())?;
+        }
+        let shown = display(alloc, body.as_slice())?;
+        assert!(rt; shown.text.len() <= 50_100);
+    }
+    Ok(())
+}
