@@ -19,3 +19,6 @@ pub mod ImageLemmas
 pub mod TagKinds
 pub mod ReadArguments
 pub mod ReadWords
+pub mod BlindTests
+pub mod KeptByRules
+mod QuestionRows

@@ -9,3 +9,4 @@ pub mod Records
 pub mod Lines
 pub mod RefusedCalls
 pub mod ReadingLaw
+pub mod QuestionLaws

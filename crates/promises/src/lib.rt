@@ -1,11 +1,12 @@
-//! Promises of Mailfile on five subjects: images, scripts, records with their due dates, the order of turns, and
-//! tickets. Each is the contract of a function without effect, which only calls the laws of other crates that its proof
+//! Promises of Mailfile on six subjects: images, scripts, questions on messages, records with their due dates, the order
+//! of turns, and tickets. Each is the contract of a function without effect, which only calls the laws of other crates that its proof
 //! takes. To know them, read this crate and the definitions that its contracts cite. Destruction, files and crashes,
 //! deliveries, copies, the tools, and how lines are read and replies written are subjects of other crates.
 //!
 //! - `images`: an image that is accepted runs to its end without a trap and within its budget, and a compiled script
 //!   captures what the script means.
 //! - `reading`: whatever the checker accepts is read by the meaning of scripts as it stands.
+//! - `questions`: a question finds the messages that a rule with the same test keeps, whatever classes are open.
 //! - `records`: a capture makes a record in each class of its outcome and in no other. Each line of a record gives its
 //!   due day, which comes the period of its class after the day of the capture, or at the end of the year in which that
 //!   period ends, where the schedule says so. A due list is whole.
@@ -26,6 +27,7 @@
 mod images;
 mod laws;
 mod lines;
+mod questions;
 mod reading;
 mod records;
 mod turns;
@@ -38,6 +40,7 @@ pub use laws::{
     captures_are_pinned, equal_after_striking, refusals_change_nothing, turns_do_not_matter,
 };
 pub use lines::{equal_lines_after_striking, lines_are_sessions};
+pub use questions::{a_question_finds_what_a_rule_keeps, tests_see_no_class};
 pub use reading::checked_scripts_are_read;
 pub use records::{dry_runs_store_nothing, due_lists_are_whole, finished_captures_are_whole};
 pub use turns::{beginnings_are_refused_exactly, tickets_are_looked_up_exactly, turns_add_up};
