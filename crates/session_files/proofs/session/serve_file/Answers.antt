@@ -2,6 +2,7 @@ use Rattle.std.proofs.Common.{refl, inl}
 use Rattle.sqlite.specs.WalFiles.{image_at}
 use Rattle.record_store.specs.Layouts.{HasArchiveTablesOrNone}
 use Rattle.record_files.proofs.OpeningLemmas.{finds_opened, holds_tables}
+use Rattle.record_places.proofs.CallLemmas.{opens_after}
 use Rattle.session_files.proofs.RefusalLemmas.{has_cause}
 use Rattle.session_files.proofs.UnservedLemmas.{finds_still, keeps_left}
 use Rattle.session_files.proofs.session.serve_file.Goals as goal
