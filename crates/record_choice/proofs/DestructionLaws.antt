@@ -1,9 +1,10 @@
 -- Records that are destroyed one after another.
-use Rattle.std.proofs.Common.{◌≡◌, ◌==◌, ℕ, ℤ, Bool, true, false, not, ◌||◌, cond, List, [], ◌∷◌, ◌++◌, map, find}
+use Rattle.std.proofs.Common.{◌≡◌, ℕ, ℤ, Bool, true, false, not, ◌||◌, cond, List, [], ◌∷◌, ◌++◌, map, find}
 use Rattle.std.proofs.Common.{Option, Some, None, Result, Ok, Err, refl, sym, ap, ap₂, ◌∙◌, subst, arith}
 use Rattle.std.proofs.lemmas.Bool.Decides.{nat_tests}
 use Rattle.class_plan.specs.Plans.{schedule_at}
-use Rattle.record_archive.specs.Archive.{Archive, Record, record_at, has_number, is_held, destroys, is_by_any, due_of, from_1970, destroy_by, destroy_on, destruction_of, without}
+use Rattle.record_archive.specs.Archive.{Archive, Record, record_at, has_number, is_held, destroys, is_by_any}
+use Rattle.record_archive.specs.Archive.{due_of, from_1970, destroy_by, destroy_on, destruction_of, without}
 use Rattle.record_archive.specs.Calls.{Makes}
 use Rattle.record_archive.specs.declared.fault.ArchiveRefusal.{ArchiveRefusal}
 use Rattle.record_archive.specs.declared.fault.ArchiveRefusal.TheVariants as refusal

@@ -19,7 +19,8 @@ swapped true false z = refl
 swapped false true z = refl
 swapped false false z = refl
 
-any-inserted : {X : Type 0} (cmp : X → X → Ordering) (p : X → Bool) (x : X) (ys : List X) → list_any p (insert_sorted cmp x ys) ≡ (p x || list_any p ys)
+any-inserted : {X : Type 0} (cmp : X → X → Ordering) (p : X → Bool) (x : X) (ys : List X)
+    → list_any p (insert_sorted cmp x ys) ≡ (p x || list_any p ys)
 any-inserted cmp p x [] = refl
 any-inserted cmp p x (y ∷ ys) = go (is_gt (cmp x y)) (any-inserted cmp p x ys)
   where

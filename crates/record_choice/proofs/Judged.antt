@@ -1,14 +1,16 @@
 -- Which records the archive's command destroys.
-use Rattle.std.proofs.Common.{◌≡◌, ◌∙◌, ◌&&◌, ℕ, ℤ, pos, true, false, not, cond, Option, Some, None, Ok, Err, option_map, Bool, Vec, Result, List, [], ◌∷◌, ◌++◌, take, MatchOption, subst, refl, sym, ap, ap₂}
+use Rattle.std.proofs.Common.{◌≡◌, ◌∙◌, ◌&&◌, ℕ, ℤ, pos, true, false, not, cond, Option, Some, None, Ok, Err}
+use Rattle.std.proofs.Common.{option_map, Bool, Vec, Result, List, [], ◌∷◌, ◌++◌, take, MatchOption, subst, refl, sym, ap, ap₂}
 use Rattle.std.specs.List.{list_any}
 use Rattle.std.specs.declared.alloc.Global.{Global}
 use Rattle.class_plan.specs.declared.schedules.Schedule.{Schedule}
 use Rattle.class_plan.specs.Plans.{Listing, schedule_at}
-use Rattle.record_archive.specs.Archive.{Archive, IsArchive, Record, record_at, is_held, destroys, is_by_any, due_of, from_1970, destroy_on, without, message, message_one, body_of}
+use Rattle.record_archive.specs.Archive.{Archive, IsArchive, Record, record_at, is_held, destroys, is_by_any}
+use Rattle.record_archive.specs.Archive.{due_of, from_1970, destroy_on, without, message, message_one, body_of}
 use Rattle.record_archive.specs.declared.fault.ArchiveRefusal.{ArchiveRefusal}
 use Rattle.record_archive.specs.declared.fault.ArchiveRefusal.TheVariants as refusal
 use Rattle.record_choice.specs.Choices.{anyone}
-use Rattle.record_choice.specs.Entries.{RecordEntry, OfRecord, entry_of, entry_view, name_list, entries_from, due_if_live, hold_names}
+use Rattle.record_choice.specs.Entries.{RecordEntry, OfRecord, entry_of, entry_view, name_list, entries_from, hold_names}
 use Rattle.record_choice.specs.Views.{shows_hold, shows_due}
 use Rattle.record_choice.specs.declared.entry.RecordEntry as code
 use Rattle.record_choice.proofs.EntryLaws.{held_shown, due_live}

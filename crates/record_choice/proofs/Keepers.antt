@@ -1,19 +1,22 @@
 -- Which record keeps a message.
-use Rattle.std.proofs.Common.{◌≡◌, ◌≤◌, ◌<◌, ◌+◌, ◌^◌, nat_lt, ◌==◌, ℤ, length, get_or, ap₂, ℕ, zero, suc, Bool, true, false, not, cond, ◌&&◌, ◌||◌, List, [], ◌∷◌, ◌++◌, map, filter, find, take, drop}
-use Rattle.std.proofs.Common.{Option, Some, None, option_map, nat_le, refl, sym, ap, subst, ◌∙◌, arith}
+use Rattle.std.proofs.Common.{◌≡◌, ◌≤◌, ◌<◌, ◌+◌, ◌^◌, nat_lt, ◌==◌, ℤ, length, get_or, ap₂, ℕ, zero, suc, Bool}
+use Rattle.std.proofs.Common.{true, false, not, cond, ◌&&◌, ◌||◌, List, [], ◌∷◌, ◌++◌, map, filter, find, take, drop}
+use Rattle.std.proofs.Common.{Option, Some, None, option_map, refl, sym, ap, subst, ◌∙◌, arith}
 use Rattle.std.specs.Prelude.{IfSome}
 use Rattle.std.specs.List.{AllByRecursion, list_any}
 use Rattle.std.proofs.lemmas.Bool.Decides.{nat_tests}
 use Rattle.std.proofs.lemmas.List.{take-append-drop, drop_more, drop_all}
 use Rattle.std.proofs.lemmas.List.Elements.{recursion_from_All}
-use Rattle.record_archive.specs.Archive.{Archive, Record, IsArchive, IsRecord, is_live, is_shared, without, messages_without, Message, body_of, destroy_on}
+use Rattle.record_archive.specs.Archive.{Archive, Record, IsArchive, IsRecord, is_live, is_shared}
+use Rattle.record_archive.specs.Archive.{without, Message, body_of, destroy_on}
 use Rattle.record_archive.specs.Calls.{Makes}
 use Rattle.record_choice.specs.Entries.{RecordEntry, entry_of, records_from, entries_from}
 use Rattle.record_choice.specs.Walks.{records_after, last_of, above}
-use Rattle.record_choice.specs.Disposals.{Finds, search_after, Certificate, IsCertificate, IsKeptBy, IsKnown, IsSummed, IsTold, keeps, keeps_entry, known_after}
+use Rattle.record_choice.specs.Disposals.{Finds, search_after, Certificate, IsCertificate, IsKeptBy, IsKnown}
+use Rattle.record_choice.specs.Disposals.{IsSummed, IsTold, keeps, keeps_entry, known_after}
 use Rattle.record_choice.specs.declared.destruction.Summed.{Summed}
 use Rattle.record_choice.specs.declared.destruction.Search.{Search}
-use Rattle.record_choice.specs.declared.destruction.Search.TheVariants.{Found, Further, Ended}
+use Rattle.record_choice.specs.declared.destruction.Search.TheVariants.{Found}
 use Rattle.record_choice.proofs.DestructionLaws.{found_has, was_live, makes_more}
 use Rattle.record_choice.proofs.PageLaws.{is_from, all_weaker, yes, rest_is, entries_taken, goes_up}
 
@@ -109,7 +112,8 @@ none_on_page a is m n from most some es are none =
     let f = records_from a from in
     let shown : es ≡ map (entry_of a) (take most f) = are ∙ entries_taken a from most in
     let nobody : find (keeps m n) (take most f) ≡ None =
-    none_mapped (entry_of a) (find (keeps m n) (take most f)) (sym (find_shown m n a (take most f)) ∙ ap (find (keeps_entry m n)) (sym shown) ∙ none) in
+    none_mapped (entry_of a) (find (keeps m n) (take most f))
+    (sym (find_shown m n a (take most f)) ∙ ap (find (keeps_entry m n)) (sym shown) ∙ none) in
     ap (λ l. list_any (keeps m n) (records_after a (above (last_of None l)))) shown ∙ ap (list_any (keeps m n)) (rest_is a is from most some)
     ∙ sym (ap (λ b. b || list_any (keeps m n) (drop most f)) (none_any (keeps m n) (take most f) nobody))
     ∙ sym (any-append (keeps m n) (take most f) (drop most f)) ∙ ap (list_any (keeps m n)) (take-append-drop most f)
@@ -171,7 +175,8 @@ bounded (Some n) = go (nat_lt (n + 1) (2 ^ 32)) refl
 pub finds_in : (a : Archive) (m n from : ℕ) {x y : Search} → x ≡ y → Finds a m n from x → Finds a m n from y
 finds_in a m n from {x} {y} same h = subst (Finds a m n from) same h
 
-pub page_goes_on : (a : Archive) → IsArchive a → (m n from most : ℕ) → 1 ≤ most → (es : List RecordEntry) (o : Option ℕ) → es ≡ take most (entries_from a from)
+pub page_goes_on : (a : Archive) → IsArchive a → (m n from most : ℕ) → 1 ≤ most → (es : List RecordEntry) (o : Option ℕ)
+    → es ≡ take most (entries_from a from)
     → None ≡ option_map (λ (e : RecordEntry). e.number) (find (keeps_entry m n) es) → o ≡ above (last_of None es) → Finds a m n from (search_after o)
 page_goes_on a is m n from most some es o are none next = go o next
   where
@@ -186,7 +191,11 @@ page_goes_on a is m n from most some es o are none next = go o next
 
     go : (p : Option ℕ) → p ≡ above (last_of None es) → Finds a m n from (search_after p)
     go None e = sym same ∙ ap (λ q. list_any (keeps m n) (records_after a q)) (sym e)
-    go (Some k) e = (subst (λ q. IfSome q (λ j. from < j)) (sym e) up, subst (λ q. IfSome q (λ j. j < 2 ^ 32)) (sym e) low, ap (λ q. list_any (keeps m n) (records_after a q)) e ∙ same)
+    go (Some k) e = (
+      subst (λ q. IfSome q (λ j. from < j)) (sym e) up,
+      subst (λ q. IfSome q (λ j. j < 2 ^ 32)) (sym e) low,
+      ap (λ q. list_any (keeps m n) (records_after a q)) e ∙ same,
+    )
 
 -- ---- where the search begins
 

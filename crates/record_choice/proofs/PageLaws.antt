@@ -1,18 +1,15 @@
 -- Pages, joined, are what is chosen.
-use Rattle.std.proofs.Common.{◌≡◌, ◌<◌, ◌≤◌, ◌+◌, ◌^◌, ℕ, zero, suc, Bool, true, false, ◌&&◌, cond, List, [], ◌∷◌, ◌++◌, map, filter, take, drop}
-use Rattle.std.proofs.Common.{subst, find, ◌==◌, nat_le, nat_lt, Option, Some, None, refl, sym, ap, ap₂, ◌∙◌, arith}
+use Rattle.std.proofs.Common.{◌≡◌, ◌<◌, ◌≤◌, ◌+◌, ◌^◌, ℕ, zero, suc, Bool, true, false, cond, List, [], ◌∷◌, ◌++◌, map, filter, take, drop}
+use Rattle.std.proofs.Common.{subst, find, nat_le, nat_lt, Option, Some, None, refl, sym, ap, ap₂, ◌∙◌, arith}
 use Rattle.std.specs.Prelude.{IfSome}
 use Rattle.std.specs.List.{AllByRecursion}
 use Rattle.std.proofs.lemmas.Bool.Decides.{nat_tests}
-use Rattle.std.proofs.lemmas.List.{take-append-drop, map-append}
+use Rattle.std.proofs.lemmas.List.{take-append-drop}
 use Rattle.std.proofs.lemmas.List.Elements.{filter-append, recursion_from_All}
 use Rattle.record_archive.specs.Lists.{IsAscending}
 use Rattle.record_archive.specs.Archive.{Archive, Record, IsArchive, IsRecord, has_number, record_at}
-use Rattle.record_choice.specs.Choices.{Choice, meets}
 use Rattle.record_choice.specs.Entries.{RecordEntry, OfRecord, entry_of, records_from, entries_from}
-use Rattle.record_choice.specs.Views.{shows}
-use Rattle.record_choice.specs.Walks.{records_after, chosen_after, last_of, above, IsPageOf}
-use Rattle.record_choice.proofs.EntryLaws.{meets_shown}
+use Rattle.record_choice.specs.Walks.{records_after, last_of, above}
 
 abbrev pub Below : Record → Record → Type 0
 Below x y = x.number < y.number
@@ -26,7 +23,7 @@ pub all_weaker : {X : Type 0} (P Q : X → Type 0) → ((x : X) → P x → Q x)
 all_weaker P Q to [] h = tt
 all_weaker P Q to (x ∷ xs) h = (to x h.0, all_weaker P Q to xs h.1)
 
-all_kept : {X : Type 0} (P : X → Type 0) (p : X → Bool) (xs : List X) → AllByRecursion P xs → AllByRecursion P (filter p xs)
+pub all_kept : {X : Type 0} (P : X → Type 0) (p : X → Bool) (xs : List X) → AllByRecursion P xs → AllByRecursion P (filter p xs)
 all_kept P p [] h = tt
 all_kept P p (x ∷ xs) h = go (p x) (all_kept P p xs h.1)
   where
@@ -42,7 +39,7 @@ ascending_kept p (x ∷ xs) h = go (p x) (ascending_kept p xs h.1)
     go true more = (all_kept (Below x) p xs h.0, more)
     go false more = more
 
-filter_all : {X : Type 0} (p : X → Bool) (xs : List X) → AllByRecursion (λ x. p x ≡ true) xs → filter p xs ≡ xs
+pub filter_all : {X : Type 0} (p : X → Bool) (xs : List X) → AllByRecursion (λ x. p x ≡ true) xs → filter p xs ≡ xs
 filter_all p [] h = refl
 filter_all p (x ∷ xs) h = ap₂ (λ b l. cond b (x ∷ l) l) h.0 (filter_all p xs h.1)
 
@@ -50,19 +47,16 @@ filter_none : {X : Type 0} (p : X → Bool) (xs : List X) → AllByRecursion (λ
 filter_none p [] h = refl
 filter_none p (x ∷ xs) h = ap₂ (λ b l. cond b (x ∷ l) l) h.0 (filter_none p xs h.1)
 
-filter_same : {X : Type 0} (p q : X → Bool) → ((x : X) → p x ≡ q x) → (xs : List X) → filter p xs ≡ filter q xs
-filter_same p q same [] = refl
-filter_same p q same (x ∷ xs) = ap₂ (λ b l. cond b (x ∷ l) l) (same x) (filter_same p q same xs)
-
-mapped_one : {X Y : Type 0} (b : Bool) (f : X → Y) (x : X) (l : List Y) (rest : List X) → l ≡ map f rest → cond b (f x ∷ l) l ≡ map f (cond b (x ∷ rest) rest)
+mapped_one : {X Y : Type 0} (b : Bool) (f : X → Y) (x : X) (l : List Y) (rest : List X) → l ≡ map f rest
+    → cond b (f x ∷ l) l ≡ map f (cond b (x ∷ rest) rest)
 mapped_one true f x l rest more = ap (λ k. f x ∷ k) more
 mapped_one false f x l rest more = more
 
-filter_mapped : {X Y : Type 0} (p : Y → Bool) (f : X → Y) (xs : List X) → filter p (map f xs) ≡ map f (filter (λ x. p (f x)) xs)
+pub filter_mapped : {X Y : Type 0} (p : Y → Bool) (f : X → Y) (xs : List X) → filter p (map f xs) ≡ map f (filter (λ x. p (f x)) xs)
 filter_mapped p f [] = refl
 filter_mapped p f (x ∷ xs) = mapped_one (p (f x)) f x (filter p (map f xs)) (filter (λ y. p (f y)) xs) (filter_mapped p f xs)
 
-map_taken : {X Y : Type 0} (f : X → Y) (n : ℕ) (xs : List X) → take n (map f xs) ≡ map f (take n xs)
+pub map_taken : {X Y : Type 0} (f : X → Y) (n : ℕ) (xs : List X) → take n (map f xs) ≡ map f (take n xs)
 map_taken f zero xs = refl
 map_taken f (suc n) [] = refl
 map_taken f (suc n) (x ∷ xs) = ap (λ l. f x ∷ l) (map_taken f n xs)
@@ -88,7 +82,8 @@ last_high r [] (suc k) up = omega arith
 last_high r (s ∷ rs) (suc k) up = let more = last_high s rs k up.1 in let less = up.0.0 in omega (arith, more, less)
 
 -- what comes after the first records are those with greater numbers
-cut : (r : Record) (rs : List Record) (k : ℕ) → IsAscending Below (r ∷ rs) → filter (is_from (last_from r.number (take k rs) + 1)) (r ∷ rs) ≡ drop k rs
+cut : (r : Record) (rs : List Record) (k : ℕ) → IsAscending Below (r ∷ rs)
+    → filter (is_from (last_from r.number (take k rs) + 1)) (r ∷ rs) ≡ drop k rs
 cut r rs zero up =
     ap (λ b. cond b (r ∷ filter (is_from (r.number + 1)) rs) (filter (is_from (r.number + 1)) rs)) (no (r.number + 1) r.number (omega arith))
     ∙ filter_all (is_from (r.number + 1)) rs (all_weaker (Below r) (λ x. is_from (r.number + 1) x ≡ true)
@@ -99,7 +94,8 @@ cut r (s ∷ rs) (suc k) up =
     let top = last_from s.number (take k rs) in
     let high = last_high s rs k up.1 in
     let less = up.0.0 in
-    ap (λ b. cond b (r ∷ filter (is_from (top + 1)) (s ∷ rs)) (filter (is_from (top + 1)) (s ∷ rs))) (no (top + 1) r.number (omega (arith, high, less)))
+    ap (λ b. cond b (r ∷ filter (is_from (top + 1)) (s ∷ rs)) (filter (is_from (top + 1)) (s ∷ rs)))
+    (no (top + 1) r.number (omega (arith, high, less)))
     ∙ cut s rs k up.1
 
 -- the last entry of a page has the number of its last record
@@ -180,27 +176,9 @@ page_filtered p a is from most some =
     ap (λ l. filter p (take most f) ++ filter p l) (rest_is a is from most some)
     ∙ sym (filter-append p (take most f) (drop most f)) ∙ ap (filter p) (take-append-drop most f)
 
--- entries that show a choice are those of the records that meet it
-chosen_shown : (c : Choice) (a : Archive) (rs : List Record) → filter (shows c) (map (entry_of a) rs) ≡ map (entry_of a) (filter (meets c a) rs)
-chosen_shown c a rs =
-    filter_mapped (shows c) (entry_of a) rs
-    ∙ ap (map (entry_of a)) (filter_same (λ r. shows c (entry_of a r)) (meets c a) (λ r. meets_shown c (entry_of a r) a r refl) rs)
-
 -- the entries of a page are those of its records
 pub entries_taken : (a : Archive) (from most : ℕ) → take most (entries_from a from) ≡ map (entry_of a) (take most (records_from a from))
 entries_taken a from most = map_taken (entry_of a) most (records_from a from)
-
-pub page_is : (c : Choice) (a : Archive) → IsArchive a → (from most : ℕ) → 1 ≤ most
-    → (es page : List RecordEntry) (last : Option ℕ) → es ≡ take most (entries_from a from)
-    → page ≡ filter (shows c) es → last ≡ last_of None es → IsPageOf c a (Some from) page (above last)
-page_is c a is from most some es page last are kept ends =
-    let f = records_from a from in
-    let shown : es ≡ map (entry_of a) (take most f) = are ∙ entries_taken a from most in
-    ap₂ (λ p o. p ++ map (entry_of a) (chosen_after c a (above o)))
-    (kept ∙ ap (filter (shows c)) shown ∙ chosen_shown c a (take most f)) (ends ∙ ap (last_of None) shown)
-    ∙ sym (map-append (entry_of a) (filter (meets c a) (take most f))
-    (chosen_after c a (above (last_of None (map (entry_of a) (take most f))))))
-    ∙ ap (map (entry_of a)) (page_filtered (meets c a) a is from most some)
 
 -- ---- a walk moves on
 

@@ -1,9 +1,9 @@
 -- Which records a command is about.
-use Rattle.std.specs.Prelude.{◌≡◌, refl, ℕ, nat_le, int_le, ℤ, pos, Bool, true, false, not, ◌&&◌, ◌||◌, List, [], ◌∷◌, ◌++◌, filter, Option, Some, None}
+use Rattle.std.specs.Prelude.{ℕ, nat_le, int_le, ℤ, pos, Bool, true, false, not, ◌&&◌, ◌||◌, List, [], ◌∷◌, ◌++◌, filter, Option, Some, None, if◌then◌else◌}
 use Rattle.std.specs.List.{list_any, starts_with}
 use Rattle.std.specs.Prelude.{nat_eq}
 use Rattle.std.specs.Str.{bytes_eq}
-use Rattle.record_archive.specs.Archive.{Record, Archive, is_live, is_held, is_held_by, due_of, is_by_any, from_1970}
+use Rattle.record_archive.specs.Archive.{Record, Archive, is_live, is_held, is_held_by, due_of, is_by_any, from_1970, body_of}
 
 -- the numbers from one to another, both included
 pub record Span : Type 0 where
@@ -63,8 +63,25 @@ is_when c a r = where_asked (λ day. int_le day (pos r.day)) c.since && where_as
 abbrev pub meets : Choice → Archive → Record → Bool
 meets c a r = is_where c r && is_as c a r && is_when c a r
 
-abbrev pub chosen : Choice → Archive → List Record
-chosen c a = filter (meets c a) a.records
+-- what is asked of messages, if anything is: the messages to which the answer is yes
+abbrev pub Question : Type 0
+Question = Option (List ℕ → Bool)
+
+-- the message of a record, which is gone once the record is destroyed
+abbrev pub message_of : Archive → Record → Option (List ℕ)
+message_of a r = if r.destroyed then None else body_of a.messages r.message
+
+-- the answer is yes; a message that is gone has none
+abbrev pub is_yes : (List ℕ → Bool) → Option (List ℕ) → Bool
+is_yes asks None = false
+is_yes asks (Some message) = asks message
+
+-- THE SAME WITH A QUESTION on their messages, where one is asked
+abbrev pub meets_asked : Question → Choice → Archive → Record → Bool
+meets_asked q c a r = meets c a r && where_asked (λ asks. is_yes asks (message_of a r)) q
+
+abbrev pub chosen : Question → Choice → Archive → List Record
+chosen q c a = filter (meets_asked q c a) a.records
 
 -- nothing is asked
 abbrev pub every_record : Choice

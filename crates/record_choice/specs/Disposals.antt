@@ -1,9 +1,9 @@
 -- What a disposal destroys, and what it says of each record.
-use Rattle.std.specs.Prelude.{◌≡◌, ◌<◌, ◌^◌, ℕ, ℤ, ◌==◌, not, ◌&&◌, Bool, true, false, if◌then◌else◌, List, [], ◌∷◌, length, map, filter, Option, None, Some, Result, Ok, Err}
+use Rattle.std.specs.Prelude.{◌≡◌, ◌<◌, ◌^◌, ℕ, ℤ, ◌==◌, not, ◌&&◌, Bool, true, false, if◌then◌else◌, List, [], ◌∷◌, length, map, filter, Option, None, Some}
 use Rattle.std.specs.List.{list_any}
 use Rattle.sha2.specs.Sha256.{sha256}
 use Rattle.class_plan.specs.Plans.{schedule_at}
-use Rattle.record_archive.specs.Archive.{Record, Archive, Line, record_at, body_of, is_live, is_shared, destroys, destroy_on, destruction_of, due_list_on}
+use Rattle.record_archive.specs.Archive.{Record, Archive, Line, record_at, body_of, is_live, destroys, destroy_on, destruction_of, due_list_on}
 use Rattle.record_archive.specs.Calls.{Makes}
 use Rattle.record_choice.specs.Entries.{RecordEntry, OfRecord, records_from, entry_of, entry_view}
 use Rattle.record_choice.specs.declared.destruction.Destroyed as code

@@ -119,7 +119,8 @@ fn is_kept(holder: &Holder, names: &[Vec<u8>]) -> bool
 }
 
 fn is_held(held: &Option<Holder>, names: &[Vec<u8>]) -> bool
-    ensures { result ≡ where_asked (shows_hold (name_list names.now)) (option_map holder_view held.now) }
+    ensures { result ≡
+        where_asked (shows_hold (name_list names.now)) (option_map holder_view held.now) }
 {
     match held {
         None => true,
@@ -129,7 +130,8 @@ fn is_held(held: &Option<Holder>, names: &[Vec<u8>]) -> bool
 
 /// Whether a day is that of a bound, if there is one, or later.
 fn is_since(bound: Option<Date>, day: Date) -> bool
-    ensures { result ≡ where_asked (λ first. int_le first (epoch_day day)) (option_map epoch_day bound) }
+    ensures { result ≡
+        where_asked (λ first. int_le first (epoch_day day)) (option_map epoch_day bound) }
 {
     match bound {
         None => true,
@@ -139,7 +141,8 @@ fn is_since(bound: Option<Date>, day: Date) -> bool
 
 /// Whether a day is that of a bound, if there is one, or before.
 fn is_until(bound: Option<Date>, day: Date) -> bool
-    ensures { result ≡ where_asked (λ last. int_le (epoch_day day) last) (option_map epoch_day bound) }
+    ensures { result ≡
+        where_asked (λ last. int_le (epoch_day day) last) (option_map epoch_day bound) }
 {
     match bound {
         None => true,
@@ -149,7 +152,8 @@ fn is_until(bound: Option<Date>, day: Date) -> bool
 
 /// Whether there is a due day, and it is that of a bound, if there is one, or before.
 pub(crate) fn is_due(bound: Option<Date>, due: Option<Date>) -> bool
-    ensures { result ≡ where_asked (shows_due (option_map epoch_day due)) (option_map epoch_day bound) }
+    ensures { result ≡
+        where_asked (shows_due (option_map epoch_day due)) (option_map epoch_day bound) }
 {
     match (bound, due) {
         (None, _) => true,

@@ -48,7 +48,8 @@ impl<F> From<AllocError> for DisposeFault<F> {
 /// The lines whose records a plan destroys.
 fn destroyed_only(alloc: Global, plan: &Plan, lines: Vec<Line>) -> Result<Vec<Line>, AllocError>
     ensures { IfOk result (λ v. map line_view v.items ≡
-        filter (λ (l : archive.Line). archive.destroys (schedule_at plan.now l.path)) (map line_view lines.items)) }
+        filter (λ (l : archive.Line). archive.destroys (schedule_at plan.now l.path))
+        (map line_view lines.items)) }
 {
     let mut kept = Vec::new(alloc);
     for line in lines {
@@ -160,7 +161,8 @@ pub fn asked_lines<R: Repository>(
 
 /// The numbers of records, upwards.
 fn numbers_of(alloc: Global, lines: &[Line]) -> Result<Vec<u32>, AllocError>
-    ensures { IfOk result (λ v. IsPermutation (map (λ (l : archive.Line). l.number) (map line_view lines.now)) v.items) }
+    ensures { IfOk result (λ v. IsPermutation
+        (map (λ (l : archive.Line). l.number) (map line_view lines.now)) v.items) }
 {
     let mut numbers = Vec::with_capacity(alloc, lines.len())?;
     for line in lines {
@@ -239,7 +241,8 @@ pub fn dispose<R: Repository, K: Registrar>(
     ensures these { IfOk result (λ d. (ns : List ℕ) × (cs : List Certificate)
         × HandsOver K.takes registrar.old cs registrar.new
         × (R.clean records.new → (a : Archive) → R.stands records.old a
-        → IsPermutation (map (λ (l : archive.Line). l.number) (asked_list a (epoch_day day) asked.now)) ns
+        → IsPermutation
+        (map (λ (l : archive.Line). l.number) (asked_list a (epoch_day day) asked.now)) ns
         × Destroys (R.stands records.new) (epoch_day day) (take d.count ns) cs a)
         × (d.end ≡ Done → d.count ≡ length ns)) }
     // or none is
@@ -257,5 +260,6 @@ pub fn dispose<R: Repository, K: Registrar>(
 /// The law of `Destroys` of the definitions: what is destroyed one after another is each of these and no other, and all
 /// else of each record stays. The function does nothing.
 pub fn these_and_no_other()
-    ensures { (day : ℤ) (ns : List ℕ) (cs : List Certificate) (a : Archive) → DestroysThese day ns cs a }
+    ensures { (day : ℤ) (ns : List ℕ) (cs : List Certificate) (a : Archive)
+        → DestroysThese day ns cs a }
 {}

@@ -1,13 +1,15 @@
 //! A walk over the records that a command is about, page by page.
 
-ghost use Rattle.std.specs.Prelude.{◌≡◌, ◌≤◌, ◌<◌, map, filter, None, IfOk, IfSome, Some};
+ghost use Rattle.std.specs.Prelude.{◌≡◌, ◌≤◌, ◌<◌, ◌++◌, List, map, filter, option_map, None, IfOk, OnOk, IfSome, Some};
 ghost use Rattle.record_archive.specs.Archive.{Archive};
-ghost use Rattle.record_choice.specs.Entries.{entry_view};
+ghost use Rattle.record_choice.specs.Choices.{Choice as Chosen, Question, where_asked};
+ghost use Rattle.record_choice.specs.Entries.{RecordEntry as Listed, entry_view};
 ghost use Rattle.record_choice.specs.Views.{choice_view, shows};
-ghost use Rattle.record_choice.specs.Walks.{last_of, above, IsPageOf};
+ghost use Rattle.record_choice.specs.Walks.{last_of, above, shows_answer, kept_if, IsPageOf, WalkJoins};
 
 use crate::choice::Choice;
 use crate::entry::RecordEntry;
+use crate::questions::Judge;
 use crate::repository::Repository;
 use std::alloc::{AllocError, Global};
 
@@ -70,11 +72,88 @@ pub(crate) fn number_above(last: Option<u32>) -> Option<u32>
     }
 }
 
-/// The next page of a walk over the records of a choice: `most` records from a number on are looked at.
-pub fn choose_page<R: Repository>(
+/// Whether the answer to a question is yes for the message of an entry. A message that is gone is not read.
+fn is_answered<R: Repository, J: Judge>(
+    alloc: Global,
+    records: &mut R,
+    judge: &J,
+    entry: &RecordEntry,
+) -> Result<bool, WalkFault<R::Fault>>
+    ensures stands { (a : Archive) → R.stands records.old a → R.stands records.new a }
+    ensures falls { R.clean records.new → R.clean records.old }
+    ensures told { IfOk result (λ b. R.clean records.new → (a : Archive) → R.stands records.old a
+        → b ≡ shows_answer a (J.asks judge.now) (entry_view entry.now)) }
+{
+    if entry.destroyed {
+        return Ok(false);
+    }
+    let message = match records.message(entry.number) {
+        Ok(message) => message,
+        Err(fault) => return Err(WalkFault::Repository(fault)),
+    };
+    let answer = judge.judge(alloc, message.as_slice())?;
+    Ok(answer)
+}
+
+/// Adds an entry that is to be kept.
+fn push_if(list: &mut Vec<RecordEntry>, entry: RecordEntry, keep: bool) -> Result<(), AllocError>
+    ensures { OnOk result (map entry_view list.new.items ≡
+        map entry_view list.old.items ++ kept_if keep (entry_view entry)) }
+{
+    if keep {
+        list.push(entry)?;
+    }
+    Ok(())
+}
+
+/// The entries for whose messages the answer to a question is yes.
+fn keep_answered<R: Repository, J: Judge>(
+    alloc: Global,
+    records: &mut R,
+    judge: &J,
+    entries: Vec<RecordEntry>,
+) -> Result<Vec<RecordEntry>, WalkFault<R::Fault>>
+    ensures stands { (a : Archive) → R.stands records.old a → R.stands records.new a }
+    ensures falls { R.clean records.new → R.clean records.old }
+    ensures kept { IfOk result (λ v. R.clean records.new → (a : Archive) → R.stands records.old a
+        → map entry_view v.items ≡
+        filter (shows_answer a (J.asks judge.now)) (map entry_view entries.items)) }
+{
+    let mut kept = Vec::new(alloc);
+    for entry in entries {
+        let keep = is_answered(alloc, records, judge, &entry)?;
+        push_if(&mut kept, entry, keep)?;
+    }
+    Ok(kept)
+}
+
+/// The entries for whose messages the answer is yes; all of them, where nothing is asked. Then no message is read.
+fn keep_asked<R: Repository, J: Judge>(
+    alloc: Global,
+    records: &mut R,
+    question: Option<&J>,
+    entries: Vec<RecordEntry>,
+) -> Result<Vec<RecordEntry>, WalkFault<R::Fault>>
+    ensures stands { (a : Archive) → R.stands records.old a → R.stands records.new a }
+    ensures falls { R.clean records.new → R.clean records.old }
+    ensures kept { IfOk result (λ v. R.clean records.new → (a : Archive) → R.stands records.old a
+        → map entry_view v.items ≡ filter (λ e. where_asked (λ asks. shows_answer a asks e)
+        (option_map (λ j. J.asks j.now) question.entry)) (map entry_view entries.items)) }
+{
+    match question {
+        None => Ok(entries),
+        Some(judge) => keep_answered(alloc, records, judge, entries),
+    }
+}
+
+/// The next page of a walk over the records of a choice: `most` records from a number on are looked at. Where a question
+/// is asked, the page has only those for whose message the answer is yes, and none whose message is gone; a message is
+/// read only of a record that meets the choice.
+pub fn choose_page<R: Repository, J: Judge>(
     alloc: Global,
     records: &mut R,
     choice: &Choice,
+    question: Option<&J>,
     from: u32,
     most: usize,
 ) -> Result<Page, WalkFault<R::Fault>>
@@ -82,7 +161,8 @@ pub fn choose_page<R: Repository>(
     ensures stands { (a : Archive) → R.stands records.old a → R.stands records.new a }
     ensures falls { R.clean records.new → R.clean records.old }
     ensures page { IfOk result (λ p. R.clean records.new → (a : Archive) → R.stands records.old a
-        → IsPageOf (choice_view choice.now) a (Some from) (map entry_view p.chosen.items) p.next) }
+        → IsPageOf (option_map (λ j. J.asks j.now) question.entry) (choice_view choice.now) a
+        (Some from) (map entry_view p.chosen.items) p.next) }
     ensures on { IfOk result (λ p. R.clean records.new → (a : Archive) → R.stands records.old a
         → IfSome p.next (λ n. from < n)) }
 {
@@ -90,9 +170,17 @@ pub fn choose_page<R: Repository>(
         Ok(entries) => entries,
         Err(fault) => return Err(WalkFault::Repository(fault)),
     };
-    let (chosen, last) = sift(alloc, choice, entries)?;
+    let (met, last) = sift(alloc, choice, entries)?;
+    let chosen = keep_asked(alloc, records, question, met)?;
     Ok(Page {
         chosen,
         next: number_above(last),
     })
 }
+
+/// The law of `IsWalk` of the definitions: the pages of a walk from number 1 to its end, joined, are the chosen records. The
+/// function does nothing.
+pub fn walks_join()
+    ensures { (q : Question) (c : Chosen) (a : Archive) (pages : List (List Listed))
+        → WalkJoins q c a pages }
+{}

@@ -64,7 +64,8 @@ fn judge(plan: &Plan, entry: RecordEntry, day: Date) -> Option<Reason>
 
 /// A record, if it has a number.
 fn if_numbered(entry: RecordEntry, number: u32) -> Option<RecordEntry>
-    ensures { MatchOption result (entry.number ≡ number → ⊥) (λ e. (e ≡ entry) × (entry.number ≡ number)) }
+    ensures { MatchOption result (entry.number ≡ number → ⊥)
+        (λ e. (e ≡ entry) × (entry.number ≡ number)) }
 {
     if entry.number == number {
         Some(entry)

@@ -104,7 +104,7 @@ unfolding arguments_at
 arguments_again args rest e = arguments_many args (length (arguments_tokens args ++ rest)) rest e (arguments_length args rest)
 
 -- what may follow a test
-abbrev IsEnded : List TokenKind → Type 0
+abbrev pub IsEnded : List TokenKind → Type 0
 IsEnded [] = Unit {0}
 IsEnded (tokens.Mark Comma ∷ ts) = Unit {0}
 IsEnded (tokens.Mark CloseParen ∷ ts) = Unit {0}
@@ -159,7 +159,7 @@ one_read read (test n args inner) rest = refl
 mutual
   unfolding test_at trees_of
 
-  test_reads : (t : TestTree) (d : ℕ) (rest : List TokenKind) → IsEnded rest → test_at d (test_tokens t ++ rest) ≡ answer (test_fits t d) (t, rest)
+  pub test_reads : (t : TestTree) (d : ℕ) (rest : List TokenKind) → IsEnded rest → test_at d (test_tokens t ++ rest) ≡ answer (test_fits t d) (t, rest)
   test_reads (test n args inner) zero rest h = refl
   test_reads (test n args inner) (suc d) rest h =
       let more = inner_tokens inner ++ rest in

@@ -39,7 +39,7 @@ both true b p q = q
 both false b p q = absurd cc
 
 mutual
-  test_within : (t : TestTree) (d : ℕ) → test_depth t ≤ d → test_fits t d ≡ true
+  pub test_within : (t : TestTree) (d : ℕ) → test_depth t ≤ d → test_fits t d ≡ true
   test_within (test n args inner) zero h = absurd (omega arith)
   test_within (test n args inner) (suc d) h = inner_within inner d (omega arith)
 
@@ -53,7 +53,7 @@ mutual
   row_within (next_test t row) d h = both (test_fits t d) (row_fits row d) (test_within t d (omega arith)) (row_within row d (omega arith))
 
 mutual
-  test_depth-fits : (t : TestTree) (d : ℕ) → test_fits t d ≡ true → test_depth t ≤ d
+  pub test_depth-fits : (t : TestTree) (d : ℕ) → test_fits t d ≡ true → test_depth t ≤ d
   test_depth-fits (test n args inner) zero h = absurd cc
   test_depth-fits (test n args inner) (suc d) h = let k = inner_depth-fits inner d h in omega arith
 

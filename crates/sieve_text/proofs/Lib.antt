@@ -23,6 +23,7 @@ mod GrammarRows
 mod Rows
 pub mod ScanLemmas
 pub mod ScriptLaws
+pub mod Questions
 pub mod SkipLemmas
 pub mod Spelled
 pub mod StrayGrammar

@@ -182,7 +182,7 @@ test_with_sound read h (tokens.Identifier n ∷ ts) x e =
     ∙ sym (append_assoc (arguments_tokens a.0.0) (inner_tokens b.0.0) b.0.1)))
 test_with_sound read h ts x e = absurd cc
 
-test_sound : (d : ℕ) → IsSound test_tokens (test_at d)
+pub test_sound : (d : ℕ) → IsSound test_tokens (test_at d)
 unfolding test_at
 test_sound zero = refused_sound
 test_sound (suc d) = test_with_sound (inner_with (test_at d)) (inner_sound (test_at d) (test_sound d))

@@ -6,7 +6,7 @@
 //! laws `cut` and `refused_place`, both pairs of definitions agree.
 //!
 //! `Grammar` defines the trees of a script and what an answer means for it. `Reading` is the grammar read from left to
-//! right; the parser's functions are proved against it first.
+//! right; the parser's functions are proved against it first. `Questions` defines which texts are exactly one test.
 #![tactic(auto)]
 
 mod fault;
@@ -17,5 +17,5 @@ mod scanner;
 
 pub use fault::{ScanFault, ScanRefusal, TextFault, TextRefusal};
 pub use laws::{cut, one_scan, one_verdict, refused_place, some_verdict};
-pub use parser::{one_tree, parse};
+pub use parser::{one_tree, parse, parse_test};
 pub use scanner::{MAX_OCTETS, scan};

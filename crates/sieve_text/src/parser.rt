@@ -17,6 +17,7 @@ mod arguments;
 mod commands;
 mod laws;
 mod lists;
+mod questions;
 mod stop;
 mod test_lists;
 
@@ -24,6 +25,7 @@ use crate::fault::{ScanFault, TextFault, TextRefusal};
 use crate::scanner::{check_text, count_tokens, split_lexeme};
 use commands::commands;
 pub use laws::one_tree;
+pub use questions::parse_test;
 use sieve_syntax::{Command, Script};
 use std::alloc::Global;
 use stop::{Misfit, Stop, left_from, syntax};

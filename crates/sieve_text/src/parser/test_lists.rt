@@ -52,7 +52,7 @@ fn named_test<'a>(
 /// A test, with at most `depth` nested tests, itself counted.
 #[cycle(test_reader)]
 #[tactic(auto, unfolding(crate::specs::Reading::test_at))]
-fn read_test(alloc: Global, depth: u8, text: &[u8]) -> Result<(Test, &[u8]), Stop>
+pub fn read_test(alloc: Global, depth: u8, text: &[u8]) -> Result<(Test, &[u8]), Stop>
     ensures value { Gives
         (λ x. (test_of x.0, kinds_in x.1.now)) result (test_at depth (kinds_in text.now)) }
     ensures fewer { IfOk result (λ x. length (kinds_in x.1.now) < length (kinds_in text.now)) }

@@ -26,17 +26,20 @@ loop-preserved g c = record {
   at = λ clean (a : Archive) s.
       let before = c.look_on.ensures.falls clean in
       let at = c.loop.invariant.at before a s in
-      let up = finds_in a c.args.message c.args.number c.loop.from c.in-Further.is (c.in_ok-found.ensures.told clean a (c.loop.invariant.stands a s)) in
+      let up =
+      finds_in a c.args.message c.args.number c.loop.from c.in-Further.is (c.in_ok-found.ensures.told clean a (c.loop.invariant.stands a s)) in
       (omega (arith, at.0, up.0), up.1);
   none = λ clean (a : Archive) s.
       let before = c.look_on.ensures.falls clean in
-      (finds_in a c.args.message c.args.number c.loop.from c.in-Further.is (c.in_ok-found.ensures.told clean a (c.loop.invariant.stands a s))).2 ∙ c.loop.invariant.none before a s;
+      (finds_in a c.args.message c.args.number c.loop.from c.in-Further.is (c.in_ok-found.ensures.told clean a (c.loop.invariant.stands a s))).2
+      ∙ c.loop.invariant.none before a s;
 }
 
 pub returns-in-Ended-clause-told : goal.returns-in-Ended-clause-told
 returns-in-Ended-clause-told g c = λ clean (a : Archive) (r : Record) s at live same.
     let before = c.look_on.ensures.falls clean in
-    sym (c.loop.invariant.none before a s) ∙ finds_in a c.args.message c.args.number c.loop.from c.in-Ended.is (c.in_ok-found.ensures.told clean a (c.loop.invariant.stands a s))
+    sym (c.loop.invariant.none before a s)
+    ∙ finds_in a c.args.message c.args.number c.loop.from c.in-Ended.is (c.in_ok-found.ensures.told clean a (c.loop.invariant.stands a s))
 
 pub returns-clause-told : goal.returns-clause-told
 returns-clause-told g c = λ clean (a : Archive) (r : Record) s at live same.

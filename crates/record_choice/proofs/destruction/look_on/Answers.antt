@@ -1,4 +1,4 @@
-use Rattle.std.proofs.Common.{◌≡◌, ◌∙◌, sym, ap, arith, map, rules}
+use Rattle.std.proofs.Common.{◌∙◌, sym, ap, arith, map, rules}
 use Rattle.record_archive.specs.Archive.{Archive}
 use Rattle.record_choice.specs.Entries.{entry_view}
 use Rattle.record_choice.proofs.Keepers.{page_finds, page_goes_on}

@@ -1,4 +1,4 @@
-use Rattle.std.proofs.Common.{◌≡◌, ◌∙◌, length, sym, ap}
+use Rattle.std.proofs.Common.{◌∙◌, length, sym, ap}
 use Rattle.sha2.specs.Sha256.{sha256}
 use Rattle.record_archive.specs.Archive.{Archive, Record, body_of}
 use Rattle.record_choice.proofs.Judged.{message_stored}

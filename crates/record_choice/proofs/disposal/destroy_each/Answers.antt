@@ -21,7 +21,8 @@ loop-number-preserved g c =
         so_far.0 ++ step.0 ∷ [],
         hands_more g.K.Registrar.takes c.args.registrar.now so_far.0 c.loop-number.registrar c.destroy_one.new.registrar step.0 so_far.1 step.1,
         λ clean (a : Archive) s.
-            subst (λ l. Destroys (λ b. R c.destroy_one.new.records b × IsKnown b c.in-Ok.step.known) (epoch_day c.args.day) l (so_far.0 ++ step.0 ∷ []) a)
+            let Next = λ (b : Archive). R c.destroy_one.new.records b × IsKnown b c.in-Ok.step.known in
+            subst (λ l. Destroys Next (epoch_day c.args.day) l (so_far.0 ++ step.0 ∷ []) a)
             (sym (take_more numbers i 0 c.loop-number-test.true))
             (destroys_more (λ b. R c.loop-number.records b × IsKnown b c.loop-number.known)
             (λ b. R c.destroy_one.new.records b × IsKnown b c.in-Ok.step.known) (epoch_day c.args.day) (take i numbers) so_far.0

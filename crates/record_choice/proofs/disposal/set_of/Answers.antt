@@ -1,5 +1,5 @@
-use Rattle.std.proofs.Common.{ap, sym, get_or, take, ◌≡◌}
-use Rattle.std.proofs.lemmas.List.{take_more, take_all}
+use Rattle.std.proofs.Common.{get_or, take}
+use Rattle.std.proofs.lemmas.List.{take_more}
 use Rattle.record_choice.proofs.Asked.{set_more}
 use Rattle.record_choice.proofs.disposal.set_of.Goals as goal
 

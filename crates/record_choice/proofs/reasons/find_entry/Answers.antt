@@ -1,4 +1,4 @@
-use Rattle.std.proofs.Common.{◌≡◌, ◌∙◌, ◌++◌, ◌∷◌, [], ◌-◌, take, sym, ap, map}
+use Rattle.std.proofs.Common.{◌≡◌, ◌∙◌, ◌∷◌, [], ◌-◌, take, sym, ap, map}
 use Rattle.std.proofs.lemmas.List.{append-nil, map-append}
 use Rattle.record_archive.specs.Archive.{Archive}
 use Rattle.record_choice.specs.Entries.{entry_view}
@@ -11,7 +11,8 @@ returns-in-Some-clause-told g c = λ clean (a : Archive) s.
     let rest = c.pop.new.self.items in
     let e = c.in-Some.entry in
     numbered_found a (g.met.R.Repository.is_archive c.args.records.now a s) c.args.number (map entry_view rest) e
-    (sym (map-append entry_view rest (e ∷ [])) ∙ ap (map entry_view) (sym (rw c.in-Some.is at c.pop.ensures.items)) ∙ c.in_ok-entries.ensures.told clean a s)
+    (sym (map-append entry_view rest (e ∷ []))
+    ∙ ap (map entry_view) (sym (rw c.in-Some.is at c.pop.ensures.items)) ∙ c.in_ok-entries.ensures.told clean a s)
     c.if_numbered.result c.if_numbered.ensures
 
 pub returns-clause-told : goal.returns-clause-told

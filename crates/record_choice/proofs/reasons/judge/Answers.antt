@@ -1,7 +1,6 @@
 use Rattle.std.proofs.Common.{◌≡◌, ◌∙◌, sym, ap, rules, true, false}
 use Rattle.std.proofs.lemmas.Bool.{not-true, not-false}
 use Rattle.jiff.specs.Words.{epoch_day}
-use Rattle.class_plan.specs.Plans.{schedule_at}
 use Rattle.record_archive.specs.Archive as archive
 use Rattle.record_archive.specs.Archive.{Archive, Record}
 use Rattle.record_choice.specs.Entries.{entry_view}
@@ -26,7 +25,9 @@ returns-then-not-destroys c = λ (a : Archive) n (r : Record) same at own shown.
     let live = sym (ap (λ x. x.destroyed) shown) ∙ c.if-entry.false in
     let free = sym (held_by_entry a n r e shown own) ∙ has_names c.as_slice.ensures.value c.has_any.ensures ∙ c.if-has_any.false in
     let no : c.destroys.result ≡ false = search (rules, not-true) in
-    let path = scheduled a c.args.plan.now r e c.as_slice-2.result.now c.schedule_of-schedule.result same shown c.as_slice-2.ensures.value c.schedule_of-schedule.ensures.schedule in
+    let path =
+    scheduled a c.args.plan.now r e c.as_slice-2.result.now c.schedule_of-schedule.result same shown c.as_slice-2.ensures.value
+    c.schedule_of-schedule.ensures.schedule in
     (refused_kept a n (epoch_day c.args.day) r at live free (ap archive.destroys (sym path) ∙ sym c.destroys.ensures ∙ no), (r, at, path))
 
 pub returns-then-not-is_due : goal.returns-then-not-is_due
@@ -36,7 +37,9 @@ returns-then-not-is_due c = λ (a : Archive) n (r : Record) same at own shown.
     let free = sym (held_by_entry a n r e shown own) ∙ has_names c.as_slice.ensures.value c.has_any.ensures ∙ c.if-has_any.false in
     let yes : c.destroys.result ≡ true = search (rules, not-false) in
     let no : c.is_due.result ≡ false = search (rules, not-true) in
-    let path = scheduled a c.args.plan.now r e c.as_slice-2.result.now c.schedule_of-schedule.result same shown c.as_slice-2.ensures.value c.schedule_of-schedule.ensures.schedule in
+    let path =
+    scheduled a c.args.plan.now r e c.as_slice-2.result.now c.schedule_of-schedule.result same shown c.as_slice-2.ensures.value
+    c.schedule_of-schedule.ensures.schedule in
     let early = sym (due_by_entry a r e (epoch_day c.args.day) shown live) ∙ sym c.is_due.ensures ∙ no in (
       refused_early a n (epoch_day c.args.day) r at live free (ap archive.destroys (sym path) ∙ sym c.destroys.ensures ∙ yes) early,
       (r, at, date_by_entry a r e shown live),
@@ -49,6 +52,8 @@ returns c = λ (a : Archive) n (r : Record) same at own shown.
     let free = sym (held_by_entry a n r e shown own) ∙ has_names c.as_slice.ensures.value c.has_any.ensures ∙ c.if-has_any.false in
     let yes : c.destroys.result ≡ true = search (rules, not-false) in
     let due : c.is_due.result ≡ true = search (rules, not-false) in
-    let path = scheduled a c.args.plan.now r e c.as_slice-2.result.now c.schedule_of-schedule.result same shown c.as_slice-2.ensures.value c.schedule_of-schedule.ensures.schedule in
+    let path =
+    scheduled a c.args.plan.now r e c.as_slice-2.result.now c.schedule_of-schedule.result same shown c.as_slice-2.ensures.value
+    c.schedule_of-schedule.ensures.schedule in
     let by = sym (due_by_entry a r e (epoch_day c.args.day) shown live) ∙ sym c.is_due.ensures ∙ due in
     (_, destroyed_now a n (epoch_day c.args.day) r at live free (ap archive.destroys (sym path) ∙ sym c.destroys.ensures ∙ yes) by)
