@@ -57,7 +57,7 @@ returns-in-Err-serve_connection-clause-kept g c a held honest image may =
     finds_still c.in-Ok.conn image a (λ f. inl refl) opened found (it.kept honest a found image may)
 
 pub returns-in-Ok-serve_connection-clause-opens : goal.returns-in-Ok-serve_connection-clause-opens
-returns-in-Ok-serve_connection-clause-opens g c = opens_after g.F.made _ _ _ _ c.make_ready.ensures.calls c.open_store.ensures.made
+returns-in-Ok-serve_connection-clause-opens g c = opens_after g.F.FileSystem.made _ _ _ _ c.make_ready.ensures.calls c.open_store.ensures.made
 
 pub returns-in-Err-clause-tries : goal.returns-in-Err-clause-tries
 returns-in-Err-clause-tries g c done was =
@@ -66,10 +66,10 @@ returns-in-Err-clause-tries g c done was =
 
 pub returns-in-Err-open_store-clause-tries : goal.returns-in-Err-open_store-clause-tries
 returns-in-Err-open_store-clause-tries g c done was =
-    let it = opens_after g.F.made _ _ _ _ c.make_ready.ensures.calls c.open_store.ensures.made done was in
+    let it = opens_after g.F.FileSystem.made _ _ _ _ c.make_ready.ensures.calls c.open_store.ensures.made done was in
     (it.0, inr it.1, it.2)
 
 pub returns-in-Err-serve_connection-clause-tries : goal.returns-in-Err-serve_connection-clause-tries
 returns-in-Err-serve_connection-clause-tries g c done was =
-    let it = opens_after g.F.made _ _ _ _ c.make_ready.ensures.calls c.open_store.ensures.made done was in
+    let it = opens_after g.F.FileSystem.made _ _ _ _ c.make_ready.ensures.calls c.open_store.ensures.made done was in
     (it.0, inr it.1, it.2)
