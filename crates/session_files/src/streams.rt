@@ -31,7 +31,14 @@ pub fn serve_path(rt: &HostRuntime, path: &str) -> ExitCode {
     let mut input = Input::new(rt.stdin());
     let mut output = Output::new(rt.stdout());
     let mut system = System::new(rt);
-    match serve_file(&mut system, rt.alloc(), path, Unknown, &mut input, &mut output) {
+    match serve_file(
+        &mut system,
+        rt.alloc(),
+        path,
+        Unknown,
+        &mut input,
+        &mut output,
+    ) {
         Ok(ended) => end_session(rt, ended.session),
         Err(_) => end_without_store(rt),
     }
