@@ -17,7 +17,7 @@ use Rattle.record_archive.specs.Archive.{Archive}
 use Rattle.record_adoption.specs.Keeping.{StoresArchive}
 use Rattle.record_files.specs.Files.{FindsAt}
 use Rattle.session_files.specs.declared.session.NoSession.{NoSession}
-use Rattle.session_files.specs.declared.session.NoSession.TheVariants.{Unadopted, Unopened}
+use Rattle.session_files.specs.declared.session.NoSession.TheVariants.{Unadopted, Unopened, Unplaced}
 
 -- these trees are those of a database that stores the archive
 pub record TreesStore (trees : Trees) (a : Archive) : Type 0 where
@@ -45,11 +45,12 @@ IsWellOpened image (left.Unopened now) = (db : Trees) (held : HoldsDatabase imag
 IsWellOpened image (left.Store now) = IsTrue (view now).is_numbered
 
 module _ {D : Type 0} {g : Ghosts D} (first : Image) (a : Archive) where
-  -- Where the files held the archive at first, they keep it, whatever faults fell. Of files that the system did not open
-  -- nothing is said.
+  -- Where the files held the archive at first, they keep it, whatever faults fell. Of files that the system did not open,
+  -- or that were not to be opened, nothing is said.
   abbrev pub KeepsUnserved : NoSession D g → Type 0
   KeepsUnserved (Unopened e None) = Unit {0}
   KeepsUnserved (Unopened e (Some rest)) = IsCleanLeft rest → IsWellOpened first rest → (image : Image)
       → outcomes g (files_left rest).0 (files_left rest).1 image → ∥ FindsAt image a ∥₁
   KeepsUnserved (Unadopted fault files) = AreClean g files.log files.db → (image : Image)
       → outcomes g files.log files.db image → FindsStill a image
+  KeepsUnserved (Unplaced why) = Unit {0}

@@ -50,6 +50,8 @@ pub(crate) fn serve_over<S: Alter + Drop, In: Source, Out: Sink>(
         (λ e. LeavesArchive S.Store conn e.1 (Finds (state S.Store conn).now)) }
     ensures refused { IfErr result (λ e. HasCleanDisk (state S.Store e.1) → (a : Archive)
         → Finds (state S.Store conn).now a → IsArchive a → is_trouble e.0 ≡ true) }
+    ensures untouched { IfErr result
+        (λ e. (source.new ≡ source.old) × (sink.new ≡ sink.old)) }
 {
     sessions_refine_states::<Desk<Store<S>>>();
     let mut desk = match open_desk(alloc, conn) {

@@ -1,6 +1,6 @@
 //! A session over the store in two files.
 
-ghost use Rattle.std.specs.Prelude.{◌≡◌, false, true, IfErr, IfOk, IsTrue, OnOk};
+ghost use Rattle.std.specs.Prelude.{◌≡◌, ◌⊎◌, false, true, IfErr, IfOk, IsTrue, OnOk};
 ghost use Rattle.sqlite.specs.State.{HasCleanDisk};
 ghost use Rattle.sqlite.specs.WalReads.{AreClean};
 ghost use Rattle.sqlite.specs.WalFiles.{image_at, outcomes};
@@ -14,12 +14,14 @@ ghost use Rattle.session_protocol.specs.Session.{session_in};
 ghost use Rattle.record_store.specs.Layouts.{HasArchiveTablesOrNone};
 ghost use Rattle.record_files.specs.Closing.{HasCause, HaveCounted, HoldsLeft, LeavesBy};
 ghost use Rattle.record_files.specs.Files.{FindsAt, HoldsTables, KeepsAt, KeepsFiles, system_file};
+ghost use Rattle.record_places.specs.Calls.{Makes, MayMake, OpensStore};
 ghost use Rattle.session_files.specs.Refusals.{RefusalHasCause};
 ghost use Rattle.session_files.specs.Sessions.{IsDone, IsTold, LeadsTo, LeavesSome};
 ghost use Rattle.session_files.specs.Unserved.{HoldsStill, KeepsUnserved};
 
 use crate::serving::serve_over;
 use record_files::{Closing, close, leave};
+use record_places::{FileSystem, NoPlace, make_ready};
 use record_store::StoreFault;
 use session_protocol::{ServeFault, Sink, Source};
 use sqlite::{Connection, Error, FileFrom, FileStore, Files, Leftover, Start};
@@ -44,6 +46,8 @@ pub enum NoSession<D: Disk> {
     Unopened(Error, Option<Leftover<D>>),
     /// Their database was not taken for an archive: 88 where it is none, 89 (`sqlite`) or 99 (no memory).
     Unadopted(StoreFault, Files<D>),
+    /// No store may be opened or made at the path, or its log lets others read or write than the file does.
+    Unplaced(NoPlace),
 }
 
 /// Serves a session at the desk over a connection to files, and closes them.
@@ -82,6 +86,8 @@ pub fn serve_connection<D: Disk + Drop, In: Source, Out: Sink>(
     ensures kept { IfErr result (λ e. AreClean D.Disk e.1.log e.1.db → (a : Archive)
         → Finds (file_state conn).now a → (image : Image)
         → outcomes D.Disk e.1.log e.1.db image → HoldsStill (file_state conn) a image) }
+    ensures untouched { IfErr result
+        (λ e. (source.new ≡ source.old) × (sink.new ≡ sink.old)) }
 {
     match serve_over(alloc, conn, source, sink) {
         Ok((session, conn)) => {
@@ -111,10 +117,15 @@ pub fn serve_connection<D: Disk + Drop, In: Source, Out: Sink>(
 /// No session is served, and nothing is read, where the files cannot be opened, where they hold no archive (88), and
 /// where the database refuses (89) or there is no memory (99). Over files that hold an archive there is no other cause.
 ///
+/// Where nothing is at the path, and no log or journal beside it, an empty file is made there that only its owner may read
+/// and write. The store at this path is then opened, and no other call of the file system makes, removes, renames or opens
+/// anything (`opens`, `tries`). Where no session is served, nothing is read and nothing is written (`untouched`).
+///
 /// The streams and `S` are parameters, so that this holds of each file and stream of which something is known; `serve_path`
 /// serves the program's own, of which nothing is.
-pub fn serve_file<S: Start, In: Source, Out: Sink>(
-    rt: &HostRuntime,
+pub fn serve_file<F: FileSystem, S: Start, In: Source, Out: Sink>(
+    system: &mut F,
+    alloc: Global,
     path: &str,
     start: S,
     source: &mut In,
@@ -141,12 +152,20 @@ pub fn serve_file<S: Start, In: Source, Out: Sink>(
         → RefusalHasCause e) }
     ensures kept { IfErr result (λ e. (a : Archive) → FindsAt (image_at S.Start) a
         → KeepsUnserved (image_at S.Start) a e) }
+    ensures untouched { IfErr result
+        (λ e. (source.new ≡ source.old) × (sink.new ≡ sink.old)) }
+    ensures opens { IfOk result (λ it. Makes F.made system.old system.new (OpensStore path.now)) }
+    ensures tries { IfErr result (λ e. Makes F.made system.old system.new
+        (λ calls. MayMake path.now calls ⊎ OpensStore path.now calls)) }
 {
-    let conn = match Connection::open_from(rt, path, true, start) {
+    if let Err(fault) = make_ready(system, alloc, path) {
+        return Err(NoSession::Unplaced(fault));
+    }
+    let conn = match system.open_store(path, true, start) {
         Ok(conn) => conn,
         Err((error, left)) => return Err(NoSession::Unopened(error, left)),
     };
-    match serve_connection(rt.alloc(), conn, source, sink) {
+    match serve_connection(alloc, conn, source, sink) {
         Ok(ended) => Ok(ended),
         Err((fault, files)) => Err(NoSession::Unadopted(fault, files)),
     }

@@ -2,6 +2,7 @@
 
 use crate::memory::serve_in_memory;
 use crate::session::serve_file;
+use record_places::System;
 use session_protocol::{Input, Output, ServeFault};
 use sqlite::Unknown;
 use std::process::ExitCode;
@@ -29,7 +30,15 @@ pub fn serve_memory(rt: &HostRuntime) -> ExitCode {
 pub fn serve_path(rt: &HostRuntime, path: &str) -> ExitCode {
     let mut input = Input::new(rt.stdin());
     let mut output = Output::new(rt.stdout());
-    match serve_file(rt, path, Unknown, &mut input, &mut output) {
+    let mut system = System::new(rt);
+    match serve_file(
+        &mut system,
+        rt.alloc(),
+        path,
+        Unknown,
+        &mut input,
+        &mut output,
+    ) {
         Ok(ended) => end_session(rt, ended.session),
         Err(_) => end_without_store(rt),
     }

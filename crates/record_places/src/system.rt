@@ -1,0 +1,77 @@
+//! The system's own file system.
+
+use crate::file_system::FileSystem;
+use sqlite::{Connection, Error, FileFrom, FileStore, Leftover, Start};
+use std::alloc::Global;
+use std::fs::{self, Metadata, OpenOptions};
+use std::io::{self, Read};
+use std::os::unix::fs::OpenOptionsExt;
+
+/// The system's own file system. It keeps no list of its calls: what is proved of a function over each `FileSystem` holds
+/// of this one.
+#[derive(Clone, Copy)]
+pub struct System<'a> {
+    rt: &'a HostRuntime,
+}
+
+impl<'a> System<'a> {
+    /// The file system that a program has.
+    pub fn new(rt: &'a HostRuntime) -> System<'a> {
+        System { rt }
+    }
+}
+
+impl<'a> FileSystem for System<'a> {
+    ghost made = { λ _ _. Unit {0} };
+
+    fn metadata(&self, path: &str) -> io::Result<Metadata> {
+        fs::metadata(self.rt, path)
+    }
+
+    fn symlink_metadata(&self, path: &str) -> io::Result<Metadata> {
+        fs::symlink_metadata(self.rt, path)
+    }
+
+    fn log_path(&self, alloc: Global, path: &str) -> io::Result<(Metadata, String)> {
+        let real = fs::canonicalize(self.rt, path)?;
+        let store = fs::symlink_metadata(self.rt, real.as_str())?;
+        let log = format!(in alloc; "{}-wal", real.as_str())?;
+        Ok((store, log))
+    }
+
+    fn first_octets(&self, alloc: Global, path: &str, most: u64) -> io::Result<Vec<u8>> {
+        let file = OpenOptions::new()
+            .read(true)
+            .write(true)
+            .open(self.rt, path)?;
+        let mut octets = Vec::new(alloc);
+        file.take(most).read_to_end(&mut octets)?;
+        Ok(octets)
+    }
+
+    fn create(&mut self, path: &str, mode: u32) -> io::Result<()> {
+        OpenOptions::new()
+            .write(true)
+            .create_new(true)
+            .mode(mode)
+            .open(self.rt, path)?;
+        Ok(())
+    }
+
+    fn remove(&mut self, path: &str) -> io::Result<()> {
+        fs::remove_file(self.rt, path)
+    }
+
+    fn hard_link(&mut self, original: &str, path: &str) -> io::Result<()> {
+        fs::hard_link(self.rt, original, path)
+    }
+
+    fn open_store<S: Start>(
+        &mut self,
+        path: &str,
+        new_has_sums: bool,
+        start: S,
+    ) -> Result<Connection<FileStore<FileFrom<S>>>, (Error, Option<Leftover<FileFrom<S>>>)> {
+        Connection::open_from(self.rt, path, new_has_sums, start)
+    }
+}
