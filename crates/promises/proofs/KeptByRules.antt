@@ -3,7 +3,7 @@ use Rattle.std.proofs.Common.{◌≡◌, ℕ, Bool, true, false, List, [], ◌�
 use Rattle.class_paths.specs.Path.{unfiled}
 use Rattle.sieve_syntax.specs.Tree.{TestTree}
 use Rattle.sieve_meaning.specs.Case.{Facts}
-use Rattle.sieve_meaning.specs.Meaning.{Ending, GoesOn, Library, Filing, opening}
+use Rattle.sieve_meaning.specs.Meaning.{Ending, GoesOn, Library, Filing, opening, and_then}
 use Rattle.sieve_meaning.specs.Outcome.{outcome_of}
 use Rattle.sieve_meaning.specs.declared.outcome.Outcome.{Outcome}
 use Rattle.sieve_meaning.specs.Reading.{test_in}
@@ -19,7 +19,8 @@ abbrev outcome_by : Bool → Outcome
 outcome_by b = record { classes = if b then unfiled ∷ [] else []; fault = None }
 
 by_cases : (known_as : Option (List ℕ)) (b : Bool)
-    → outcome_of (if b then GoesOn (record (opening known_as) { kept = true }) else GoesOn (record (opening known_as) { cancelled = true }))
+    → outcome_of (and_then (if b then GoesOn (record (opening known_as) { kept = true }) else GoesOn (record (opening known_as) { cancelled = true }))
+    (λ f. GoesOn f))
     ≡ outcome_by b
 by_cases known_as true = refl
 by_cases known_as false = refl
