@@ -22,7 +22,8 @@ pub struct ReadableWord<'a> {
 
 /// The octets that B text encodes, padded or not (RFC 2047, section 4.1). None where it is no base64.
 fn decode_b(alloc: Global, text: &[u8]) -> Result<Option<Vec<u8>>, AllocError>
-    ensures { IfOk result (λ octets. MatchOption octets (b_octets text.now ≡ None) (λ v. b_octets text.now ≡ Some v.items)) }
+    ensures { IfOk result (λ octets. MatchOption octets (b_octets text.now ≡ None)
+        (λ v. b_octets text.now ≡ Some v.items)) }
 {
     match STANDARD_PAD_INDIFFERENT.decode(alloc, text) {
         Ok(octets) => Ok(Some(octets)),

@@ -143,8 +143,10 @@ impl FieldQuestion {
         subject: Option<&str>,
     ) -> Result<FieldQuestion, FieldQuestionFault>
         ensures ok { IfOk result (λ q. q ≡ asked_of sender.entry recipient.entry subject.entry) }
-        ensures some { IfOk result (λ q. first_empty sender.entry recipient.entry subject.entry ≡ None) }
-        ensures err { IfErr result (λ e. IsFaultIn (first_empty sender.entry recipient.entry subject.entry) e) }
+        ensures some { IfOk result (λ q.
+            first_empty sender.entry recipient.entry subject.entry ≡ None) }
+        ensures err { IfErr result (λ e.
+            IsFaultIn (first_empty sender.entry recipient.entry subject.entry) e) }
     {
         Ok(FieldQuestion {
             sender: folded_text(alloc, FieldGroup::Sender, sender)?,

@@ -1,71 +1,74 @@
 use super::*;
 use std::alloc::{AllocError, Global};
 
-/// Each body of a field, and how people read it. The first five are those of RFC 2047, section 8; the next is that of
-/// RFC 2231, section 5. Those after them were made by Python's `email.header`.
-const BODIES: [(&[u8], &str, usize); 24] = [
-    (b"(=?ISO-8859-1?Q?a?=)", "(a)", 0),
-    (b"(=?ISO-8859-1?Q?a?= b)", "(a b)", 0),
-    (b"(=?ISO-8859-1?Q?a?=  =?ISO-8859-1?Q?b?=)", "(ab)", 0),
-    (b"(=?ISO-8859-1?Q?a?=\r\n    =?ISO-8859-1?Q?b?=)", "(ab)", 0),
-    (b"(=?ISO-8859-1?Q?a?= =?ISO-8859-2?Q?_b?=)", "(a b)", 0),
-    (
-        b"=?US-ASCII*EN?Q?Keith_Moore?= <moore@cs.utk.edu>",
-        "Keith Moore <moore@cs.utk.edu>",
-        0,
-    ),
-    (
-        b"=?iso-8859-1?q?M=FCller=2C_Gr=F6=DFe?=",
-        "Müller, Größe",
-        0,
-    ),
-    (
-        b"=?iso-8859-2?q?=AElu=BBou=E8k=FD_k=F9=F2?=",
-        "Žluťoučký kůň",
-        0,
-    ),
-    (b"=?koi8-r?b?8NLJ18XULCDNydI=?=", "Привет, мир", 0),
-    (b"=?windows-1253?b?xfXx/vDn?=", "Ευρώπη", 0),
-    (
-        b"=?windows-1252?q?=93Zahlung=94_=96_5_=80?=",
-        "“Zahlung” – 5 €",
-        0,
-    ),
-    (
-        b"=?utf-8?b?5pel5pys6Kqe44Gu5Lu25ZCN?=\r\n =?utf-8?b?44Gu5L6L?=",
-        "日本語の件名の例",
-        0,
-    ),
-    // a character of UTF-8 that is split over two words
-    (b"=?utf-8?q?caf=C3?= =?utf-8?q?=A9?=", "café", 0),
-    // beside a comma, in quotation marks, and directly beside another word
-    (
-        b"\"=?utf-8?q?M=C3=BCller?=\", =?utf-8?q?=C3=96z?=,x",
-        "\"Müller\", Öz,x",
-        0,
-    ),
-    (b"=?utf-8?q?a?==?latin1?q?=FC?=", "aü", 0),
-    // padding left out, and blanks in Q text
-    (b"=?utf8?b?w7w?=", "ü", 0),
-    (b"=?utf-8?q?two words?=", "two words", 0),
-    // octets above 127 that are UTF-8, and such that are not
-    (b"f\xC3\xBCr", "für", 0),
-    (b"f\xFCr", "f\u{FFFD}r", 1),
-    // words that cannot be read
-    (b"=?x-unknown?q?a?= b", "=?x-unknown?q?a?= b", 1),
-    (b"=?utf-8?q?=4?=", "=?utf-8?q?=4?=", 1),
-    (b"=?utf-8?x?a?=", "=?utf-8?x?a?=", 1),
-    (b"=?windows-1252?q?a=81?=", "a\u{FFFD}", 1),
-    // no word
-    (b"what is x=?", "what is x=?", 0),
-];
+/// A body of a field is shown as people read it.
+fn shows(alloc: Global, body: &[u8], text: &str, unread: usize) -> Result<bool, AllocError> {
+    let shown = display(alloc, body)?;
+    Ok(shown.text.as_str() == text && shown.unread == unread)
+}
 
+/// The first five bodies are those of RFC 2047, section 8, and the next is that of RFC 2231, section 5. The five
+/// after them were made by Python's `email.header`.
 #[test]
 fn shows_bodies(rt: HostRuntime) -> Result<(), AllocError> {
-    for (body, text, unread) in BODIES {
-        let shown = display(rt.alloc(), body)?;
-        assert_eq!(rt; shown.text.as_str(), text);
-        assert_eq!(rt; shown.unread, unread, "in {text}");
+    let bodies: [(&[u8], &str, usize); 24] = [
+        (b"(=?ISO-8859-1?Q?a?=)", "(a)", 0),
+        (b"(=?ISO-8859-1?Q?a?= b)", "(a b)", 0),
+        (b"(=?ISO-8859-1?Q?a?=  =?ISO-8859-1?Q?b?=)", "(ab)", 0),
+        (b"(=?ISO-8859-1?Q?a?=\r\n    =?ISO-8859-1?Q?b?=)", "(ab)", 0),
+        (b"(=?ISO-8859-1?Q?a?= =?ISO-8859-2?Q?_b?=)", "(a b)", 0),
+        (
+            b"=?US-ASCII*EN?Q?Keith_Moore?= <moore@cs.utk.edu>",
+            "Keith Moore <moore@cs.utk.edu>",
+            0,
+        ),
+        (
+            b"=?iso-8859-1?q?M=FCller=2C_Gr=F6=DFe?=",
+            "Müller, Größe",
+            0,
+        ),
+        (
+            b"=?iso-8859-2?q?=AElu=BBou=E8k=FD_k=F9=F2?=",
+            "Žluťoučký kůň",
+            0,
+        ),
+        (b"=?koi8-r?b?8NLJ18XULCDNydI=?=", "Привет, мир", 0),
+        (b"=?windows-1253?b?xfXx/vDn?=", "Ευρώπη", 0),
+        (
+            b"=?windows-1252?q?=93Zahlung=94_=96_5_=80?=",
+            "“Zahlung” – 5 €",
+            0,
+        ),
+        (
+            b"=?utf-8?b?5pel5pys6Kqe44Gu5Lu25ZCN?=\r\n =?utf-8?b?44Gu5L6L?=",
+            "日本語の件名の例",
+            0,
+        ),
+        // a character of UTF-8 that is split over two words
+        (b"=?utf-8?q?caf=C3?= =?utf-8?q?=A9?=", "café", 0),
+        // beside a comma, in quotation marks, and directly beside another word
+        (
+            b"\"=?utf-8?q?M=C3=BCller?=\", =?utf-8?q?=C3=96z?=,x",
+            "\"Müller\", Öz,x",
+            0,
+        ),
+        (b"=?utf-8?q?a?==?latin1?q?=FC?=", "aü", 0),
+        // padding left out, and blanks in Q text
+        (b"=?utf8?b?w7w?=", "ü", 0),
+        (b"=?utf-8?q?two words?=", "two words", 0),
+        // octets above 127 that are UTF-8, and such that are not
+        (b"f\xC3\xBCr", "für", 0),
+        (b"f\xFCr", "f\u{FFFD}r", 1),
+        // words that cannot be read
+        (b"=?x-unknown?q?a?= b", "=?x-unknown?q?a?= b", 1),
+        (b"=?utf-8?q?=4?=", "=?utf-8?q?=4?=", 1),
+        (b"=?utf-8?x?a?=", "=?utf-8?x?a?=", 1),
+        (b"=?windows-1252?q?a=81?=", "a\u{FFFD}", 1),
+        // no word
+        (b"what is x=?", "what is x=?", 0),
+    ];
+    for (body, text, unread) in bodies {
+        assert!(rt; shows(rt.alloc(), body, text, unread)?, "{text}");
     }
     Ok(())
 }
@@ -159,7 +162,7 @@ fn shows_first_fields(rt: HostRuntime) -> Result<(), AllocError> {
     Ok(())
 }
 
-/// A body of a million octets that begins words without end is read in time linear in it.
+/// A long body that begins words without end is read in time linear in it.
 #[test]
 fn reads_hostile_bodies(rt: HostRuntime) -> Result<(), AllocError> {
     let alloc = rt.alloc();
@@ -172,11 +175,11 @@ fn reads_hostile_bodies(rt: HostRuntime) -> Result<(), AllocError> {
         "=?utf-8?q?a?=\t\t\t\t",
     ] {
         let mut body = Vec::new(alloc);
-        while body.len() < 50_000 {
+        for _ in 0..150_000 {
             body.extend_from_slice(piece.as_bytes())?;
         }
         let shown = display(alloc, body.as_slice())?;
-        assert!(rt; shown.text.len() <= 50_100);
+        assert!(rt; shown.text.len() <= body.len());
     }
     Ok(())
 }

@@ -64,7 +64,12 @@ fn text_len(text: &[u8]) -> usize
 #[tactic(auto, unfolding(crate::specs::Words::word_at))]
 pub fn front_word(text: &[u8]) -> Option<FrontWord<'_>>
     ensures value { MatchOption result (word_at text.now ≡ None) (λ w. word_at text.now ≡ Some
-        (record { charset = w.charset.now; encoding = w.encoding; text = w.text.now; rest = w.rest.now })) }
+        (record {
+          charset = w.charset.now;
+          encoding = w.encoding;
+          text = w.text.now;
+          rest = w.rest.now;
+        })) }
     ensures shorter { IfSome result (λ w. length w.rest.now < length text.now) }
 {
     let [b'=', b'?', opened @ ..] = text else {
