@@ -1,5 +1,5 @@
 -- What an encoded word says (RFC 2047, sections 3 and 4).
-use Rattle.std.specs.Prelude.{◌≡◌, ℕ, Bool, true, List, Option, Some, None, option_map, option_and_then, ◌==◌, ◌||◌, if◌then◌else◌}
+use Rattle.std.specs.Prelude.{ℕ, Bool, true, List, Option, None, option_map, option_and_then, ◌==◌, ◌||◌, if◌then◌else◌}
 use Rattle.std.specs.Result.{result_ok}
 use Rattle.base64.specs.GeneralPurpose.{decode_of}
 use Rattle.base64.specs.Engines.{standard_pad_indifferent}

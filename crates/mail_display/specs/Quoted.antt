@@ -1,5 +1,5 @@
 -- What Q text encodes (RFC 2047, section 4.2).
-use Rattle.std.specs.Prelude.{◌≡◌, ℕ, ◌+◌, ◌-◌, ◌*◌, List, [], ◌∷◌, Option, Some, None, option_map, option_and_then, nat_le, ◌==◌, ◌&&◌, if◌then◌else◌}
+use Rattle.std.specs.Prelude.{ℕ, ◌+◌, ◌-◌, ◌*◌, List, [], ◌∷◌, Option, Some, None, option_map, option_and_then, nat_le, ◌==◌, ◌&&◌, if◌then◌else◌}
 use Rattle.mail_display.specs.declared.quoted.Place.{Place}
 use Rattle.mail_display.specs.declared.quoted.Place.TheVariants.{Plain, Escape, Digit}
 

@@ -1,5 +1,5 @@
 -- Encoded words (RFC 2047, section 2) as mail programs write them: anywhere in a text, with any text but "?".
-use Rattle.std.specs.Prelude.{ℕ, Bool, true, false, List, [], ◌∷◌, length, take, drop, Option, Some, None, nat_lt, ◌==◌, ◌&&◌, not, if◌then◌else◌}
+use Rattle.std.specs.Prelude.{ℕ, Bool, false, List, [], ◌∷◌, take, drop, Option, Some, None, nat_lt, ◌==◌, ◌&&◌, not, if◌then◌else◌}
 use Rattle.std.specs.List.{prefix_len}
 use Rattle.mail_words.specs.Unfolding.{begins_with}
 use Rattle.mail_words.specs.Words.{is_charset_octet}

@@ -1,5 +1,5 @@
 -- Calls that follow on others.
-use Rattle.std.proofs.Common.{◌≡◌, ◌++◌, [], ◌∷◌, List, ℕ, true, subst, ap, inl, inr, append_assoc}
+use Rattle.std.proofs.Common.{◌++◌, [], ◌∷◌, List, ℕ, true, subst, ap, inl, inr, append_assoc}
 use Rattle.record_places.specs.Calls.{Call, open_store, Makes, MayMake, OpensStore}
 
 -- a file is perhaps made for its owner, and then the store is opened

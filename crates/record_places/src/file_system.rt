@@ -63,7 +63,8 @@ pub trait FileSystem {
         ensures sums { IfOk result (λ c. HasCleanDisk (file_state c)
             → IsBlankAs new_has_sums (image_at S.Start) → (view c.store).has_sums ≡ new_has_sums) }
         ensures fresh { IfOk result IsNew }
-        ensures guarded { IfOk result (λ c. HasCleanDisk (file_state c) → (file_state c).IsShielded) }
+        ensures guarded { IfOk result (λ c. HasCleanDisk (file_state c)
+            → (file_state c).IsShielded) }
         ensures unopened { IfErr result (λ e. e.1 ≡ None
             → (e.0 ≡ Error.SqliteFailure ErrorCode.CannotOpen)
             ⊎ ((e.0 ≡ Error.SqliteFailure ErrorCode.OutOfMemory)

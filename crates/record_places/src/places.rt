@@ -111,7 +111,8 @@ pub fn judge_place<F: FileSystem>(files: &F, alloc: Global, path: &str) -> Resul
 /// Makes an empty file, for its owner alone, at a path where a new store may be made. No other call is made.
 pub fn make_file<F: FileSystem>(files: &mut F, alloc: Global, path: &str) -> Result<(), NoPlace>
     ensures calls { Makes F.made files.old files.new (MayMake path.now) }
-    ensures made { IfOk result (λ _. Makes F.made files.old files.new (λ calls. calls ≡ create path.now owner_only ∷ [])) }
+    ensures made { IfOk result (λ _. Makes F.made files.old files.new
+        (λ calls. calls ≡ create path.now owner_only ∷ [])) }
 {
     judge_place(files, alloc, path)?;
     match files.create(path, MODE) {

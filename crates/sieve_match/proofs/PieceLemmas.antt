@@ -1,8 +1,10 @@
 -- Items that fit a text, and the pieces of a pattern.
-use Rattle.std.proofs.Common.{◌≡◌, ℕ, zero, suc, ◌+◌, ◌-◌, ◌≤◌, ◌<◌, Bool, true, false, cond, eqb, ◌||◌, List, [], ◌∷◌, ◌++◌, length, take, drop, map, get_or, set}
+use Rattle.std.proofs.Common.{◌≡◌, ℕ, zero, suc, ◌+◌, ◌-◌, ◌≤◌, ◌<◌, Bool, true, false, cond, eqb, ◌||◌, List, [], ◌∷◌, ◌++◌, length, take}
+use Rattle.std.proofs.Common.{drop, map, get_or, set}
 use Rattle.std.proofs.Common.{Option, Some, None, refl, sym, ap, subst, ◌∙◌, IsTrue, ◌↔◌, ⊎_elim, arith}
 use Rattle.std.specs.Borrow.{Bor}
-use Rattle.std.proofs.lemmas.List.{take-append-drop, length-take-le, length-drop, length-append, length-map, drop-drop, drop_all, drop-map, drop_more, take-take, take_more, take_more_set, map_push, take_at, drop_at, take_rest}
+use Rattle.std.proofs.lemmas.List.{take-append-drop, length-take-le, length-drop, length-append, length-map, drop-drop, drop_all, drop-map}
+use Rattle.std.proofs.lemmas.List.{drop_more, take-take, take_more, take_more_set, map_push, take_at, drop_at, take_rest}
 use Rattle.std.proofs.lemmas.List.Prefix.{at_from_reads, at_reads}
 use Rattle.std.proofs.lemmas.Bool.{cases_lt}
 use Rattle.std.proofs.lemmas.Bool.Decides.{same_from_decides}
@@ -11,7 +13,7 @@ use Rattle.memchr.proofs.lemmas.FindLemmas.{IsFirst-agree}
 use Rattle.sieve_meaning.specs.declared.matching.Comparator.{Comparator}
 use Rattle.sieve_meaning.specs.declared.matching.Item.{Item}
 use Rattle.sieve_meaning.specs.declared.matching.Item.TheVariants.{Octet, One, Any}
-use Rattle.sieve_meaning.specs.Matching.{fold_octet, fold, item_of, items_from, items_of, covers, Matches}
+use Rattle.sieve_meaning.specs.Matching.{fold_octet, fold, items_from, items_of, covers, Matches}
 use Rattle.sieve_meaning.proofs.MatchingLemmas.{covers_decided}
 use Rattle.sieve_match.specs.declared.pieces.Piece.{Piece}
 use Rattle.sieve_match.specs.Pieces.{IsStarless, FitsItem, FitsFront, FitsAt, FindsPiece, IsPiece}

@@ -1,5 +1,5 @@
 -- The pieces of a pattern (RFC 5228, section 2.7.1), which stand between one `*` and the next, and where they fit.
-use Rattle.std.specs.Prelude.{◌≡◌, ℕ, ◌+◌, ◌≤◌, Bool, ◌||◌, ◌==◌, List, [], ◌∷◌, length, map, take, drop, Option, MatchOption}
+use Rattle.std.specs.Prelude.{◌≡◌, ℕ, ◌+◌, ◌≤◌, ◌||◌, ◌==◌, List, [], ◌∷◌, length, map, take, drop, Option, MatchOption}
 use Rattle.memchr.specs.Find.{IsFirst}
 use Rattle.sieve_meaning.specs.declared.matching.Comparator.{Comparator}
 use Rattle.sieve_meaning.specs.declared.matching.Item.{Item}

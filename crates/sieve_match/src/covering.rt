@@ -52,7 +52,8 @@ fn pieces_cover(pattern: &[u8], value: &[u8], comparator: Comparator) -> bool
 /// Whether the first `count` items of a pattern fit the end of a text, one octet each.
 fn fits_end(pattern: &[u8], count: usize, text: &[u8], comparator: Comparator) -> bool
     ensures { IsTrue result ↔ ((count ≤ length text.now)
-        × FitsFront comparator (take count (items_of pattern.now)) (drop (length text.now - count) text.now)) }
+        × FitsFront comparator (take count (items_of pattern.now))
+        (drop (length text.now - count) text.now)) }
 {
     text.len() >= count && fits_front(pattern, count, &text[text.len() - count..], comparator)
 }

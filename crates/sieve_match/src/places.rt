@@ -147,7 +147,8 @@ fn place_from(
 ) -> Option<usize>
     requires items { count ≤ length (items_of pattern.now) }
     requires within { from + count ≤ length text.now + 1 }
-    requires passed { Nowhere (FitsAt comparator (take count (items_of pattern.now)) text.now) 0 from }
+    requires passed { Nowhere (FitsAt comparator (take count (items_of pattern.now)) text.now)
+        0 from }
     ensures { FindsPiece comparator pattern.now count text.now result }
 {
     let mut fits = [true; FAR_PLACES];
@@ -174,7 +175,8 @@ fn place_in_group(
 ) -> Option<usize>
     requires items { count ≤ length (items_of pattern.now) }
     requires within { length fits.old + count ≤ length text.now + 1 }
-    ensures { IsFirst (FitsAt comparator (take count (items_of pattern.now)) text.now) 0 (length fits.old) result }
+    ensures { IsFirst (FitsAt comparator (take count (items_of pattern.now)) text.now)
+        0 (length fits.old) result }
 {
     set_all(fits, true);
     let (mut items, mut offset) = (pattern, 0);
@@ -214,8 +216,10 @@ fn first_flag(flags: &[bool]) -> Option<usize>
 fn keep_fitting(fits: &mut [bool], item: Item, octets: &[u8], comparator: Comparator) -> bool
     requires { length fits.old ≤ length octets.now }
     ensures kept { (k : ℕ) → k < length fits.old → (slice_index_or fits.new k false ≡ true)
-        ↔ ((slice_index_or fits.old k false ≡ true) × FitsItem comparator item (slice_index octets.now k)) }
-    ensures none { result ≡ false → (k : ℕ) → k < length fits.old → slice_index_or fits.new k false ≡ false }
+        ↔ ((slice_index_or fits.old k false ≡ true)
+        × FitsItem comparator item (slice_index octets.now k)) }
+    ensures none { result ≡ false → (k : ℕ) → k < length fits.old
+        → slice_index_or fits.new k false ≡ false }
 {
     match item {
         Item::Octet(octet) => {
@@ -248,7 +252,8 @@ fn keep_equal(fits: &mut [bool], octets: &[u8], first: u8, second: u8) -> bool
     ensures kept { (k : ℕ) → k < length fits.old → slice_index_or fits.new k false
         ≡ (slice_index_or fits.old k false
         && (slice_index octets.now k == first || slice_index octets.now k == second)) }
-    ensures none { result ≡ false → (k : ℕ) → k < length fits.old → slice_index_or fits.new k false ≡ false }
+    ensures none { result ≡ false → (k : ℕ) → k < length fits.old
+        → slice_index_or fits.new k false ≡ false }
 {
     let mut any = false;
     for place in 0..fits.len() {

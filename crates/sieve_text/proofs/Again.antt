@@ -159,7 +159,8 @@ one_read read (test n args inner) rest = refl
 mutual
   unfolding test_at trees_of
 
-  pub test_reads : (t : TestTree) (d : ℕ) (rest : List TokenKind) → IsEnded rest → test_at d (test_tokens t ++ rest) ≡ answer (test_fits t d) (t, rest)
+  pub test_reads : (t : TestTree) (d : ℕ) (rest : List TokenKind) → IsEnded rest
+      → test_at d (test_tokens t ++ rest) ≡ answer (test_fits t d) (t, rest)
   test_reads (test n args inner) zero rest h = refl
   test_reads (test n args inner) (suc d) rest h =
       let more = inner_tokens inner ++ rest in

@@ -5,7 +5,8 @@ use Rattle.std.specs.List.{list_all}
 use Rattle.std.specs.Str.{chars, is_utf8}
 use Rattle.std.specs.Str.Lossy.{utf8_valid_len, utf8_error_len}
 use Rattle.unicode_width.specs.Width.{char_width}
-use Rattle.tool_texts.specs.Quoting.{is_hidden, is_attached, octet_text, scalar_text, shown_of, visible_of, visible_text, escaped_text, quoted_text, named_text}
+use Rattle.tool_texts.specs.Quoting.{is_hidden, is_attached, octet_text, scalar_text, shown_of, visible_of, visible_text, escaped_text}
+use Rattle.tool_texts.specs.Quoting.{quoted_text, named_text}
 
 -- a tab, a letter, a line feed and DEL
 controls : escaped_text (9 ∷ 97 ∷ 10 ∷ 127 ∷ []) ≡ 92 ∷ 116 ∷ 97 ∷ 92 ∷ 110 ∷ 92 ∷ 120 ∷ 55 ∷ 102 ∷ []
@@ -35,11 +36,13 @@ unfolding escaped_text chars
 no_name = refl
 
 -- fillers of Hangul, a blank pattern of Braille, selectors of a form, controls of music, and what stands for an object
-unseen : list_all is_hidden (0x115f ∷ 0x1160 ∷ 0x3164 ∷ 0xffa0 ∷ 0x2800 ∷ 0xfe00 ∷ 0xfe0f ∷ 0x1d173 ∷ 0x1d17a ∷ 0xe0100 ∷ 0xe01ef ∷ 0xfffc ∷ []) ≡ true
+unseen : list_all is_hidden (0x115f ∷ 0x1160 ∷ 0x3164 ∷ 0xffa0 ∷ 0x2800 ∷ 0xfe00 ∷ 0xfe0f ∷ 0x1d173 ∷ 0x1d17a
+    ∷ 0xe0100 ∷ 0xe01ef ∷ 0xfffc ∷ []) ≡ true
 unseen = refl
 
 -- those beside them
-seen : list_all (λ c. not (is_hidden c)) (0x115e ∷ 0x1161 ∷ 0x3163 ∷ 0x3165 ∷ 0xff9f ∷ 0xffa1 ∷ 0x27ff ∷ 0x2801 ∷ 0xfdff ∷ 0xfe10 ∷ 0x1d172 ∷ 0x1d17b ∷ 0xe1000 ∷ 0xfffd ∷ []) ≡ true
+seen : list_all (λ c. not (is_hidden c)) (0x115e ∷ 0x1161 ∷ 0x3163 ∷ 0x3165 ∷ 0xff9f ∷ 0xffa1 ∷ 0x27ff ∷ 0x2801
+    ∷ 0xfdff ∷ 0xfe10 ∷ 0x1d172 ∷ 0x1d17b ∷ 0xe1000 ∷ 0xfffd ∷ []) ≡ true
 seen = refl
 
 -- the filler of Hangul, U+3164

@@ -1,5 +1,6 @@
 -- No character of a text is hidden.
-use Rattle.std.proofs.Common.{◌≡◌, ◌∙◌, ℕ, zero, suc, Bool, true, false, cond, not, List, [], ◌∷◌, ◌++◌, ◌<◌, ◌/◌, ◌%◌, append-nil, refl, sym, subst, arith}
+use Rattle.std.proofs.Common.{◌≡◌, ◌∙◌, ℕ, zero, suc, Bool, true, false, cond, not, List, [], ◌∷◌, ◌++◌, ◌<◌, ◌/◌, ◌%◌, append-nil, refl}
+use Rattle.std.proofs.Common.{sym, subst, arith}
 use Rattle.std.specs.Prelude.{nat_lt, ◌&&◌, ◌||◌, ◌==◌, flat_map, length}
 use Rattle.std.specs.Char.{digit_char, encode_utf8}
 use Rattle.std.specs.Char.Escape.{backslash, hex_digit_at}
@@ -9,8 +10,10 @@ use Rattle.std.specs.Str.Lossy.{utf8_valid_len, after_first_chunk}
 use Rattle.std.proofs.lemmas.Bool.{agree_below_at, and_parts, or_parts, ltb-true}
 use Rattle.std.proofs.lemmas.List.Folds.{list_all-append}
 use Rattle.std.proofs.lemmas.Str.{encodes-append}
-use Rattle.tool_texts.specs.Quoting.{is_hidden, is_attached, is_plain, IsShown, AreLines, needs_number, is_quoting, octet_text, scalar_text, number_text}
-use Rattle.tool_texts.specs.Quoting.{visible_of, visible_after, visible_text, shown_of, shown_after, front_text, stray_octets, escaped_within, escaped_text, quoted_text}
+use Rattle.tool_texts.specs.Quoting.{is_hidden, is_attached, is_plain, IsShown, AreLines, needs_number, is_quoting, octet_text, scalar_text}
+use Rattle.tool_texts.specs.Quoting.{number_text}
+use Rattle.tool_texts.specs.Quoting.{visible_of, visible_after, visible_text, shown_of, shown_after, front_text, stray_octets}
+use Rattle.tool_texts.specs.Quoting.{escaped_within, escaped_text, quoted_text}
 
 abbrev pub AreShown : List ℕ → Type 0
 AreShown cs = list_all (λ c. not (is_hidden c)) cs ≡ true

@@ -1,4 +1,4 @@
-use Rattle.std.proofs.Common.{ap, arith, length, ◌≤◌, ◌<◌, ◌+◌, ◌^◌, ◌≡◌}
+use Rattle.std.proofs.Common.{ap, arith, length, ◌<◌, ◌^◌, ◌≡◌}
 use Rattle.mail_display.proofs.ShownLemmas.{utf8_unread}
 use Rattle.mail_display.proofs.showing.display.Goals as goal
 

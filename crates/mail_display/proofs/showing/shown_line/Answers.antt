@@ -1,7 +1,7 @@
 use Rattle.std.proofs.Common.{ap, ◌∙◌, ◌+◌, ◌++◌, length}
 use Rattle.mail_display.specs.Display.{word_after_gap}
 use Rattle.mail_display.proofs.UnfoldingLemmas.{empty}
-use Rattle.mail_display.proofs.ShownLemmas.{Showing-none, Showing-done, Showing-word, Showing-octet, is_some, is_none, is_shorter, readable_of}
+use Rattle.mail_display.proofs.ShownLemmas.{Showing-done, Showing-word, Showing-octet, is_some, is_none, is_shorter, readable_of}
 use Rattle.mail_display.proofs.showing.shown_line.Goals as goal
 
 pub loop-octet-smaller-in-Some-2 : goal.loop-octet-smaller-in-Some-2

@@ -1,8 +1,7 @@
-use Rattle.std.proofs.Common.{◌≡◌, ℕ, List, ◌+◌, ◌-◌, ◌^◌, ◌≤◌, ◌<◌, ◌∷◌, length, take, drop, ap, refl, eqb-true, eq-eqb, arith}
+use Rattle.std.proofs.Common.{ℕ, List, ◌+◌, ◌-◌, ◌^◌, ◌≤◌, ◌<◌, length, take, drop, ap, refl, eqb-true, eq-eqb, arith}
 use Rattle.std.proofs.lemmas.Bool.{false≢true}
 use Rattle.std.proofs.lemmas.List.{take_rest, length-drop}
-use Rattle.sieve_meaning.specs.declared.matching.Item.TheVariants.{Any}
-use Rattle.sieve_meaning.specs.Matching.{items_of, Matches}
+use Rattle.sieve_meaning.specs.Matching.{items_of}
 use Rattle.sieve_match.proofs.PieceLemmas.{front_to, front_fits, ends_last, ends_star, whole_to, whole_from, star_to, star_from}
 use Rattle.sieve_match.proofs.PieceLemmas.{piece_nowhere, piece_to, piece_from, piece_within, piece_on, piece_back, last_to, last_from, fewer_items}
 use Rattle.sieve_match.proofs.covering.pieces_cover.Goals as goal

@@ -1,4 +1,4 @@
-use Rattle.std.proofs.Common.{◌≡◌, ◌+◌, ◌^◌, ◌<◌, false, ◌∷◌, length, drop, arith}
+use Rattle.std.proofs.Common.{◌≡◌, ◌^◌, ◌<◌, false, ◌∷◌, length, drop, arith}
 use Rattle.sieve_meaning.specs.declared.matching.Item.TheVariants.{Octet, One}
 use Rattle.sieve_meaning.specs.Matching.{items_of}
 use Rattle.sieve_match.proofs.PieceLemmas.{item_below, drop_next, starless_next}

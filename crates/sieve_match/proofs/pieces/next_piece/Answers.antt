@@ -1,4 +1,4 @@
-use Rattle.std.proofs.Common.{ℕ, List, take, drop, length, sym, ap, ◌∙◌}
+use Rattle.std.proofs.Common.{ℕ, List, drop, length, sym, ap, ◌∙◌}
 use Rattle.std.proofs.lemmas.List.{take_rest, nil_from_length}
 use Rattle.sieve_match.proofs.PieceLemmas.{plain_within, plain_take, plain_starless, plain_last, plain_star}
 use Rattle.sieve_match.proofs.pieces.next_piece.Goals as goal

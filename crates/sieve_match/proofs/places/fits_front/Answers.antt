@@ -1,7 +1,6 @@
-use Rattle.std.proofs.Common.{◌≡◌, ◌-◌, ◌<◌, ◌∷◌, length, take, refl, arith}
+use Rattle.std.proofs.Common.{refl, arith}
 use Rattle.std.proofs.lemmas.Bool.{false≢true}
 use Rattle.sieve_meaning.specs.Matching.{items_of}
-use Rattle.sieve_match.specs.Pieces.{FitsFront}
 use Rattle.sieve_match.proofs.PieceLemmas.{first_to, first_from, first_none}
 use Rattle.sieve_match.proofs.places.fits_front.Goals as goal
 

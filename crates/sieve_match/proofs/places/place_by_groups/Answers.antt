@@ -1,4 +1,4 @@
-use Rattle.std.proofs.Common.{◌≡◌, ◌+◌, ◌<◌, Bool, length, take, arith}
+use Rattle.std.proofs.Common.{◌≡◌, Bool, length, take, arith}
 use Rattle.std.proofs.lemmas.List.{length-take, length-take-le, length-replicate}
 use Rattle.sieve_meaning.specs.Matching.{items_of}
 use Rattle.sieve_match.proofs.GroupLemmas.{ends_nowhere}

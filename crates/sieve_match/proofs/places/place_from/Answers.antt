@@ -1,4 +1,4 @@
-use Rattle.std.proofs.Common.{◌≡◌, ◌+◌, ◌-◌, ◌≤◌, ◌<◌, length, take, drop, arith}
+use Rattle.std.proofs.Common.{◌≡◌, ◌-◌, length, take, drop, arith}
 use Rattle.std.proofs.lemmas.List.{take_rest, length-take-le}
 use Rattle.sieve_meaning.specs.Matching.{items_of}
 use Rattle.sieve_match.proofs.GroupLemmas.{group_found, group_nowhere, ends_nowhere}

@@ -1,5 +1,5 @@
-use Rattle.std.proofs.Common.{◌≡◌, ℕ, ◌+◌, ◌-◌, ◌<◌, ◌≤◌, List, ◌∷◌, length, take, drop, get_or, ap, ◌∙◌, refl, arith}
-use Rattle.std.proofs.lemmas.List.{take_rest, get_or-drop, length-drop}
+use Rattle.std.proofs.Common.{◌≡◌, ◌+◌, ◌-◌, ◌≤◌, ◌∷◌, length, take, drop, ap, ◌∙◌, arith}
+use Rattle.std.proofs.lemmas.List.{length-drop}
 use Rattle.sieve_meaning.specs.Matching.{items_of}
 use Rattle.sieve_match.proofs.GroupLemmas.{read_on, flags_next, flags_none}
 use Rattle.sieve_match.proofs.PieceLemmas.{drop_next}

@@ -1,5 +1,5 @@
-use Rattle.std.proofs.Common.{sym, ◌∙◌}
-use Rattle.mail_display.proofs.QuestionLemmas.{Judging, Judging-none, Judging-done}
+use Rattle.std.proofs.Common.{◌∙◌}
+use Rattle.mail_display.proofs.QuestionLemmas.{Judging-none, Judging-done}
 use Rattle.mail_display.proofs.question.FieldQuestion.judge.Goals as goal
 
 pub loop-found-init : goal.loop-found-init

@@ -45,7 +45,8 @@ places-preserved c =
       omega (arith, next.1, c.requires.plan.fits),
       after_left c.args.key.now c.args.value.now c.args.self.now c.requires.plan c.requires.some c.places.at
           c.in_ok-at.at c.places.known c.max.result c.fits_to-end.result
-          old.1 old.2 old.3 next c.in_ok-at.ensures.stays c.max.ensures e.low e.high e.same full (λ all. false≢true (c.if-fits_between.ensures.1 all)),
+          old.1 old.2 old.3 next c.in_ok-at.ensures.stays c.max.ensures e.low e.high e.same full
+          (λ all. false≢true (c.if-fits_between.ensures.1 all)),
       kept_below (folded_octet c.args.key.now) (length c.args.key.now) c.args.self.now c.requires.plan c.requires.some,
       kept_fits c.args.key.now c.args.value.now c.args.self.now c.requires.plan c.requires.some c.places.at
           c.in_ok-at.at c.places.known c.max.result c.fits_to-end.result
