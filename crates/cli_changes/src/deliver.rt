@@ -12,7 +12,7 @@ use record_store::Store;
 use sieve_meaning::RunFault;
 use sqlite::Alter;
 use std::alloc::{AllocError, Global};
-use tool_texts::fault_text;
+use tool_texts::{Shown, fault_text, put};
 
 /// The failure of a call of the desk.
 pub fn desk_failure(alloc: Global, name: &str, fault: DeskFault) -> Failure {
@@ -31,67 +31,70 @@ fn text_of(fault: RunFault) -> &'static str {
 }
 
 /// The fault of a run in words.
-fn fault_words(alloc: Global, fault: RunFault) -> Result<String, AllocError> {
-    let (number, words) = (fault.number(), text_of(fault));
-    format!(in alloc; "fault {number}: {words}")
+fn fault_words(alloc: Global, fault: RunFault) -> Result<Shown, AllocError> {
+    let mut text = Shown::new(alloc);
+    put!(text; "fault " value(&fault.number()) ": " words(text_of(fault)))?;
+    Ok(text)
 }
 
 /// The beginning of a text, up to its first comma or semicolon.
-fn beginning(text: &str) -> &str {
+fn beginning(text: &'static str) -> &'static str {
     let text = text.split_once(", ").map_or(text, |(first, _)| first);
     text.split_once("; ").map_or(text, |(first, _)| first)
 }
 
 /// The fault of a run in words, where its message was given up.
-pub fn given_up_words(alloc: Global, fault: RunFault) -> Result<String, AllocError> {
-    let (number, words) = (fault.number(), beginning(text_of(fault)));
-    format!(in alloc; "fault {number}: {words}; the message is not captured")
+pub fn given_up_words(alloc: Global, fault: RunFault) -> Result<Shown, AllocError> {
+    let words = beginning(text_of(fault));
+    let mut text = Shown::new(alloc);
+    put!(text; "fault " value(&fault.number()) ": " words(words) "; the message is not captured")?;
+    Ok(text)
 }
 
 /// The record lines of a capture, each after a text; or that the message was discarded.
-fn record_lines(alloc: Global, before: &str, capture: &Capture) -> Result<String, AllocError> {
-    let mut text = String::new(alloc);
+fn record_lines(alloc: Global, before: &Shown, capture: &Capture) -> Result<Shown, AllocError> {
+    let mut text = Shown::new(alloc);
     for line in capture.lines.as_slice() {
-        text.push_str(before)?;
-        text.push_str(captured_line(alloc, line)?.as_str())?;
+        put!(text; text(before) text(&captured_line(alloc, line)?))?;
+        text.end_line()?;
     }
     if capture.lines.is_empty() {
-        text.push_str(before)?;
-        text.push_str("discarded\n")?;
+        put!(text; text(before) "discarded")?;
+        text.end_line()?;
     }
     Ok(text)
 }
 
 /// What is told of a record that is due as it is captured.
-fn due_words(alloc: Global, before: &str, line: &Line) -> Result<String, AllocError> {
-    let text = captured_line(alloc, line)?;
-    let text = text.trim_end();
-    format!(in alloc; "{before}{text} is due already")
+fn due_words(alloc: Global, before: &Shown, line: &Line) -> Result<Shown, AllocError> {
+    let mut text = Shown::new(alloc);
+    put!(text; text(before) text(&captured_line(alloc, line)?) " is due already")?;
+    Ok(text)
 }
 
 /// Tells of the records of a capture that are due by the day of the clock.
-fn tell_due(rt: &HostRuntime, before: &str, capture: &Capture) {
+fn tell_due(rt: &HostRuntime, before: &Shown, capture: &Capture) {
     let Some(today) = date_of_clock(rt) else {
         return;
     };
     for line in capture.lines.as_slice() {
         if is_by(line.due, today) {
             if let Ok(words) = due_words(rt.alloc(), before, line) {
-                tell(rt, words.as_str());
+                tell(rt, &words);
             }
         }
     }
 }
 
 /// Reports a capture. It is made, so whatever happens to the report is no failure.
-pub fn report_capture(rt: &HostRuntime, before: &str, capture: &Capture) {
+pub fn report_capture(rt: &HostRuntime, before: &Shown, capture: &Capture) {
     if let Ok(text) = record_lines(rt.alloc(), before, capture) {
-        let _ = write_text(rt, text.as_str());
+        let _ = write_text(rt, &text);
     }
     tell_due(rt, before, capture);
     if let Some(fault) = capture.fault {
         if let Ok(words) = fault_words(rt.alloc(), fault) {
-            tell(rt, words.as_str());
+            tell(rt, &words);
         }
     }
 }
@@ -167,10 +170,10 @@ pub fn deliver_to<S: Alter>(
 pub fn report_delivery(rt: &HostRuntime, delivered: &Delivery) -> Result<(), Failure> {
     match delivered {
         Delivery::Captured(capture) => {
-            report_capture(rt, "", capture);
+            report_capture(rt, &Shown::new(rt.alloc()), capture);
             Ok(())
         }
-        Delivery::GivenUp(fault) => Err(Failure::written(
+        Delivery::GivenUp(fault) => Err(Failure::shown(
             Status::TryAgain,
             given_up_words(rt.alloc(), *fault),
         )),

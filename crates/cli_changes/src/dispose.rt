@@ -1,7 +1,7 @@
 //! `dispose`: what is due, and its destruction. Which records these are, `record_choice` decides.
 
 use class_plan::{Action, Date, Schedule};
-use cli_console::{Failure, Status, judge_day, now, tell, today, write_text};
+use cli_console::{Failure, Status, judge_day, now, tell, tell_words, today, write_text};
 use cli_texts::{Certificate, captured_line, certificate_line, sum_text};
 use command_lines::archives::{Disposal, TypedNumber};
 use record_choice::{
@@ -10,7 +10,7 @@ use record_choice::{
 use record_store::{Store, StoreFault};
 use sqlite::Alter;
 use std::alloc::{AllocError, Global};
-use tool_texts::quoted;
+use tool_texts::{Shown, put};
 
 /// Writes certificates to standard output.
 #[derive(Drop)]
@@ -23,13 +23,13 @@ struct Certificates<'a> {
 /// A certificate that is made out.
 #[derive(Drop)]
 struct Draft {
-    text: String,
+    text: Shown,
     /// Whether the message goes with the record.
     is_gone: bool,
 }
 
 /// The certificate of a record that is about to be destroyed.
-fn certificate_of(rt: &HostRuntime, destroyed: &Destroyed) -> Result<String, Failure> {
+fn certificate_of(rt: &HostRuntime, destroyed: &Destroyed) -> Result<Shown, Failure> {
     let sum = sum_text(rt.alloc(), destroyed.sum.as_slice())?;
     let facts = Certificate {
         number: destroyed.entry.number,
@@ -44,7 +44,7 @@ fn certificate_of(rt: &HostRuntime, destroyed: &Destroyed) -> Result<String, Fai
 }
 
 /// Writes a certificate. Where that fails, it goes to standard error instead, and no more is destroyed.
-fn write_certificate(rt: &HostRuntime, text: &str) -> Result<(), Failure> {
+fn write_certificate(rt: &HostRuntime, text: &Shown) -> Result<(), Failure> {
     write_text(rt, text).map_err(|_| {
         tell(rt, text);
         Failure::told(
@@ -75,7 +75,7 @@ impl Registrar for Certificates<'_> {
 
     fn take(&mut self, draft: Draft) -> Result<(), Failure> {
         self.is_any_gone = self.is_any_gone || draft.is_gone;
-        write_certificate(self.rt, draft.text.as_str())
+        write_certificate(self.rt, &draft.text)
     }
 }
 
@@ -87,14 +87,12 @@ fn word_of<'a>(records: &[TypedNumber<'a>], number: u32) -> &'a str {
     }
 }
 
-/// The names of holds, each in quotation marks after a blank.
-fn names_text(alloc: Global, names: &[Vec<u8>]) -> Result<String, AllocError> {
-    let mut text = String::new(alloc);
+/// Adds the names of holds, each in quotation marks after a blank.
+fn put_names(text: &mut Shown, names: &[Vec<u8>]) -> Result<(), AllocError> {
     for name in names {
-        text.push(' ')?;
-        text.push_str(quoted(alloc, name.as_slice())?.as_str())?;
+        put!(text; " " quoted(name.as_slice()))?;
     }
-    Ok(text)
+    Ok(())
 }
 
 /// The word of a schedule for what is done with its records.
@@ -109,22 +107,30 @@ fn action_word(schedule: Option<Schedule>) -> &'static str {
     }
 }
 
-/// Why a record may not be destroyed, in words after the number of the refusal.
-fn reason_text(alloc: Global, reason: &Reason) -> Result<String, AllocError> {
+/// Adds why a record may not be destroyed, in words after the number of the refusal.
+fn put_reason(text: &mut Shown, reason: &Reason) -> Result<(), AllocError> {
     match reason {
         Reason::Held(names) => {
-            let names = names_text(alloc, names.as_slice())?;
-            format!(in alloc; "81: kept by the holds{names}")
+            text.words("81: kept by the holds")?;
+            put_names(text, names.as_slice())
         }
         Reason::NotForDestruction(schedule) => {
-            let action = action_word(*schedule);
-            format!(in alloc; "83: the schedule of its class says {action}")
+            text.words("83: the schedule of its class says ")?;
+            text.words(action_word(*schedule))
         }
-        Reason::NotDue(Some(due)) => format!(in alloc; "82: not due before {due}"),
-        Reason::NotDue(None) => String::from_str(alloc, "82: never due"),
-        Reason::NoRecord => String::from_str(alloc, "80: there is no record of that number"),
-        Reason::Destroyed => String::from_str(alloc, "84: the record is destroyed already"),
+        Reason::NotDue(Some(due)) => put!(text; "82: not due before " value(due)),
+        Reason::NotDue(None) => text.words("82: never due"),
+        Reason::NoRecord => text.words("80: there is no record of that number"),
+        Reason::Destroyed => text.words("84: the record is destroyed already"),
     }
+}
+
+/// That a record may not be destroyed, as its number was typed, and why.
+fn not_approved(alloc: Global, word: &str, reason: &Reason) -> Result<Shown, AllocError> {
+    let mut text = Shown::new(alloc);
+    put!(text; named(word.as_bytes()) ": ")?;
+    put_reason(&mut text, reason)?;
+    Ok(text)
 }
 
 /// The failure of a disposal that destroys nothing.
@@ -136,13 +142,10 @@ fn refused(
     match fault {
         DisposeFault::Repository(fault) => Failure::of_store(rt.alloc(), "the store", fault),
         DisposeFault::NoMemory => Failure::NoMemory,
-        DisposeFault::NotApproved(number, reason) => match reason_text(rt.alloc(), &reason) {
-            Ok(text) => {
-                let word = word_of(records, number);
-                Failure::at(rt.alloc(), Status::BadData, word, &text)
-            }
-            Err(AllocError) => Failure::NoMemory,
-        },
+        DisposeFault::NotApproved(number, reason) => Failure::shown(
+            Status::BadData,
+            not_approved(rt.alloc(), word_of(records, number), &reason),
+        ),
     }
 }
 
@@ -167,7 +170,7 @@ fn settle(
         End::Done => {}
     }
     if is_any_gone {
-        tell(
+        tell_words(
             rt,
             "the messages are gone from the archive, but their octets may still lie in unused parts of its file; copy makes a store without them",
         );
@@ -212,7 +215,9 @@ fn list_asked<S: Alter>(
         rt, records, fault,
     ))?;
     for line in lines.as_slice() {
-        write_text(rt, captured_line(rt.alloc(), line)?.as_str())?;
+        let mut text = captured_line(rt.alloc(), line)?;
+        text.end_line()?;
+        write_text(rt, &text)?;
     }
     Ok(())
 }

@@ -4,6 +4,8 @@ use cli_console::{Failure, Status, tell, write_text};
 use command_lines::archives::Holding;
 use record_store::{Store, StoreFault};
 use sqlite::Alter;
+use std::alloc::{AllocError, Global};
+use tool_texts::{Shown, put};
 
 /// What is done with a hold.
 #[derive(Clone, Copy)]
@@ -27,14 +29,28 @@ fn change_one<S: Alter>(
     }
 }
 
+/// The line of a hold that was placed on a record, or released.
+fn changed_line(
+    alloc: Global,
+    change: Change,
+    name: &str,
+    number: u32,
+) -> Result<Shown, AllocError> {
+    let mut line = Shown::new(alloc);
+    put!(line; "record " value(&number))?;
+    match change {
+        Change::Place => line.words(" hold ")?,
+        Change::End => line.words(" released ")?,
+    }
+    line.named(name.as_bytes())?;
+    line.end_line()?;
+    Ok(line)
+}
+
 /// Writes that a hold was placed on a record, or released. That is done, so whatever happens to the line is no failure.
 fn write_change(rt: &HostRuntime, change: Change, name: &str, number: u32) {
-    let done = match change {
-        Change::Place => "hold",
-        Change::End => "released",
-    };
-    if let Ok(text) = format!(in rt.alloc(); "record {number} {done} {name}\n") {
-        let _ = write_text(rt, text.as_str());
+    if let Ok(line) = changed_line(rt.alloc(), change, name, number) {
+        let _ = write_text(rt, &line);
     }
 }
 
@@ -43,7 +59,7 @@ fn report(rt: &HostRuntime, word: &str, fault: StoreFault) -> Result<(), Failure
     let failure = Failure::of_store(rt.alloc(), word, fault);
     match failure {
         Failure::Told(Status::BadData, text) => {
-            tell(rt, text.as_str());
+            tell(rt, &text);
             Ok(())
         }
         other => Err(other),

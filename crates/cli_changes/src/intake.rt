@@ -3,7 +3,7 @@
 use crate::deliver::{desk_failure, given_up_words, report_capture};
 use crate::moments::Timing;
 use crate::rules::FilingRules;
-use cli_console::{Failure, Status};
+use cli_console::{Failure, Status, tell, tell_words};
 use cli_sources::maildir::{
     NewMail, has_cur, is_in_cur, move_to_cur, new_mail, new_path, settle, try_move,
 };
@@ -15,9 +15,10 @@ use record_archive::Records;
 use record_store::Store;
 use sieve_meaning::RunFault;
 use sqlite::Alter;
+use std::alloc::{AllocError, Global};
 use std::fmt::Display;
 use std::io::{self, IsTerminal};
-use tool_texts::named;
+use tool_texts::{Shown, put};
 
 /// After how many messages progress is shown.
 const STEP: u64 = 100;
@@ -60,12 +61,19 @@ pub struct Intake<'a> {
     filing: FilingRules<'a>,
 }
 
-/// Names a message that stays, with the reason. Without memory for the name, it only has the reason.
+/// What is told of a message that stays.
+fn stays_text<T: Display>(alloc: Global, name: &str, reason: &T) -> Result<Shown, AllocError> {
+    let mut text = Shown::new(alloc);
+    put!(text; named(name.as_bytes()) " stays: " value(reason))?;
+    Ok(text)
+}
+
+/// Names a message that stays, with the reason. Without memory for that, it is only said that one stays.
 fn name_one<T: Display>(rt: &HostRuntime, name: &str, reason: &T) {
-    let _ = match named(rt.alloc(), name.as_bytes()) {
-        Ok(name) => eprintln!(rt; "mailfile-store: {name} stays: {reason}"),
-        Err(_) => eprintln!(rt; "mailfile-store: a message stays: {reason}"),
-    };
+    match stays_text(rt.alloc(), name, reason) {
+        Ok(text) => tell(rt, &text),
+        Err(_) => tell_words(rt, "a message stays, and there is no memory to name it"),
+    }
 }
 
 /// Names a message that stays for want of memory.
@@ -119,14 +127,27 @@ fn read_message(rt: &HostRuntime, maildir: &str, name: &str) -> Result<Payload, 
     }
 }
 
+/// The name of a message before what is said of it.
+fn name_before(alloc: Global, name: &str) -> Result<Shown, AllocError> {
+    let mut text = Shown::new(alloc);
+    put!(text; named(name.as_bytes()) ": ")?;
+    Ok(text)
+}
+
 /// Reports a capture, each line after the name of its message, as far as there is memory for that.
 fn report_named(rt: &HostRuntime, name: &str, capture: &Capture) {
-    let Ok(shown) = named(rt.alloc(), name.as_bytes()) else {
-        return;
-    };
-    if let Ok(before) = format!(in rt.alloc(); "{shown}: ") {
-        report_capture(rt, before.as_str(), capture);
+    if let Ok(before) = name_before(rt.alloc(), name) {
+        report_capture(rt, &before, capture);
     }
+}
+
+/// What is told of a message that is captured and could not be moved.
+fn not_moved(alloc: Global, name: &str, error: &io::Error) -> Result<Shown, AllocError> {
+    let mut text = Shown::new(alloc);
+    put!(text; named(name.as_bytes())
+        " is captured, but still in new, where the next intake would capture it again: "
+        value(error))?;
+    Ok(text)
 }
 
 /// Moves a message that is captured.
@@ -134,13 +155,7 @@ fn file_away(rt: &HostRuntime, maildir: &str, name: &str) -> Result<Taken, Failu
     let Err(error) = move_to_cur(rt, maildir, name) else {
         return Ok(Taken::Filed);
     };
-    let shown = named(rt.alloc(), name.as_bytes())?;
-    Err(Failure::written(
-        Status::TryAgain,
-        format!(in rt.alloc();
-            "{shown} is captured, but still in new, where the next intake would capture it again: {error}"
-        ),
-    ))
+    Err(Failure::shown(Status::TryAgain, not_moved(rt.alloc(), name, &error)))
 }
 
 /// Names a message whose run ended with a fault.
@@ -181,10 +196,7 @@ fn take_one<A: Records>(
         }
         Ok(Delivery::GivenUp(fault)) => Ok(name_given_up(rt, name, fault)),
         Err(DeskFault::NoMemory) => Ok(give_up(rt, name)),
-        Err(fault) => {
-            let shown = named(rt.alloc(), name.as_bytes())?;
-            Err(desk_failure(rt.alloc(), shown.as_str(), fault))
-        }
+        Err(fault) => Err(desk_failure(rt.alloc(), name, fault)),
     }
 }
 
@@ -258,13 +270,26 @@ fn take_all<A: Records>(
     (archive, Ok(()))
 }
 
+/// What is told of messages whose names are no UTF-8.
+fn nameless_text(alloc: Global, count: usize) -> Result<Shown, AllocError> {
+    let mut text = Shown::new(alloc);
+    put!(text; "messages that stay, since their names are no UTF-8: " value(&count))?;
+    Ok(text)
+}
+
+/// Tells how many messages stay, since their names are no UTF-8.
+fn tell_nameless(rt: &HostRuntime, count: usize) {
+    match nameless_text(rt.alloc(), count) {
+        Ok(text) => tell(rt, &text),
+        Err(_) => tell_words(rt, "messages stay whose names are no UTF-8"),
+    }
+}
+
 /// The status of an intake that came to its end.
 fn end(rt: &HostRuntime, run: &Run, nameless: usize) -> Result<(), Failure> {
     let (stay, given_up) = (run.stay, run.given_up);
     if nameless > 0 {
-        let _ = eprintln!(rt;
-            "mailfile-store: messages that stay, since their names are no UTF-8: {nameless}"
-        );
+        tell_nameless(rt, nameless);
     }
     if given_up > 0 {
         return Err(Failure::Reported(Status::TryAgain));

@@ -10,6 +10,7 @@ use record_choice::Choice;
 use record_store::{RecordEntry, Store};
 use sqlite::Alter;
 use std::alloc::{AllocError, Global};
+use tool_texts::{Shown, put};
 
 /// How many seconds a day has.
 const DAY: u64 = 86_400;
@@ -63,36 +64,44 @@ pub fn judge_moment(asked: Moment, now: u64, last: Option<u32>) -> Result<u64, M
     }
 }
 
-/// A day in words, by its number.
-fn day_words(alloc: Global, number: u64) -> Result<String, AllocError> {
+/// Adds a day, by its number.
+fn put_day(text: &mut Shown, number: u64) -> Result<(), AllocError> {
     match date_of(i64::try_from(number).unwrap_or(i64::MAX)) {
-        Some(date) => format!(in alloc; "{date}"),
-        None => format!(in alloc; "day {number}"),
+        Some(date) => text.value(&date),
+        None => put!(text; "day " value(&number)),
     }
 }
 
 /// What is told of a clock that is before the days of a store.
-fn behind_words(alloc: Global, today: u64, last: u32) -> Result<String, AllocError> {
-    let today = day_words(alloc, today)?;
-    let last = day_words(alloc, u64::from(last))?;
-    format!(in alloc;
-        "the clock says {today}, but the store has a record of {last}; set the clock, or take it by --at now if that record is wrong"
-    )
+fn behind_words(alloc: Global, today: u64, last: u32) -> Result<Shown, AllocError> {
+    let mut text = Shown::new(alloc);
+    text.words("the clock says ")?;
+    put_day(&mut text, today)?;
+    text.words(", but the store has a record of ")?;
+    put_day(&mut text, u64::from(last))?;
+    text.words("; set the clock, or take it by --at now if that record is wrong")?;
+    Ok(text)
+}
+
+/// What is told of a moment that has not come.
+fn not_come_words(alloc: Global, moment: u64) -> Result<Shown, AllocError> {
+    let mut text = Shown::new(alloc);
+    put!(text; value(&moment) ": this moment has not come yet")?;
+    Ok(text)
 }
 
 /// The failure of the moment of a capture. `Usage` where one is named that has not come; where the clock is wrong it may be
 /// done later, `TryAgain`.
 fn moment_failure(alloc: Global, asked: Moment, fault: MomentFault) -> Failure {
     match (fault, asked) {
-        (MomentFault::NotCome, Moment::At(moment)) => Failure::written(
-            Status::Usage,
-            format!(in alloc; "{moment}: this moment has not come yet"),
-        ),
+        (MomentFault::NotCome, Moment::At(moment)) => {
+            Failure::shown(Status::Usage, not_come_words(alloc, moment))
+        }
         (MomentFault::NotCome | MomentFault::PastLast, _) => {
             Failure::told(alloc, Status::TryAgain, "the clock is after 2199")
         }
         (MomentFault::Behind { today, last }, _) => {
-            Failure::written(Status::TryAgain, behind_words(alloc, today, last))
+            Failure::shown(Status::TryAgain, behind_words(alloc, today, last))
         }
     }
 }

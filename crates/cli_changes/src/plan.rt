@@ -2,11 +2,13 @@
 
 use crate::plan_file::read_plan;
 use class_plan::{Date, Plan, day_number};
-use cli_console::{Failure, Status, Walk, agrees, is_by, today, write_text};
+use cli_console::{Failure, Status, Walk, agrees, is_by, today, write_data, write_text};
 use cli_texts::{due_by, plan_of_text, plan_text};
 use record_choice::{Choice, destroys};
 use record_store::{RecordEntry, Store};
 use sqlite::Alter;
+use std::alloc::{AllocError, Global};
+use tool_texts::{Shown, put};
 
 /// How many live records are due today by a plan.
 #[derive(Clone, Copy)]
@@ -88,14 +90,18 @@ fn changes_by<S: Alter>(
     Ok(changes)
 }
 
-/// Writes what a new plan changes.
-fn write_changes(rt: &HostRuntime, changes: &Changes) -> Result<(), Failure> {
+/// What a new plan changes, in three lines.
+fn changes_lines(alloc: Global, changes: &Changes) -> Result<Shown, AllocError> {
     let (before, after) = (changes.before, changes.after);
-    let text = format!(in rt.alloc();
-        "due dates that move: {}\nrecords that are due at once: {}, before {}\nrecords that may be destroyed at once: {}, before {}\n",
-        changes.moved, after.all, before.all, after.destroyable, before.destroyable
-    )?;
-    write_text(rt, text.as_str())
+    let mut text = Shown::new(alloc);
+    put!(text; "due dates that move: " value(&changes.moved))?;
+    text.end_line()?;
+    put!(text; "records that are due at once: " value(&after.all) ", before " value(&before.all))?;
+    text.end_line()?;
+    put!(text; "records that may be destroyed at once: " value(&after.destroyable)
+        ", before " value(&before.destroyable))?;
+    text.end_line()?;
+    Ok(text)
 }
 
 /// Replaces the plan of an archive by that of a file, once it was printed what that changes, and someone agrees. `Usage`
@@ -108,7 +114,7 @@ pub fn replace_plan<S: Alter>(
 ) -> Result<(), Failure> {
     let plan = read_plan(rt, path)?;
     let changes = changes_by(rt, archive, &plan)?;
-    write_changes(rt, &changes)?;
+    write_text(rt, &changes_lines(rt.alloc(), &changes)?)?;
     if !is_agreed && !agrees(rt, "replace the plan?") {
         return Err(Failure::told(
             rt.alloc(),
@@ -131,5 +137,5 @@ pub fn write_plan(rt: &HostRuntime, plan: &Plan) -> Result<(), Failure> {
             "the plan cannot be written as a text",
         ));
     }
-    write_text(rt, text.as_str())
+    write_data(rt, text.as_bytes())
 }

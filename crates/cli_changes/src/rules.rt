@@ -23,7 +23,7 @@ fn excuse(rt: &HostRuntime, fault: &RulesFault, on_fault: OnFault) -> Result<(),
     }
     match failure {
         Failure::Told(_, text) => {
-            tell(rt, text.as_str());
+            tell(rt, &text);
             Ok(())
         }
         other => Err(other),

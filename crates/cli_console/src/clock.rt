@@ -3,6 +3,7 @@
 use crate::failure::{Failure, Status};
 use class_plan::{Date, day_number, day_of};
 use std::time::{SystemTime, UNIX_EPOCH};
+use tool_texts::{Shown, put};
 
 /// The failure of a clock.
 fn no_time(rt: &HostRuntime, words: &'static str) -> Failure {
@@ -37,7 +38,8 @@ pub fn judge_day(rt: &HostRuntime, day: Date) -> Result<(), Failure> {
     if day_number(day) <= day_number(today(rt)?) {
         return Ok(());
     }
-    let text = format!(in rt.alloc(); "{day}: this day has not come yet")?;
+    let mut text = Shown::new(rt.alloc());
+    put!(text; value(&day) ": this day has not come yet")?;
     Err(Failure::Told(Status::Usage, text))
 }
 

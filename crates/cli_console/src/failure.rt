@@ -44,78 +44,80 @@ pub enum Failure {
     Closed,
     /// Reported as out of memory.
     NoMemory,
-    /// Reported in these words.
-    Told(Status, String),
+    /// Reported by this text.
+    Told(Status, Shown),
     /// It was reported already.
     Reported(Status),
 }
 
+/// Words of the program.
+fn words_of(alloc: Global, words: &'static str) -> Result<Shown, AllocError> {
+    let mut text = Shown::new(alloc);
+    text.words(words)?;
+    Ok(text)
+}
+
 /// What a reason displays, with escapes.
-fn text_of<T: Display>(alloc: Global, reason: &T) -> Result<String, AllocError> {
+fn text_of<T: Display>(alloc: Global, reason: &T) -> Result<Shown, AllocError> {
     let mut text = Shown::new(alloc);
     text.value(reason)?;
-    Ok(text.into_string())
+    Ok(text)
 }
 
 /// The name of something, in quotation marks where it is not visible ASCII, and what is said of it.
-fn text_at<T: Display>(alloc: Global, name: &str, reason: &T) -> Result<String, AllocError> {
+fn text_at<T: Display>(alloc: Global, name: &str, reason: &T) -> Result<Shown, AllocError> {
     let mut text = Shown::new(alloc);
     put!(text; named(name.as_bytes()) ": " value(reason))?;
-    Ok(text.into_string())
+    Ok(text)
 }
 
 /// Something as it is called, and what is said of it, with escapes.
-fn text_at_thing<T: Display>(alloc: Global, thing: &str, reason: &T) -> Result<String, AllocError> {
+fn text_at_thing<T: Display>(alloc: Global, thing: &str, reason: &T) -> Result<Shown, AllocError> {
     let mut text = Shown::new(alloc);
     put!(text; value(&thing) ": " value(reason))?;
-    Ok(text.into_string())
+    Ok(text)
 }
 
 /// Something as it is called, and the number of a refusal with its text.
-fn refusal_at(alloc: Global, thing: &str, number: u8) -> Result<String, AllocError> {
+fn refusal_at(alloc: Global, thing: &str, number: u8) -> Result<Shown, AllocError> {
     let words = refusal_text(number).unwrap_or("refused");
     let mut text = Shown::new(alloc);
     put!(text; value(&thing) ": " value(&number) ": " words(words))?;
-    Ok(text.into_string())
+    Ok(text)
 }
 
 impl Failure {
-    /// A failure that is reported in words that were just written, if there was memory for them.
-    pub fn written(status: Status, words: Result<String, AllocError>) -> Failure {
-        match words {
+    /// A failure that is reported by a text that was just made, if there was memory for it.
+    pub fn shown(status: Status, text: Result<Shown, AllocError>) -> Failure {
+        match text {
             Ok(text) => Failure::Told(status, text),
             Err(AllocError) => Failure::NoMemory,
         }
     }
 
-    /// A failure that is reported by a text that was just made, if there was memory for it.
-    pub fn shown(status: Status, text: Result<Shown, AllocError>) -> Failure {
-        Failure::written(status, text.map(|text| text.into_string()))
-    }
-
     /// A failure that is reported in these words.
     pub fn told(alloc: Global, status: Status, words: &'static str) -> Failure {
-        Failure::written(status, String::from_str(alloc, words))
+        Failure::shown(status, words_of(alloc, words))
     }
 
     /// A failure that is reported by the reason alone.
     pub fn by<T: Display>(alloc: Global, status: Status, reason: &T) -> Failure {
-        Failure::written(status, text_of(alloc, reason))
+        Failure::shown(status, text_of(alloc, reason))
     }
 
     /// A failure at a file or a record, reported with the name that was given and the reason.
     pub fn at<T: Display>(alloc: Global, status: Status, name: &str, reason: &T) -> Failure {
-        Failure::written(status, text_at(alloc, name, reason))
+        Failure::shown(status, text_at(alloc, name, reason))
     }
 
     /// A failure at something that the program names, as a stream, reported with the reason.
     pub fn at_thing<T: Display>(alloc: Global, status: Status, thing: &str, reason: &T) -> Failure {
-        Failure::written(status, text_at_thing(alloc, thing, reason))
+        Failure::shown(status, text_at_thing(alloc, thing, reason))
     }
 
     /// The failure of a refusal's number, reported with its text.
     pub fn numbered(alloc: Global, status: Status, name: &str, number: u8) -> Failure {
-        Failure::written(status, refusal_at(alloc, name, number))
+        Failure::shown(status, refusal_at(alloc, name, number))
     }
 
     /// The failure of a call of the store, at something of this name. A refusal is `BadData` with its number; what the

@@ -16,5 +16,5 @@ mod walk;
 
 pub use clock::{day_or_today, is_by, judge_day, now, today};
 pub use failure::{Failure, Status};
-pub use output::{agrees, tell, write, write_text};
+pub use output::{agrees, tell, tell_words, write_data, write_text};
 pub use walk::{Walk, message_of};

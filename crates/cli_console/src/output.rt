@@ -1,8 +1,9 @@
-//! What is written for people and programs.
+//! What is written for people and programs. A text for people is a [`Shown`] one, or words of the program.
 
 use crate::failure::{Failure, Status};
 use std::alloc::Global;
 use std::io::{Error, ErrorKind, IsTerminal, Write};
+use tool_texts::Shown;
 
 /// The failure of a write to standard output.
 fn write_failure(alloc: Global, error: Error) -> Failure {
@@ -13,25 +14,31 @@ fn write_failure(alloc: Global, error: Error) -> Failure {
     }
 }
 
-/// Writes octets to standard output. `Closed` where its reader has gone, and `NotWritten` where they cannot be written.
-pub fn write(rt: &HostRuntime, octets: &[u8]) -> Result<(), Failure> {
+/// Writes octets to standard output that are data by their purpose: what another program reads. `Closed` where the reader
+/// has gone, and `NotWritten` where they cannot be written.
+pub fn write_data(rt: &HostRuntime, octets: &[u8]) -> Result<(), Failure> {
     rt.stdout()
         .write_all(octets)
         .map_err(|error| write_failure(rt.alloc(), error))
 }
 
-/// Writes a text to standard output, as `write` does.
-pub fn write_text(rt: &HostRuntime, text: &str) -> Result<(), Failure> {
-    write(rt, text.as_bytes())
+/// Writes a text to standard output as it is, as `write_data` does.
+pub fn write_text(rt: &HostRuntime, text: &Shown) -> Result<(), Failure> {
+    write_data(rt, text.as_str().as_bytes())
 }
 
-/// Writes something on standard error, after the name of the program.
-pub fn tell(rt: &HostRuntime, text: &str) {
+/// Writes a text on standard error, after the name of the program.
+pub fn tell(rt: &HostRuntime, text: &Shown) {
     let _ = eprintln!(rt; "mailfile-store: {text}");
 }
 
+/// Writes words of the program on standard error, after its name.
+pub fn tell_words(rt: &HostRuntime, words: &'static str) {
+    let _ = eprintln!(rt; "mailfile-store: {words}");
+}
+
 /// Whether a person says yes to a question. No where standard input is no terminal, without asking.
-pub fn agrees(rt: &HostRuntime, question: &str) -> bool {
+pub fn agrees(rt: &HostRuntime, question: &'static str) -> bool {
     if !rt.stdin().is_terminal() {
         return false;
     }

@@ -5,6 +5,7 @@ use cli_console::{Failure, Walk, is_by, message_of, today, write_text};
 use record_choice::Choice;
 use record_store::{RecordEntry, Store};
 use sqlite::Alter;
+use tool_texts::Shown;
 
 /// What an archive holds.
 #[derive(Clone, Copy)]
@@ -94,16 +95,21 @@ fn contents_of<S: Alter>(rt: &HostRuntime, archive: &mut Store<S>) -> Result<Con
 pub fn write_contents<S: Alter>(rt: &HostRuntime, archive: &mut Store<S>) -> Result<(), Failure> {
     let classes = archive.plan().class_count();
     let held = contents_of(rt, archive)?;
-    let text = format!(in rt.alloc();
-        "classes {}\nrecords {}\nlive {}\nheld {}\ndue today {}\nmessages {}\noctets {}\nnext number {}\n",
-        classes,
-        held.records,
-        held.live,
-        held.held,
-        held.due,
-        held.messages,
-        held.octets,
-        u64::from(held.last) + 1
-    )?;
-    write_text(rt, text.as_str())
+    let counts: [(&'static str, u64); 8] = [
+        ("classes ", classes as u64),
+        ("records ", held.records),
+        ("live ", held.live),
+        ("held ", held.held),
+        ("due today ", held.due),
+        ("messages ", held.messages),
+        ("octets ", held.octets),
+        ("next number ", u64::from(held.last) + 1),
+    ];
+    let mut text = Shown::new(rt.alloc());
+    for (name, count) in counts {
+        text.words(name)?;
+        text.value(&count)?;
+        text.end_line()?;
+    }
+    write_text(rt, &text)
 }

@@ -1,7 +1,7 @@
 //! `list`: the records, a line each.
 
 use crate::choice::{choice_of, judge_class};
-use cli_console::{Failure, Walk, write, write_text};
+use cli_console::{Failure, Walk, write_data};
 use cli_texts::{LIST_HEADER, Row, json_object, listed_line, listed_row};
 use command_lines::archives::{Choice, Format};
 use record_question::TestQuestion;
@@ -31,7 +31,7 @@ fn push_record(
 ) -> Result<(), AllocError> {
     let row = row_of(entry);
     match format {
-        Format::Lines => text.extend_from_slice(listed_line(alloc, &row)?.as_bytes()),
+        Format::Lines => text.extend_from_slice(listed_line(alloc, &row)?.as_str().as_bytes()),
         Format::Csv => text.extend_from_slice(listed_row(alloc, &row)?.as_slice()),
         Format::Json => {
             text.extend_from_slice(if is_first {
@@ -62,7 +62,7 @@ fn write_page(
         push_record(rt.alloc(), &mut text, entry, format, is_first)?;
         is_first = false;
     }
-    write(rt, text.as_slice())
+    write_data(rt, text.as_slice())
 }
 
 /// Writes the chosen records. Answers how many there are.
@@ -110,7 +110,7 @@ pub fn write_list<S: Alter>(
         Format::Json => "[",
     };
     judge_class(rt, choice, archive.plan())?;
-    write_text(rt, before)?;
+    write_data(rt, before.as_bytes())?;
     let count = write_records(rt, archive, choice, question, format)?;
-    write_text(rt, text_after(rt.alloc(), format, count)?.as_str())
+    write_data(rt, text_after(rt.alloc(), format, count)?.as_bytes())
 }

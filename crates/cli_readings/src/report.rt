@@ -1,7 +1,7 @@
 //! `report`: one page of HTML on what is kept, what is due and what is held.
 
 use class_plan::{Date, Plan};
-use cli_console::{Failure, Status, Walk, now, today, write_text};
+use cli_console::{Failure, Status, Walk, now, today, write_data};
 use cli_page::{Heading, Page, Record, Report, ReportFault};
 use cli_texts::moment_text;
 use record_choice::Choice;
@@ -82,7 +82,7 @@ fn write_page(
     report
         .write(&mut page, plan, &heading)
         .map_err(|fault| report_failure(rt, fault))?;
-    write_text(rt, page.as_str())
+    write_data(rt, page.as_str().as_bytes())
 }
 
 /// Writes a report by a day to standard output, as a page of HTML that names the store's file.

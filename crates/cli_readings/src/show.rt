@@ -1,32 +1,26 @@
 //! `show`: the message of a record.
 
-use cli_console::{Failure, write, write_text};
+use cli_console::{Failure, write_data, write_text};
 use command_lines::archives::TypedNumber;
 use mail_head::read_head;
 use mail_words::value_of;
 use record_store::Store;
 use sqlite::Alter;
-use tool_texts::{named, quoted};
+use tool_texts::{Shown, put};
 
 /// Writes the fields of a message as the archive reads them, a line each, numbered from 1.
 fn write_fields(rt: &HostRuntime, message: &[u8]) -> Result<(), Failure> {
     let alloc = rt.alloc();
-    let size = message.len();
-    write_text(
-        rt,
-        format!(in alloc; "message of {size} octets\n")?.as_str(),
-    )?;
+    let mut text = Shown::new(alloc);
+    put!(text; "message of " value(&message.len()) " octets")?;
+    text.end_line()?;
     for (index, field) in read_head(alloc, message)?.fields().iter().enumerate() {
         let number = index.saturating_add(1);
-        let name = named(alloc, field.name())?;
         let value = value_of(alloc, field.raw())?;
-        let value = quoted(alloc, value.as_slice())?;
-        write_text(
-            rt,
-            format!(in alloc; "field {number} {name} {value}\n")?.as_str(),
-        )?;
+        put!(text; "field " value(&number) " " named(field.name()) " " quoted(value.as_slice()))?;
+        text.end_line()?;
     }
-    Ok(())
+    write_text(rt, &text)
 }
 
 /// The message of a record.
@@ -45,6 +39,6 @@ pub fn write_message(rt: &HostRuntime, message: &[u8], fields: bool) -> Result<(
     if fields {
         write_fields(rt, message)
     } else {
-        write(rt, message)
+        write_data(rt, message)
     }
 }

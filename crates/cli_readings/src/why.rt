@@ -3,7 +3,7 @@
 use crate::list::row_of;
 use crate::show::message_of_record;
 use class_plan::{Date, Plan, day_number};
-use cli_console::{Failure, Status, write, write_text};
+use cli_console::{Failure, Status, write_data, write_text};
 use cli_sources::{Script, read_rules};
 use cli_texts::{listed_line, plan_text};
 use command_lines::archives::{TypedNumber, Why};
@@ -11,10 +11,12 @@ use desk_commands::Payload;
 use record_store::{RecordEntry, Store};
 use sieve_meaning::{Location, Outcome};
 use sqlite::Alter;
+use std::alloc::{AllocError, Global};
 use tool_inquiry::{
     Answer, Form, Inquiry, InquiryFault, ScriptFile, Scripts, Written, answer_to, first_parting,
     is_filed_in, outcome_line, outcome_text, script_of,
 };
+use tool_texts::{Shown, put};
 
 /// The seconds of a day.
 const DAY: u64 = 86_400;
@@ -168,37 +170,65 @@ fn answer_by(
     answer_to(alloc, &inquiry, Form::Lines).map_err(|fault| failure_of(rt, fault))
 }
 
-/// Writes an outcome in one line, after some words.
-fn write_outcome(rt: &HostRuntime, words: &str, outcome: &Outcome) -> Result<(), Failure> {
-    write_text(rt, words)?;
-    write(rt, &outcome_line(rt.alloc(), outcome)?)?;
-    write_text(rt, "\n")
+/// Ends a text by an outcome in one line, and writes it.
+fn write_outcome(rt: &HostRuntime, text: Shown, outcome: &Outcome) -> Result<(), Failure> {
+    let mut text = text;
+    text.escaped(&outcome_line(rt.alloc(), outcome)?)?;
+    text.end_line()?;
+    write_text(rt, &text)
+}
+
+/// An outcome, a line for the fault, if there is one, and for each class.
+fn outcome_lines(alloc: Global, outcome: &Outcome) -> Result<Shown, AllocError> {
+    let octets = outcome_text(alloc, outcome)?;
+    let mut text = Shown::new(alloc);
+    for line in octets
+        .split(|octet| *octet == b'\n')
+        .filter(|line| !line.is_empty())
+    {
+        text.escaped(line)?;
+        text.end_line()?;
+    }
+    Ok(text)
 }
 
 /// Writes whether the rules of today file a message in the class of its record again.
 fn write_verdict(rt: &HostRuntime, entry: &RecordEntry, answer: &Answer) -> Result<(), Failure> {
-    let alloc = rt.alloc();
-    let class = entry.path.as_slice().escape_ascii();
-    let words = if is_filed_in(&answer.outcome, entry.path.as_slice()) {
-        format!(in alloc; "\nthe rules of today file it in {class} again: ")?
+    let path = entry.path.as_slice();
+    let mut text = Shown::new(rt.alloc());
+    text.end_line()?;
+    if is_filed_in(&answer.outcome, path) {
+        put!(text; "the rules of today file it in " named(path) " again: ")?;
     } else {
-        format!(in alloc; "\nthe rules of today do not file it in {class}: ")?
-    };
-    write_outcome(rt, words.as_str(), &answer.outcome)
+        put!(text; "the rules of today do not file it in " named(path) ": ")?;
+    }
+    write_outcome(rt, text, &answer.outcome)
+}
+
+/// Where the run of former rules parts from that of today's, if it does.
+fn parting_lines(alloc: Global, today: &Answer, former: &Answer) -> Result<Shown, AllocError> {
+    let mut text = Shown::new(alloc);
+    match first_parting(&today.events, &former.events) {
+        Some(parting) => {
+            text.words("the first difference")?;
+            text.end_line()?;
+            put!(text; "  today:  " value(&parting.one))?;
+            text.end_line()?;
+            put!(text; "  former: " value(&parting.other))?;
+        }
+        None => text.words("both runs come to the same")?,
+    }
+    text.end_line()?;
+    Ok(text)
 }
 
 /// Writes what the rules of former times make of a message, and where their run parts from that of today.
 fn write_parting(rt: &HostRuntime, today: &Answer, former: &Answer) -> Result<(), Failure> {
-    let alloc = rt.alloc();
-    write_outcome(rt, "the former rules: ", &former.outcome)?;
-    let text = match first_parting(&today.events, &former.events) {
-        Some(parting) => {
-            let (one, other) = (parting.one, parting.other);
-            format!(in alloc; "the first difference\n  today:  {one}\n  former: {other}\n")?
-        }
-        None => String::from_str(alloc, "both runs come to the same\n")?,
-    };
-    write_text(rt, text.as_str())
+    let mut text = Shown::new(rt.alloc());
+    text.words("the former rules: ")?;
+    write_outcome(rt, text, &former.outcome)?;
+    let text = parting_lines(rt.alloc(), today, former)?;
+    write_text(rt, &text)
 }
 
 /// What becomes of a record's message by the rules of a folder.
@@ -215,23 +245,23 @@ fn answer_by_rules(
 
 /// Writes a record as it is listed.
 fn write_entry(rt: &HostRuntime, entry: &RecordEntry) -> Result<(), Failure> {
-    write_text(rt, listed_line(rt.alloc(), &row_of(entry))?.as_str())
+    write_text(rt, &listed_line(rt.alloc(), &row_of(entry))?)
 }
 
 /// Writes a report.
 fn write_report(rt: &HostRuntime, report: &Written) -> Result<(), Failure> {
     match report {
-        Written::Lines(text) => write_text(rt, text.as_str()),
-        Written::Json(text) => write_text(rt, text.as_str()),
+        Written::Lines(text) => write_text(rt, text),
+        Written::Json(text) => write_data(rt, text.as_bytes()),
     }
 }
 
 /// Writes a record, what becomes of its message by the rules of today, and whether they file it there again.
 fn write_answer(rt: &HostRuntime, entry: &RecordEntry, answer: &Answer) -> Result<(), Failure> {
     write_entry(rt, entry)?;
-    write_text(rt, "\n")?;
+    write_data(rt, b"\n")?;
     write_report(rt, &answer.text)?;
-    write(rt, &outcome_text(rt.alloc(), &answer.outcome)?)?;
+    write_text(rt, &outcome_lines(rt.alloc(), &answer.outcome)?)?;
     write_verdict(rt, entry, answer)
 }
 
@@ -258,10 +288,10 @@ pub fn write_why(rt: &HostRuntime, asked: &Why<'_>, captured: &Captured) -> Resu
         Some(message) => explain(rt, asked, captured, message.as_slice()),
         None => {
             write_entry(rt, &captured.entry)?;
-            write_text(
-                rt,
-                "its message is destroyed, so no rules can be run over it\n",
-            )
+            let mut text = Shown::new(rt.alloc());
+            text.words("its message is destroyed, so no rules can be run over it")?;
+            text.end_line()?;
+            write_text(rt, &text)
         }
     }
 }

@@ -9,6 +9,7 @@ use record_copy::{CopyFault, copy_archive};
 use record_store::Store;
 use sqlite::{Alter, Connection};
 use std::alloc::Global;
+use tool_texts::{Shown, put};
 
 /// The paths of a copy.
 #[derive(Clone, Copy)]
@@ -154,11 +155,11 @@ fn finish<A: Archives>(
 ) -> Result<(), Failure> {
     let found = copied.and_then(|kept| compare(rt, archives, &kept, draft));
     let copied = settle(rt, archives, draft, new, found)?;
-    let text = format!(in rt.alloc();
-        "copied records {} messages {} octets {}\n",
-        copied.records, copied.messages, copied.octets
-    )?;
-    write_text(rt, text.as_str())
+    let mut text = Shown::new(rt.alloc());
+    put!(text; "copied records " value(&copied.records) " messages " value(&copied.messages)
+        " octets " value(&copied.octets))?;
+    text.end_line()?;
+    write_text(rt, &text)
 }
 
 /// Makes the draft of a new archive with the plan of another one.

@@ -1,14 +1,14 @@
 //! Why something was not done, for a person and as a status.
 
-use cli_console::{Failure, Status, tell};
+use cli_console::{Failure, Status, tell, tell_words};
 use command_lines::NoCommand;
 use std::process::ExitCode;
 
 /// Writes on standard error why something was not done, unless that was written, or the reader of the output has gone.
 pub fn tell_failure(rt: &HostRuntime, failure: &Failure) {
     match failure {
-        Failure::NoMemory => tell(rt, "out of memory"),
-        Failure::Told(_, text) => tell(rt, text.as_str()),
+        Failure::NoMemory => tell_words(rt, "out of memory"),
+        Failure::Told(_, text) => tell(rt, text),
         Failure::Closed | Failure::Reported(_) => {}
     }
 }
@@ -37,8 +37,8 @@ pub fn end_without_command(rt: &HostRuntime, none: NoCommand) -> ExitCode {
         NoCommand::Wrong(text) => {
             return end_with(rt, &Failure::by(rt.alloc(), Status::Usage, &text));
         }
-        NoCommand::NotText => tell(rt, "a word of the command line is not UTF-8"),
-        NoCommand::Unread => tell(rt, "the command line was not read"),
+        NoCommand::NotText => tell_words(rt, "a word of the command line is not UTF-8"),
+        NoCommand::Unread => tell_words(rt, "the command line was not read"),
     }
     Status::Usage.code()
 }

@@ -4,10 +4,11 @@ ghost use Rattle.std.specs.Prelude.{◌≡◌, IfOk, string_bytes};
 ghost use Rattle.sha2.specs.Sha256.{sha256};
 ghost use Rattle.hex.specs.Hex.{encode_lower};
 
-use crate::records::{due_text, shown};
+use crate::records::put_due;
 use class_plan::{Date, day_of};
 use sha2::{Digest, Sha256};
 use std::alloc::{AllocError, Global};
+use tool_texts::{Shown, put};
 
 /// A record that was destroyed, and the message that it had.
 #[derive(Clone, Copy)]
@@ -52,17 +53,15 @@ pub fn moment_text(alloc: Global, moment: u64) -> Result<String, AllocError> {
 }
 
 /// The line of a record that was destroyed.
-pub fn certificate_line(alloc: Global, it: &Certificate<'_>) -> Result<String, AllocError> {
-    let (number, octets, sum) = (it.number, it.octets, it.sum);
-    let path = shown(alloc, it.path)?;
-    let due = due_text(alloc, it.due)?;
+pub fn certificate_line(alloc: Global, it: &Certificate<'_>) -> Result<Shown, AllocError> {
     let moment = moment_text(alloc, it.moment)?;
-    let mut line = format!(in alloc;
-        "destroyed record {number} class {path} due {due} octets {octets} sha256 {sum} at {moment}"
-    )?;
+    let mut line = Shown::new(alloc);
+    put!(line; "destroyed record " value(&it.number) " class " named(it.path) " due ")?;
+    put_due(&mut line, it.due)?;
+    put!(line; " octets " value(&it.octets) " sha256 " value(&it.sum) " at " value(&moment))?;
     if let Some(keeper) = it.kept_by {
-        line.push_str(format!(in alloc; " message kept by record {keeper}")?.as_str())?;
+        put!(line; " message kept by record " value(&keeper))?;
     }
-    line.push('\n')?;
+    line.end_line()?;
     Ok(line)
 }

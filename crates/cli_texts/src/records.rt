@@ -5,6 +5,7 @@ use record_archive::Line;
 use serde_json::{Value, json};
 use std::alloc::{AllocError, Global};
 use std::str;
+use tool_texts::{Shown, put};
 
 /// A record as it is listed.
 #[derive(Clone, Copy)]
@@ -20,8 +21,16 @@ pub struct Row<'a> {
     pub destroyed: bool,
 }
 
+/// Adds a due date, or `never`.
+pub(crate) fn put_due(text: &mut Shown, due: Option<Date>) -> Result<(), AllocError> {
+    match due {
+        Some(date) => text.value(&date),
+        None => text.words("never"),
+    }
+}
+
 /// A due date, or `never`.
-pub(crate) fn due_text(alloc: Global, due: Option<Date>) -> Result<String, AllocError> {
+fn due_text(alloc: Global, due: Option<Date>) -> Result<String, AllocError> {
     match due {
         Some(date) => format!(in alloc; "{date}"),
         None => String::from_str(alloc, "never"),
@@ -50,32 +59,29 @@ pub(crate) fn shown(alloc: Global, octets: &[u8]) -> Result<String, AllocError> 
 }
 
 /// The line of a record of a capture, as a session answers it: `record 1 class finance due 2030-11-14`.
-pub fn captured_line(alloc: Global, line: &Line) -> Result<String, AllocError> {
-    let number = line.number;
-    let path = shown(alloc, line.path.as_slice())?;
-    let due = due_text(alloc, line.due)?;
-    format!(in alloc; "record {number} class {path} due {due}\n")
+/// The end of the line is not part of it.
+pub fn captured_line(alloc: Global, line: &Line) -> Result<Shown, AllocError> {
+    let mut text = Shown::new(alloc);
+    put!(text; "record " value(&line.number) " class " named(line.path.as_slice()) " due ")?;
+    put_due(&mut text, line.due)?;
+    Ok(text)
 }
 
 /// The line of a listed record: `record 1 class finance day 2023-11-14 due 2030-11-14`, then ` hold NAME` for each hold. One
 /// that is destroyed has ` destroyed` in place of its due date.
-pub fn listed_line(alloc: Global, row: &Row<'_>) -> Result<String, AllocError> {
-    let (number, day) = (row.number, row.day);
-    let path = shown(alloc, row.path)?;
-    let mut line = format!(in alloc; "record {number} class {path} day {day}")?;
+pub fn listed_line(alloc: Global, row: &Row<'_>) -> Result<Shown, AllocError> {
+    let mut line = Shown::new(alloc);
+    put!(line; "record " value(&row.number) " class " named(row.path) " day " value(&row.day))?;
     if row.destroyed {
-        line.push_str(" destroyed")?;
+        line.words(" destroyed")?;
     } else {
-        let due = due_text(alloc, row.due)?;
-        line.push_str(" due ")?;
-        line.push_str(due.as_str())?;
+        line.words(" due ")?;
+        put_due(&mut line, row.due)?;
     }
     for name in row.holds {
-        let name = shown(alloc, name.as_slice())?;
-        line.push_str(" hold ")?;
-        line.push_str(name.as_str())?;
+        put!(line; " hold " named(name.as_slice()))?;
     }
-    line.push('\n')?;
+    line.end_line()?;
     Ok(line)
 }
 

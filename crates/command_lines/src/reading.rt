@@ -7,6 +7,7 @@ use jiff::civil::Date;
 use std::alloc::{AllocError, AllocFailed, Global};
 use std::fmt::Display;
 use std::{env, io};
+use tool_texts::Shown;
 
 /// Why a command line has nothing for a program to do.
 #[derive(Drop)]
@@ -56,15 +57,30 @@ pub fn words_of_process(rt: &HostRuntime) -> Result<Vec<String>, NoCommand> {
     }
 }
 
+/// What `clap` reports. A hidden character in it, which only a word of the command line can have, is shown by its number.
+fn report_of(alloc: Global, error: &Error) -> Result<Shown, AllocError> {
+    let report = error.to_string(alloc)?;
+    let mut text = Shown::new(alloc);
+    for line in report.lines() {
+        text.value(&line)?;
+        text.end_line()?;
+    }
+    Ok(text)
+}
+
 /// Prints what `clap` reports in place of words, unless that is a lack of memory.
 fn tell_report(rt: &HostRuntime, error: &Error) -> NoCommand {
     if error.kind() == ErrorKind::OutOfMemory {
         return NoCommand::NoMemory;
     }
-    let _ = error.print(rt);
+    let Ok(report) = report_of(rt.alloc(), error) else {
+        return NoCommand::NoMemory;
+    };
     if error.use_stderr() {
+        let _ = eprint!(rt; "{report}");
         NoCommand::Told
     } else {
+        let _ = print!(rt; "{report}");
         NoCommand::Answered
     }
 }
