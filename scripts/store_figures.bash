@@ -6,7 +6,7 @@
 : "${folder:?}"
 
 # How often each is timed, and the octets of a message.
-readonly RUNS=3 SMALL=2048 LARGE=51200
+readonly RUNS=3 SMALL=2048 MIDDLE=10240 LARGE=51200
 
 # Writes a number of messages of a length: each to a file of a folder, or, without one, as the commands that capture them. All are
 # different.
@@ -195,11 +195,49 @@ archive_rows() {
     opening=$(best true open_store) && open=$(size_of "$mailfile" --store "$here/store") && export_rows "$@" && copy_rows "$@"
 }
 
+ask_question() {
+    "$keeper" list --store "$here/store" --count --where "$question"
+}
+
+no_index() {
+    rm -rf -- "$here/export/.notmuch"
+}
+
+index_mail() {
+    HOME=$here NOTMUCH_CONFIG=$here/notmuch notmuch new --quiet
+}
+
+ask_notmuch() {
+    HOME=$here NOTMUCH_CONFIG=$here/notmuch notmuch count 'subject:"mail 17"'
+}
+
+ask_grep() {
+    grep -r -l -i -E '^subject:.*mail 17' "$here/export" --include='*.eml' | wc -l
+}
+
+# A question on one field of a number of messages of a length, beside the opening, and beside grep and notmuch on the exported files.
+question_rows() {
+    local what="question on one field of $1 messages of $(($2 / 1024)) KB" question='header :contains "subject" "mail 17"' opening asking
+    { cat -- "$here/commands" && write_messages "$1" "$2"; } > "$here/session"
+    new_store && serve_file "$here/session" > "$here/said" && rm -f -- "$here/session" || return
+    opening=$(best true open_store) && asking=$(best true ask_question) || return
+    row "$what, $place" "1.3 times at most" "$asking" "the opening, times 1.3" $((opening * 13 / 10)) 100
+    memory_line "$what" "$(size_of "$keeper" list --store "$here/store" --count --where "$question")" "$(size_of "$mailfile" --store "$here/store")"
+    no_export && export_records || return
+    row "the same" "–" "$asking" "\`grep -r\` over the exported files" "$(best true ask_grep)" 0
+    if type notmuch > /dev/null 2>&1; then
+        printf '[database]\npath=%s/export\n[user]\nname=a\nprimary_email=a@a.example\n[new]\nignore=manifest.csv;SHA256SUMS\n' "$here" > "$here/notmuch"
+        row "the same" "–" "$asking" "making \`notmuch\`'s index of these files" "$(best no_index index_mail)" 0
+        row "the same" "–" "$asking" "a question to \`notmuch\`, by its index" "$(best true ask_notmuch)" 0
+    fi
+    no_export
+}
+
 # The rows of a place, in a folder.
 rows_in() {
     local here=$1 place=$2
     write_rules && intake_rows 10000 && growth_rows 4000 && growth_rows 40000 && list_rows 100000 && archive_rows 100000 "$SMALL" &&
-        archive_rows 5000 "$LARGE"
+        archive_rows 5000 "$LARGE" && question_rows 20000 "$MIDDLE" && question_rows 100000 "$SMALL"
 }
 
 # The table of the program.
