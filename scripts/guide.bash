@@ -1,9 +1,9 @@
 #!/usr/bin/env bash
-# Plays docs/GUIDE.md: types what is there after each `$`, in one shell that begins at the top of the repository, with an empty home.
-# The output must be what the page shows below. A last line `...` means any further output. ./test sources this file; run by itself, it
-# plays the page.
+# Plays docs/GUIDE.md and README.md: types what is there after each `$`, in one shell for each page that begins at the top of the repository,
+# with an empty home. The output must be what the page shows below. A last line `...` means any further output. ./test sources this file;
+# run by itself, it plays the pages.
 
-# Reads the page: `typed` has its commands, and `wanted` the output of each.
+# Reads a page: `typed` has its commands, and `wanted` the output of each.
 read_page() {
     local line end='' shown=''
     typed=() wanted=()
@@ -19,7 +19,7 @@ read_page() {
         elif [[ -n $line ]]; then
             shown=''
         fi
-    done < docs/GUIDE.md
+    done < "$1"
 }
 
 # Whether a file has the wanted output.
@@ -34,11 +34,20 @@ is_wanted() {
     fi
 }
 
+# Has the days that README.md shows, that on which it was typed and the due date of its record, be those of today.
+shown_today() {
+    local today due
+    today=$(date -u +%F)
+    due=$((${today%%-*} + 7))-${today#*-}
+    wanted=("${wanted[@]//2026-11-28/$today}")
+    wanted=("${wanted[@]//2033-11-28/${due/-02-29/-02-28}}")
+}
+
 # Types the commands, and reports for each whether it wrote the wanted output.
 play_page() {
     local index
-    mkdir -p -- "$work/home" || return
     export HOME=$work/home
+    rm -rf -- "$HOME" && mkdir -p -- "$HOME" || return
     for index in "${!typed[@]}"; do
         eval "${typed[index]}" > "$work/written" 2>&1 < /dev/null
         if is_wanted "$work/written" "${wanted[index]}"; then
@@ -50,11 +59,19 @@ play_page() {
     done
 }
 
-guide() {
-    read_page
+# Plays a page that was read.
+played() {
     (play_page) > "$work/played"
-    reported "commands of docs/GUIDE.md" "${#typed[@]}" "$work/played" '^ok$' '^failed: '
+    reported "commands of $1" "${#typed[@]}" "$work/played" '^ok$' '^failed: '
     grep -v '^ok$' "$work/played"
+}
+
+guide() {
+    read_page README.md
+    shown_today
+    played README.md
+    read_page docs/GUIDE.md
+    played docs/GUIDE.md
 }
 
 if [[ ${BASH_SOURCE[0]} == "$0" ]]; then
