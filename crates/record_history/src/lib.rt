@@ -1,0 +1,24 @@
+//! The history of an archive: its events, the line of each, the chain of marks over the lines, and what the events say of the
+//! archive.
+//!
+//! In `specs/`, `Events` says what an event is, `Lines` how it is written, `Limits` which events have a line, `Views` how the
+//! code has them, `Chain` how lines are marked, `Replay` what events make of an archive, and `Laws` that each command of the
+//! archive with its event keeps the history true.
+#![tactic(auto)]
+
+mod deeds;
+mod event;
+mod faults;
+mod laws;
+mod limits;
+mod lines;
+mod marks;
+mod moments;
+#[cfg(test)]
+mod tests;
+
+pub use event::{Deed, Event, Filing, Seal};
+pub use faults::LineFault;
+pub use laws::commands_are_told;
+pub use lines::event_line;
+pub use marks::{next_mark, seal};
