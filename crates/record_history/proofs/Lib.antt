@@ -1,1 +1,3 @@
+mod Days
+mod Paths
 mod ReplayLemmas

@@ -136,11 +136,11 @@ same_number n = eq-eqb n n refl
 
 -- ---- lines
 
-length_of_lines : (n : ℕ) (es : List Event) → length (lines_from n es) ≡ length es
+pub length_of_lines : (n : ℕ) (es : List Event) → length (lines_from n es) ≡ length es
 length_of_lines n [] = refl
 length_of_lines n (e ∷ es) = omega (arith, length_of_lines (n + 1) es)
 
-lines_more : (n : ℕ) (es : List Event) (e : Event) (k : ℕ) → k ≡ n + length es
+pub lines_more : (n : ℕ) (es : List Event) (e : Event) (k : ℕ) → k ≡ n + length es
     → lines_from n (es ++ e ∷ []) ≡ lines_from n es ++ line_of k e ∷ []
 lines_more n [] e k is = let same : n ≡ k = omega (arith, is) in ap (λ m. line_of m e ∷ []) same
 lines_more n (x ∷ es) e k is = ap (λ ls. line_of n x ∷ ls) (lines_more (n + 1) es e k (omega (arith, is)))

@@ -67,14 +67,9 @@ fn is_filing(filing: &Option<Filing>) -> bool
 }
 
 fn fit_paths(paths: &[Vec<u8>]) -> bool
-    ensures { result ≡ list_all is_path (octets_of paths.now) }
+    ensures { result ≡ list_all (λ p. is_path p.items) paths.now }
 {
-    for path in paths {
-        if !fits_path(path.as_slice()) {
-            return false;
-        }
-    }
-    true
+    paths.iter().all(|path| fits_path(path.as_slice()))
 }
 
 fn are_paths(paths: &[Vec<u8>]) -> bool
