@@ -4,4 +4,6 @@ pub mod Limits
 pub mod Views
 pub mod Chain
 pub mod Replay
+pub mod Reading
 pub mod Laws
+pub mod Histories

@@ -28,13 +28,17 @@ abbrev pub civil_text : Civil → List ℕ
 civil_text c = four_digits c.year ++ codes "-" ++ two_digits c.month ++ codes "-" ++ two_digits c.day
 
 -- a day of the years 1970 to 9999, as `2031-01-01`: the full-date of RFC 3339, section 5.6
-abbrev pub day_text : ℕ → List ℕ
+unfoldable pub day_text : ℕ → List ℕ
 day_text n = civil_text (civil n)
 
+-- a date, with the time of day of a moment
+abbrev pub at_text : Civil → ℕ → List ℕ
+at_text c m = civil_text c ++ codes "T" ++ two_digits (m % 86400 / 3600) ++ codes ":" ++ two_digits (m % 3600 / 60) ++ codes ":"
+    ++ two_digits (m % 60) ++ codes "Z"
+
 -- a moment of these years in UTC, as `2031-01-01T09:30:00Z`: the date-time of RFC 3339, section 5.6
-abbrev pub moment_text : ℕ → List ℕ
-moment_text m = day_text (m / 86400) ++ codes "T" ++ two_digits (m % 86400 / 3600) ++ codes ":"
-    ++ two_digits (m % 3600 / 60) ++ codes ":" ++ two_digits (m % 60) ++ codes "Z"
+unfoldable pub moment_text : ℕ → List ℕ
+moment_text m = at_text (civil (m / 86400)) m
 
 -- ---- deeds
 

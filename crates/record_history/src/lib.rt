@@ -6,19 +6,26 @@
 //! archive with its event keeps the history true.
 #![tactic(auto)]
 
+mod deed_reader;
 mod deeds;
 mod event;
 mod faults;
+mod history;
 mod laws;
 mod limits;
+mod line_reader;
 mod lines;
 mod marks;
 mod moments;
+mod plan_reader;
+mod words;
 #[cfg(test)]
 mod tests;
 
 pub use event::{Deed, Event, Filing, Seal};
 pub use faults::LineFault;
-pub use laws::commands_are_told;
+pub use history::{HistoryFault, Judged, Row, judge};
+pub use laws::{commands_are_told, one_reading};
+pub use line_reader::read_line;
 pub use lines::event_line;
 pub use marks::{next_mark, seal};

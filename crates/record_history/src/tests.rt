@@ -1,6 +1,8 @@
 //! Lines as they are written, and marks as `sha256sum` gives them.
 
-use crate::{Deed, Event, Filing, LineFault, event_line, next_mark, seal};
+use crate::{
+    Deed, Event, Filing, HistoryFault, LineFault, Row, event_line, judge, next_mark, read_line, seal,
+};
 use class_plan::{Action, Plan, Schedule, Unit};
 use std::alloc::{AllocError, Global};
 use std::test::Fail;
@@ -106,5 +108,90 @@ fn each_fault(rt: HostRuntime) -> Result<(), Fail> {
         path: octets(alloc, "Finance")?,
     };
     assert!(rt; matches!(event_line(alloc, 1, &late), Err(LineFault::BadDeed)));
+    Ok(())
+}
+
+#[test]
+fn lines_read_back(rt: HostRuntime) -> Result<(), Fail> {
+    let alloc = rt.alloc();
+    let lines = [
+        "1 2031-01-01T09:30:00Z : held : 1 : order : 3",
+        "2 1970-01-01T00:00:00Z ann released audit 4294967295",
+        "3 9999-12-31T23:59:59Z ann captured 5 on 2031-01-01 message 17 c7eaad4210112fe9fbdf2e93f9169c62dfe9276412b43c009693eb9784c5a664 by post rules b417a17598906ccac858842b18641400c875995a9c052e7bda50b4c802456956 in finance/tax,rent file=a.eml;dated=received : scan",
+        "4 2031-01-01T09:30:00Z ann captured 5 on 2031-01-01 message 0 c7eaad4210112fe9fbdf2e93f9169c62dfe9276412b43c009693eb9784c5a664 in unfiled",
+        "5 2031-01-01T09:30:00Z ann destroyed 5 as due by 2031-01-01 (7 years destroy year-end) : list 9",
+        "6 2031-01-01T09:30:00Z ann added class finance/tax",
+        "7 2031-01-01T09:30:00Z ann replaced plan (root permanent; closed; finance, 7 years destroy; closed rent; unfiled) : board",
+        "8 2031-01-01T09:30:00Z ann found plan (root 30 days review; unfiled)",
+        "9 2031-01-01T09:30:00Z ann found message 5 17 c7eaad4210112fe9fbdf2e93f9169c62dfe9276412b43c009693eb9784c5a664",
+        "10 2031-01-01T09:30:00Z ann found record 5 of message 5 in rent on 2031-01-01 destroyed",
+        "11 2031-01-01T09:30:00Z ann found record 5 of message 5 in rent on 2031-01-01 live title=x",
+        "12 2031-01-01T09:30:00Z ann found hold audit 5",
+    ];
+    for line in lines {
+        let (number, event) = read_line(alloc, line.as_bytes())?;
+        let again = event_line(alloc, number, &event)?;
+        assert!(rt; again.as_slice() == line.as_bytes());
+    }
+    Ok(())
+}
+
+#[test]
+fn lines_of_no_event(rt: HostRuntime) -> Result<(), Fail> {
+    let alloc = rt.alloc();
+    assert!(rt; matches!(
+        read_line(alloc, b"1 2031-01-01T09:30:00Z ann refiled 5"),
+        Err(LineFault::LaterDeed)
+    ));
+    assert!(rt; matches!(
+        read_line(alloc, b"1 2031-01-01T09:30:00Z ann kept audit 1"),
+        Err(LineFault::NoEvent)
+    ));
+    assert!(rt; matches!(
+        read_line(alloc, b"1 2031-02-30T09:30:00Z ann held audit 1"),
+        Err(LineFault::NoEvent)
+    ));
+    assert!(rt; matches!(
+        read_line(alloc, b"1 2031-01-01T09:30:00Z ann held audit 1 :"),
+        Err(LineFault::OtherSpelling)
+    ));
+    assert!(rt; matches!(
+        read_line(alloc, b"1 2031-01-01T09:30:00+00:00Z ann held audit 1"),
+        Err(LineFault::OtherSpelling)
+    ));
+    assert!(rt; matches!(
+        read_line(alloc, b"01 2031-01-01T09:30:00Z ann held audit 1"),
+        Err(LineFault::NoEvent)
+    ));
+    Ok(())
+}
+
+fn row(alloc: Global, line: &str, mark: &str) -> Result<Row, AllocError> {
+    Ok(Row {
+        line: octets(alloc, line)?,
+        mark: octets(alloc, mark)?,
+    })
+}
+
+#[test]
+fn histories(rt: HostRuntime) -> Result<(), Fail> {
+    let alloc = rt.alloc();
+    let first = "1 2031-01-01T09:30:00Z ann held audit 1 : order 12/3";
+    let first_mark = "5e7c47d418734268924e140c633389c1162cf1757710aa387ee237ce191e294a";
+    let second = "2 2031-01-01T09:30:00Z ann held audit 2";
+    let second_mark = "19102ab8ccfa9334d55d1f58bf9756317a3408e45ad510c1f88a9b60bee5c0fa";
+    let mut rows = Vec::new(alloc);
+    rows.push(row(alloc, first, first_mark)?)?;
+    rows.push(row(alloc, second, second_mark)?)?;
+    match judge(alloc, rows.as_slice()) {
+        Ok(judged) => {
+            assert!(rt; judged.count == 2);
+            assert!(rt; judged.mark.as_slice() == second_mark.as_bytes());
+        }
+        Err(_) => assert!(rt; false),
+    }
+    rows[0].line = octets(alloc, "1 2031-01-01T09:30:00Z ann held audit 1 : order 12/4")?;
+    assert!(rt; matches!(judge(alloc, rows.as_slice()), Err(HistoryFault::Mark(1))));
+    assert!(rt; matches!(judge(alloc, &rows.as_slice()[1..]), Err(HistoryFault::Number(1))));
     Ok(())
 }

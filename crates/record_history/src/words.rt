@@ -1,7 +1,7 @@
 //! The words of a line, and what they are.
 
 ghost use Rattle.std.specs.Prelude.{◌≡◌};
-ghost use Rattle.record_history.specs.Reading.{first_word, is_space, next};
+ghost use Rattle.record_history.specs.Reading.{first_word, next};
 
 use crate::faults::LineFault;
 use class_plan::{Date, day_number};
