@@ -124,13 +124,16 @@ record_path t = next (next (next (next (next t))))
 -- `NUMBER of message NUMBER in PATH on DAY STATE`
 unfoldable pub record_at : List ℕ → Read
 record_at t = u32_at (first_word t) >>= λ n. u32_at (first_word (next (next (next t)))) >>= λ m.
-    day_at (first_word (next (next (record_path t)))) >>= λ day. Some (FoundRecord (record {
-      number = n;
-      message = m;
-      path = first_word (record_path t);
-      day = day;
-      destroyed = bytes_eq (first_word (next (next (next (record_path t))))) (codes "destroyed");
-    }), next (next (next (next (record_path t)))))
+    day_at (first_word (next (next (record_path t)))) >>= λ day. Some (
+      FoundRecord (record {
+        number = n;
+        message = m;
+        path = first_word (record_path t);
+        day = day;
+        destroyed = bytes_eq (first_word (next (next (next (record_path t))))) (codes "destroyed");
+      }),
+      next (next (next (next (record_path t)))),
+    )
 
 abbrev pub held_by : (List ℕ → ℕ → Deed) → (List ℕ × ℕ) × List ℕ → Deed × List ℕ
 held_by deed h = (deed h.0.0 h.0.1, h.1)

@@ -29,10 +29,7 @@ fn read_seal<'a>(alloc: Global, text: &'a [u8]) -> Result<(Seal, &'a [u8]), Line
 }
 
 /// Who filed a message, where a text tells it next.
-fn read_filing<'a>(
-    alloc: Global,
-    text: &'a [u8],
-) -> Result<(Option<Filing>, &'a [u8]), LineFault> {
+fn read_filing<'a>(alloc: Global, text: &'a [u8]) -> Result<(Option<Filing>, &'a [u8]), LineFault> {
     let (word, after) = split_word(text);
     if word != b"by".as_slice() {
         return Ok((None, text));
@@ -76,10 +73,7 @@ fn read_capture<'a>(alloc: Global, text: &'a [u8]) -> Result<(Deed, &'a [u8]), L
 }
 
 /// The name of a hold, and the number of its record.
-fn read_hold<'a>(
-    alloc: Global,
-    text: &'a [u8],
-) -> Result<((Vec<u8>, u32), &'a [u8]), LineFault> {
+fn read_hold<'a>(alloc: Global, text: &'a [u8]) -> Result<((Vec<u8>, u32), &'a [u8]), LineFault> {
     let (name, text) = split_word(text);
     let (number, text) = split_word(text);
     let number = read_u32(number)?;
@@ -167,16 +161,11 @@ fn read_change<'a>(
 
 /// Whether a word begins a deed that a later Mailfile writes.
 fn is_later(word: &[u8]) -> bool {
-    word == b"refiled".as_slice()
-        || word == b"titled".as_slice()
-        || word == b"continued".as_slice()
+    word == b"refiled".as_slice() || word == b"titled".as_slice() || word == b"continued".as_slice()
 }
 
 /// The deed of a text that begins with one, and what comes after it and a space.
-pub(crate) fn read_deed<'a>(
-    alloc: Global,
-    text: &'a [u8],
-) -> Result<(Deed, &'a [u8]), LineFault> {
+pub(crate) fn read_deed<'a>(alloc: Global, text: &'a [u8]) -> Result<(Deed, &'a [u8]), LineFault> {
     let (word, text) = split_word(text);
     if word == b"captured".as_slice() {
         return read_capture(alloc, text);

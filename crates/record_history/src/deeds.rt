@@ -97,12 +97,7 @@ fn captured_text(
 }
 
 /// A deed on a hold, with the words before its name.
-fn hold_text(
-    alloc: Global,
-    words: &[u8],
-    name: &[u8],
-    number: u32,
-) -> Result<Vec<u8>, AllocError>
+fn hold_text(alloc: Global, words: &[u8], name: &[u8], number: u32) -> Result<Vec<u8>, AllocError>
     ensures { IfOk result (λ v. v.items ≡ words.now ++ name.now ++ codes " " ++ decimal number) }
 {
     let mut text = Vec::from_slice(alloc, words)?;

@@ -32,9 +32,15 @@ pub enum Deed {
         paths: Vec<Vec<u8>>,
     },
     /// A hold of this name is placed on a record.
-    Held { name: Vec<u8>, number: u32 },
+    Held {
+        name: Vec<u8>,
+        number: u32,
+    },
     /// It is ended.
-    Released { name: Vec<u8>, number: u32 },
+    Released {
+        name: Vec<u8>,
+        number: u32,
+    },
     /// A record is destroyed as due by a day, under this schedule.
     Destroyed {
         number: u32,
@@ -42,13 +48,22 @@ pub enum Deed {
         schedule: Schedule,
     },
     /// A class is added.
-    ClassAdded { path: Vec<u8> },
+    ClassAdded {
+        path: Vec<u8>,
+    },
     /// The plan is replaced with this one.
-    PlanReplaced { plan: Plan },
+    PlanReplaced {
+        plan: Plan,
+    },
     /// This plan was there when the history began, or a program that keeps none has left it. What else was there follows.
-    FoundPlan { plan: Plan },
+    FoundPlan {
+        plan: Plan,
+    },
     /// So was this message.
-    FoundMessage { number: u32, seal: Seal },
+    FoundMessage {
+        number: u32,
+        seal: Seal,
+    },
     /// So was this record.
     FoundRecord {
         number: u32,
@@ -58,7 +73,10 @@ pub enum Deed {
         destroyed: bool,
     },
     /// So was a hold of this name on a record.
-    FoundHold { name: Vec<u8>, number: u32 },
+    FoundHold {
+        name: Vec<u8>,
+        number: u32,
+    },
 }
 
 /// A deed, with the moment, who did it, and why.

@@ -59,12 +59,7 @@ impl From<AllocError> for HistoryFault {
 }
 
 /// The event of a row with this number, after a mark.
-fn judge_row(
-    alloc: Global,
-    number: usize,
-    row: &Row,
-    mark: &[u8],
-) -> Result<Event, HistoryFault>
+fn judge_row(alloc: Global, number: usize, row: &Row, mark: &[u8]) -> Result<Event, HistoryFault>
     ensures line { IfOk result (λ e. row.now.line.items ≡ line_of number (event_view e)) }
     ensures mark { IfOk result (λ e. row.now.mark.items ≡ mark_after mark.now row.now.line.items) }
 {

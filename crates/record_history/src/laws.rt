@@ -6,11 +6,9 @@ ghost use Rattle.record_history.specs.Laws.{CommandsAreTold, OneReading};
 /// with that of the command explain the other. The function does nothing.
 pub fn commands_are_told()
     ensures { CommandsAreTold }
-{
-}
+{}
 
 /// The law `OneReading` of the definitions: a line is that of one event, where its deed has no plan. The function does nothing.
 pub fn one_reading()
     ensures { OneReading }
-{
-}
+{}

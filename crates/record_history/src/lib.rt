@@ -18,9 +18,9 @@ mod lines;
 mod marks;
 mod moments;
 mod plan_reader;
-mod words;
 #[cfg(test)]
 mod tests;
+mod words;
 
 pub use event::{Deed, Event, Filing, Seal};
 pub use faults::LineFault;

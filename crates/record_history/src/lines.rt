@@ -65,7 +65,7 @@ fn written(alloc: Global, number: u32, event: &Event) -> Result<Vec<u8>, AllocEr
 pub fn event_line(alloc: Global, number: u32, event: &Event) -> Result<Vec<u8>, LineFault>
     ensures { MatchResult result
         (λ v. (v.items ≡ spec.line_of number (event_view event.now))
-            × (fault_of number (event_view event.now) ≡ None))
+        × (fault_of number (event_view event.now) ≡ None))
         (λ f. f ≢ NoMemory → fault_of number (event_view event.now) ≡ Some f) }
 {
     if let Some(fault) = event_fault(event) {

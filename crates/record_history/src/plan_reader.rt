@@ -12,10 +12,7 @@ fn read_schedule(text: &[u8]) -> Result<Schedule, LineFault> {
 }
 
 /// A class, without the space before it.
-fn read_class(
-    alloc: Global,
-    text: &[u8],
-) -> Result<(Vec<u8>, bool, Option<Schedule>), LineFault> {
+fn read_class(alloc: Global, text: &[u8]) -> Result<(Vec<u8>, bool, Option<Schedule>), LineFault> {
     let (is_open, text) = match text.strip_prefix(b"closed ") {
         Some(text) => (false, text),
         None => (true, text),
@@ -26,7 +23,11 @@ fn read_class(
                 return Err(LineFault::NoEvent);
             };
             let schedule = read_schedule(schedule)?;
-            Ok((Vec::from_slice(alloc, &text[..end])?, is_open, Some(schedule)))
+            Ok((
+                Vec::from_slice(alloc, &text[..end])?,
+                is_open,
+                Some(schedule),
+            ))
         }
         None => Ok((Vec::from_slice(alloc, text)?, is_open, None)),
     }

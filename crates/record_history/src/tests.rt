@@ -1,7 +1,8 @@
 //! Lines as they are written, and marks as `sha256sum` gives them.
 
 use crate::{
-    Deed, Event, Filing, HistoryFault, LineFault, Row, event_line, judge, next_mark, read_line, seal,
+    Deed, Event, Filing, HistoryFault, LineFault, Row, event_line, judge, next_mark, read_line,
+    seal,
 };
 use class_plan::{Action, Plan, Schedule, Unit};
 use std::alloc::{AllocError, Global};
@@ -34,14 +35,20 @@ fn marks_as_sha256sum_gives_them(rt: HostRuntime) -> Result<(), Fail> {
     let alloc = rt.alloc();
     let first = event(alloc, held(alloc, 1)?, "order 12/3")?;
     let first = event_line(alloc, 1, &first)?;
-    assert!(rt; first.as_slice() == b"1 2031-01-01T09:30:00Z ann held audit 1 : order 12/3".as_slice());
+    assert!(rt;
+        first.as_slice() == b"1 2031-01-01T09:30:00Z ann held audit 1 : order 12/3".as_slice()
+    );
     let mark = next_mark(alloc, b"", first.as_slice())?;
-    assert!(rt; mark.as_str() == "5e7c47d418734268924e140c633389c1162cf1757710aa387ee237ce191e294a");
+    assert!(rt;
+        mark.as_str() == "5e7c47d418734268924e140c633389c1162cf1757710aa387ee237ce191e294a"
+    );
     let second = event(alloc, held(alloc, 2)?, "")?;
     let second = event_line(alloc, 2, &second)?;
     assert!(rt; second.as_slice() == b"2 2031-01-01T09:30:00Z ann held audit 2".as_slice());
     let mark = next_mark(alloc, mark.as_bytes(), second.as_slice())?;
-    assert!(rt; mark.as_str() == "19102ab8ccfa9334d55d1f58bf9756317a3408e45ad510c1f88a9b60bee5c0fa");
+    assert!(rt;
+        mark.as_str() == "19102ab8ccfa9334d55d1f58bf9756317a3408e45ad510c1f88a9b60bee5c0fa"
+    );
     Ok(())
 }
 
@@ -62,7 +69,8 @@ fn captures_and_destructions(rt: HostRuntime) -> Result<(), Fail> {
         paths,
     };
     let line = event_line(alloc, 3, &event(alloc, captured, "")?)?;
-    let wanted = "3 2031-01-01T09:30:00Z ann captured 5 on 2031-01-01 message 17 c7eaad4210112fe9fbdf2e93f9169c62dfe9276412b43c009693eb9784c5a664 by post rules b417a17598906ccac858842b18641400c875995a9c052e7bda50b4c802456956 in finance/tax,rent";
+    let wanted =
+        "3 2031-01-01T09:30:00Z ann captured 5 on 2031-01-01 message 17 c7eaad4210112fe9fbdf2e93f9169c62dfe9276412b43c009693eb9784c5a664 by post rules b417a17598906ccac858842b18641400c875995a9c052e7bda50b4c802456956 in finance/tax,rent";
     assert!(rt; line.as_slice() == wanted.as_bytes());
     let destroyed = Deed::Destroyed {
         number: 5,
@@ -75,7 +83,8 @@ fn captures_and_destructions(rt: HostRuntime) -> Result<(), Fail> {
         },
     };
     let line = event_line(alloc, 4, &event(alloc, destroyed, "")?)?;
-    let wanted = "4 2031-01-01T09:30:00Z ann destroyed 5 as due by 2031-01-01 (7 years destroy year-end)";
+    let wanted =
+        "4 2031-01-01T09:30:00Z ann destroyed 5 as due by 2031-01-01 (7 years destroy year-end)";
     assert!(rt; line.as_slice() == wanted.as_bytes());
     let found = Deed::FoundPlan {
         plan: Plan::new(alloc)?,
@@ -139,30 +148,42 @@ fn lines_read_back(rt: HostRuntime) -> Result<(), Fail> {
 #[test]
 fn lines_of_no_event(rt: HostRuntime) -> Result<(), Fail> {
     let alloc = rt.alloc();
-    assert!(rt; matches!(
-        read_line(alloc, b"1 2031-01-01T09:30:00Z ann refiled 5"),
-        Err(LineFault::LaterDeed)
-    ));
-    assert!(rt; matches!(
-        read_line(alloc, b"1 2031-01-01T09:30:00Z ann kept audit 1"),
-        Err(LineFault::NoEvent)
-    ));
-    assert!(rt; matches!(
-        read_line(alloc, b"1 2031-02-30T09:30:00Z ann held audit 1"),
-        Err(LineFault::NoEvent)
-    ));
-    assert!(rt; matches!(
-        read_line(alloc, b"1 2031-01-01T09:30:00Z ann held audit 1 :"),
-        Err(LineFault::OtherSpelling)
-    ));
-    assert!(rt; matches!(
-        read_line(alloc, b"1 2031-01-01T09:30:00+00:00Z ann held audit 1"),
-        Err(LineFault::OtherSpelling)
-    ));
-    assert!(rt; matches!(
-        read_line(alloc, b"01 2031-01-01T09:30:00Z ann held audit 1"),
-        Err(LineFault::NoEvent)
-    ));
+    assert!(rt;
+        matches!(
+            read_line(alloc, b"1 2031-01-01T09:30:00Z ann refiled 5"),
+            Err(LineFault::LaterDeed)
+        )
+    );
+    assert!(rt;
+        matches!(
+            read_line(alloc, b"1 2031-01-01T09:30:00Z ann kept audit 1"),
+            Err(LineFault::NoEvent)
+        )
+    );
+    assert!(rt;
+        matches!(
+            read_line(alloc, b"1 2031-02-30T09:30:00Z ann held audit 1"),
+            Err(LineFault::NoEvent)
+        )
+    );
+    assert!(rt;
+        matches!(
+            read_line(alloc, b"1 2031-01-01T09:30:00Z ann held audit 1 :"),
+            Err(LineFault::OtherSpelling)
+        )
+    );
+    assert!(rt;
+        matches!(
+            read_line(alloc, b"1 2031-01-01T09:30:00+00:00Z ann held audit 1"),
+            Err(LineFault::OtherSpelling)
+        )
+    );
+    assert!(rt;
+        matches!(
+            read_line(alloc, b"01 2031-01-01T09:30:00Z ann held audit 1"),
+            Err(LineFault::NoEvent)
+        )
+    );
     Ok(())
 }
 
@@ -190,8 +211,16 @@ fn histories(rt: HostRuntime) -> Result<(), Fail> {
         }
         Err(_) => assert!(rt; false),
     }
-    rows[0].line = octets(alloc, "1 2031-01-01T09:30:00Z ann held audit 1 : order 12/4")?;
+    rows[0].line = octets(
+        alloc,
+        "1 2031-01-01T09:30:00Z ann held audit 1 : order 12/4",
+    )?;
     assert!(rt; matches!(judge(alloc, rows.as_slice()), Err(HistoryFault::Mark(1))));
-    assert!(rt; matches!(judge(alloc, &rows.as_slice()[1..]), Err(HistoryFault::Number(1))));
+    assert!(rt;
+        matches!(
+            judge(alloc, &rows.as_slice()[1..]),
+            Err(HistoryFault::Number(1))
+        )
+    );
     Ok(())
 }
