@@ -1,0 +1,10 @@
+mod Days
+mod DeedLaws
+mod HistoryLemmas
+mod LineLaws
+mod Marks
+mod Paths
+mod Real
+mod ReplayLemmas
+mod Rows
+mod WordLaws

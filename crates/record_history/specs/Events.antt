@@ -1,0 +1,44 @@
+-- Events: what was done to an archive, when, by whom and for what reason.
+use Rattle.std.specs.Prelude.{ℕ, List, Option}
+use Rattle.class_plan.specs.declared.schedules.Schedule.{Schedule}
+use Rattle.class_plan.specs.Plans.{Listing}
+use Rattle.record_archive.specs.Archive.{Record}
+
+-- What stands for a message: how many octets it has, and their SHA-256 in 64 hexadecimal digits.
+pub record Seal : Type 0 where
+  pub octets : ℕ
+  pub sum : List ℕ
+
+-- The officer whose rules filed a message, and the SHA-256 of the rules.
+pub record Filing : Type 0 where
+  pub officer : List ℕ
+  pub rules : List ℕ
+
+-- A deed. Days are counted from 1970-01-01.
+pub data Deed : Type 0 where
+  -- the message is captured on the day in the classes of these paths, and its first record has this number; rules filed
+  -- it, or its classes were given
+  Captured : (first : ℕ) → Seal → (day : ℕ) → Option Filing → (paths : List (List ℕ)) → Deed
+  Held : (name : List ℕ) → (number : ℕ) → Deed
+  Released : (name : List ℕ) → (number : ℕ) → Deed
+  -- the record is destroyed as due by the day, under this schedule
+  Destroyed : (number day : ℕ) → Schedule → Deed
+  ClassAdded : (path : List ℕ) → Deed
+  PlanReplaced : Listing → Deed
+  -- What was there when the history began, or what a program that keeps none has left: the plan, and then each message,
+  -- each record and each hold.
+  FoundPlan : Listing → Deed
+  FoundMessage : (number : ℕ) → Seal → Deed
+  FoundRecord : Record → Deed
+  FoundHold : (name : List ℕ) → (number : ℕ) → Deed
+
+-- A deed at a moment, in seconds since 1970-01-01T00:00:00Z. Who did it, and for what reason, is told by the caller. The
+-- notes are more that is told of the deed, in one word: `key=value`, joined by `;`. Today there are none. They are the
+-- room for what comes later, as a capture's file name or the source of its date: a line with notes is read today, and
+-- none of its octets changes.
+pub record Event : Type 0 where
+  pub moment : ℕ
+  pub who : List ℕ
+  pub deed : Deed
+  pub notes : List ℕ
+  pub reason : List ℕ

@@ -1,0 +1,9 @@
+pub mod Events
+pub mod Lines
+pub mod Limits
+pub mod Views
+pub mod Chain
+pub mod Replay
+pub mod Reading
+pub mod Laws
+pub mod Histories
