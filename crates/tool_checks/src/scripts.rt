@@ -39,7 +39,7 @@ fn add_finding(
 ) -> Result<(), AllocError> {
     let mut words = Shown::new(refusals.allocator());
     push_words(&mut words, text, finding)?;
-    let place = place_of(text, finding.place());
+    let place = place_of(text, finding.place);
     refusals.add(path, Some(place), Kind::Refused(finding.number), words)
 }
 

@@ -126,6 +126,7 @@ fn push_subject(line: &mut Shown, text: &[u8], finding: &Finding) -> Result<(), 
 /// Adds what a finding says.
 pub fn push_words(line: &mut Shown, text: &[u8], finding: &Finding) -> Result<(), AllocError> {
     match finding.subject {
+        Subject::Missing(_, what) if what.len() == 1 => put!(line; "a " words(what) " is missing here"),
         Subject::Missing(_, what) => put!(line; words(what) " is missing here"),
         Subject::OpenBlock(_) => line.words("the block that begins here is not closed; write } at its end"),
         Subject::ByteOrderMark => {

@@ -1,7 +1,7 @@
 //! All that is wrong with a script.
 
 ghost use Rattle.std.specs.Prelude.{◌≡◌, IfOk};
-ghost use Rattle.tool_findings.specs.Judgements.{IsReport};
+ghost use Rattle.tool_findings.specs.Judgements.{IsReport, Rises, comes_after, stage as stage_of};
 
 use crate::judgement::{Judgement, judgement_of};
 use crate::search::Search;
@@ -15,14 +15,42 @@ pub struct Finding {
     pub number: u8,
     /// Where it is, an offset in octets. For 30 to 41 the faulty command begins there.
     pub at: usize,
+    /// Where it is shown, an offset in octets.
+    pub place: usize,
     /// What it is about.
     pub subject: Subject,
 }
 
+/// What kind of judgement gives a number: 1 of the tokens, 2 of the grammar, 3 of the rules.
+fn stage(number: u8) -> u8
+    ensures { result ≡ stage_of number }
+{
+    if number < 20 {
+        1
+    } else if number < 30 {
+        2
+    } else {
+        3
+    }
+}
+
 impl Finding {
-    /// Where it is shown, an offset in octets.
-    pub fn place(&self) -> usize {
-        self.subject.place().unwrap_or(self.at)
+    /// Whether it comes after another finding: at a later stage or, at the same stage, at a later offset or, there, with a
+    /// greater number or, with the same number, shown at a later place.
+    pub(crate) fn is_after(&self, other: &Finding) -> bool
+        ensures { result ≡ comes_after self.now other.now }
+    {
+        let (own_stage, other_stage) = (stage(self.number), stage(other.number));
+        if own_stage != other_stage {
+            return own_stage > other_stage;
+        }
+        if self.at != other.at {
+            return self.at > other.at;
+        }
+        if self.number != other.number {
+            return self.number > other.number;
+        }
+        self.place > other.place
     }
 
     /// Whether it is a fault of its own, whatever was guessed about other words of its command.
@@ -35,22 +63,6 @@ impl Finding {
             Subject::Surplus(_, _) | Subject::Joined(_, _, _) => false,
             _ => true,
         }
-    }
-
-    /// What kind of judgement found it: of the tokens, of the grammar or of the rules.
-    fn stage(&self) -> u8 {
-        match self.number {
-            0..=19 => 1,
-            20..=29 => 2,
-            _ => 3,
-        }
-    }
-
-    /// Whether it comes after another finding: at a later stage or, at the same stage, at a later place, or at the same
-    /// place with a greater number or with a later word.
-    pub(crate) fn is_after(&self, other: &Finding) -> bool {
-        (self.stage(), self.at, self.number, self.place())
-            > (other.stage(), other.at, other.number, other.place())
     }
 }
 
@@ -81,9 +93,31 @@ pub fn judge(alloc: Global, text: &[u8]) -> Result<Option<Report>, AllocError>
     let mut search = Search::new(alloc, text)?;
     let (verdict, goes_on) = search.begin(refusal)?;
     let is_all = goes_on && search.go_on()?;
+    let others = rising(alloc, verdict, search.into_others())?;
     Ok(Some(Report {
         verdict,
-        others: search.into_others(),
+        others,
         is_all,
     }))
+}
+
+/// The findings of a search each of which comes after the one before, the first one after the verdict: so none is told
+/// twice.
+#[tactic(auto, using(crate::proofs::Rising::rises_more, crate::proofs::Rising::last_of_more))]
+fn rising(
+    alloc: Global,
+    verdict: Finding,
+    found: Vec<Finding>,
+) -> Result<Vec<Finding>, AllocError>
+    ensures { IfOk result (λ v. Rises verdict v.items) }
+{
+    let mut others = Vec::with_capacity(alloc, found.len())?;
+    let mut last = verdict;
+    for finding in found {
+        if finding.is_after(&last) {
+            others.push(finding)?;
+            last = finding;
+        }
+    }
+    Ok(others)
 }

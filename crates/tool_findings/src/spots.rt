@@ -49,10 +49,13 @@ impl Spot<'_> {
     pub(crate) fn finding(&self, script: &Repaired, judgement: Judgement) -> Finding
         ensures { result.number ≡ refusal_number judgement }
     {
+        let at = script.offset(self.at);
+        let subject = self.subject.in_original(script);
         Finding {
             number: judgement.number(),
-            at: script.offset(self.at),
-            subject: self.subject.in_original(script),
+            at,
+            place: subject.place().unwrap_or(at),
+            subject,
         }
     }
 

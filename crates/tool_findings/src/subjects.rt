@@ -65,7 +65,7 @@ impl Subject {
     }
 
     /// Where it is shown; none where it is about a command or a place as a whole.
-    pub fn place(self) -> Option<usize> {
+    pub(crate) fn place(self) -> Option<usize> {
         match self {
             Subject::Whole | Subject::ByteOrderMark => None,
             Subject::Missing(at, _) | Subject::OpenBlock(at) | Subject::Capability(at, _) => Some(
