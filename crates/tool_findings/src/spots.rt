@@ -12,7 +12,7 @@ use crate::octets::subject_of_octet;
 use crate::repaired::{Patch, Repaired, patched};
 use crate::rules::{name_of, subject_of_rule};
 use crate::subjects::Subject;
-use crate::ways::{Stop, Way, split_at, ways_from};
+use crate::ways::{Stop, Way, some_commands_end, split_at, ways_from};
 use crate::words::is_among;
 use sieve_check::CheckFault;
 use sieve_syntax::Token;
@@ -191,12 +191,21 @@ fn spot_without_repair<'t>(at: usize, subject: Subject) -> Spot<'t> {
     }
 }
 
+/// A text in which a way on is tried.
+#[derive(Clone, Copy)]
+struct Trial<'t> {
+    text: &'t [u8],
+    /// Whether its end is left out, so that it may end anywhere.
+    is_cut: bool,
+}
+
 /// How far a text is from being a script, the less the nearer: 0 for a good one, 1 for one that breaks a rule, and more
 /// by the octets from where it stops being one. None for a text that is no sequence of tokens.
-fn distance(alloc: Global, text: &[u8]) -> Result<Option<usize>, AllocError> {
+fn distance(alloc: Global, text: &[u8], is_cut: bool) -> Result<Option<usize>, AllocError> {
     Ok(match judgement_of(alloc, text)? {
         Judgement::Good => Some(0),
         Judgement::Rule(_) => Some(1),
+        Judgement::Text(TextRefusal::Syntax, at) if is_cut && at >= text.len() => Some(1),
         Judgement::Text(TextRefusal::Syntax | TextRefusal::Nesting, at) => {
             Some(text.len().saturating_sub(at).saturating_add(2))
         }
@@ -204,26 +213,44 @@ fn distance(alloc: Global, text: &[u8]) -> Result<Option<usize>, AllocError> {
     })
 }
 
-/// In a longer text, in octets, the first way on that leaves no more faults of the grammar is taken.
+/// In a longer text, in octets, only some commands after the place are tried, and the first way on by which they follow
+/// the grammar is taken.
 const LONG_TEXT: usize = 32_768;
+
+/// The text in which ways on from a place are tried, before which these tokens do not come.
+fn trial_of<'t>(text: &'t [u8], following: &[Token]) -> Trial<'t> {
+    let end = some_commands_end(following).unwrap_or(text.len());
+    if text.len() > LONG_TEXT && end < text.len() {
+        Trial {
+            text: &text[..end],
+            is_cut: true,
+        }
+    } else {
+        Trial {
+            text,
+            is_cut: false,
+        }
+    }
+}
 
 /// The way on after which a text is nearest to being a script, the first of those that are equally near; none where no
 /// way leads on.
 fn best_way(
     alloc: Global,
-    text: &[u8],
+    trial: Trial<'_>,
     at: usize,
     ways: &[Way],
 ) -> Result<Option<Way>, AllocError> {
-    let enough = if text.len() > LONG_TEXT { 1 } else { 0 };
-    let mut least = text.len().saturating_sub(at).saturating_add(2);
+    let enough = usize::from(trial.is_cut);
+    let mut least = trial.text.len().saturating_sub(at).saturating_add(2);
     let mut best = None;
     for way in ways {
         if least <= enough {
             break;
         }
-        let new = patched(alloc, text, way.patch)?;
-        if let Some(distance) = distance(alloc, &new)?.filter(|distance| *distance < least) {
+        let new = patched(alloc, trial.text, way.patch)?;
+        let found = distance(alloc, &new, trial.is_cut)?;
+        if let Some(distance) = found.filter(|distance| *distance < least) {
             least = distance;
             best = Some(*way);
         }
@@ -239,10 +266,11 @@ fn spot_of_syntax<'t>(
     tokens: &'t [Token],
 ) -> Result<Spot<'t>, AllocError> {
     let ways = ways_from(alloc, tokens, at)?;
-    let Some(way) = best_way(alloc, script.text(), at, &ways)? else {
+    let (before, following) = split_at(tokens, at);
+    let trial = trial_of(script.text(), following);
+    let Some(way) = best_way(alloc, trial, at, &ways)? else {
         return Ok(spot_without_repair(at, Subject::Whole));
     };
-    let (before, following) = split_at(tokens, at);
     let stop = Stop {
         before,
         token: following.first(),

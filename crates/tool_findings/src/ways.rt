@@ -4,7 +4,7 @@ use crate::fronts::{Front, fronts_of};
 use crate::repaired::Patch;
 use crate::rules::{joining_test, name_of};
 use crate::subjects::Subject;
-use crate::words::{BRANCHES, COMMANDS, is_among};
+use crate::words::{BRANCHES, CAPABILITIES, COMMANDS, is_among};
 use sieve_syntax::{Mark, Token, TokenKind};
 use std::alloc::{AllocError, Global};
 
@@ -200,16 +200,15 @@ impl Ways {
         }
         self.insert_word(stop.at, "\"\"", "a string")?;
         if stop.command().is_empty() {
-            self.insert_commands(stop.at)?;
+            self.insert_commands(stop.at, token)?;
         }
         Ok(())
     }
 
-    /// Puts in each name of a command that may be missing at a place.
-    fn insert_commands(&mut self, at: usize) -> Result<(), AllocError> {
-        let told = "the name of a command";
-        for name in ["require ", "fileinto ", "include ", "else ", "if true "] {
-            self.insert_word(at, name, told)?;
+    /// Puts in each name of a command that may be missing before a token, the likeliest first.
+    fn insert_commands(&mut self, at: usize, token: &Token) -> Result<(), AllocError> {
+        for name in commands_before(token) {
+            self.insert_word(at, *name, "the name of a command")?;
         }
         Ok(())
     }
@@ -264,6 +263,20 @@ impl Ways {
             None => Subject::Whole,
         };
         self.add(patch, subject)
+    }
+}
+
+/// The names of commands that may be missing before a token, the likeliest first.
+fn commands_before(token: &Token) -> &'static [&'static str] {
+    match &token.kind {
+        TokenKind::StringValue(text) if is_among(text.as_slice(), CAPABILITIES) => {
+            &["require ", "fileinto ", "include "]
+        }
+        TokenKind::StringValue(_) => &["fileinto ", "include "],
+        TokenKind::Tag(_) => &["include ", "fileinto "],
+        TokenKind::Mark(Mark::OpenBracket) => &["require "],
+        TokenKind::Mark(Mark::OpenBrace) => &["else ", "if true "],
+        _ => &[],
     }
 }
 
@@ -434,4 +447,17 @@ pub(crate) fn ways_from(
 pub(crate) fn split_at(tokens: &[Token], at: usize) -> (&[Token], &[Token]) {
     let place = tokens.partition_point(|token| (token.start as usize) < at);
     tokens.split_at(place.min(tokens.len()))
+}
+
+/// How many marks after a place are looked at in a long text.
+const LOOK_AHEAD: usize = 12;
+
+/// Where some commands end that follow a place, with these tokens from there on; none where they are few.
+pub(crate) fn some_commands_end(following: &[Token]) -> Option<usize> {
+    let last = following
+        .iter()
+        .filter(|token| is_limit(*token))
+        .skip(LOOK_AHEAD)
+        .next()?;
+    Some(last.end as usize)
 }
