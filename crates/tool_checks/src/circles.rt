@@ -102,7 +102,12 @@ fn warn_of_depth(
         return Ok(());
     }
     let mut line = Shown::new(rt.alloc());
-    push_place(&mut line, reached.path(last.script), reached.text(last.script), last.at)?;
+    push_place(
+        &mut line,
+        reached.path(last.script),
+        reached.text(last.script),
+        last.at,
+    )?;
     put!(line;
         "warning: nine scripts would run inside one another here, and eight may: " text(&chain)
     )?;

@@ -73,6 +73,10 @@ pub fn rules_of(rt: &HostRuntime, folder: &str, officer: &str) -> Result<Officer
     Ok(OfficerRules {
         main,
         personal: format!(in alloc; "{folder}/{officer}")?,
-        global: is_there(rt, global.as_str()).then(|| global),
+        global: if is_there(rt, global.as_str()) {
+            Some(global)
+        } else {
+            None
+        },
     })
 }

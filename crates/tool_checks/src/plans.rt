@@ -31,7 +31,12 @@ fn add_finding(
     let mut words = Shown::new(refusals.allocator());
     words.value(&finding.words)?;
     let place = place_of(text, finding.at);
-    refusals.add(path, Some(place), Kind::Refused(finding.fault.number()), words)
+    refusals.add(
+        path,
+        Some(place),
+        Kind::Refused(finding.fault.number()),
+        words,
+    )
 }
 
 /// Adds that so many more findings are not told.

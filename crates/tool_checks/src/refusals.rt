@@ -108,7 +108,9 @@ impl Refusals {
 
     /// Whether something is found by which a run ends with a fault.
     pub(crate) fn has_fault(&self) -> bool {
-        self.list.iter().any(|refusal| matches!(refusal.kind, Kind::Fault(_)))
+        self.list
+            .iter()
+            .any(|refusal| matches!(refusal.kind, Kind::Fault(_)))
     }
 
     /// Writes all that is found to standard output, a line each, and forgets it.

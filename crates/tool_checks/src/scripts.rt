@@ -1,6 +1,7 @@
 //! A script in a file, judged.
 
 use crate::circles::warn_of_includes;
+use crate::folders::SCRIPT_ENDING;
 use crate::reached::{Reached, Start};
 use crate::refusals::{Kind, Refusals};
 use crate::told::Told;
@@ -11,7 +12,7 @@ use command_lines::tools::Folders;
 use std::alloc::AllocError;
 use tool_console::{Failure, Verdict, paths_in, read_file, read_input};
 use tool_findings::{Finding, Report, judge};
-use tool_texts::{Payload, Shown, place_of};
+use tool_texts::{Payload, Shown, place_of, put};
 
 /// A file of up to this number of times the limit of a script is still read, and refused by its number.
 const LONGER: u64 = 64;
@@ -175,7 +176,7 @@ fn warn_of_unused(
     main: &str,
     reached: &Reached,
 ) -> Result<(), Failure> {
-    for path in paths_in(rt, folder, crate::SCRIPT_ENDING)? {
+    for path in paths_in(rt, folder, SCRIPT_ENDING)? {
         if !reached.has(path.as_str()) {
             warn_unused(rt, path.as_str(), main)?;
         }
@@ -187,7 +188,11 @@ fn warn_of_unused(
 fn warn_unused(rt: &HostRuntime, path: &str, main: &str) -> Result<(), Failure> {
     let text = read_script_text(rt, path)?;
     let mut words = Shown::new(rt.alloc());
-    unused_words(&mut words, main, judge(rt.alloc(), &text)?.map(|report| report.verdict.number))?;
+    unused_words(
+        &mut words,
+        main,
+        judge(rt.alloc(), &text)?.map(|report| report.verdict.number),
+    )?;
     let mut refusals = Refusals::new(rt.alloc());
     refusals.add(path, None, Kind::Note, words)?;
     refusals.write_lines(rt)
@@ -195,9 +200,9 @@ fn warn_unused(rt: &HostRuntime, path: &str, main: &str) -> Result<(), Failure> 
 
 /// Adds that a program does not reach a script, with the number by which that is refused, if it is.
 fn unused_words(words: &mut Shown, main: &str, number: Option<u8>) -> Result<(), AllocError> {
-    tool_texts::put!(words; "warning: " named(main.as_bytes()) " does not reach this script")?;
+    put!(words; "warning: " named(main.as_bytes()) " does not reach this script")?;
     match number {
-        Some(number) => tool_texts::put!(words; ", which is refused (" value(&number) ")"),
+        Some(number) => put!(words; ", which is refused (" value(&number) ")"),
         None => Ok(()),
     }
 }

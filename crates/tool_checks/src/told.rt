@@ -18,11 +18,7 @@ pub struct Told {
 }
 
 /// Adds octets; false where they are there.
-fn add(
-    alloc: Global,
-    set: &mut BTreeMap<Vec<u8>, ()>,
-    octets: &[u8],
-) -> Result<bool, AllocError> {
+fn add(alloc: Global, set: &mut BTreeMap<Vec<u8>, ()>, octets: &[u8]) -> Result<bool, AllocError> {
     if set.get(octets).is_some() {
         return Ok(false);
     }

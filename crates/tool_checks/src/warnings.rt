@@ -121,7 +121,12 @@ fn warn_of_script(
     }
     let mut words = Shown::new(rt.alloc());
     put!(words; "warning: " named(folder.as_bytes()) " has no script " quoted(name))?;
-    refusals.add(script.path, Some(script.places.place(at)), Kind::Note, words)?;
+    refusals.add(
+        script.path,
+        Some(script.places.place(at)),
+        Kind::Note,
+        words,
+    )?;
     Ok(())
 }
 
@@ -134,7 +139,12 @@ fn warn_of_fields(
     for (name, at) in impossible_fields(refusals.allocator(), tokens)?.iter() {
         let mut words = Shown::new(refusals.allocator());
         put!(words; "warning: no field can have the name " quoted(*name))?;
-        refusals.add(script.path, Some(script.places.place(*at)), Kind::Note, words)?;
+        refusals.add(
+            script.path,
+            Some(script.places.place(*at)),
+            Kind::Note,
+            words,
+        )?;
     }
     Ok(())
 }
@@ -155,15 +165,17 @@ fn warn_of_command(
             Ok(warn_of_class(refusals, script, at, plan, path, told)?)
         }
         (
-            Some((
-                Named::Script {
-                    name,
-                    is_global,
-                    is_optional: false,
-                    ..
-                },
-                at,
-            )),
+            Some(
+                (
+                    Named::Script {
+                        name,
+                        is_global,
+                        is_optional: false,
+                        ..
+                    },
+                    at,
+                ),
+            ),
             _,
         ) => warn_of_script(rt, refusals, script, at, name, is_global),
         _ => Ok(()),

@@ -56,7 +56,10 @@ fn push_word(
 
 /// The number with which a word begins, with the unit that its letters may mean.
 fn number_meant(word: &[u8]) -> (&[u8], &'static str) {
-    let digits = word.iter().take_while(|octet| octet.is_ascii_digit()).count();
+    let digits = word
+        .iter()
+        .take_while(|octet| octet.is_ascii_digit())
+        .count();
     let (digits, letters) = word.split_at(digits.min(word.len()));
     let unit = match letters.first().map(|octet| octet.to_ascii_uppercase()) {
         Some(b'K') => "K",
@@ -86,7 +89,8 @@ fn push_joined(line: &mut Shown, word: &[u8], name: &'static str) -> Result<(), 
 /// Adds that a mark of typography stands where a plain one must.
 fn push_typographic(line: &mut Shown, mark: &[u8], plain: &'static str) -> Result<(), AllocError> {
     match plain {
-        "\"" => put!(line; escaped(mark) " is no quotation mark of a script; write \" before and after a string"),
+        "\"" =>
+            put!(line; escaped(mark) " is no quotation mark of a script; write \" before and after a string"),
         " " => line.words("this space is one that does not break; write a plain one"),
         _ => put!(line; escaped(mark) " is no mark of a script; write " words(plain)),
     }
@@ -98,7 +102,8 @@ fn push_subject(line: &mut Shown, text: &[u8], finding: &Finding) -> Result<(), 
         Subject::Word(start, end, meant) => {
             push_word(line, finding.number, shown_word(text, start, end), meant)
         }
-        Subject::Surplus(start, end) => put!(line; quoted(part(text, start, end)) " is too much here"),
+        Subject::Surplus(start, end) =>
+            put!(line; quoted(part(text, start, end)) " is too much here"),
         Subject::Instead(start, end, word) => {
             put!(line; "write " words(word) " in place of " quoted(part(text, start, end)))
         }
@@ -126,9 +131,12 @@ fn push_subject(line: &mut Shown, text: &[u8], finding: &Finding) -> Result<(), 
 /// Adds what a finding says.
 pub fn push_words(line: &mut Shown, text: &[u8], finding: &Finding) -> Result<(), AllocError> {
     match finding.subject {
-        Subject::Missing(_, what) if what.len() == 1 => put!(line; "a " words(what) " is missing here"),
+        Subject::Missing(_, what) if what.len() == 1 =>
+            put!(line; "a " words(what) " is missing here"),
         Subject::Missing(_, what) => put!(line; words(what) " is missing here"),
-        Subject::OpenBlock(_) => line.words("the block that begins here is not closed; write } at its end"),
+        Subject::OpenBlock(_) => line.words(
+            "the block that begins here is not closed; write } at its end",
+        ),
         Subject::ByteOrderMark => {
             line.words("the file begins with a byte order mark; save it as UTF-8 without one")
         }
