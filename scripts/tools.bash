@@ -108,12 +108,13 @@ full_folder_is_named() {
         [[ $(< "$work/answer") == 'main.sieve: 96: '* ]]
 }
 
-# Warnings of 13,000 classes that a plan does not have, all named in one line of a script.
-warnings_of_a_long_line() {
+# Faults of 13,000 classes that a plan does not have, all named in one line of a script.
+faults_of_a_long_line() {
+    local status=0
     { printf 'require "fileinto";' && seq -f ' fileinto "n%05g";' 13000 | tr -d '\n'; } > "$work/line.sieve"
-    timeout 60 ./mailfile-tool check --plan examples/tools/plan.toml "$work/line.sieve" > "$work/answer" || return
-    [[ $(wc -l < "$work/answer") -eq 13000 ]] &&
-        [[ $(tail -n 1 "$work/answer") == "$work/line.sieve:1:247011: warning: the plan has no class \"n13000\"" ]]
+    timeout 60 ./mailfile-tool check --plan examples/tools/plan.toml "$work/line.sieve" > "$work/answer" || status=$?
+    [[ $status -eq 1 && $(wc -l < "$work/answer") -eq 13000 ]] &&
+        [[ $(tail -n 1 "$work/answer") == "$work/line.sieve:1:247011: fault 1: the plan has no class \"n13000\"" ]]
 }
 
 # 100,000 replies about offsets in one line of a script. Each has the part of that line that is near its offset.
@@ -171,7 +172,7 @@ tools() {
     count "frame refuses what a session would misread" frame_agrees
     count "the numbers of the specification have texts, and no others" numbers_have_texts
     count "a reader that goes away" ends_with_its_reader
-    count "warnings of a long line" warnings_of_a_long_line
+    count "faults of a long line" faults_of_a_long_line
     count "replies of a long line" replies_of_a_long_line
     count "a session without counted octets" typed_session
     count "fields that are said once" fields_are_said_once

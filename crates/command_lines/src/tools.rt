@@ -5,6 +5,7 @@ mod words;
 use crate::reading::{NoCommand, day_of, has_flag, read_words, required, value_of, values_of};
 use clap::ArgMatches;
 use jiff::civil::Date;
+use session_words::read_number;
 use std::alloc::{AllocError, Global};
 
 /// The last year in which a message can be captured.
@@ -25,8 +26,9 @@ pub enum Command<'a> {
     Check(Check<'a>),
     /// Writes the image of a script.
     Compile {
+        /// The script, or the officer where it is in a folder of all rules.
         script: &'a str,
-        folders: Folders<'a>,
+        place: Place<'a>,
         image: &'a str,
     },
     /// Shows an image.
@@ -57,11 +59,20 @@ pub enum Explain<'a> {
 /// Judges files.
 #[derive(Drop)]
 pub struct Check<'a> {
-    /// Scripts and plans.
+    /// Scripts and plans; officers where their scripts are in a folder of all rules.
     pub files: Vec<&'a str>,
     /// The present plan.
     pub plan: Option<&'a str>,
-    pub folders: Folders<'a>,
+    pub place: Place<'a>,
+}
+
+/// Where scripts are.
+#[derive(Clone, Copy)]
+pub enum Place<'a> {
+    /// Each is named by its path, and those that can be included are in these folders.
+    Folders(Folders<'a>),
+    /// In the folder of all rules at this path: an officer's program is `OFFICER/main.sieve`.
+    Rules(&'a str),
 }
 
 /// The folders of the scripts that can be included; none where the command line names none.
@@ -98,8 +109,9 @@ pub struct Why<'a> {
 #[derive(Clone, Copy)]
 pub enum Rules<'a> {
     Script {
-        path: &'a str,
-        folders: Folders<'a>,
+        /// The path of the script, or the officer where it is in a folder of all rules.
+        script: &'a str,
+        place: Place<'a>,
         format: Format,
     },
     Image(&'a str),
@@ -128,6 +140,19 @@ fn folders_asked<'a>(asked: &ArgMatches<'a>) -> Folders<'a> {
     }
 }
 
+/// Where scripts are.
+fn place_asked<'a>(asked: &ArgMatches<'a>) -> Place<'a> {
+    match value_of(asked, words::RULES) {
+        Some(folder) => Place::Rules(folder),
+        None => Place::Folders(folders_asked(asked)),
+    }
+}
+
+/// The number that is typed, in decimal digits without a leading zero.
+fn number_of(word: &str) -> Option<u8> {
+    read_number(word.as_bytes(), u64::from(u8::MAX)).and_then(|number| u8::try_from(number).ok())
+}
+
 /// What is explained: all numbers rather than one, and one rather than replies.
 fn explain_asked<'a>(asked: &ArgMatches<'a>) -> Explain<'a> {
     if has_flag(asked, words::NUMBERS) {
@@ -136,7 +161,7 @@ fn explain_asked<'a>(asked: &ArgMatches<'a>) -> Explain<'a> {
     match value_of(asked, words::NUMBER) {
         Some(word) => Explain::Number {
             word,
-            number: word.parse().ok(),
+            number: number_of(word),
         },
         None => Explain::Replies {
             script: value_of(asked, words::REFUSED),
@@ -150,7 +175,7 @@ fn check_asked<'a>(alloc: Global, asked: &ArgMatches<'a>) -> Result<Check<'a>, N
     Ok(Check {
         files: Vec::from_slice(alloc, files)?,
         plan: value_of(asked, words::PRESENT_PLAN),
-        folders: folders_asked(asked),
+        place: place_asked(asked),
     })
 }
 
@@ -186,8 +211,8 @@ fn rules_asked<'a>(
         (Some(image), None) => Ok((Rules::Image(image), first)),
         (None, Some(message)) => {
             let script = Rules::Script {
-                path: first,
-                folders: folders_asked(asked),
+                script: first,
+                place: place_asked(asked),
                 format: format_asked(asked),
             };
             Ok((script, message))
@@ -224,7 +249,7 @@ pub fn read_command<'a>(rt: &HostRuntime, words: &'a [String]) -> Result<Command
         ("check", asked) => Command::Check(check_asked(alloc, asked)?),
         ("compile", asked) => Command::Compile {
             script: required(asked, words::SCRIPT)?,
-            folders: folders_asked(asked),
+            place: place_asked(asked),
             image: required(asked, words::OUTPUT)?,
         },
         ("dump", asked) => Command::Dump {

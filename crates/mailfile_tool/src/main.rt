@@ -32,9 +32,9 @@ fn carry_out(rt: &HostRuntime, command: Command<'_>) -> Result<Verdict, Failure>
         Command::Check(asked) => check_files(rt, &asked),
         Command::Compile {
             script,
-            folders,
+            place,
             image,
-        } => compile_script(rt, script, folders, image),
+        } => compile_script(rt, script, place, image),
         Command::Dump { image } => dump_image(rt, image),
         Command::Why(asked) => tell_why(rt, &asked),
     }

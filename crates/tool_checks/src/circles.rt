@@ -1,10 +1,11 @@
-//! Warnings of includes that come back to a script that is still running.
+//! Warnings of includes that come back to a script that is still running, and of those that lead too deep.
 
-use crate::reached::{Reached, Start};
+use crate::reached::Reached;
+use crate::told::Told;
 use std::alloc::{AllocError, Global};
 use tool_console::{Failure, push_place, write_line};
-use tool_findings::{Circle, circles_of};
-use tool_texts::Shown;
+use tool_findings::{Circle, Edge, Includes, includes_of};
+use tool_texts::{Shown, put};
 
 /// Adds the path of a script, as it is shown.
 fn push_path(text: &mut Shown, reached: &Reached, script: usize) -> Result<(), AllocError> {
@@ -72,37 +73,59 @@ fn warn_once(
     rt: &HostRuntime,
     reached: &Reached,
     circle: &Circle,
-    told: &mut Vec<Shown>,
+    told: &mut Told,
 ) -> Result<(), Failure> {
     let name = name_of(rt.alloc(), reached, circle)?;
-    if told.iter().any(|other| other.as_str() == name.as_str()) {
-        return Ok(());
-    }
-    told.push(name)?;
-    write_warning(rt, reached, circle)
-}
-
-/// The includes that come back, among the scripts that a script can reach, which are read.
-fn read_circles(
-    rt: &HostRuntime,
-    start: &Start<'_>,
-    reached: &mut Reached,
-) -> Result<Vec<Circle>, Failure> {
-    let includes = reached.follow(rt, start)?;
-    Ok(circles_of(rt.alloc(), includes.as_slice())?)
-}
-
-/// Writes a warning for each include that comes back to a script that is still running, among the scripts that a good
-/// script with this text can reach. A circle that was told already, from any of its scripts, is not told again.
-pub fn warn_of_circles(
-    rt: &HostRuntime,
-    start: &Start<'_>,
-    text: Vec<u8>,
-    told: &mut Vec<Shown>,
-) -> Result<(), Failure> {
-    let mut reached = Reached::alone(rt.alloc(), start.path, text)?;
-    for circle in read_circles(rt, start, &mut reached)?.iter() {
-        warn_once(rt, &reached, circle, told)?;
+    if told.is_new(name.as_str().as_bytes())? {
+        write_warning(rt, reached, circle)?;
     }
     Ok(())
+}
+
+/// Writes the warning of nine scripts inside one another, where the eighth names the ninth, unless it was told before.
+fn warn_of_depth(
+    rt: &HostRuntime,
+    reached: &Reached,
+    includes: &Includes,
+    told: &mut Told,
+) -> Result<(), Failure> {
+    let Some(last) = includes.chain.last().copied() else {
+        return Ok(());
+    };
+    let mut chain = Shown::new(rt.alloc());
+    for link in includes.chain.iter() {
+        push_path(&mut chain, reached, link.script)?;
+        chain.words(" includes ")?;
+    }
+    push_path(&mut chain, reached, includes.ninth)?;
+    if !told.is_new(chain.as_str().as_bytes())? {
+        return Ok(());
+    }
+    let mut line = Shown::new(rt.alloc());
+    push_place(
+        &mut line,
+        reached.path(last.script),
+        reached.text(last.script),
+        last.at,
+    )?;
+    put!(line;
+        "warning: nine scripts would run inside one another here, and eight may: " text(&chain)
+    )?;
+    write_line(rt, &mut line)
+}
+
+/// Writes a warning for each include that comes back to a script that is still running, and for one that would make nine
+/// scripts run inside one another, by the includes of the scripts that are reached. What was told before, from whichever
+/// script, is not told again.
+pub fn warn_of_includes(
+    rt: &HostRuntime,
+    reached: &Reached,
+    edges: &[Vec<Edge>],
+    told: &mut Told,
+) -> Result<(), Failure> {
+    let includes = includes_of(rt.alloc(), edges)?;
+    for circle in includes.circles.iter() {
+        warn_once(rt, reached, circle, told)?;
+    }
+    warn_of_depth(rt, reached, &includes, told)
 }

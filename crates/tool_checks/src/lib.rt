@@ -1,10 +1,11 @@
 //! Scripts and plans in files, judged without a session: what is wrong with one is written to standard output, a line
 //! each.
 //!
-//! - `scripts`: a script, with all that is wrong with it;
-//! - `warnings`: classes and scripts that a good script names and that are not there;
+//! - `refusals`: what is wrong with scripts and plans, as it is found; `words`: what a finding in a script says;
+//! - `scripts`: a script with all that it reaches, judged; `told`: what was told before;
+//! - `warnings`: classes, scripts and fields that a good script names and that are not there;
 //! - `reached`: the scripts that a script can reach by its includes;
-//! - `circles`: warnings of includes that come back to a script that is still running;
+//! - `circles`: warnings of includes that come back to a script that is still running, or lead too deep;
 //! - `folders`: where the scripts that can be included are;
 //! - `plans`: a plan, with all that is wrong with it.
 //!
@@ -17,9 +18,17 @@ mod circles;
 mod folders;
 mod plans;
 mod reached;
+mod refusals;
 mod scripts;
+mod told;
 mod warnings;
+mod words;
 
-pub use folders::SCRIPT_ENDING;
+pub use folders::{OfficerRules, SCRIPT_ENDING, rules_of};
 pub use plans::{NamedPlan, check_plan, read_plan};
-pub use scripts::{Surroundings, check_script, read_good_script};
+pub use reached::Start;
+pub use refusals::{Kind, Refusal, Refusals};
+pub use scripts::{
+    Surroundings, check_officer, check_script, judge_script, reaches, read_script_text,
+};
+pub use told::Told;

@@ -1,9 +1,11 @@
 //! A plan in a file, judged.
 
+use crate::refusals::{Kind, Refusals};
 use class_plan::{Plan, PlanFault};
-use tool_console::{Failure, Verdict, push_place, read_file, write_line, write_refusal};
+use std::alloc::AllocError;
+use tool_console::{Failure, Verdict, read_file};
 use tool_plans::{Finding, dropped_paths, judge};
-use tool_texts::{Payload, Shown, put};
+use tool_texts::{Payload, Shown, place_of, put};
 
 /// A file of up to this number of times the limit of a plan is still read, and refused by its number.
 const LONGER: u64 = 64;
@@ -19,59 +21,85 @@ pub struct NamedPlan {
     pub text: Option<Vec<u8>>,
 }
 
-/// Writes the line that reports a finding: its path, line, column, number and words.
-fn write_finding(
-    rt: &HostRuntime,
-    line: &mut Shown,
+/// Adds a finding.
+fn add_finding(
+    refusals: &mut Refusals,
     path: &str,
     text: &[u8],
     finding: &Finding,
-) -> Result<(), Failure> {
-    push_place(line, path, text, finding.at)?;
-    put!(line; value(&finding.fault.number()) ": " value(&finding.words))?;
-    write_line(rt, line)
+) -> Result<(), AllocError> {
+    let mut words = Shown::new(refusals.allocator());
+    words.value(&finding.words)?;
+    let place = place_of(text, finding.at);
+    refusals.add(
+        path,
+        Some(place),
+        Kind::Refused(finding.fault.number()),
+        words,
+    )
 }
 
-/// Reports all that is wrong with a text that is no plan, its refusal first.
-fn report_plan(rt: &HostRuntime, path: &str, text: &[u8]) -> Result<(), Failure> {
-    let Some(report) = judge(rt.alloc(), text)? else {
+/// Adds that so many more findings are not told.
+fn add_count(refusals: &mut Refusals, path: &str, count: usize) -> Result<(), AllocError> {
+    if count == 0 {
+        return Ok(());
+    }
+    let mut words = Shown::new(refusals.allocator());
+    put!(words; "and " value(&count) " more")?;
+    refusals.add(path, None, Kind::Note, words)
+}
+
+/// Adds all that is wrong with a text that is no plan, its refusal first.
+fn add_report(refusals: &mut Refusals, path: &str, text: &[u8]) -> Result<(), AllocError> {
+    let Some(report) = judge(refusals.allocator(), text)? else {
         return Ok(());
     };
-    let mut line = Shown::new(rt.alloc());
-    write_finding(rt, &mut line, path, text, &report.refusal)?;
+    add_finding(refusals, path, text, &report.refusal)?;
     for finding in report.others.iter() {
-        write_finding(rt, &mut line, path, text, finding)?;
+        add_finding(refusals, path, text, finding)?;
     }
-    Ok(())
+    add_count(refusals, path, report.untold)
 }
 
-/// The plan of a text; none where it is refused, which is reported with all that is wrong with it.
-fn plan_of_text(rt: &HostRuntime, path: &str, text: &[u8]) -> Result<Option<Plan>, Failure> {
-    match Plan::from_toml(rt.alloc(), text) {
+/// The plan of a text; none where it is refused, which is told with all that is wrong with it.
+fn plan_of_text(
+    refusals: &mut Refusals,
+    path: &str,
+    text: &[u8],
+) -> Result<Option<Plan>, AllocError> {
+    match Plan::from_toml(refusals.allocator(), text) {
         Ok(plan) => Ok(Some(plan)),
-        Err(PlanFault::NoMemory) => Err(Failure::NoMemory),
+        Err(PlanFault::NoMemory) => Err(AllocError),
         Err(_) => {
-            report_plan(rt, path, text)?;
+            add_report(refusals, path, text)?;
             Ok(None)
         }
     }
 }
 
-/// The plan of a file; none where it is refused, which is reported.
-fn read_plan_file(rt: &HostRuntime, path: &str) -> Result<Option<NamedPlan>, Failure> {
+/// The plan of a file; none where it is refused, which is told.
+fn read_plan_file(
+    rt: &HostRuntime,
+    refusals: &mut Refusals,
+    path: &str,
+) -> Result<Option<NamedPlan>, Failure> {
     let text = read_file(rt, path, Payload::Plan.limit())?;
-    let plan = plan_of_text(rt, path, &text)?;
+    let plan = plan_of_text(refusals, path, &text)?;
     Ok(plan.map(|plan| NamedPlan {
         plan,
         text: Some(text),
     }))
 }
 
-/// The plan of the file that is named, or the one of `unfiled` alone; none where it is refused, which is reported with
-/// all that is wrong with it.
-pub fn read_plan(rt: &HostRuntime, path: Option<&str>) -> Result<Option<NamedPlan>, Failure> {
+/// The plan of the file that is named, or the one of `unfiled` alone; none where it is refused, which is added to what is
+/// found, with all that is wrong with it.
+pub fn read_plan(
+    rt: &HostRuntime,
+    refusals: &mut Refusals,
+    path: Option<&str>,
+) -> Result<Option<NamedPlan>, Failure> {
     match path {
-        Some(path) => read_plan_file(rt, path),
+        Some(path) => read_plan_file(rt, refusals, path),
         None => Ok(Some(NamedPlan {
             plan: Plan::new(rt.alloc())?,
             text: None,
@@ -79,72 +107,73 @@ pub fn read_plan(rt: &HostRuntime, path: Option<&str>) -> Result<Option<NamedPla
     }
 }
 
-/// Writes the line that reports a class that a new plan leaves out (57).
-fn write_dropped(
-    rt: &HostRuntime,
-    line: &mut Shown,
-    path: &str,
-    class: &[u8],
-) -> Result<(), Failure> {
-    put!(line;
-        named(path.as_bytes()) ": 57: the new plan leaves out the class " quoted(class)
+/// Adds a class that a new plan leaves out (57).
+fn add_dropped(refusals: &mut Refusals, path: &str, class: &[u8]) -> Result<(), AllocError> {
+    let mut words = Shown::new(refusals.allocator());
+    put!(words;
+        "the new plan leaves out the class " quoted(class)
         "; list it, and close it by open = false if nothing is to be filed there"
     )?;
-    write_line(rt, line)
+    refusals.add(path, None, Kind::Refused(57), words)
 }
 
-/// Reports the first classes that a new plan leaves out.
-fn report_dropped(rt: &HostRuntime, path: &str, classes: &[&[u8]]) -> Result<(), Failure> {
-    let mut line = Shown::new(rt.alloc());
+/// Adds the first classes that a new plan leaves out, and how many more there are.
+fn add_all_dropped(
+    refusals: &mut Refusals,
+    path: &str,
+    classes: &[&[u8]],
+) -> Result<(), AllocError> {
     for class in classes.iter().take(MAX_DROPPED) {
-        write_dropped(rt, &mut line, path, *class)?;
+        add_dropped(refusals, path, *class)?;
     }
-    Ok(())
+    add_count(refusals, path, classes.len().saturating_sub(MAX_DROPPED))
 }
 
 /// Judges a new plan as what replaces the present one. Where it leaves out a class, it is refused.
 fn judge_revision(
-    rt: &HostRuntime,
+    refusals: &mut Refusals,
     path: &str,
     present: &Plan,
     new: &Plan,
-) -> Result<Verdict, Failure> {
-    let dropped = dropped_paths(rt.alloc(), present, new)?;
+) -> Result<Verdict, AllocError> {
+    let dropped = dropped_paths(refusals.allocator(), present, new)?;
     if dropped.is_empty() {
         return Ok(Verdict::Good);
     }
-    report_dropped(rt, path, dropped.as_slice())?;
+    add_all_dropped(refusals, path, dropped.as_slice())?;
     Ok(Verdict::Refused)
 }
 
 /// Judges the text of a plan file, as what replaces the present plan where there is one.
 fn judge_plan(
-    rt: &HostRuntime,
+    refusals: &mut Refusals,
     path: &str,
     text: &[u8],
     present: Option<&Plan>,
-) -> Result<Verdict, Failure> {
-    let Some(new) = plan_of_text(rt, path, text)? else {
+) -> Result<Verdict, AllocError> {
+    if text.len() as u64 > Payload::Plan.limit() {
+        refusals.add_number(path, 58)?;
+        return Ok(Verdict::Refused);
+    }
+    let Some(new) = plan_of_text(refusals, path, text)? else {
         return Ok(Verdict::Refused);
     };
     match present {
-        Some(present) => judge_revision(rt, path, present, &new),
+        Some(present) => judge_revision(refusals, path, present, &new),
         None => Ok(Verdict::Good),
     }
 }
 
-/// Judges a plan file, as what replaces the present plan where there is one. What is wrong is reported on standard
-/// output: a plan that is too long (58) by that alone, a class that is left out (57), and all else that is found.
+/// Judges a plan file, as what replaces the present plan where there is one. What is wrong is written to standard output: a
+/// plan that is too long (58) by that alone, a class that is left out (57), and all else that is found.
 pub fn check_plan(
     rt: &HostRuntime,
     path: &str,
     present: Option<&Plan>,
 ) -> Result<Verdict, Failure> {
-    let limit = Payload::Plan.limit();
-    let text = read_file(rt, path, limit.saturating_mul(LONGER))?;
-    if text.len() as u64 > limit {
-        write_refusal(rt, path, 58)?;
-        return Ok(Verdict::Refused);
-    }
-    judge_plan(rt, path, &text, present)
+    let text = read_file(rt, path, Payload::Plan.limit().saturating_mul(LONGER))?;
+    let mut refusals = Refusals::new(rt.alloc());
+    let verdict = judge_plan(&mut refusals, path, &text, present)?;
+    refusals.write_lines(rt)?;
+    Ok(verdict)
 }

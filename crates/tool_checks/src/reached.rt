@@ -44,7 +44,7 @@ impl Start<'_> {
     }
 
     /// The path of an included script; none where it is not known.
-    fn path_of(
+    pub(crate) fn path_of(
         &self,
         alloc: Global,
         name: &[u8],
@@ -79,6 +79,16 @@ impl Reached {
         };
         reached.add(String::from_str(alloc, path)?, text)?;
         Ok(reached)
+    }
+
+    /// How many scripts are reached.
+    pub fn count(&self) -> usize {
+        self.paths.len()
+    }
+
+    /// Whether a path is that of a script that is reached.
+    pub fn has(&self, path: &str) -> bool {
+        self.number_at(path).is_some()
     }
 
     /// The path of a script, by its number.

@@ -1,23 +1,27 @@
 //! A script in a file, judged.
 
-use crate::circles::warn_of_circles;
-use crate::reached::Start;
+use crate::circles::warn_of_includes;
+use crate::folders::SCRIPT_ENDING;
+use crate::reached::{Reached, Start};
+use crate::refusals::{Kind, Refusals};
+use crate::told::Told;
 use crate::warnings::warn_of_names;
+use crate::words::push_words;
 use class_plan::Plan;
 use command_lines::tools::Folders;
 use std::alloc::AllocError;
-use tool_console::{Failure, Verdict, push_place, read_file, read_input, text_of, write_line};
-use tool_findings::{Finding, Report, Subject, judge};
-use tool_texts::{Payload, Shown, put};
+use tool_console::{Failure, Verdict, paths_in, read_file, read_input};
+use tool_findings::{Finding, Report, judge};
+use tool_texts::{Payload, Shown, place_of, put};
 
 /// A file of up to this number of times the limit of a script is still read, and refused by its number.
 const LONGER: u64 = 64;
 
-/// The greatest number of octets of a word that are shown.
-const MAX_SHOWN: usize = 60;
-
 /// The name of standard input on the command line.
 const STANDARD_INPUT: &str = "-";
+
+/// What is said where more may be found than is told.
+const MORE: &str = "more is not looked for before these are mended";
 
 /// What a script is to run among.
 #[derive(Clone, Copy)]
@@ -27,103 +31,53 @@ pub struct Surroundings<'a> {
     pub folders: Folders<'a>,
 }
 
-/// What is wrong with a word, by the number of the refusal.
-fn fault_of_word(number: u8) -> &'static str {
-    match number {
-        30 => "unknown capability",
-        32 => "unknown command",
-        33 => "unknown test",
-        36 => "this tag stands twice, or beside another of its kind:",
-        38 => "unknown comparator",
-        _ => "this tag may not stand here:",
-    }
-}
-
-/// The octets of a word as they are shown: without quotation marks, and at most sixty.
-fn shown_word(text: &[u8], start: usize, end: usize) -> &[u8] {
-    let end = end.min(text.len());
-    let word = &text[start.min(end)..end];
-    let word = word.strip_prefix(b"\"").unwrap_or(word);
-    let word = word.strip_suffix(b"\"").unwrap_or(word);
-    &word[..word.len().min(MAX_SHOWN)]
-}
-
-/// Adds what is wrong with a word, and the word that was meant or else what the rule advises, if there is either.
-fn push_word(
-    line: &mut Shown,
-    number: u8,
-    word: &[u8],
-    meant: Option<&'static str>,
-) -> Result<(), AllocError> {
-    put!(line; words(fault_of_word(number)) " " quoted(word))?;
-    match (meant, text_of(number).split_once("; ")) {
-        (Some(name), _) => put!(line; "; is it " words(name) "?"),
-        (None, Some((_, advice))) => put!(line; "; " words(advice)),
-        (None, None) => Ok(()),
-    }
-}
-
-/// Adds what a finding says.
-fn push_words(line: &mut Shown, text: &[u8], finding: Finding) -> Result<(), AllocError> {
-    match finding.subject {
-        Subject::Whole => line.words(text_of(finding.number)),
-        Subject::Semicolon(_) => line.words("a ; is missing here"),
-        Subject::Capability(name) => put!(line;
-            "\"" words(name) "\" is not required; name it in a require at the script's beginning"
-        ),
-        Subject::Word(start, end, meant) => {
-            push_word(line, finding.number, shown_word(text, start, end), meant)
-        }
-    }
-}
-
-/// Where a finding is shown, an offset in octets.
-fn place_shown(finding: Finding) -> usize {
-    match finding.subject {
-        Subject::Word(start, _, _) => start,
-        Subject::Semicolon(at) => at,
-        Subject::Whole | Subject::Capability(_) => finding.at,
-    }
-}
-
-/// Writes the line that reports a finding: its path, line, column, number and text.
-fn write_finding(
-    rt: &HostRuntime,
-    line: &mut Shown,
+/// Adds a finding, with what it says.
+fn add_finding(
+    refusals: &mut Refusals,
     path: &str,
     text: &[u8],
-    finding: Finding,
-) -> Result<(), Failure> {
-    let number = finding.number;
-    push_place(line, path, text, place_shown(finding))?;
-    put!(line; value(&number) ": ")?;
-    push_words(line, text, finding)?;
-    write_line(rt, line)
+    finding: &Finding,
+) -> Result<(), AllocError> {
+    let mut words = Shown::new(refusals.allocator());
+    push_words(&mut words, text, finding)?;
+    let place = place_of(text, finding.place);
+    refusals.add(path, Some(place), Kind::Refused(finding.number), words)
 }
 
-/// Writes all findings of a report, a line each, the verdict first.
-fn write_report(rt: &HostRuntime, path: &str, text: &[u8], report: &Report) -> Result<(), Failure> {
-    let mut line = Shown::new(rt.alloc());
-    write_finding(rt, &mut line, path, text, report.verdict)?;
+/// Adds all findings of a report, the verdict first.
+fn add_report(
+    refusals: &mut Refusals,
+    path: &str,
+    text: &[u8],
+    report: &Report,
+) -> Result<(), AllocError> {
+    add_finding(refusals, path, text, &report.verdict)?;
     for finding in report.others.iter() {
-        write_finding(rt, &mut line, path, text, *finding)?;
+        add_finding(refusals, path, text, finding)?;
+    }
+    if !report.is_all {
+        refusals.add_note(path, MORE)?;
     }
     Ok(())
 }
 
-/// Judges the text of a script. What is wrong with it is reported.
-fn judge_script(rt: &HostRuntime, path: &str, text: &[u8]) -> Result<Verdict, Failure> {
-    match judge(rt.alloc(), text)? {
+/// Judges the text of a script. What is wrong with it is added to what is found.
+pub fn judge_script(
+    refusals: &mut Refusals,
+    path: &str,
+    text: &[u8],
+) -> Result<Verdict, AllocError> {
+    match judge(refusals.allocator(), text)? {
         Some(report) => {
-            write_report(rt, path, text, &report)?;
+            add_report(refusals, path, text, &report)?;
             Ok(Verdict::Refused)
         }
         None => Ok(Verdict::Good),
     }
 }
 
-/// The octets of a script's file, or of standard input.
-fn read_script_text(rt: &HostRuntime, path: &str) -> Result<Vec<u8>, Failure> {
+/// The octets of a script's file, or of standard input where the path is `-`.
+pub fn read_script_text(rt: &HostRuntime, path: &str) -> Result<Vec<u8>, Failure> {
     let limit = Payload::Script.limit().saturating_mul(LONGER);
     if path == STANDARD_INPUT {
         read_input(rt, limit)
@@ -132,34 +86,143 @@ fn read_script_text(rt: &HostRuntime, path: &str) -> Result<Vec<u8>, Failure> {
     }
 }
 
-/// The text of a script's file, or of standard input where the path is `-`; none where the script is refused, which is
-/// reported on standard output: its verdict, and what else is wrong with it.
-pub fn read_good_script(rt: &HostRuntime, path: &str) -> Result<Option<Vec<u8>>, Failure> {
-    let text = read_script_text(rt, path)?;
-    match judge_script(rt, path, &text)? {
-        Verdict::Good => Ok(Some(text)),
-        Verdict::Refused => Ok(None),
-    }
+/// Whether the program of an officer, or another script that is known by a name, reaches the script at a path by its
+/// includes.
+pub fn reaches(rt: &HostRuntime, start: &Start<'_>, path: &str) -> Result<bool, Failure> {
+    let text = read_script_text(rt, start.path)?;
+    let mut reached = Reached::alone(rt.alloc(), start.path, text)?;
+    let _edges = reached.follow(rt, start)?;
+    Ok(reached.has(path))
 }
 
-/// Judges a script that is known by a name, and warns of what may go wrong when it runs: classes and scripts that are
-/// not there, and includes that come back, but for those that were `told` before. A warning changes no verdict.
+/// Judges a script that is reached, and what it names, unless it was judged before; and writes what is found.
+fn judge_reached(
+    rt: &HostRuntime,
+    start: &Start<'_>,
+    reached: &Reached,
+    script: usize,
+    around: &Surroundings<'_>,
+    told: &mut Told,
+) -> Result<Verdict, Failure> {
+    let path = reached.path(script);
+    if !told.is_unjudged(path)? {
+        return Ok(Verdict::Good);
+    }
+    let mut refusals = Refusals::new(rt.alloc());
+    let text = reached.text(script);
+    if let Verdict::Refused = judge_script(&mut refusals, path, text)? {
+        refusals.write_lines(rt)?;
+        return Ok(Verdict::Refused);
+    }
+    warn_of_names(rt, start, path, text, around, told)
+}
+
+/// Judges all scripts that are reached.
+fn judge_all(
+    rt: &HostRuntime,
+    start: &Start<'_>,
+    reached: &Reached,
+    around: &Surroundings<'_>,
+    told: &mut Told,
+) -> Result<Verdict, Failure> {
+    let mut verdict = Verdict::Good;
+    for script in 0..reached.count() {
+        if let Verdict::Refused = judge_reached(rt, start, reached, script, around, told)? {
+            verdict = Verdict::Refused;
+        }
+    }
+    Ok(verdict)
+}
+
+/// Judges a script with all that it reaches by its includes; gives which scripts these are.
+fn check_reached(
+    rt: &HostRuntime,
+    start: &Start<'_>,
+    around: &Surroundings<'_>,
+    told: &mut Told,
+) -> Result<(Verdict, Reached), Failure> {
+    let text = read_script_text(rt, start.path)?;
+    let mut reached = Reached::alone(rt.alloc(), start.path, text)?;
+    let edges = reached.follow(rt, start)?;
+    let verdict = judge_all(rt, start, &reached, around, told)?;
+    warn_of_includes(rt, &reached, edges.as_slice(), told)?;
+    Ok((verdict, reached))
+}
+
+/// Judges a script that is known by a name, with each script that it reaches by its includes and that was not judged
+/// before. What is wrong is written to standard output: refusals and, where a plan is named, classes that it does not have
+/// or that are closed. Warnings, which change no verdict, are of scripts that are not there, of includes that come back or
+/// lead too deep, and of fields that no message can have.
 pub fn check_script(
     rt: &HostRuntime,
     path: &str,
     name: &[u8],
     around: &Surroundings<'_>,
-    told: &mut Vec<Shown>,
+    told: &mut Told,
 ) -> Result<Verdict, Failure> {
-    let Some(text) = read_good_script(rt, path)? else {
-        return Ok(Verdict::Refused);
-    };
-    warn_of_names(rt, path, name, &text, around)?;
     let start = Start {
         path,
         name,
         folders: around.folders,
     };
-    warn_of_circles(rt, &start, text, told)?;
-    Ok(Verdict::Good)
+    let (verdict, _) = check_reached(rt, &start, around, told)?;
+    Ok(verdict)
+}
+
+/// Writes a warning of each script of an officer that the program does not reach.
+fn warn_of_unused(
+    rt: &HostRuntime,
+    folder: &str,
+    main: &str,
+    reached: &Reached,
+) -> Result<(), Failure> {
+    for path in paths_in(rt, folder, SCRIPT_ENDING)? {
+        if !reached.has(path.as_str()) {
+            warn_unused(rt, path.as_str(), main)?;
+        }
+    }
+    Ok(())
+}
+
+/// Writes the warning of a script that is unused, with its refusal if there is one.
+fn warn_unused(rt: &HostRuntime, path: &str, main: &str) -> Result<(), Failure> {
+    let text = read_script_text(rt, path)?;
+    let mut words = Shown::new(rt.alloc());
+    unused_words(
+        &mut words,
+        main,
+        judge(rt.alloc(), &text)?.map(|report| report.verdict.number),
+    )?;
+    let mut refusals = Refusals::new(rt.alloc());
+    refusals.add(path, None, Kind::Note, words)?;
+    refusals.write_lines(rt)
+}
+
+/// Adds that a program does not reach a script, with the number by which that is refused, if it is.
+fn unused_words(words: &mut Shown, main: &str, number: Option<u8>) -> Result<(), AllocError> {
+    put!(words; "warning: " named(main.as_bytes()) " does not reach this script")?;
+    match number {
+        Some(number) => put!(words; ", which is refused (" value(&number) ")"),
+        None => Ok(()),
+    }
+}
+
+/// Judges the program of an officer as `check_script` does, and warns of each script of the officer that it does not
+/// reach.
+pub fn check_officer(
+    rt: &HostRuntime,
+    main: &str,
+    around: &Surroundings<'_>,
+    told: &mut Told,
+) -> Result<Verdict, Failure> {
+    let start = Start {
+        path: main,
+        name: b"main",
+        folders: around.folders,
+    };
+    let (verdict, reached) = check_reached(rt, &start, around, told)?;
+    if let Some(folder) = around.folders.personal {
+        warn_of_unused(rt, folder, main, &reached)?;
+    }
+    Ok(verdict)
 }

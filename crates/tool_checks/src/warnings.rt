@@ -1,165 +1,226 @@
-//! What may go wrong when a good script runs: classes that are not there, and scripts that are not there.
+//! What goes wrong when a good script runs: classes that are not there, scripts that are not there, and fields that no
+//! message can have.
 
-use crate::folders::has_script;
-use crate::reached::tokens_of;
+use crate::reached::{Start, tokens_of};
+use crate::refusals::{Kind, Refusals};
 use crate::scripts::Surroundings;
+use crate::told::Told;
 use class_plan::Plan;
 use sieve_syntax::Token;
-use std::alloc::AllocError;
-use tool_console::{Failure, push_known_place, write_line};
-use tool_findings::{Front, Named, fronts_of, name_in};
+use std::alloc::{AllocError, Global};
+use std::str;
+use tool_console::{Failure, Verdict, is_there};
+use tool_findings::{Front, Guess, Named, fronts_of, impossible_fields, name_in};
 use tool_places::PlaceMap;
 use tool_texts::{Shown, put};
 
-/// A script in whose commands is looked for what may go wrong.
+/// The fault of a run that files into no open class.
+const CLASS_NOT_OPEN: u8 = 1;
+
+/// A script in whose commands is looked for what goes wrong.
 #[derive(Clone, Copy)]
 struct Script<'a> {
     path: &'a str,
-    /// What it is known by.
-    name: &'a [u8],
     places: &'a PlaceMap<'a>,
     tokens: &'a [Token],
+    /// The script that is judged with all that it reaches.
+    start: &'a Start<'a>,
 }
 
-/// What may go wrong by what a command names.
-#[derive(Clone, Copy)]
-enum Warning<'a> {
-    /// The class of this path is closed.
-    Closed(&'a [u8]),
-    /// The plan has no class of this path.
-    NoClass(&'a [u8]),
-    /// The folder has no script of this name.
-    NoScript(&'a str, &'a [u8]),
-}
-
-/// The warning of a class that a script files into; none where the class is open.
-fn warning_of_class<'a>(plan: &Plan, path: &'a [u8]) -> Option<Warning<'a>> {
-    if plan.is_open(path) {
-        return None;
-    }
-    if plan.contains(path) {
-        Some(Warning::Closed(path))
-    } else {
-        Some(Warning::NoClass(path))
+/// Whether a path of more segments ends with a word.
+fn ends_with_segment(path: &str, word: &[u8]) -> bool {
+    match path.rsplit_once('/') {
+        Some((_, last)) => last.as_bytes().eq_ignore_ascii_case(word),
+        None => false,
     }
 }
 
-/// The warning of a script that is included; none where its file is there.
-fn warning_of_script<'a>(
-    rt: &HostRuntime,
-    folder: &'a str,
-    name: &'a [u8],
-) -> Result<Option<Warning<'a>>, Failure> {
-    if has_script(rt, folder, name)? {
-        return Ok(None);
-    }
-    Ok(Some(Warning::NoScript(folder, name)))
-}
-
-/// The warning of what a command names, in a script of a name.
-fn warning_of<'a>(
-    rt: &HostRuntime,
-    script: &[u8],
-    around: &Surroundings<'a>,
-    named: Named<'a>,
-) -> Result<Option<Warning<'a>>, Failure> {
-    match named {
-        Named::Class(path) => match around.plan {
-            Some(plan) => Ok(warning_of_class(plan, path)),
-            None => Ok(None),
-        },
-        Named::Script {
-            is_optional: true,
-            ..
-        } => Ok(None),
-        Named::Script {
-            name,
-            is_global: false,
-            ..
-        } if name == script => Ok(None),
-        Named::Script {
-            name,
-            is_global,
-            ..
-        } => match around.folders.of(is_global) {
-            Some(folder) => warning_of_script(rt, folder, name),
-            None => Ok(None),
-        },
-    }
-}
-
-/// Adds what a warning says.
-fn push_warning(line: &mut Shown, warning: Warning<'_>) -> Result<(), AllocError> {
-    match warning {
-        Warning::Closed(path) => put!(line; "the class " quoted(path) " is closed"),
-        Warning::NoClass(path) => put!(line; "the plan has no class " quoted(path)),
-        Warning::NoScript(folder, name) => {
-            put!(line; named(folder.as_bytes()) " has no script " quoted(name))
+/// The class that was meant by a path that the plan does not have, perhaps, in words.
+fn meant_class(
+    alloc: Global,
+    plan: &Plan,
+    path: &[u8],
+    words: &mut Shown,
+) -> Result<(), AllocError> {
+    let mut by_slips = Guess::new(alloc, path)?;
+    let mut by_segment = None;
+    let classes = plan.classes(alloc)?;
+    for (class, _, _) in classes.as_slice() {
+        let Ok(class) = str::from_utf8(*class) else {
+            continue;
+        };
+        by_slips.compare(class)?;
+        if by_segment.is_none() && ends_with_segment(class, path) {
+            by_segment = Some(class);
         }
     }
-}
-
-/// Writes a warning, which is about an offset of a script.
-fn write_warning(
-    rt: &HostRuntime,
-    line: &mut Shown,
-    script: &Script<'_>,
-    at: usize,
-    warning: Warning<'_>,
-) -> Result<(), Failure> {
-    push_known_place(line, script.path, script.places.place(at))?;
-    line.words("warning: ")?;
-    push_warning(line, warning)?;
-    write_line(rt, line)
-}
-
-/// Writes the warning of a command, if there is one.
-fn warn_of_command(
-    rt: &HostRuntime,
-    line: &mut Shown,
-    script: &Script<'_>,
-    around: &Surroundings<'_>,
-    front: &Front,
-) -> Result<(), Failure> {
-    let Some((named, at)) = name_in(front.own(script.tokens)) else {
-        return Ok(());
-    };
-    match warning_of(rt, script.name, around, named)? {
-        Some(warning) => write_warning(rt, line, script, at, warning),
+    match by_slips.found().or(by_segment) {
+        Some(class) => put!(words; "; is it " quoted(class.as_bytes()) "?"),
         None => Ok(()),
     }
 }
 
-/// Writes the warnings of commands.
-fn warn_of_commands(
-    rt: &HostRuntime,
+/// What is wrong with a class that a script files into; false where it is open.
+fn judge_class(
+    alloc: Global,
+    plan: &Plan,
+    path: &[u8],
+    told: &mut Told,
+    words: &mut Shown,
+) -> Result<bool, AllocError> {
+    if plan.is_open(path) {
+        return Ok(false);
+    }
+    if plan.contains(path) {
+        put!(words; "the class " quoted(path) " is closed")?;
+        return Ok(true);
+    }
+    put!(words; "the plan has no class " quoted(path))?;
+    if told.may_guess() {
+        meant_class(alloc, plan, path, words)?;
+    }
+    Ok(true)
+}
+
+/// Adds that a class is not there or closed, if it is.
+fn warn_of_class(
+    refusals: &mut Refusals,
     script: &Script<'_>,
-    around: &Surroundings<'_>,
-    fronts: &[Front],
-) -> Result<(), Failure> {
-    let mut line = Shown::new(rt.alloc());
-    for front in fronts.iter() {
-        warn_of_command(rt, &mut line, script, around, front)?;
+    at: usize,
+    plan: &Plan,
+    path: &[u8],
+    told: &mut Told,
+) -> Result<(), AllocError> {
+    let mut words = Shown::new(refusals.allocator());
+    if judge_class(refusals.allocator(), plan, path, told, &mut words)? {
+        let place = Some(script.places.place(at));
+        refusals.add(script.path, place, Kind::Fault(CLASS_NOT_OPEN), words)?;
     }
     Ok(())
 }
 
-/// Writes a warning for each class and each script that a good script names and that is not there.
+/// Adds that a script is not there, if it is not.
+fn warn_of_script(
+    rt: &HostRuntime,
+    refusals: &mut Refusals,
+    script: &Script<'_>,
+    at: usize,
+    name: &[u8],
+    is_global: bool,
+) -> Result<(), Failure> {
+    let start = script.start;
+    let Some(folder) = start.folders.of(is_global) else {
+        return Ok(());
+    };
+    let is_known = match start.path_of(rt.alloc(), name, is_global)? {
+        Some(path) => path.as_str() == start.path || is_there(rt, path.as_str()),
+        None => false,
+    };
+    if is_known {
+        return Ok(());
+    }
+    let mut words = Shown::new(rt.alloc());
+    put!(words; "warning: " named(folder.as_bytes()) " has no script " quoted(name))?;
+    refusals.add(
+        script.path,
+        Some(script.places.place(at)),
+        Kind::Note,
+        words,
+    )?;
+    Ok(())
+}
+
+/// Adds each field in the tests of a command that no message can have.
+fn warn_of_fields(
+    refusals: &mut Refusals,
+    script: &Script<'_>,
+    tokens: &[Token],
+) -> Result<(), AllocError> {
+    for (name, at) in impossible_fields(refusals.allocator(), tokens)?.iter() {
+        let mut words = Shown::new(refusals.allocator());
+        put!(words; "warning: no field can have the name " quoted(*name))?;
+        refusals.add(
+            script.path,
+            Some(script.places.place(*at)),
+            Kind::Note,
+            words,
+        )?;
+    }
+    Ok(())
+}
+
+/// Adds what goes wrong by a command.
+fn warn_of_command(
+    rt: &HostRuntime,
+    refusals: &mut Refusals,
+    script: &Script<'_>,
+    around: &Surroundings<'_>,
+    told: &mut Told,
+    front: &Front,
+) -> Result<(), Failure> {
+    let tokens = front.own(script.tokens);
+    warn_of_fields(refusals, script, tokens)?;
+    match (name_in(tokens), around.plan) {
+        (Some((Named::Class(path), at)), Some(plan)) => {
+            Ok(warn_of_class(refusals, script, at, plan, path, told)?)
+        }
+        (
+            Some(
+                (
+                    Named::Script {
+                        name,
+                        is_global,
+                        is_optional: false,
+                        ..
+                    },
+                    at,
+                ),
+            ),
+            _,
+        ) => warn_of_script(rt, refusals, script, at, name, is_global),
+        _ => Ok(()),
+    }
+}
+
+/// Writes what goes wrong by the commands of a good script. The verdict is `Refused` where a class is not there.
+fn warn_of_commands(
+    rt: &HostRuntime,
+    script: &Script<'_>,
+    around: &Surroundings<'_>,
+    told: &mut Told,
+    fronts: &[Front],
+) -> Result<Verdict, Failure> {
+    let mut verdict = Verdict::Good;
+    let mut refusals = Refusals::new(rt.alloc());
+    for front in fronts.iter() {
+        warn_of_command(rt, &mut refusals, script, around, told, front)?;
+        if refusals.has_fault() {
+            verdict = Verdict::Refused;
+        }
+        refusals.write_lines(rt)?;
+    }
+    Ok(verdict)
+}
+
+/// Writes what goes wrong by what a good script names: each class that the plan does not have or that is closed, where a
+/// plan is named, each script that is not there, and each field that no message can have. The verdict is `Refused` for a
+/// class.
 pub fn warn_of_names(
     rt: &HostRuntime,
+    start: &Start<'_>,
     path: &str,
-    name: &[u8],
     text: &[u8],
     around: &Surroundings<'_>,
-) -> Result<(), Failure> {
+    told: &mut Told,
+) -> Result<Verdict, Failure> {
     let tokens = tokens_of(rt.alloc(), text)?;
     let fronts = fronts_of(rt.alloc(), &tokens)?;
     let places = PlaceMap::new(rt.alloc(), text)?;
     let script = Script {
         path,
-        name,
         places: &places,
         tokens: tokens.as_slice(),
+        start,
     };
-    warn_of_commands(rt, &script, around, fronts.as_slice())
+    warn_of_commands(rt, &script, around, told, fronts.as_slice())
 }

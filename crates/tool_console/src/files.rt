@@ -92,20 +92,22 @@ pub fn is_there(rt: &HostRuntime, path: &str) -> bool {
     fs::metadata(rt, path).is_ok()
 }
 
-/// Adds a path that has an ending.
+/// Adds the path of a file in a folder by its name, where that has an ending and does not begin with a dot.
 fn add_path(
     alloc: Global,
     paths: &mut Vec<String>,
     path: &str,
     ending: &str,
 ) -> Result<(), AllocError> {
-    if path.ends_with(ending) {
+    let name = path.rsplit_once('/').map_or(path, |(_, name)| name);
+    if name.ends_with(ending) && !name.starts_with('.') {
         paths.push(String::from_str(alloc, path)?)?;
     }
     Ok(())
 }
 
-/// The paths in a folder that have an ending, in byte order. A failure names the path of the folder.
+/// The paths in a folder that have an ending, in byte order, without those of hidden files, whose names begin with a dot.
+/// A failure names the path of the folder.
 pub fn paths_in(rt: &HostRuntime, folder: &str, ending: &str) -> Result<Vec<String>, Failure> {
     let alloc = rt.alloc();
     let entries = fs::read_dir(rt, folder).map_err(|error| Failure::at(alloc, folder, &error))?;

@@ -33,6 +33,6 @@ pub use failure::Failure;
 pub use files::{is_there, paths_in, read_file, read_input, write_file};
 pub use lines::{push_known_place, push_place, text_of};
 pub use numbers::{tell_number, tell_numbers};
-pub use output::{tell, tell_words, write_data, write_line, write_refusal, write_text};
+pub use output::{tell, tell_words, write_data, write_line, write_text};
 pub use replies::explain;
 pub use verdict::Verdict;

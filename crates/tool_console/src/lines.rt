@@ -22,8 +22,3 @@ pub fn push_place(
 pub fn push_known_place(line: &mut Shown, path: &str, place: Place) -> Result<(), AllocError> {
     put!(line; named(path.as_bytes()) ":" value(&place.line) ":" value(&place.column) ": ")
 }
-
-/// Adds the refusal of a file as a whole: its path, the number and the text of the number.
-pub fn push_refusal(line: &mut Shown, path: &str, number: u8) -> Result<(), AllocError> {
-    put!(line; named(path.as_bytes()) ": " value(&number) ": " words(text_of(number)))
-}

@@ -1,7 +1,6 @@
 //! What is written for people and programs.
 
 use crate::failure::Failure;
-use crate::lines::push_refusal;
 use std::io::{Error, ErrorKind, Read, Write, copy};
 use tool_texts::Shown;
 
@@ -33,13 +32,6 @@ pub fn write_line(rt: &HostRuntime, line: &mut Shown) -> Result<(), Failure> {
     write_text(rt, line)?;
     line.clear();
     Ok(())
-}
-
-/// Writes the line that reports the refusal of a file as a whole: its path, the number and the text of the number.
-pub fn write_refusal(rt: &HostRuntime, path: &str, number: u8) -> Result<(), Failure> {
-    let mut line = Shown::new(rt.alloc());
-    push_refusal(&mut line, path, number)?;
-    write_line(rt, &mut line)
 }
 
 /// Copies `count` octets from a reader to standard output, or fewer where its input ends before. They are data by their

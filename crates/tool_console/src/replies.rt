@@ -15,6 +15,9 @@ use tool_texts::{Payload, Shown, fault_text, put, refusal_text};
 /// The greatest number of octets of a line that are shown before a place in it, and from there on.
 const MAX_SHOWN: usize = 500;
 
+/// The greatest number of octets of a character after its first one.
+const MAX_CONTINUATION: usize = 3;
+
 /// The script that was refused, and its path.
 #[derive(Clone, Copy)]
 struct Script<'a> {
@@ -82,13 +85,15 @@ fn push_blanks(text: &mut Shown, shown: &Shown) -> Result<(), AllocError> {
     Ok(())
 }
 
-/// Where the next character begins from an offset on, up to another.
+/// Where the next character begins from an offset on, up to another. A character has at most four octets, so at most
+/// three are passed over.
 fn character_from(text: &[u8], from: usize, to: usize) -> usize
     requires order { from ≤ to }
     requires within { to ≤ length text.now }
     ensures least { from ≤ result }
     ensures most { result ≤ to }
 {
+    let to = to.min(from.saturating_add(MAX_CONTINUATION));
     for at in from..to {
         if !matches!(text[at], 0x80..=0xBF) {
             return at;

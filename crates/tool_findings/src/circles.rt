@@ -1,4 +1,4 @@
-//! Includes that come back to a script that is still running.
+//! Where the includes of scripts lead: back to a script that is still running, or too deep.
 
 use std::alloc::{AllocError, Global};
 
@@ -22,12 +22,39 @@ pub struct Circle {
     pub at: usize,
 }
 
+/// A script in a chain, and where it names the next one.
+#[derive(Clone, Copy)]
+pub struct Link {
+    pub script: usize,
+    /// An offset in octets.
+    pub at: usize,
+}
+
+/// Where the includes of some scripts lead.
+#[derive(Drop)]
+pub struct Includes {
+    /// Includes that come back to a script that is still running, up to twenty.
+    pub circles: Vec<Circle>,
+    /// The first eight of nine scripts or more that are inside one another, the first script of all first, each with
+    /// where it names the next one; none where no nine are. An include that comes back leads no deeper.
+    pub chain: Vec<Link>,
+    /// The ninth script of that chain.
+    pub ninth: usize,
+}
+
+/// The greatest number of circles that are reported.
+const MAX_CIRCLES: usize = 20;
+
+/// How many scripts may be inside one another.
+const MAX_DEPTH: usize = 8;
+
 /// What is known of a script.
-#[derive(Clone, Copy, PartialEq, Eq)]
+#[derive(Clone, Copy)]
 enum State {
     New,
     Running,
-    Done,
+    /// So many scripts are inside one another from it on, itself among them, by its first include that leads as deep.
+    Done(usize, Option<Edge>),
 }
 
 /// A script that is running, and how many of its includes were followed.
@@ -35,6 +62,9 @@ enum State {
 struct Open {
     script: usize,
     followed: usize,
+    /// The depth of the scripts that it includes, and the include that leads there.
+    deepest: usize,
+    by: Option<Edge>,
 }
 
 /// A walk along includes, each script of which is entered once.
@@ -61,6 +91,8 @@ impl Walk<'_> {
         self.open.push(Open {
             script,
             followed: 0,
+            deepest: 0,
+            by: None,
         })?;
         Ok(())
     }
@@ -73,8 +105,20 @@ impl Walk<'_> {
         Some(edge)
     }
 
-    /// Notes that an include comes back.
+    /// Whether it is noted that the script that was entered last includes a script that is running.
+    fn is_noted(&self, edge: Edge) -> bool {
+        let from = self.open.last().map(|open| open.script);
+        self.circles.iter().any(|circle| {
+            circle.scripts.last().copied() == from
+                && circle.scripts.first().copied() == Some(edge.to)
+        })
+    }
+
+    /// Notes that an include comes back, once for each two scripts, and up to twenty times.
     fn note(&mut self, edge: Edge) -> Result<(), AllocError> {
+        if self.circles.len() >= MAX_CIRCLES || self.is_noted(edge) {
+            return Ok(());
+        }
         let mut scripts = Vec::new(self.alloc);
         for open in self.open.as_slice() {
             if !scripts.is_empty() || open.script == edge.to {
@@ -88,31 +132,79 @@ impl Walk<'_> {
         Ok(())
     }
 
+    /// Takes into account how deep an include leads.
+    fn deepen(&mut self, edge: Edge, depth: usize) {
+        if let Some(last) = self.open.last_mut() {
+            if depth > last.deepest {
+                last.deepest = depth;
+                last.by = Some(edge);
+            }
+        }
+    }
+
     /// Follows an include.
     fn follow(&mut self, edge: Edge) -> Result<(), AllocError> {
         match self.states.get(edge.to).copied() {
             Some(State::New) => self.enter(edge.to),
             Some(State::Running) if !edge.is_once => self.note(edge),
+            Some(State::Done(depth, _)) => {
+                self.deepen(edge, depth);
+                Ok(())
+            }
             _ => Ok(()),
         }
     }
 
+    /// The include by which the script was entered that was entered last.
+    fn last_followed(&self) -> Option<Edge> {
+        let last = self.open.last()?;
+        let place = last.followed.checked_sub(1)?;
+        self.scripts.get(last.script)?.get(place).copied()
+    }
+
     /// Leaves the script that was entered last; false where none is running.
     fn leave(&mut self) -> bool {
-        match self.open.pop() {
-            Some(open) => {
-                self.set(open.script, State::Done);
-                true
-            }
-            None => false,
+        let Some(open) = self.open.pop() else {
+            return false;
+        };
+        let depth = open.deepest.saturating_add(1);
+        self.set(open.script, State::Done(depth, open.by));
+        if let Some(edge) = self.last_followed() {
+            self.deepen(edge, depth);
         }
+        true
+    }
+
+    /// The include that leads deepest from a script.
+    fn deepest_edge(&self, script: usize) -> Option<Edge> {
+        match self.states.get(script).copied() {
+            Some(State::Done(_, by)) => by,
+            _ => None,
+        }
+    }
+
+    /// The chain of nine scripts from the first one on, without its last script, and that script.
+    fn chain(&self) -> Result<(Vec<Link>, usize), AllocError> {
+        let mut links = Vec::new(self.alloc);
+        let mut script = 0;
+        for _ in 0..MAX_DEPTH {
+            let Some(edge) = self.deepest_edge(script) else {
+                return Ok((Vec::new(self.alloc), 0));
+            };
+            links.push(Link {
+                script,
+                at: edge.at,
+            })?;
+            script = edge.to;
+        }
+        Ok((links, script))
     }
 }
 
-/// The includes that come back to a script that is still running, in a walk from the first of some scripts along their
-/// includes in order. Each script is entered once, so of the ways that lead into a circle the first one is reported.
-/// An include with `:once` comes back to nothing. The only error is out of memory.
-pub fn circles_of(alloc: Global, scripts: &[Vec<Edge>]) -> Result<Vec<Circle>, AllocError> {
+/// Where the includes of some scripts lead, in a walk from the first of them along their includes in order. Each script
+/// is entered once, so of the ways that lead into a circle the first one is reported. An include with `:once` comes back
+/// to nothing. Takes time linear in the scripts and includes. The only error is out of memory.
+pub fn includes_of(alloc: Global, scripts: &[Vec<Edge>]) -> Result<Includes, AllocError> {
     let mut walk = Walk {
         alloc,
         scripts,
@@ -131,5 +223,10 @@ pub fn circles_of(alloc: Global, scripts: &[Vec<Edge>]) -> Result<Vec<Circle>, A
             None => break,
         }
     }
-    Ok(walk.circles)
+    let (chain, ninth) = walk.chain()?;
+    Ok(Includes {
+        circles: walk.circles,
+        chain,
+        ninth,
+    })
 }

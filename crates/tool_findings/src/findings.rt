@@ -1,17 +1,11 @@
 //! All that is wrong with a script.
 
 ghost use Rattle.std.specs.Prelude.{◌≡◌, IfOk};
-ghost use Rattle.tool_findings.specs.Judgements.{IsReport, refusal_number};
+ghost use Rattle.tool_findings.specs.Judgements.{IsReport, Rises, comes_after, stage as stage_of};
 
-use crate::fronts::{Front, fronts_of};
-use crate::halving::Search;
 use crate::judgement::{Judgement, judgement_of};
-use crate::repairs::Repaired;
-use crate::subjects::{Subject, subject_of_rule, subject_of_syntax};
-use crate::words::is_among;
-use sieve_check::CheckFault;
-use sieve_syntax::{Token, TokenKind};
-use sieve_text::{ScanFault, TextRefusal, scan};
+use crate::search::Search;
+use crate::subjects::Subject;
 use std::alloc::{AllocError, Global};
 
 /// Something that is wrong with a script.
@@ -21,8 +15,55 @@ pub struct Finding {
     pub number: u8,
     /// Where it is, an offset in octets. For 30 to 41 the faulty command begins there.
     pub at: usize,
+    /// Where it is shown, an offset in octets.
+    pub place: usize,
     /// What it is about.
     pub subject: Subject,
+}
+
+/// What kind of judgement gives a number: 1 of the tokens, 2 of the grammar, 3 of the rules.
+fn stage(number: u8) -> u8
+    ensures { result ≡ stage_of number }
+{
+    if number < 20 {
+        1
+    } else if number < 30 {
+        2
+    } else {
+        3
+    }
+}
+
+impl Finding {
+    /// Whether it comes after another finding: at a later stage or, at the same stage, at a later offset or, there, with a
+    /// greater number or, with the same number, shown at a later place.
+    pub(crate) fn is_after(&self, other: &Finding) -> bool
+        ensures { result ≡ comes_after self.now other.now }
+    {
+        let (own_stage, other_stage) = (stage(self.number), stage(other.number));
+        if own_stage != other_stage {
+            return own_stage > other_stage;
+        }
+        if self.at != other.at {
+            return self.at > other.at;
+        }
+        if self.number != other.number {
+            return self.number > other.number;
+        }
+        self.place > other.place
+    }
+
+    /// Whether it is a fault of its own, whatever was guessed about other words of its command.
+    pub(crate) fn is_certain(&self) -> bool {
+        match self.subject {
+            Subject::Word(start, end, meant) => {
+                start < end && (meant.is_some() || self.number == 30)
+            }
+            Subject::Whole | Subject::Arguments(_, _, _) | Subject::Missing(_, _) => false,
+            Subject::Surplus(_, _) | Subject::Joined(_, _, _) => false,
+            _ => true,
+        }
+    }
 }
 
 /// What is wrong with a script that is refused.
@@ -31,149 +72,17 @@ pub struct Report {
     /// Why a session refuses the script.
     pub verdict: Finding,
     /// What else is found, up to 19 of it, in the order in which it is found: each where all that was found before is
-    /// repaired. It ends at what cannot be repaired, as an open string.
+    /// repaired.
     pub others: Vec<Finding>,
-}
-
-/// The greatest number of findings beside the verdict.
-const MAX_OTHERS: usize = 19;
-
-/// The tokens of a script; none where it has no sequence of tokens.
-fn tokens_of(alloc: Global, text: &[u8]) -> Result<Vec<Token>, AllocError> {
-    match scan(alloc, text) {
-        Ok(tokens) => Ok(tokens),
-        Err(ScanFault::NoMemory) => Err(AllocError),
-        Err(ScanFault::Refused(_, _)) => Ok(Vec::new(alloc)),
-    }
-}
-
-/// Whether the first `count` commands of a script are refused.
-fn is_refused(alloc: Global, script: &Repaired<'_>, count: usize) -> Result<bool, AllocError> {
-    let text = script.beginning(alloc, count)?;
-    Ok(!matches!(judgement_of(alloc, &text)?, Judgement::Good))
-}
-
-/// The number of the first command that breaks a rule, in a script that is refused for one. It is the last command of
-/// the shortest beginning that is refused. The refusal is that of the first faulty command, so each longer beginning is
-/// refused too.
-fn faulty_command(alloc: Global, script: &Repaired<'_>, count: usize) -> Result<usize, AllocError> {
-    let mut search = Search::below(count);
-    for _ in 0..usize::BITS {
-        let Some(place) = search.next() else {
-            break;
-        };
-        let is_refused = is_refused(alloc, script, place.saturating_add(1))?;
-        search.told(place, is_refused);
-    }
-    Ok(search.found())
-}
-
-/// The number of the command in which an offset lies; the number of commands where it lies in none.
-fn command_at(fronts: &[Front], at: usize) -> usize {
-    let place = fronts.partition_point(|front| front.end <= at);
-    match fronts.get(place) {
-        Some(front) if front.start <= at => place,
-        _ => fronts.len(),
-    }
-}
-
-/// The number of the command that a judgement is about; the number of commands where it is about none.
-fn command_of(
-    alloc: Global,
-    script: &Repaired<'_>,
-    fronts: &[Front],
-    judgement: Judgement,
-) -> Result<usize, AllocError> {
-    match judgement {
-        Judgement::Good => Ok(fronts.len()),
-        Judgement::Text(_, at) => Ok(command_at(fronts, script.offset(at))),
-        Judgement::Rule(_) => faulty_command(alloc, script, fronts.len()),
-    }
-}
-
-/// The finding of a refusal of a script that is repaired so far.
-fn described(
-    alloc: Global,
-    judgement: Judgement,
-    script: &Repaired<'_>,
-    tokens: &[Token],
-    front: Option<&Front>,
-) -> Result<Finding, AllocError>
-    ensures { IfOk result (λ f. f.number ≡ refusal_number judgement) }
-{
-    let number = judgement.number();
-    let (at, subject) = match (judgement, front) {
-        (Judgement::Rule(fault), Some(front)) => {
-            let subject = subject_of_rule(alloc, fault, front.own(tokens), front.before(tokens))?;
-            (front.start, subject)
-        }
-        (Judgement::Text(TextRefusal::Syntax, at), _) => {
-            let at = script.offset(at);
-            (at, subject_of_syntax(tokens, at))
-        }
-        (Judgement::Text(_, at), _) => (script.offset(at), Subject::Whole),
-        _ => (0, Subject::Whole),
-    };
-    Ok(Finding {
-        number,
-        at,
-        subject,
-    })
-}
-
-/// The finding of a refusal of a script that is repaired so far, and the number of the command that it is about.
-fn locate(
-    alloc: Global,
-    judgement: Judgement,
-    script: &Repaired<'_>,
-    tokens: &[Token],
-    fronts: &[Front],
-) -> Result<(Finding, usize), AllocError>
-    ensures { IfOk result (λ x. x.0.number ≡ refusal_number judgement) }
-{
-    let place = command_of(alloc, script, fronts, judgement)?;
-    let found = described(alloc, judgement, script, tokens, fronts.get(place))?;
-    Ok((found, place))
-}
-
-/// Whether a command is a `require`.
-fn is_require(tokens: &[Token], front: Option<&Front>) -> bool {
-    let Some(front) = front else {
-        return false;
-    };
-    match tokens.get(front.tokens.0) {
-        Some(token) => match &token.kind {
-            TokenKind::Identifier(name) => is_among(name.as_slice(), &["require"]),
-            _ => false,
-        },
-        None => false,
-    }
-}
-
-/// Repairs what was found; false where it cannot be repaired.
-fn repair(
-    script: &mut Repaired<'_>,
-    judgement: Judgement,
-    found: Finding,
-    tokens: &[Token],
-    place: usize,
-) -> Result<bool, AllocError> {
-    if let Subject::Capability(capability) = found.subject {
-        return script.require(capability);
-    }
-    match judgement {
-        Judgement::Rule(_) | Judgement::Text(TextRefusal::Syntax, _) => {
-            let is_require = is_require(tokens, script.front(place));
-            Ok(script.replace(place, is_require))
-        }
-        _ => Ok(false),
-    }
+    /// Whether nothing is found after these. It may be more where they are twenty, where a string or a comment is not
+    /// closed, and where something cannot be repaired.
+    pub is_all: bool,
 }
 
 /// Judges a text as a session does, and looks for what else is wrong with it; none where it is a well made script.
 ///
-/// Takes time linear in the text, times the number of findings, times the logarithm of the number of commands. Fails
-/// only if memory runs out.
+/// Takes time linear in the text, times the number of findings, times the number of ways on that are tried at each, or
+/// the logarithm of the number of commands. Fails only if memory runs out.
 pub fn judge(alloc: Global, text: &[u8]) -> Result<Option<Report>, AllocError>
     ensures { IfOk result (λ r. IsReport text.now r) }
 {
@@ -181,36 +90,34 @@ pub fn judge(alloc: Global, text: &[u8]) -> Result<Option<Report>, AllocError>
     if let Judgement::Good = refusal {
         return Ok(None);
     }
-    let tokens = tokens_of(alloc, text)?;
-    let fronts = fronts_of(alloc, &tokens)?;
-    let mut script = Repaired::new(alloc, text, &fronts)?;
-    let (verdict, place) = locate(alloc, refusal, &script, &tokens, &fronts)?;
-    let others = if repair(&mut script, refusal, verdict, &tokens, place)? {
-        other_findings(alloc, &mut script, &tokens, &fronts)?
-    } else {
-        Vec::new(alloc)
-    };
-    Ok(Some(Report { verdict, others }))
+    let mut search = Search::new(alloc, text)?;
+    let (verdict, goes_on) = search.begin(refusal)?;
+    let is_all = goes_on && search.go_on()?;
+    let others = rising(alloc, verdict, search.into_others())?;
+    Ok(Some(Report {
+        verdict,
+        others,
+        is_all,
+    }))
 }
 
-/// What is found in a script that is repaired so far.
-fn other_findings(
+/// The findings of a search each of which comes after the one before, the first one after the verdict: so none is told
+/// twice.
+#[tactic(auto, using(crate::proofs::Rising::rises_more, crate::proofs::Rising::last_of_more))]
+fn rising(
     alloc: Global,
-    script: &mut Repaired<'_>,
-    tokens: &[Token],
-    fronts: &[Front],
-) -> Result<Vec<Finding>, AllocError> {
-    let mut findings = Vec::new(alloc);
-    for _ in 0..MAX_OTHERS {
-        let refusal = judgement_of(alloc, &script.whole(alloc)?)?;
-        if let Judgement::Good = refusal {
-            break;
-        }
-        let (found, place) = locate(alloc, refusal, script, tokens, fronts)?;
-        findings.push(found)?;
-        if !repair(script, refusal, found, tokens, place)? {
-            break;
+    verdict: Finding,
+    found: Vec<Finding>,
+) -> Result<Vec<Finding>, AllocError>
+    ensures { IfOk result (λ v. Rises verdict v.items) }
+{
+    let mut others = Vec::with_capacity(alloc, found.len())?;
+    let mut last = verdict;
+    for finding in found {
+        if finding.is_after(&last) {
+            others.push(finding)?;
+            last = finding;
         }
     }
-    Ok(findings)
+    Ok(others)
 }

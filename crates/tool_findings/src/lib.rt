@@ -1,7 +1,15 @@
 //! All that is wrong with a script, and where.
 //!
-//! `judge` answers the verdict that a session gives, and beside it what is found once each faulty command is replaced by
-//! a good one.
+//! `judge` answers the verdict that a session gives, and beside it what is found once each fault before is repaired.
+//!
+//! - `judgement`: the verdict on a text;
+//! - `findings`: what is wrong with a script; `search`: how it is looked for;
+//! - `repaired`: a script as far as it is repaired, with the places of the script as it was;
+//! - `spots`: where a script is refused, what about, and how it is repaired there;
+//! - `octets`, `ways` and `mends`: repairs of what is no token, of what breaks the grammar, and of what breaks a rule;
+//! - `subjects`: what a refusal is about; `rules` and `usage`: what a broken rule is about;
+//! - `words`: the words that a script may use, and the one that was meant, perhaps;
+//! - `fronts`, `names` and `circles`: the commands of a script, what they name, and includes that come back.
 #![tactic(auto)]
 
 mod circles;
@@ -9,15 +17,23 @@ mod findings;
 mod fronts;
 mod halving;
 mod judgement;
+mod mends;
 mod names;
-mod repairs;
+mod octets;
+mod repaired;
+mod rules;
+mod search;
+mod spots;
 mod subjects;
+mod usage;
+mod ways;
 mod words;
 
-pub use circles::{Circle, Edge, circles_of};
+pub use circles::{Circle, Edge, Includes, Link, includes_of};
 pub use findings::{Finding, Report, judge};
 pub use fronts::{Front, fronts_of};
 pub use halving::Search;
 pub use judgement::{Judgement, judgement_of};
-pub use names::{Named, name_in};
+pub use names::{Named, impossible_fields, name_in};
 pub use subjects::Subject;
+pub use words::Guess;

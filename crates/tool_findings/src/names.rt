@@ -1,7 +1,8 @@
 //! What a command names.
 
 use crate::words::is_among;
-use sieve_syntax::{Token, TokenKind};
+use sieve_syntax::{Mark, Token, TokenKind};
+use std::alloc::{AllocError, Global};
 
 /// What a command of a good script names.
 #[derive(Clone, Copy)]
@@ -63,4 +64,64 @@ pub fn name_in(tokens: &[Token]) -> Option<(Named<'_>, usize)> {
         ));
     }
     None
+}
+
+/// Whether a field of a message can have a name: one octet or more of 33 to 126, and no colon (RFC 5322, section 2.2).
+fn is_field_name(name: &[u8]) -> bool {
+    !name.is_empty()
+        && name
+            .iter()
+            .all(|octet| octet.is_ascii_graphic() && *octet != b':')
+}
+
+/// Where a reader of tests stands.
+#[derive(Clone, Copy)]
+enum Reading {
+    /// No names of fields come next.
+    Other,
+    /// The name of a test was read that begins with names of fields.
+    Test,
+    /// A tag was read whose string belongs to it.
+    Comparator,
+    /// A list of names of fields is open.
+    List,
+}
+
+/// Where a reader stands after a token.
+fn after(reading: Reading, token: &Token) -> Reading {
+    match (&token.kind, reading) {
+        (TokenKind::Identifier(name), _) if is_among(name.as_slice(), &["header", "exists"]) => {
+            Reading::Test
+        }
+        (TokenKind::Tag(tag), Reading::Test) if is_among(tag.as_slice(), &["comparator"]) => {
+            Reading::Comparator
+        }
+        (TokenKind::Tag(_), Reading::Test) => Reading::Test,
+        (TokenKind::StringValue(_), Reading::Comparator) => Reading::Test,
+        (TokenKind::Mark(Mark::OpenBracket), Reading::Test) => Reading::List,
+        (TokenKind::StringValue(_) | TokenKind::Mark(Mark::Comma), Reading::List) => Reading::List,
+        _ => Reading::Other,
+    }
+}
+
+/// The names of fields in the tests of a good command with these tokens that no field of a message can have, each with its
+/// offset in octets.
+pub fn impossible_fields(
+    alloc: Global,
+    tokens: &[Token],
+) -> Result<Vec<(&[u8], usize)>, AllocError> {
+    let mut found = Vec::new(alloc);
+    let mut reading = Reading::Other;
+    for token in tokens {
+        if let (TokenKind::StringValue(text), Reading::Test | Reading::List) = (
+            &token.kind,
+            reading,
+        ) {
+            if !is_field_name(text.as_slice()) {
+                found.push((text.as_slice(), token.start as usize))?;
+            }
+        }
+        reading = after(reading, token);
+    }
+    Ok(found)
 }

@@ -1,187 +1,86 @@
-//! The word that a refusal is about.
+//! What a refusal is about.
 
-use crate::words::{CAPABILITIES, COMMANDS, COMPARATORS, TAGS, TESTS, is_among, nearest};
-use sieve_check::CheckFault;
-use sieve_syntax::{Mark, Token, TokenKind};
-use std::alloc::{AllocError, Global};
+use crate::repaired::Repaired;
 
-/// What a refusal is about.
+/// What a refusal is about. Each number is an offset in octets, and each word has one where it begins and one where it ends.
 #[derive(Clone, Copy)]
 pub enum Subject {
     /// The command or the place as a whole.
     Whole,
-    /// A word or string from one offset up to another, both in octets, and the known one that was meant, perhaps.
+    /// A word or string that is not among those of its place, and the known one that was meant, perhaps.
     Word(usize, usize, Option<&'static str>),
-    /// A semicolon that is missing at this offset, in octets.
-    Semicolon(usize),
-    /// A capability that is not required.
-    Capability(&'static str),
+    /// What is missing at an offset: a mark, or some words.
+    Missing(usize, &'static str),
+    /// A word or mark that is one too many.
+    Surplus(usize, usize),
+    /// A word, and how it is written instead.
+    Instead(usize, usize, &'static str),
+    /// A word without the quotation marks of a string.
+    Unquoted(usize, usize),
+    /// The name of a tag without its colon.
+    Untagged(usize, usize),
+    /// A number and the letters after it that are no unit.
+    Unit(usize, usize),
+    /// The name of a test where a command begins.
+    TestAlone(usize, usize),
+    /// A word between two tests, and the name of the test that joins them.
+    Joined(usize, usize, &'static str),
+    /// A mark of typography in place of a plain one.
+    Typographic(usize, usize, &'static str),
+    /// A byte order mark.
+    ByteOrderMark,
+    /// The brace of a block that is not closed.
+    OpenBlock(usize),
+    /// A capability that is not required, and where it is needed.
+    Capability(usize, &'static str),
+    /// The name of a command or test that takes other strings or numbers, and how it is written.
+    Arguments(usize, usize, &'static str),
 }
 
-/// A word, and what was meant by it, perhaps.
-fn word(
-    alloc: Global,
-    token: &Token,
-    spelling: &[u8],
-    known: &[&'static str],
-) -> Result<Subject, AllocError> {
-    Ok(Subject::Word(
-        token.start as usize,
-        token.end as usize,
-        nearest(alloc, spelling, known)?,
-    ))
-}
-
-/// The name of a command that is unknown.
-fn unknown_command(alloc: Global, tokens: &[Token]) -> Result<Subject, AllocError> {
-    match tokens.first() {
-        Some(token) => match &token.kind {
-            TokenKind::Identifier(name) => word(alloc, token, name.as_slice(), COMMANDS),
-            _ => Ok(Subject::Whole),
-        },
-        None => Ok(Subject::Whole),
-    }
-}
-
-/// The name of a test that is unknown. Where it is the name of a command, a semicolon is missing before it.
-fn unknown_test(alloc: Global, tokens: &[Token]) -> Result<Subject, AllocError> {
-    let mut end = None;
-    for token in tokens.iter() {
-        let before = end.replace(token.end as usize);
-        let (TokenKind::Identifier(name), Some(before)) = (&token.kind, before) else {
-            continue;
-        };
-        if is_among(name.as_slice(), COMMANDS) {
-            return Ok(Subject::Semicolon(before));
-        }
-        if !is_among(name.as_slice(), TESTS) {
-            return word(alloc, token, name.as_slice(), TESTS);
-        }
-    }
-    Ok(Subject::Whole)
-}
-
-/// The first string that is not one of these words.
-fn unknown_string(
-    alloc: Global,
-    tokens: &[Token],
-    known: &[&'static str],
-) -> Result<Subject, AllocError> {
-    for token in tokens.iter() {
-        if let TokenKind::StringValue(text) = &token.kind {
-            if !known.iter().any(|name| text.as_slice() == name.as_bytes()) {
-                return word(alloc, token, text.as_slice(), known);
-            }
+impl Subject {
+    /// The subject by its offsets in a script as it was.
+    pub(crate) fn in_original(self, script: &Repaired) -> Subject {
+        let at = |offset: usize| script.offset(offset);
+        match self {
+            Subject::Whole => Subject::Whole,
+            Subject::ByteOrderMark => Subject::ByteOrderMark,
+            Subject::Word(start, end, meant) => Subject::Word(at(start), at(end), meant),
+            Subject::Missing(place, what) => Subject::Missing(at(place), what),
+            Subject::Surplus(start, end) => Subject::Surplus(at(start), at(end)),
+            Subject::Instead(start, end, word) => Subject::Instead(at(start), at(end), word),
+            Subject::Unquoted(start, end) => Subject::Unquoted(at(start), at(end)),
+            Subject::Untagged(start, end) => Subject::Untagged(at(start), at(end)),
+            Subject::Unit(start, end) => Subject::Unit(at(start), at(end)),
+            Subject::TestAlone(start, end) => Subject::TestAlone(at(start), at(end)),
+            Subject::Joined(start, end, name) => Subject::Joined(at(start), at(end), name),
+            Subject::Typographic(start, end, mark) => Subject::Typographic(
+                at(start),
+                at(end),
+                mark,
+            ),
+            Subject::OpenBlock(brace) => Subject::OpenBlock(at(brace)),
+            Subject::Capability(place, name) => Subject::Capability(at(place), name),
+            Subject::Arguments(start, end, usage) => Subject::Arguments(at(start), at(end), usage),
         }
     }
-    Ok(Subject::Whole)
-}
 
-/// The comparator that is unknown: the first string after a tag `:comparator` that names none.
-fn unknown_comparator(alloc: Global, tokens: &[Token]) -> Result<Subject, AllocError> {
-    for (number, token) in tokens.iter().enumerate() {
-        let TokenKind::Tag(name) = &token.kind else {
-            continue;
-        };
-        if !name.as_slice().eq_ignore_ascii_case(b"comparator") {
-            continue;
+    /// Where it is shown; none where it is about a command or a place as a whole.
+    pub(crate) fn place(self) -> Option<usize> {
+        match self {
+            Subject::Whole | Subject::ByteOrderMark => None,
+            Subject::Missing(at, _) | Subject::OpenBlock(at) | Subject::Capability(at, _) => Some(
+                at,
+            ),
+            Subject::Word(at, _, _)
+            | Subject::Surplus(at, _)
+            | Subject::Instead(at, _, _)
+            | Subject::Unquoted(at, _)
+            | Subject::Untagged(at, _)
+            | Subject::Unit(at, _)
+            | Subject::TestAlone(at, _)
+            | Subject::Joined(at, _, _)
+            | Subject::Typographic(at, _, _)
+            | Subject::Arguments(at, _, _) => Some(at),
         }
-        let after = number.saturating_add(1);
-        let last = number.saturating_add(2).min(tokens.len());
-        let found = unknown_string(alloc, &tokens[after.min(last)..last], COMPARATORS)?;
-        if matches!(found, Subject::Word(_, _, _)) {
-            return Ok(found);
-        }
-    }
-    Ok(Subject::Whole)
-}
-
-/// The first tag that is no known one, or the last tag.
-fn wrong_tag(alloc: Global, tokens: &[Token]) -> Result<Subject, AllocError> {
-    let mut found = Subject::Whole;
-    for token in tokens.iter() {
-        if let TokenKind::Tag(name) = &token.kind {
-            if !is_among(name.as_slice(), TAGS) {
-                return word(alloc, token, name.as_slice(), TAGS);
-            }
-            found = Subject::Word(token.start as usize, token.end as usize, None);
-        }
-    }
-    Ok(found)
-}
-
-/// The capability that a token needs.
-fn needed_by(token: &Token) -> Option<&'static str> {
-    match &token.kind {
-        TokenKind::Identifier(name) if is_among(name.as_slice(), &["fileinto"]) => Some("fileinto"),
-        TokenKind::Identifier(name) if is_among(name.as_slice(), &["include", "return"]) => {
-            Some("include")
-        }
-        TokenKind::Tag(name) if is_among(name.as_slice(), &["copy"]) => Some("copy"),
-        _ => None,
-    }
-}
-
-/// Whether a string among these tokens names a capability.
-fn is_named(tokens: &[Token], capability: &str) -> bool {
-    tokens.iter().any(|token| match &token.kind {
-        TokenKind::StringValue(text) => text.as_slice() == capability.as_bytes(),
-        _ => false,
-    })
-}
-
-/// The first capability that a command needs and none of these strings names.
-fn missing_capability(tokens: &[Token], required: &[Token]) -> Subject {
-    for token in tokens.iter() {
-        if let Some(capability) = needed_by(token) {
-            if !is_named(required, capability) {
-                return Subject::Capability(capability);
-            }
-        }
-    }
-    Subject::Whole
-}
-
-/// What a rule that a command breaks is about. The command has these tokens; those before it are `before`.
-pub fn subject_of_rule(
-    alloc: Global,
-    fault: CheckFault,
-    tokens: &[Token],
-    before: &[Token],
-) -> Result<Subject, AllocError> {
-    match fault {
-        CheckFault::UnknownCapability => unknown_string(alloc, tokens, CAPABILITIES),
-        CheckFault::UnknownCommand => unknown_command(alloc, tokens),
-        CheckFault::UnknownTest => unknown_test(alloc, tokens),
-        CheckFault::CapabilityNotRequired => Ok(missing_capability(tokens, before)),
-        CheckFault::TagNotAllowed | CheckFault::TagTwice => wrong_tag(alloc, tokens),
-        CheckFault::UnknownComparator => unknown_comparator(alloc, tokens),
-        _ => Ok(Subject::Whole),
-    }
-}
-
-/// What a syntax fault at an offset is about. Where a block or the script ends after a command that no semicolon ends,
-/// or where the name of a command follows one, a semicolon is missing.
-pub fn subject_of_syntax(tokens: &[Token], at: usize) -> Subject {
-    let place = tokens.partition_point(|token| (token.start as usize) < at);
-    let ends = match tokens.get(place) {
-        Some(token) => match &token.kind {
-            TokenKind::Mark(Mark::CloseBrace) => true,
-            TokenKind::Identifier(name) => is_among(name.as_slice(), COMMANDS),
-            _ => false,
-        },
-        None => true,
-    };
-    match place.checked_sub(1) {
-        Some(last) if ends => match tokens.get(last) {
-            Some(token) => match token.kind {
-                TokenKind::Mark(Mark::Semicolon | Mark::OpenBrace | Mark::CloseBrace) => {
-                    Subject::Whole
-                }
-                _ => Subject::Semicolon(token.end as usize),
-            },
-            None => Subject::Whole,
-        },
-        _ => Subject::Whole,
     }
 }

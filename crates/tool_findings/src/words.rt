@@ -2,12 +2,15 @@
 
 use std::alloc::{AllocError, Global};
 use std::str;
-use strsim::levenshtein;
+use strsim::osa_distance;
 
 /// The names of commands.
 pub const COMMANDS: &[&str] = &[
     "require", "if", "elsif", "else", "stop", "keep", "discard", "return", "fileinto", "include",
 ];
+
+/// The names of the commands that have a block.
+pub const BRANCHES: &[&str] = &["if", "elsif", "else"];
 
 /// The names of tests.
 pub const TESTS: &[&str] = &[
@@ -38,14 +41,17 @@ pub const CAPABILITIES: &[&str] = &[
     "comparator-i;ascii-casemap",
 ];
 
+/// The capabilities that a command or a tag can need.
+pub const NEEDED: &[&str] = &["fileinto", "copy", "include"];
+
 /// The names of comparators.
 pub const COMPARATORS: &[&str] = &["i;octet", "i;ascii-casemap"];
 
 /// A longer word, in octets, is not compared with those that are known.
-const MAX_WORD: usize = 40;
+const MAX_WORD: usize = 80;
 
-/// The nearest known word differs by at most so many insertions, deletions and changes of letters.
-const MAX_EDITS: usize = 2;
+/// A word of fewer letters is no slip of one that differs by two of them.
+const LONG_WORD: usize = 6;
 
 /// Whether a word is one of these, whatever the case of its letters.
 pub fn is_among(word: &[u8], known: &[&str]) -> bool {
@@ -54,27 +60,68 @@ pub fn is_among(word: &[u8], known: &[&str]) -> bool {
         .any(|name| word.eq_ignore_ascii_case(name.as_bytes()))
 }
 
-/// The one of these words that was meant, perhaps: the first of those that fewest edits lead to, at most two and fewer
-/// than the word has letters. None where no word is so near.
+/// How many letters of a word of that many octets may be wrong: one, or two of six or more.
+fn slips_in(length: usize) -> usize {
+    if length < LONG_WORD { 1 } else { 2 }
+}
+
+/// A word whose slips are counted, and the nearest known word so far.
+#[derive(Drop)]
+pub struct Guess<'w> {
+    alloc: Global,
+    /// In lower case; empty where no word is near to it.
+    word: String,
+    /// The nearest word so far has fewer slips than these.
+    fewest: usize,
+    found: Option<&'w str>,
+}
+
+impl<'w> Guess<'w> {
+    /// A word before it is compared with any.
+    pub fn new(alloc: Global, word: &[u8]) -> Result<Guess<'w>, AllocError> {
+        let text = match str::from_utf8(word) {
+            Ok(text) if text.len() <= MAX_WORD => text,
+            _ => "",
+        };
+        let word = text.to_ascii_lowercase(alloc)?;
+        Ok(Guess {
+            alloc,
+            fewest: slips_in(word.len()).saturating_add(1).min(word.len()),
+            word,
+            found: None,
+        })
+    }
+
+    /// Compares it with a known word.
+    pub fn compare(&mut self, name: &'w str) -> Result<(), AllocError> {
+        if self.word.len().abs_diff(name.len()) >= self.fewest {
+            return Ok(());
+        }
+        let slips = osa_distance(self.alloc, self.word.as_str(), name)?;
+        if slips < self.fewest {
+            self.fewest = slips;
+            self.found = Some(name);
+        }
+        Ok(())
+    }
+
+    /// The known word that was meant, perhaps: the first of those that it has the fewest slips from. A slip is a letter that
+    /// is wrong, missing, too much, or changed places with the next one. A word has at most one, and one of six letters or
+    /// more at most two.
+    pub fn found(&self) -> Option<&'w str> {
+        self.found
+    }
+}
+
+/// The one of these words that was meant, perhaps, as a [`Guess`] finds it.
 pub fn nearest(
     alloc: Global,
     word: &[u8],
     known: &[&'static str],
 ) -> Result<Option<&'static str>, AllocError> {
-    let Ok(text) = str::from_utf8(word) else {
-        return Ok(None);
-    };
-    if text.len() > MAX_WORD {
-        return Ok(None);
-    }
-    let mut fewest = MAX_EDITS.saturating_add(1).min(text.len());
-    let mut found = None;
+    let mut guess = Guess::new(alloc, word)?;
     for name in known.iter() {
-        let edits = levenshtein(alloc, text, *name)?;
-        if edits < fewest {
-            fewest = edits;
-            found = Some(*name);
-        }
+        guess.compare(*name)?;
     }
-    Ok(found)
+    Ok(guess.found())
 }

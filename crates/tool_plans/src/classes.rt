@@ -161,6 +161,10 @@ fn judge_twice(
     path: Stated<'_>,
 ) -> Result<(), AllocError> {
     match places.get(path.text.as_bytes()) {
+        Some(first) if *first != path.at && findings.is_full() => {
+            findings.count();
+            Ok(())
+        }
         Some(first) if *first != path.at => {
             let shown = quoted(alloc, path.text.as_bytes())?;
             let line = place_of(text, *first).line;

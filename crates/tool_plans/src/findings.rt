@@ -32,23 +32,39 @@ pub struct Report {
     pub refusal: Finding,
     /// What else is found, up to 19 of it, in the order of the numbers.
     pub others: Vec<Finding>,
+    /// How many more findings there are.
+    pub untold: usize,
 }
 
 /// Findings as they are made.
 #[derive(Drop)]
 pub(crate) struct Findings {
     list: Vec<Finding>,
+    /// How many were found when there were enough of them.
+    untold: usize,
 }
 
 impl Findings {
-    /// Adds a finding, unless there are enough of them.
+    /// Whether there are enough findings, so that one more is only counted.
+    pub(crate) fn is_full(&self) -> bool {
+        self.list.len() > MAX_OTHERS
+    }
+
+    /// Counts a finding of which nothing is told.
+    pub(crate) fn count(&mut self) {
+        self.untold = self.untold.saturating_add(1);
+    }
+
+    /// Adds a finding, or counts it where there are enough of them.
     pub(crate) fn add(
         &mut self,
         fault: PlanFault,
         at: usize,
         words: String,
     ) -> Result<(), AllocError> {
-        if self.list.len() <= MAX_OTHERS {
+        if self.is_full() {
+            self.count();
+        } else {
             self.list.push(Finding { fault, at, words })?;
         }
         Ok(())
@@ -67,9 +83,10 @@ fn judge_toml(alloc: Global, findings: &mut Findings, text: &str) -> Result<(), 
 }
 
 /// All that is found in a plan file that is refused.
-fn findings_of(alloc: Global, text: &[u8], fault: PlanFault) -> Result<Vec<Finding>, AllocError> {
+fn findings_of(alloc: Global, text: &[u8], fault: PlanFault) -> Result<Findings, AllocError> {
     let mut findings = Findings {
         list: Vec::new(alloc),
+        untold: 0,
     };
     match (str::from_utf8(text), fault) {
         (Ok(words), PlanFault::NotToml) => judge_toml(alloc, &mut findings, words)?,
@@ -83,19 +100,20 @@ fn findings_of(alloc: Global, text: &[u8], fault: PlanFault) -> Result<Vec<Findi
             findings.add(PlanFault::NotToml, error.valid_up_to(), words)?;
         }
     }
-    Ok(findings.list)
+    Ok(findings)
 }
 
 /// The report on a refusal: the first finding of it, and all others.
-fn report_of(alloc: Global, fault: PlanFault, findings: Vec<Finding>) -> Result<Report, AllocError>
+fn report_of(alloc: Global, fault: PlanFault, findings: Findings) -> Result<Report, AllocError>
     ensures { IfOk result (λ r. r.refusal.fault ≡ fault) }
 {
     let number = fault.number();
     let general = refusal_text(number).unwrap_or("refused");
     let mut first = (0, String::from_str(alloc, general)?);
     let mut is_found = false;
+    let untold = findings.untold;
     let mut others = Vec::new(alloc);
-    for finding in findings {
+    for finding in findings.list {
         if !is_found && finding.fault.number() == number {
             is_found = true;
             first = (finding.at, finding.words);
@@ -105,7 +123,11 @@ fn report_of(alloc: Global, fault: PlanFault, findings: Vec<Finding>) -> Result<
     }
     let (at, words) = first;
     let refusal = Finding { fault, at, words };
-    Ok(Report { refusal, others })
+    Ok(Report {
+        refusal,
+        others,
+        untold,
+    })
 }
 
 /// Judges a text as a session judges a plan, and looks for what else is wrong with it; none where it is a plan.

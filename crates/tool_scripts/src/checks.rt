@@ -1,10 +1,11 @@
 //! Scripts and plans, judged as they are named.
 
-use command_lines::tools::Check;
-use tool_checks::{Surroundings, check_plan, check_script, read_plan};
+use command_lines::tools::{Check, Folders, Place};
+use tool_checks::{
+    Refusals, Surroundings, Told, check_officer, check_plan, check_script, read_plan, rules_of,
+};
 use tool_console::{Failure, Verdict};
 use tool_inquiry::script_name;
-use tool_texts::Shown;
 
 /// What the path of a plan's file ends with.
 const PLAN_ENDING: &str = ".toml";
@@ -14,7 +15,7 @@ fn check_file(
     rt: &HostRuntime,
     path: &str,
     around: &Surroundings<'_>,
-    told: &mut Vec<Shown>,
+    told: &mut Told,
 ) -> Result<Verdict, Failure> {
     if path.ends_with(PLAN_ENDING) {
         check_plan(rt, path, around.plan)
@@ -23,31 +24,75 @@ fn check_file(
     }
 }
 
-/// Judges scripts and plans, one after the other.
+/// Judges the program of an officer in a folder of all rules.
+fn check_rules(
+    rt: &HostRuntime,
+    folder: &str,
+    officer: &str,
+    around: &Surroundings<'_>,
+    told: &mut Told,
+) -> Result<Verdict, Failure> {
+    let rules = rules_of(rt, folder, officer)?;
+    let around = Surroundings {
+        plan: around.plan,
+        folders: rules.folders(),
+    };
+    check_officer(rt, rules.main.as_str(), &around, told)
+}
+
+/// Judges what is named on the command line.
+fn check_named(
+    rt: &HostRuntime,
+    name: &str,
+    place: Place<'_>,
+    around: &Surroundings<'_>,
+    told: &mut Told,
+) -> Result<Verdict, Failure> {
+    match place {
+        Place::Rules(folder) => check_rules(rt, folder, name, around, told),
+        Place::Folders(_) => check_file(rt, name, around, told),
+    }
+}
+
+/// The folders of a place that names them.
+fn folders_of(place: Place<'_>) -> Folders<'_> {
+    match place {
+        Place::Folders(folders) => folders,
+        Place::Rules(_) => Folders {
+            personal: None,
+            global: None,
+        },
+    }
+}
+
+/// Judges all that is named, one after the other.
 fn check_each(
     rt: &HostRuntime,
-    paths: &[&str],
+    asked: &Check<'_>,
     around: &Surroundings<'_>,
 ) -> Result<Verdict, Failure> {
-    let mut told = Vec::new(rt.alloc());
+    let mut told = Told::new(rt.alloc());
     let mut verdict = Verdict::Good;
-    for path in paths {
-        if let Verdict::Refused = check_file(rt, *path, around, &mut told)? {
+    for name in asked.files.as_slice() {
+        if let Verdict::Refused = check_named(rt, *name, asked.place, around, &mut told)? {
             verdict = Verdict::Refused;
         }
     }
     Ok(verdict)
 }
 
-/// Judges the scripts and plans of files, one after the other; a plan's path ends with `.toml`. The verdict is `Refused`
-/// where one of the files, or the present plan, is refused. A warning changes no verdict.
+/// Judges the scripts and plans of files, or the programs of officers, one after the other; a plan's path ends with `.toml`.
+/// The verdict is `Refused` where one of these, or the present plan, is refused, or where a script files into a class that
+/// the present plan does not have or that is closed. A warning changes no verdict.
 pub fn check_files(rt: &HostRuntime, asked: &Check<'_>) -> Result<Verdict, Failure> {
-    let Some(present) = read_plan(rt, asked.plan)? else {
+    let mut refusals = Refusals::new(rt.alloc());
+    let Some(present) = read_plan(rt, &mut refusals, asked.plan)? else {
+        refusals.write_lines(rt)?;
         return Ok(Verdict::Refused);
     };
     let around = Surroundings {
         plan: asked.plan.map(|_| &present.plan),
-        folders: asked.folders,
+        folders: folders_of(asked.place),
     };
-    check_each(rt, asked.files.as_slice(), &around)
+    check_each(rt, asked, &around)
 }

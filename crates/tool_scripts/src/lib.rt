@@ -8,6 +8,7 @@
 //! - `places`: the instruction by which an image is refused;
 //! - `questions`: a message, a plan and a moment that are asked about;
 //! - `runs`: why a message is filed where it is, for `why`;
+//! - `refused`: what is refused, as JSON;
 //! - `steps`: the fields that a message was read as, and the steps of a run over it;
 //! - `classes`: the classes of a run, with what filed the message in each.
 //!
@@ -22,6 +23,7 @@ mod dumps;
 mod images;
 mod places;
 mod questions;
+mod refused;
 mod runs;
 mod scripts;
 mod steps;

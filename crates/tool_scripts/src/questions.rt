@@ -2,7 +2,7 @@
 
 use class_plan::{Date, day_number, day_of};
 use command_lines::tools::{NO_DAY, Why};
-use tool_checks::{NamedPlan, read_plan};
+use tool_checks::{NamedPlan, Refusals, read_plan};
 use tool_console::{Failure, now, read_file};
 use tool_texts::Payload;
 
@@ -36,14 +36,15 @@ fn moment_of(rt: &HostRuntime, day: Option<Date>) -> Result<u64, Failure> {
     }
 }
 
-/// What is asked about; none where the plan is refused, which is reported. Without a plan's file the only class is
-/// `unfiled`. A failure where the day is none of 1970 to 2199.
+/// What is asked about; none where the plan is refused, which is added to what is found. Without a plan's file the only
+/// class is `unfiled`. A failure where the day is none of 1970 to 2199.
 pub fn read_question<'a>(
     rt: &HostRuntime,
+    refusals: &mut Refusals,
     asked: &'a Why<'a>,
 ) -> Result<Option<Question<'a>>, Failure> {
     let moment = moment_of(rt, asked.day)?;
-    let Some(plan) = read_plan(rt, asked.plan)? else {
+    let Some(plan) = read_plan(rt, refusals, asked.plan)? else {
         return Ok(None);
     };
     let message = read_file(rt, asked.message, Payload::Message.limit())?;

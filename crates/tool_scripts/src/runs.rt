@@ -3,30 +3,32 @@
 use crate::classes::show_classes;
 use crate::dumps::read_image;
 use crate::questions::{Question, read_question};
-use crate::scripts::{read_folders, read_script, unless_full};
+use crate::refused::refusals_json;
+use crate::scripts::{Source, read_folders, read_script, unless_full};
 use crate::steps::{show_fields, show_steps};
-use command_lines::tools::{Folders, Format, Rules, Why};
+use command_lines::tools::{Format, Rules, Why};
 use filing_machine::{Trace, trace_run};
 use filing_verify::Verified;
 use mail_case::Case;
 use sieve_meaning::{Location, Outcome, RunFault};
-use tool_console::{Failure, Verdict, tell_words, write_data, write_refusal, write_text};
+use tool_checks::Refusals;
+use tool_console::{Failure, Verdict, tell_words, write_data, write_text};
 use tool_inquiry::{
     Answer, Form, Inquiry, ScriptFile, Scripts, Written, answer_to, compiled, open_case,
     outcome_text,
 };
 
-/// A script and those of the folders; none where one is refused, which is reported.
+/// A script and those of the folders; none where one is refused, which is added to what is found.
 fn read_scripts(
     rt: &HostRuntime,
-    path: &str,
-    folders: Folders<'_>,
+    refusals: &mut Refusals,
+    source: &Source<'_>,
 ) -> Result<Option<Scripts>, Failure> {
-    let Some(main) = read_script(rt, path, Location::Personal)? else {
+    let Some(main) = read_script(rt, refusals, source.path(), Location::Personal)? else {
         return Ok(None);
     };
-    match read_folders(rt, folders)? {
-        Some(others) => unless_full(rt, Scripts::new(rt.alloc(), main, others)),
+    match read_folders(rt, refusals, source)? {
+        Some(others) => unless_full(refusals, Scripts::new(rt.alloc(), main, others)),
         None => Ok(None),
     }
 }
@@ -39,7 +41,7 @@ fn tell_lack(rt: &HostRuntime, asked: &Why<'_>, fault: Option<RunFault>) {
         }
         Some(RunFault::ClassNotOpen) => "check --plan says whether the class is missing or closed",
         Some(RunFault::ScriptMissing) => {
-            "the scripts to include are those in the folders of --personal and --global"
+            "the scripts to include are those in the folders of --personal and --global, or of --rules"
         }
         _ => return,
     };
@@ -85,12 +87,13 @@ fn inquiry_of<'q>(scripts: &'q Scripts, question: &'q Question<'q>) -> Inquiry<'
 /// Writes a report on the run of a script.
 fn report_run(
     rt: &HostRuntime,
+    refusals: &mut Refusals,
     scripts: &Scripts,
     question: &Question<'_>,
     form: Form,
 ) -> Result<Verdict, Failure> {
     let inquiry = inquiry_of(scripts, question);
-    let Some(answer) = unless_full(rt, answer_to(rt.alloc(), &inquiry, form))? else {
+    let Some(answer) = unless_full(refusals, answer_to(rt.alloc(), &inquiry, form))? else {
         return Ok(Verdict::Refused);
     };
     write_answer(rt, &answer)?;
@@ -116,11 +119,12 @@ fn show_run<C: Case>(
 /// Runs an image over the message, and shows the run.
 fn run_image(
     rt: &HostRuntime,
+    refusals: &mut Refusals,
     program: &Verified,
     question: &Question<'_>,
 ) -> Result<Verdict, Failure> {
     let (message, plan) = (question.message.as_slice(), &question.plan.plan);
-    let Some(case) = unless_full(rt, open_case(rt.alloc(), message, plan))? else {
+    let Some(case) = unless_full(refusals, open_case(rt.alloc(), message, plan))? else {
         return Ok(Verdict::Refused);
     };
     let run = trace_run(rt.alloc(), program, &case)?;
@@ -131,13 +135,14 @@ fn run_image(
 /// Runs the image of a script over the message, and shows the run. A script that is too heavy (5) is refused.
 fn run_compiled(
     rt: &HostRuntime,
+    refusals: &mut Refusals,
     scripts: &Scripts,
     question: &Question<'_>,
 ) -> Result<Verdict, Failure> {
-    match unless_full(rt, compiled(rt.alloc(), scripts))? {
-        Some(Some(program)) => run_image(rt, &program, question),
+    match unless_full(refusals, compiled(rt.alloc(), scripts))? {
+        Some(Some(program)) => run_image(rt, refusals, &program, question),
         Some(None) => {
-            write_refusal(rt, scripts.main.path.as_str(), 5)?;
+            refusals.add_number(scripts.main.path.as_str(), 5)?;
             Ok(Verdict::Refused)
         }
         None => Ok(Verdict::Refused),
@@ -147,22 +152,72 @@ fn run_compiled(
 /// Says why a script files the message.
 fn tell_script(
     rt: &HostRuntime,
-    scripts: &Scripts,
+    refusals: &mut Refusals,
+    source: &Source<'_>,
     question: &Question<'_>,
     format: Format,
 ) -> Result<Verdict, Failure> {
+    let Some(scripts) = read_scripts(rt, refusals, source)? else {
+        return Ok(Verdict::Refused);
+    };
     match format {
-        Format::Steps => run_compiled(rt, scripts, question),
-        Format::Json => report_run(rt, scripts, question, Form::Json),
-        Format::Lines => report_run(rt, scripts, question, Form::Lines),
+        Format::Steps => run_compiled(rt, refusals, &scripts, question),
+        Format::Json => report_run(rt, refusals, &scripts, question, Form::Json),
+        Format::Lines => report_run(rt, refusals, &scripts, question, Form::Lines),
     }
 }
 
 /// Says why an image files the message.
-fn tell_image(rt: &HostRuntime, path: &str, question: &Question<'_>) -> Result<Verdict, Failure> {
+fn tell_image(
+    rt: &HostRuntime,
+    refusals: &mut Refusals,
+    path: &str,
+    question: &Question<'_>,
+) -> Result<Verdict, Failure> {
     match read_image(rt, path)? {
-        Some(program) => run_image(rt, &program, question),
+        Some(program) => run_image(rt, refusals, &program, question),
         None => Ok(Verdict::Refused),
+    }
+}
+
+/// Says why the message is filed where it is. What is refused is added to what is found.
+fn tell_asked(
+    rt: &HostRuntime,
+    refusals: &mut Refusals,
+    asked: &Why<'_>,
+) -> Result<Verdict, Failure> {
+    let Some(question) = read_question(rt, refusals, asked)? else {
+        return Ok(Verdict::Refused);
+    };
+    match asked.by {
+        Rules::Image(path) => tell_image(rt, refusals, path, &question),
+        Rules::Script {
+            script,
+            place,
+            format,
+        } => {
+            let source = Source::of(rt, script, place)?;
+            tell_script(rt, refusals, &source, &question, format)
+        }
+    }
+}
+
+/// Writes what is refused: in lines, or as one line of JSON where that is asked for.
+fn write_refusals(
+    rt: &HostRuntime,
+    refusals: &mut Refusals,
+    asked: &Why<'_>,
+) -> Result<(), Failure> {
+    match asked.by {
+        Rules::Script {
+            format: Format::Json,
+            ..
+        } => {
+            let text = refusals_json(rt.alloc(), refusals.as_slice())?;
+            write_data(rt, text.as_bytes())?;
+            write_data(rt, b"\n")
+        }
+        _ => refusals.write_lines(rt),
     }
 }
 
@@ -170,18 +225,10 @@ fn tell_image(rt: &HostRuntime, path: &str, question: &Question<'_>) -> Result<V
 /// are asked for; by an image its steps. What is refused is reported on standard output: the plan, a script, or the
 /// image.
 pub fn tell_why(rt: &HostRuntime, asked: &Why<'_>) -> Result<Verdict, Failure> {
-    let Some(question) = read_question(rt, asked)? else {
-        return Ok(Verdict::Refused);
-    };
-    match asked.by {
-        Rules::Image(path) => tell_image(rt, path, &question),
-        Rules::Script {
-            path,
-            folders,
-            format,
-        } => match read_scripts(rt, path, folders)? {
-            Some(scripts) => tell_script(rt, &scripts, &question, format),
-            None => Ok(Verdict::Refused),
-        },
+    let mut refusals = Refusals::new(rt.alloc());
+    let verdict = tell_asked(rt, &mut refusals, asked)?;
+    if !refusals.as_slice().is_empty() {
+        write_refusals(rt, &mut refusals, asked)?;
     }
+    Ok(verdict)
 }

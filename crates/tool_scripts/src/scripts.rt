@@ -1,110 +1,158 @@
 //! Scripts of files, and of folders of scripts that can be included.
 
-use command_lines::tools::Folders;
+use command_lines::tools::{Folders, Place};
 use sieve_meaning::Location;
-use tool_checks::{SCRIPT_ENDING, read_good_script};
-use tool_console::{Failure, paths_in, write_refusal};
-use tool_inquiry::{InquiryFault, ScriptFile, script_of};
-use tool_texts::Shown;
+use std::alloc::{AllocError, Global};
+use tool_checks::{
+    OfficerRules, Refusals, SCRIPT_ENDING, Start, judge_script, reaches, read_script_text, rules_of,
+};
+use tool_console::{Failure, Verdict, paths_in, tell};
+use tool_inquiry::{InquiryFault, ScriptFile, script_name, script_of};
+use tool_texts::{Shown, put};
 
-/// The script of a file; none where it is refused, which is reported on standard output.
+/// A script that is named on a command line, and where those are that it can include.
+#[derive(Drop)]
+pub enum Source<'a> {
+    /// By its path.
+    Path(&'a str, Folders<'a>),
+    /// As the program of an officer.
+    Officer(OfficerRules),
+}
+
+impl<'a> Source<'a> {
+    /// The script of this name at a place: a path, or an officer.
+    pub fn of(rt: &HostRuntime, name: &'a str, place: Place<'a>) -> Result<Source<'a>, Failure> {
+        match place {
+            Place::Folders(folders) => Ok(Source::Path(name, folders)),
+            Place::Rules(folder) => Ok(Source::Officer(rules_of(rt, folder, name)?)),
+        }
+    }
+
+    /// Its path.
+    pub fn path(&self) -> &str {
+        match self {
+            Source::Path(path, _) => *path,
+            Source::Officer(rules) => rules.main.as_str(),
+        }
+    }
+
+    /// The folders of the scripts that it can include.
+    pub fn folders(&self) -> Folders<'_> {
+        match self {
+            Source::Path(_, folders) => *folders,
+            Source::Officer(rules) => rules.folders(),
+        }
+    }
+
+    /// It as the beginning of a way along includes.
+    fn start(&self) -> Start<'_> {
+        Start {
+            path: self.path(),
+            name: script_name(self.path()),
+            folders: self.folders(),
+        }
+    }
+}
+
+/// The script of a file; none where it is refused, which is added to what is found.
 pub fn read_script(
     rt: &HostRuntime,
+    refusals: &mut Refusals,
     path: &str,
     location: Location,
 ) -> Result<Option<ScriptFile>, Failure> {
-    match read_good_script(rt, path)? {
-        Some(text) => Ok(script_of(rt.alloc(), path, location, text)?),
-        None => Ok(None),
+    let text = read_script_text(rt, path)?;
+    match judge_script(refusals, path, &text)? {
+        Verdict::Good => Ok(script_of(rt.alloc(), path, location, text)?),
+        Verdict::Refused => Ok(None),
     }
 }
 
-/// Adds the script of a file; false where it is refused, which is reported.
+/// What is said of a script that is refused and left out.
+fn left_out(alloc: Global, path: &str) -> Result<Shown, AllocError> {
+    let mut text = Shown::new(alloc);
+    put!(text;
+        named(path.as_bytes())
+        ": left out, as it is refused and the script does not reach it; check says why"
+    )?;
+    Ok(text)
+}
+
+/// Adds the script of a file of a folder; false where it is refused, which is added to what is found, and reached by the
+/// main script. One that is refused and not reached is left out, which is told on standard error.
 fn add_script(
     rt: &HostRuntime,
+    refusals: &mut Refusals,
+    main: &Source<'_>,
     path: &str,
     location: Location,
     scripts: &mut Vec<ScriptFile>,
 ) -> Result<bool, Failure> {
-    match read_script(rt, path, location)? {
-        Some(script) => {
-            scripts.push(script)?;
-            Ok(true)
-        }
-        None => Ok(false),
+    let mut own = Refusals::new(rt.alloc());
+    if let Some(script) = read_script(rt, &mut own, path, location)? {
+        scripts.push(script)?;
+        return Ok(true);
     }
+    if reaches(rt, &main.start(), path)? {
+        refusals.append(own)?;
+        return Ok(false);
+    }
+    tell(rt, &left_out(rt.alloc(), path)?);
+    Ok(true)
 }
 
-/// Adds the scripts of files up to the first one that is refused, which is reported; false where there is one.
-fn add_scripts(
+/// Adds the scripts of a folder, if one is named, in the byte order of their paths. False where one is refused that the
+/// main script reaches, which is added to what is found.
+fn add_folder(
     rt: &HostRuntime,
-    paths: &[String],
+    refusals: &mut Refusals,
+    main: &Source<'_>,
     location: Location,
     scripts: &mut Vec<ScriptFile>,
 ) -> Result<bool, Failure> {
-    for path in paths {
-        if !add_script(rt, path.as_str(), location, scripts)? {
+    let Some(folder) = main.folders().of(matches!(location, Location::Global)) else {
+        return Ok(true);
+    };
+    for path in paths_in(rt, folder, SCRIPT_ENDING)? {
+        if !add_script(rt, refusals, main, path.as_str(), location, scripts)? {
             return Ok(false);
         }
     }
     Ok(true)
 }
 
-/// Adds the scripts of a folder, if one is named, in the byte order of their paths. False where one is refused, which is
-/// reported.
-fn add_folder(
-    rt: &HostRuntime,
-    folder: Option<&str>,
-    location: Location,
-    scripts: &mut Vec<ScriptFile>,
-) -> Result<bool, Failure> {
-    let Some(folder) = folder else {
-        return Ok(true);
-    };
-    let paths = paths_in(rt, folder, SCRIPT_ENDING)?;
-    add_scripts(rt, paths.as_slice(), location, scripts)
-}
-
-/// Adds the scripts of the folders; false where one is refused, which is reported.
-fn add_folders(
-    rt: &HostRuntime,
-    folders: Folders<'_>,
-    scripts: &mut Vec<ScriptFile>,
-) -> Result<bool, Failure> {
-    if !add_folder(rt, folders.personal, Location::Personal, scripts)? {
-        return Ok(false);
-    }
-    add_folder(rt, folders.global, Location::Global, scripts)
-}
-
-/// The scripts of the folders, the officer's own first; none where one is refused, which is reported.
+/// The scripts of the folders of a main script, the officer's own first; none where one is refused that the main script
+/// reaches, which is added to what is found.
 pub fn read_folders(
     rt: &HostRuntime,
-    folders: Folders<'_>,
+    refusals: &mut Refusals,
+    main: &Source<'_>,
 ) -> Result<Option<Vec<ScriptFile>>, Failure> {
     let mut scripts = Vec::new(rt.alloc());
-    if add_folders(rt, folders, &mut scripts)? {
-        Ok(Some(scripts))
-    } else {
-        Ok(None)
+    if !add_folder(rt, refusals, main, Location::Personal, &mut scripts)? {
+        return Ok(None);
     }
+    if !add_folder(rt, refusals, main, Location::Global, &mut scripts)? {
+        return Ok(None);
+    }
+    Ok(Some(scripts))
 }
 
-/// What an inquiry has given; none where a location has no room for a script, which is reported with the path of the
-/// script (96).
+/// What an inquiry has given; none where a location has no room for a script, which is added to what is found with the
+/// path of the script (96).
 pub fn unless_full<T: Drop>(
-    rt: &HostRuntime,
+    refusals: &mut Refusals,
     given: Result<T, InquiryFault>,
 ) -> Result<Option<T>, Failure> {
     match given {
         Ok(given) => Ok(Some(given)),
         Err(InquiryFault::NoMemory) => Err(Failure::NoMemory),
         Err(InquiryFault::Full(path)) => {
-            write_refusal(rt, path.as_str(), 96)?;
+            refusals.add_number(path.as_str(), 96)?;
             Ok(None)
         }
         Err(fault) => {
-            let mut text = Shown::new(rt.alloc());
+            let mut text = Shown::new(refusals.allocator());
             text.value(&fault)?;
             Err(Failure::Message(text))
         }

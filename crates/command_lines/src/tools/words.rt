@@ -6,6 +6,7 @@ pub const PERSONAL: Word = Word {
     name: "personal",
     value: "DIR",
     help: Some("The officer's own scripts, NAME.sieve each"),
+    conflict: Some("rules"),
     ..OPTION
 };
 
@@ -13,6 +14,17 @@ pub const GLOBAL: Word = Word {
     name: "global",
     value: "DIR",
     help: Some("The scripts that every officer can include, NAME.sieve each"),
+    conflict: Some("rules"),
+    ..OPTION
+};
+
+/// The folder of all rules.
+pub const RULES: Word = Word {
+    name: "rules",
+    value: "FOLDER",
+    help: Some(
+        "The folder of all rules, as of mailfile-store deliver: OFFICER/main.sieve, and global/NAME.sieve for all officers; an officer is named in place of a script",
+    ),
     ..OPTION
 };
 
@@ -84,7 +96,7 @@ pub const PRESENT_PLAN: Word = Word {
     name: "plan",
     value: "FILE",
     help: Some(
-        "The present plan: classes that it does not have, or that are closed, are warnings in a script, and those that a plan leaves out are faults",
+        "The present plan: classes that it does not have, or that are closed, are faults of a script, and those that a plan leaves out are faults of the plan",
     ),
     ..OPTION
 };
@@ -92,8 +104,8 @@ pub const PRESENT_PLAN: Word = Word {
 const CHECK: Subcommand = Subcommand {
     name: "check",
     about: "Checks scripts, and plans by the ending .toml: prints nothing for good ones, else FILE:LINE:COLUMN: NUMBER: TEXT for each fault, with status 1",
-    example: "Example: mailfile-tool check plan.toml scripts/*.sieve --plan plan.toml; - is standard input, a script",
-    words: &[FILES, PRESENT_PLAN, PERSONAL, GLOBAL],
+    example: "Example: mailfile-tool check --plan plan.toml --rules rules ann; or mailfile-tool check plan.toml scripts/*.sieve, where - is standard input, a script",
+    words: &[FILES, PRESENT_PLAN, RULES, PERSONAL, GLOBAL],
 };
 
 pub const OUTPUT: Word = Word {
@@ -106,7 +118,7 @@ const COMPILE: Subcommand = Subcommand {
     name: "compile",
     about: "Writes the image of a script, and prints its budget in steps",
     example: "Example: mailfile-tool compile main.sieve --global shared -o main.image",
-    words: &[SCRIPT, OUTPUT, PERSONAL, GLOBAL],
+    words: &[SCRIPT, OUTPUT, RULES, PERSONAL, GLOBAL],
 };
 
 const DUMP: Subcommand = Subcommand {
@@ -156,6 +168,7 @@ pub const RUN: Word = Word {
     help: Some(
         "Runs this image in place of a script, and shows its steps; only a message is named",
     ),
+    conflict: Some("rules"),
     ..OPTION
 };
 
@@ -164,7 +177,7 @@ const WHY: Subcommand = Subcommand {
     about: "Shows why a message is filed where it is: the commands that chose its classes, its fields, and the way there by the source",
     example: "Example: mailfile-tool why main.sieve mail.eml --plan plan.toml --day 2026-11-23",
     words: &[
-        SCRIPT, MESSAGE, PLAN, DAY, STEPS, JSON, RUN, PERSONAL, GLOBAL,
+        SCRIPT, MESSAGE, PLAN, DAY, STEPS, JSON, RUN, RULES, PERSONAL, GLOBAL,
     ],
 };
 

@@ -1,0 +1,4 @@
+require ["fileinto", "copy"];
+if header :contains ["subject", "subject:"] "bill" {
+    fileinto :copy "taxes";
+}
