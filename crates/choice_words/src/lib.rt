@@ -3,7 +3,7 @@
 //! - `numbers`: the numbers of records that a word is;
 //! - `choice`: all that is typed of a choice.
 //!
-//! In `specs/`, `Numbers` says which words are numbers.
+//! In `specs/`, `Numbers` says which words are numbers, and `Choices` when nothing is typed.
 #![tactic(auto)]
 
 mod choice;
