@@ -1,10 +1,11 @@
 //! `report`: one page of HTML on what is kept, what is due and what is held.
 
 use class_plan::{Date, Plan};
-use cli_console::{Failure, Status, Walk, now, today, write_data};
+use cli_choice::Questions;
+use cli_console::{Failure, Search, Status, now, today, write_data};
 use cli_page::{Heading, Page, Record, Report, ReportFault};
 use cli_texts::moment_text;
-use record_choice::Choice;
+use command_lines::archives::Choice;
 use record_store::{RecordEntry, Store};
 use sqlite::Alter;
 
@@ -46,16 +47,15 @@ fn add_page(
     Ok(())
 }
 
-/// Adds all records, a page of the archive at a time.
+/// Adds the records that are found, a page at a time.
 fn add_records<S: Alter>(
     rt: &HostRuntime,
     archive: &mut Store<S>,
     report: &mut Report,
+    search: &mut Search<'_, '_>,
 ) -> Result<(), Failure> {
-    let every = Choice::every();
-    let mut walk = Walk::from(&every, 1);
     for _ in 0..u64::MAX {
-        let Some(page) = walk.next_page(rt, archive)? else {
+        let Some(page) = search.next_page(rt, archive)? else {
             break;
         };
         add_page(rt, archive.plan(), report, page.as_slice())?;
@@ -85,16 +85,21 @@ fn write_page(
     write_data(rt, page.as_str().as_bytes())
 }
 
-/// Writes a report by a day to standard output, as a page of HTML that names the store's file.
+/// Writes a report by a day to standard output, as a page of HTML that names the store's file. It is on the records that
+/// meet a choice, and whose messages have what is asked of them. `BadData` where the class is none of the plan.
 pub fn write_report<S: Alter>(
     rt: &HostRuntime,
     archive: &mut Store<S>,
     file: &str,
     day: Date,
+    choice: &Choice<'_>,
+    questions: &Questions,
 ) -> Result<(), Failure> {
+    let mut search = Search::new(rt, archive, choice, questions)?;
     let mut report = Report::new(rt.alloc(), archive.plan(), day).map_err(|fault| report_failure(
         rt, fault,
     ))?;
-    add_records(rt, archive, &mut report)?;
-    write_page(rt, archive.plan(), &report, file, day)
+    add_records(rt, archive, &mut report, &mut search)?;
+    write_page(rt, archive.plan(), &report, file, day)?;
+    search.end(rt, archive)
 }
