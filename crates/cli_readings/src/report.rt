@@ -8,6 +8,7 @@ use cli_texts::moment_text;
 use command_lines::archives::Choice;
 use record_store::{RecordEntry, Store};
 use sqlite::Alter;
+use std::alloc::{AllocError, Global};
 
 /// The failure of a report.
 fn report_failure(rt: &HostRuntime, fault: ReportFault) -> Failure {
@@ -63,20 +64,85 @@ fn add_records<S: Alter>(
     Ok(())
 }
 
-/// Writes the page of a report.
+/// Adds an option with its value to a text, if it is typed.
+fn push_typed(text: &mut String, option: &str, value: Option<&str>) -> Result<(), AllocError> {
+    if let Some(value) = value {
+        push_word(text, option)?;
+        push_word(text, value)?;
+    }
+    Ok(())
+}
+
+/// Adds a word to a text, after a blank.
+fn push_word(text: &mut String, word: &str) -> Result<(), AllocError> {
+    if !text.is_empty() {
+        text.push(' ')?;
+    }
+    text.push_str(word)
+}
+
+/// Adds an option with its day to a text, if it is typed.
+fn push_day(
+    alloc: Global,
+    text: &mut String,
+    option: &str,
+    day: Option<Date>,
+) -> Result<(), AllocError> {
+    match day {
+        Some(day) => {
+            let day = format!(in alloc; "{day}")?;
+            push_typed(text, option, Some(day.as_str()))
+        }
+        None => Ok(()),
+    }
+}
+
+/// Adds a flag to a text, if it is typed.
+fn push_flag(text: &mut String, flag: &str, is_typed: bool) -> Result<(), AllocError> {
+    if is_typed {
+        push_word(text, flag)?;
+    }
+    Ok(())
+}
+
+/// The conditions of a choice, as they are typed.
+fn conditions_of(alloc: Global, choice: &Choice<'_>) -> Result<String, AllocError> {
+    let mut text = String::new(alloc);
+    push_typed(&mut text, "--sender", choice.sender)?;
+    push_typed(&mut text, "--recipient", choice.recipient)?;
+    push_typed(&mut text, "--subject", choice.subject)?;
+    push_typed(&mut text, "--where", choice.test)?;
+    push_typed(&mut text, "--class", choice.class)?;
+    push_day(alloc, &mut text, "--since", choice.since)?;
+    push_day(alloc, &mut text, "--until", choice.until)?;
+    push_day(alloc, &mut text, "--due", choice.due)?;
+    push_flag(&mut text, "--held", choice.is_held)?;
+    push_flag(&mut text, "--live", choice.is_live)?;
+    push_flag(&mut text, "--destroyed", choice.is_destroyed)?;
+    Ok(text)
+}
+
+/// Writes the page of a report on the records of a choice.
 fn write_page(
     rt: &HostRuntime,
     plan: &Plan,
     report: &Report,
     file: &str,
     day: Date,
+    choice: &Choice<'_>,
 ) -> Result<(), Failure> {
     let moment = moment_text(rt.alloc(), now(rt)?)?;
+    let conditions = conditions_of(rt.alloc(), choice)?;
     let heading = Heading {
         file,
         day,
         today: today(rt)?,
         moment: moment.as_str(),
+        conditions: if choice.is_empty() {
+            None
+        } else {
+            Some(conditions.as_str())
+        },
     };
     let mut page = Page::new(rt.alloc());
     report
@@ -100,6 +166,6 @@ pub fn write_report<S: Alter>(
         rt, fault,
     ))?;
     add_records(rt, archive, &mut report, &mut search)?;
-    write_page(rt, archive.plan(), &report, file, day)?;
+    write_page(rt, archive.plan(), &report, file, day, choice)?;
     search.end(rt, archive)
 }
