@@ -422,6 +422,31 @@ fn reading_asked<'a>(
     }))
 }
 
+/// What the subcommand of a name is asked to do.
+fn command_asked<'a>(
+    alloc: Global,
+    name: &str,
+    asked: &ArgMatches<'a>,
+) -> Result<Command<'a>, NoCommand> {
+    match change_asked(alloc, name, asked)? {
+        Some(command) => Ok(command),
+        None => reading_asked(alloc, name, asked)?.ok_or(NoCommand::Unread),
+    }
+}
+
+/// The store, and what the subcommand of a name is asked to do with it.
+fn line_asked<'a>(
+    alloc: Global,
+    name: &str,
+    asked: &ArgMatches<'a>,
+) -> Result<CommandLine<'a>, NoCommand> {
+    let store = required(asked, words::STORE)?;
+    match command_asked(alloc, name, asked) {
+        Ok(command) => Ok(CommandLine { store, command }),
+        Err(none) => Err(none),
+    }
+}
+
 /// Reads the words of a command line, the program's name first. A value that its option or place cannot have is
 /// `Wrong`; help, and what `clap` refuses, are printed.
 pub fn read_command_line<'a>(
@@ -429,13 +454,8 @@ pub fn read_command_line<'a>(
     words: &'a [String],
 ) -> Result<CommandLine<'a>, NoCommand> {
     let matches = read_words(rt, &words::PROGRAM, words)?;
-    let Some((name, asked)) = matches.subcommand() else {
-        return Err(NoCommand::Unread);
-    };
-    let store = required(asked, words::STORE)?;
-    let command = match change_asked(rt.alloc(), name, asked)? {
-        Some(command) => command,
-        None => reading_asked(rt.alloc(), name, asked)?.ok_or(NoCommand::Unread)?,
-    };
-    Ok(CommandLine { store, command })
+    match matches.subcommand() {
+        Some((name, asked)) => line_asked(rt.alloc(), name, asked),
+        None => Err(NoCommand::Unread),
+    }
 }
