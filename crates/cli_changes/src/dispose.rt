@@ -1,9 +1,10 @@
 //! `dispose`: what is due, and its destruction. Which records these are, `record_choice` decides.
 
 use class_plan::{Action, Date, Schedule};
+use cli_choice::{Meant, meant_of};
 use cli_console::{Failure, Status, judge_day, now, tell, tell_words, today, write_text};
 use cli_texts::{Certificate, captured_line, certificate_line, sum_text};
-use command_lines::archives::{Disposal, TypedNumber};
+use command_lines::archives::{Disposal, TypedNumbers};
 use record_choice::{
     Destroyed, DisposeFault, Disposed, End, Reason, Registrar, asked_lines, dispose,
 };
@@ -79,14 +80,6 @@ impl Registrar for Certificates<'_> {
     }
 }
 
-/// The number of a record as it was typed.
-fn word_of<'a>(records: &[TypedNumber<'a>], number: u32) -> &'a str {
-    match records.iter().find(|record| record.number == number) {
-        Some(record) => record.word,
-        None => "the record",
-    }
-}
-
 /// Adds the names of holds, each in quotation marks after a blank.
 fn put_names(text: &mut Shown, names: &[Vec<u8>]) -> Result<(), AllocError> {
     for name in names {
@@ -125,37 +118,34 @@ fn put_reason(text: &mut Shown, reason: &Reason) -> Result<(), AllocError> {
     }
 }
 
-/// That a record may not be destroyed, as its number was typed, and why.
-fn not_approved(alloc: Global, word: &str, reason: &Reason) -> Result<Shown, AllocError> {
+/// That the record of a number may not be destroyed, and why.
+fn not_approved(alloc: Global, number: u32, reason: &Reason) -> Result<Shown, AllocError> {
     let mut text = Shown::new(alloc);
-    put!(text; named(word.as_bytes()) ": ")?;
+    put!(text; value(&number) ": ")?;
     put_reason(&mut text, reason)?;
     Ok(text)
 }
 
 /// The failure of a disposal that destroys nothing.
-fn refused(
-    rt: &HostRuntime,
-    records: &[TypedNumber<'_>],
-    fault: DisposeFault<StoreFault>,
-) -> Failure {
+fn refused(rt: &HostRuntime, fault: DisposeFault<StoreFault>) -> Failure {
     match fault {
         DisposeFault::Repository(fault) => Failure::of_store(rt.alloc(), "the store", fault),
         DisposeFault::NoMemory => Failure::NoMemory,
-        DisposeFault::NotApproved(number, reason) => Failure::shown(
-            Status::BadData,
-            not_approved(rt.alloc(), word_of(records, number), &reason),
-        ),
+        DisposeFault::NotApproved(number, reason) => {
+            Failure::shown(Status::BadData, not_approved(rt.alloc(), number, &reason))
+        }
     }
 }
 
-/// The numbers of records that were asked for.
-fn numbers_asked(alloc: Global, records: &[TypedNumber<'_>]) -> Result<Vec<u32>, AllocError> {
-    let mut numbers = Vec::with_capacity(alloc, records.len())?;
-    for record in records {
-        numbers.push(record.number)?;
-    }
-    Ok(numbers)
+/// Which records a disposal by a day is about.
+fn meant_by<S: Alter>(
+    rt: &HostRuntime,
+    archive: &mut Store<S>,
+    typed: &[TypedNumbers],
+    day: Date,
+) -> Result<Meant, Failure> {
+    let lines = asked_lines(rt.alloc(), archive, &[], day).map_err(|fault| refused(rt, fault))?;
+    Ok(meant_of(rt.alloc(), typed, lines.as_slice())?)
 }
 
 /// Tells whether messages are gone, and why a disposal ended where that is no success.
@@ -178,15 +168,13 @@ fn settle(
     Ok(())
 }
 
-/// Destroys the records that are asked for, with a certificate for each.
+/// Destroys the records of some numbers, all that are due where there is no number, with a certificate for each.
 fn destroy_asked<S: Alter>(
     rt: &HostRuntime,
     archive: &mut Store<S>,
-    asked: &Disposal<'_>,
+    numbers: &[u32],
     day: Date,
 ) -> Result<(), Failure> {
-    let records = asked.records.as_slice();
-    let numbers = numbers_asked(rt.alloc(), records)?;
     let mut certificates = Certificates {
         rt,
         is_any_gone: false,
@@ -195,35 +183,43 @@ fn destroy_asked<S: Alter>(
         rt.alloc(),
         archive,
         &mut certificates,
-        numbers.as_slice(),
+        numbers,
         day,
-    )
-    .map_err(|fault| refused(rt, records, fault))?;
+    ).map_err(|fault| refused(rt, fault))?;
     settle(rt, certificates.is_any_gone, end)
 }
 
-/// Lists the records that are asked for, a line each.
+/// Lists the records of some numbers, all that are due where there is no number, a line each.
 fn list_asked<S: Alter>(
     rt: &HostRuntime,
     archive: &mut Store<S>,
-    asked: &Disposal<'_>,
+    numbers: &[u32],
     day: Date,
 ) -> Result<(), Failure> {
-    let records = asked.records.as_slice();
-    let numbers = numbers_asked(rt.alloc(), records)?;
-    let lines = asked_lines(rt.alloc(), archive, numbers.as_slice(), day).map_err(|fault| refused(
-        rt, records, fault,
-    ))?;
+    let lines = asked_lines(rt.alloc(), archive, numbers, day).map_err(|fault| refused(rt, fault))?;
     for line in lines.as_slice() {
-        let mut text = captured_line(rt.alloc(), line)?;
-        text.end_line()?;
-        write_text(rt, &text)?;
+        write_text(rt, &captured_line(rt.alloc(), line)?)?;
     }
     Ok(())
 }
 
+/// Lists or destroys the records of some numbers, all that are due where there is no number.
+fn dispose_of<S: Alter>(
+    rt: &HostRuntime,
+    archive: &mut Store<S>,
+    destroys: bool,
+    numbers: &[u32],
+    day: Date,
+) -> Result<(), Failure> {
+    if destroys {
+        destroy_asked(rt, archive, numbers, day)
+    } else {
+        list_asked(rt, archive, numbers, day)
+    }
+}
+
 /// The day by which records are to be destroyed. `Usage` where it has not come yet.
-pub fn day_of_disposal(rt: &HostRuntime, asked: &Disposal<'_>) -> Result<Date, Failure> {
+pub fn day_of_disposal(rt: &HostRuntime, asked: &Disposal) -> Result<Date, Failure> {
     match asked.day {
         Some(day) => {
             judge_day(rt, day)?;
@@ -233,17 +229,19 @@ pub fn day_of_disposal(rt: &HostRuntime, asked: &Disposal<'_>) -> Result<Date, F
     }
 }
 
-/// Writes what is due by a day and may be destroyed, or destroys it; of records that were asked for, these alone.
-/// `BadData` with the reason where one of these may not be destroyed.
+/// Writes what is due by a day and may be destroyed, or destroys it; where numbers are typed, these records alone. A range
+/// passes over what may not be destroyed; `BadData` with the reason where that is a record whose number is typed by itself.
 pub fn dispose_by<S: Alter>(
     rt: &HostRuntime,
     archive: &mut Store<S>,
-    asked: &Disposal<'_>,
+    asked: &Disposal,
     day: Date,
 ) -> Result<(), Failure> {
-    if asked.destroys {
-        destroy_asked(rt, archive, asked, day)
-    } else {
-        list_asked(rt, archive, asked, day)
+    match meant_by(rt, archive, asked.numbers.as_slice(), day)? {
+        Meant::All => dispose_of(rt, archive, asked.destroys, &[], day),
+        Meant::Nothing => Ok(()),
+        Meant::Numbers(numbers) => {
+            dispose_of(rt, archive, asked.destroys, numbers.as_slice(), day)
+        }
     }
 }

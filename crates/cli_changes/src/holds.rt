@@ -1,20 +1,12 @@
 //! `hold` and `release`: records that must not be destroyed.
 
-use cli_console::{Failure, Status, tell, write_text};
+use cli_choice::{Change, Questions, is_meant};
+use cli_console::{Failure, Search, Status, tell, write_text};
 use command_lines::archives::Holding;
-use record_store::{Store, StoreFault};
+use record_store::{RecordEntry, Store, StoreFault};
 use sqlite::Alter;
 use std::alloc::{AllocError, Global};
 use tool_texts::{Shown, put};
-
-/// What is done with a hold.
-#[derive(Clone, Copy)]
-pub enum Change {
-    /// It is placed on a record.
-    Place,
-    /// It ends.
-    End,
-}
 
 /// Changes the hold of a name on a record.
 fn change_one<S: Alter>(
@@ -54,38 +46,69 @@ fn write_change(rt: &HostRuntime, change: Change, name: &str, number: u32) {
     }
 }
 
-/// Reports a record whose hold is not changed; a fault of the store is the end.
-fn report(rt: &HostRuntime, word: &str, fault: StoreFault) -> Result<(), Failure> {
-    let failure = Failure::of_store(rt.alloc(), word, fault);
-    match failure {
+/// Changes the hold of a name on a record, and writes that. Answers whether the archive did it; a refusal is told, and a fault
+/// of the store is the end.
+fn change_on<S: Alter>(
+    rt: &HostRuntime,
+    archive: &mut Store<S>,
+    change: Change,
+    name: &str,
+    number: u32,
+) -> Result<bool, Failure> {
+    let Err(fault) = change_one(archive, change, name.as_bytes(), number) else {
+        write_change(rt, change, name, number);
+        return Ok(true);
+    };
+    let word = format!(in rt.alloc(); "{number}")?;
+    match Failure::of_store(rt.alloc(), word.as_str(), fault) {
         Failure::Told(Status::BadData, text) => {
             tell(rt, &text);
-            Ok(())
+            Ok(false)
         }
         other => Err(other),
     }
 }
 
-/// Changes the hold of a name on records. Those that the archive refuses are reported, and are a failure in the end.
+/// Changes the hold of a name on those records of a page that are meant. Answers whether the archive did it on each.
+fn change_page<S: Alter>(
+    rt: &HostRuntime,
+    archive: &mut Store<S>,
+    change: Change,
+    holding: &Holding<'_>,
+    page: &[RecordEntry],
+) -> Result<bool, Failure> {
+    let name = holding.name;
+    let typed = holding.choice.numbers.as_slice();
+    let mut is_done = true;
+    for entry in page {
+        if is_meant(change, name.as_bytes(), typed, entry) {
+            is_done = change_on(rt, archive, change, name, entry.number)? && is_done;
+        }
+    }
+    Ok(is_done)
+}
+
+/// Changes the hold of a name on the records that are found. Those that are typed by themselves, and that are not found or
+/// that the archive refuses, are told, and are a failure in the end. `BadData` where the class is none of the plan.
 pub fn change_holds<S: Alter>(
     rt: &HostRuntime,
     archive: &mut Store<S>,
     change: Change,
     holding: &Holding<'_>,
+    questions: &Questions,
 ) -> Result<(), Failure> {
-    let name = holding.name;
-    let mut refused = false;
-    for record in &holding.records {
-        match change_one(archive, change, name.as_bytes(), record.number) {
-            Ok(()) => write_change(rt, change, name, record.number),
-            Err(fault) => {
-                report(rt, record.word, fault)?;
-                refused = true;
-            }
-        }
+    let mut search = Search::new(rt, archive, &holding.choice, questions)?;
+    let mut is_done = true;
+    for _ in 0..u64::MAX {
+        let Some(page) = search.next_page(rt, archive)? else {
+            break;
+        };
+        is_done = change_page(rt, archive, change, holding, page.as_slice())? && is_done;
     }
-    if refused {
-        return Err(Failure::Reported(Status::BadData));
+    search.end(rt, archive)?;
+    if is_done {
+        Ok(())
+    } else {
+        Err(Failure::Reported(Status::BadData))
     }
-    Ok(())
 }

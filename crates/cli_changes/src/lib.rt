@@ -20,7 +20,7 @@ mod rules;
 
 pub use deliver::{deliver_to, read_message, report_delivery};
 pub use dispose::{day_of_disposal, dispose_by};
-pub use holds::{Change, change_holds};
+pub use holds::change_holds;
 pub use intake::{Intake, take_new};
 pub use moments::{MomentFault, Timing, judge_moment};
 pub use plan::{replace_plan, write_plan};

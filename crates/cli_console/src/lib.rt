@@ -3,7 +3,7 @@
 //! - `failure`: why something is not done, and the status that says so;
 //! - `output`: what is written for people and programs;
 //! - `clock`: the time and the day;
-//! - `walk`: the records of an archive, a page at a time.
+//! - `walk`: the records of an archive, a page at a time; `search`: those that a command line asks for.
 //!
 //! No contract speaks of a clock, a terminal or a stream. So these calls are only proved to be safe, and tests of the
 //! program show what they do.
@@ -12,9 +12,11 @@
 mod clock;
 mod failure;
 mod output;
+mod search;
 mod walk;
 
 pub use clock::{day_or_today, is_by, judge_day, now, today};
 pub use failure::{Failure, Status};
 pub use output::{agrees, tell, tell_words, write_data, write_text};
+pub use search::Search;
 pub use walk::{Walk, message_of};

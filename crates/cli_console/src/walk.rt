@@ -1,46 +1,35 @@
 //! A walk over the chosen records of an archive. Which these are, `record_choice` decides.
 
 use crate::failure::Failure;
-use record_choice::{Anything, Choice, Judge, WalkFault, choose_page};
+use record_choice::{Anything, Choice, WalkFault, choose_page};
 use record_store::{RecordEntry, Store, StoreFault};
 use sqlite::Alter;
 use std::alloc::Global;
 
 /// How many records a walk looks at in a step.
-const PAGE: usize = 4_000;
+pub(crate) const PAGE: usize = 4_000;
 
 /// A walk over the chosen records of an archive, by number.
 #[derive(Drop)]
-pub struct Walk<'a, J> {
+pub struct Walk<'a> {
     choice: &'a Choice,
-    /// What is asked of their messages, if anything is.
-    question: Option<&'a J>,
     /// The number from which it goes on, if it does.
     from: Option<u32>,
 }
 
 /// The failure of a walk.
-fn walk_failure(alloc: Global, fault: WalkFault<StoreFault>) -> Failure {
+pub(crate) fn walk_failure(alloc: Global, fault: WalkFault<StoreFault>) -> Failure {
     match fault {
         WalkFault::Repository(fault) => Failure::of_store(alloc, "the store", fault),
         WalkFault::NoMemory => Failure::NoMemory,
     }
 }
 
-impl<'a> Walk<'a, Anything> {
+impl<'a> Walk<'a> {
     /// A walk over the records of a choice, from a number on.
-    pub fn from(choice: &'a Choice, number: u32) -> Walk<'a, Anything> {
-        Walk::asking(choice, None, number)
-    }
-}
-
-impl<'a, J: Judge> Walk<'a, J> {
-    /// A walk over those records of a choice, from a number on, for whose messages the answer to a question is yes. No
-    /// message is read where nothing is asked.
-    pub fn asking(choice: &'a Choice, question: Option<&'a J>, number: u32) -> Walk<'a, J> {
+    pub fn from(choice: &'a Choice, number: u32) -> Walk<'a> {
         Walk {
             choice,
-            question,
             from: Some(number),
         }
     }
@@ -54,9 +43,15 @@ impl<'a, J: Judge> Walk<'a, J> {
         let Some(from) = self.from else {
             return Ok(None);
         };
-        let page = choose_page(rt.alloc(), archive, self.choice, self.question, from, PAGE).map_err(
-            |fault| walk_failure(rt.alloc(), fault),
-        )?;
+        let page = choose_page(
+            rt.alloc(),
+            archive,
+            self.choice,
+            None::<&Anything>,
+            from,
+            PAGE,
+        )
+        .map_err(|fault| walk_failure(rt.alloc(), fault))?;
         self.from = page.next;
         Ok(Some(page.chosen))
     }

@@ -38,6 +38,8 @@ pub struct Heading<'a> {
     pub today: Date,
     /// When it is made.
     pub moment: &'a str,
+    /// The conditions that its records meet, as they are typed. None where it is on all records.
+    pub conditions: Option<&'a str>,
 }
 
 /// A report on an archive by a day. Its memory grows with the classes, with the holds and with what is due, and not with the

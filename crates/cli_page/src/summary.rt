@@ -43,7 +43,11 @@ pub fn heading(alloc: Global, page: &mut Page, heading: &Heading<'_>) -> Result<
         "</h1>\n<dl class=\"facts\">\n"
         "<dt>Store</dt><dd>" text(heading.file) "</dd>\n"
         "<dt>Made</dt><dd>" text(heading.moment) "</dd>\n"
-    )
+    )?;
+    if let Some(conditions) = heading.conditions {
+        put!(page; "<dt>Only records with</dt><dd>" text(conditions) "</dd>\n")?;
+    }
+    Ok(())
 }
 
 /// Adds how many records there are, and so the end of the head.

@@ -1,10 +1,10 @@
-//! Which records a list or an export has.
+//! What is asked of the records that a command is about.
 
-use class_plan::Plan;
+use cli_choice::{Questions, QuestionsFault};
 use cli_console::{Failure, Status, judge_day};
 use command_lines::archives::Choice;
-use record_choice::Holder;
-use record_question::{QuestionFault, TestQuestion};
+use mail_display::FieldGroup;
+use record_question::QuestionFault;
 use std::alloc::{AllocError, Global};
 use tool_texts::{Shown, place_of, put, refusal_text};
 
@@ -21,68 +21,40 @@ fn refused_test(alloc: Global, test: &str, fault: QuestionFault) -> Result<Shown
     Ok(text)
 }
 
-/// The failure of a test that is none, or that no rule may have.
-fn test_failure(alloc: Global, test: &str, fault: QuestionFault) -> Failure {
+/// That the text of an option is empty.
+fn empty_text(alloc: Global, group: FieldGroup) -> Result<Shown, AllocError> {
+    let mut text = Shown::new(alloc);
+    text.words(match group {
+        FieldGroup::Sender => "--sender",
+        FieldGroup::Recipient => "--recipient",
+        FieldGroup::Subject => "--subject",
+    })?;
+    text.words(": the text is empty, so that any field would have it")?;
+    Ok(text)
+}
+
+/// The failure of what is asked of messages. The test is as it is typed.
+fn question_failure(alloc: Global, test: Option<&str>, fault: QuestionsFault) -> Failure {
     match fault {
-        QuestionFault::NoMemory => Failure::NoMemory,
-        fault => Failure::shown(Status::Usage, refused_test(alloc, test, fault)),
+        QuestionsFault::NoMemory => Failure::NoMemory,
+        QuestionsFault::Test(fault) => {
+            let test = test.unwrap_or("");
+            Failure::shown(Status::Usage, refused_test(alloc, test, fault))
+        }
+        QuestionsFault::EmptyText(group) => {
+            Failure::shown(Status::Usage, empty_text(alloc, group))
+        }
     }
 }
 
-/// The question of a choice, if it asks one.
-fn question_of(alloc: Global, choice: &Choice<'_>) -> Result<Option<TestQuestion>, Failure> {
-    let Some(test) = choice.test else {
-        return Ok(None);
-    };
-    match TestQuestion::read(alloc, test.as_bytes()) {
-        Ok(question) => Ok(Some(question)),
-        Err(fault) => Err(test_failure(alloc, test, fault)),
-    }
-}
-
-/// Finds that the day of a choice has come, and reads its question, if it asks one.
-pub fn judge_choice(
-    rt: &HostRuntime,
-    choice: &Choice<'_>,
-) -> Result<Option<TestQuestion>, Failure> {
+/// Finds that the day of a choice has come, and reads what it asks of messages.
+pub fn judge_choice(rt: &HostRuntime, choice: &Choice<'_>) -> Result<Questions, Failure> {
     if let Some(day) = choice.due {
         judge_day(rt, day)?;
     }
-    question_of(rt.alloc(), choice)
-}
-
-/// Finds that the class of a choice is one of the plan.
-pub fn judge_class(rt: &HostRuntime, choice: &Choice<'_>, plan: &Plan) -> Result<(), Failure> {
-    match choice.class {
-        Some(class) if plan.schedule_of(class.as_bytes()).is_none() => Err(Failure::at(
-            rt.alloc(),
-            Status::BadData,
-            class,
-            &"no class of the plan",
-        )),
-        _ => Ok(()),
-    }
-}
-
-/// The choice that a command line asks for. Its first number is where a walk begins.
-pub fn choice_of(alloc: Global, asked: &Choice<'_>) -> Result<record_choice::Choice, AllocError> {
-    let class = match asked.class {
-        Some(class) => Some(Vec::from_slice(alloc, class.as_bytes())?),
-        None => None,
-    };
-    let held = if asked.is_held {
-        Some(Holder::Anyone)
-    } else {
-        None
-    };
-    Ok(record_choice::Choice {
-        numbers: None,
-        class,
-        is_live: asked.is_live,
-        is_destroyed: asked.is_destroyed,
-        held,
-        since: asked.since,
-        until: asked.until,
-        due: asked.due,
-    })
+    Questions::read(rt.alloc(), choice).map_err(|fault| question_failure(
+        rt.alloc(),
+        choice.test,
+        fault,
+    ))
 }

@@ -1,11 +1,10 @@
 //! `export`: records as files, with a manifest.
 
-use crate::choice::{choice_of, judge_class};
 use crate::list::row_of;
-use cli_console::{Failure, Status, Walk, message_of};
+use cli_choice::Questions;
+use cli_console::{Failure, Search, Status, message_of};
 use cli_texts::{Kept, MANIFEST_HEADER, manifest_row, sum_of};
 use command_lines::archives::Choice;
-use record_question::TestQuestion;
 use record_store::{RecordEntry, Store};
 use sqlite::Alter;
 use std::alloc::{AllocError, Global};
@@ -146,37 +145,34 @@ fn export_record<S: Alter>(
     write_to(rt, export.folder, &mut export.manifest, row.as_slice())
 }
 
-/// Exports the chosen records.
+/// Exports the records that are found.
 fn export_records<S: Alter>(
     rt: &HostRuntime,
     archive: &mut Store<S>,
     export: &mut ExportFiles<'_>,
-    choice: &Choice<'_>,
-    question: Option<&TestQuestion>,
+    mut search: Search<'_, '_>,
 ) -> Result<(), Failure> {
-    let chosen = choice_of(rt.alloc(), choice)?;
-    let mut walk = Walk::asking(&chosen, question, choice.from);
     for _ in 0..u64::MAX {
-        let Some(page) = walk.next_page(rt, archive)? else {
+        let Some(page) = search.next_page(rt, archive)? else {
             break;
         };
         for entry in page.iter() {
             export_record(rt, archive, export, entry)?;
         }
     }
-    Ok(())
+    search.end(rt, archive)
 }
 
-/// Exports the records that meet a choice, and to whose message the answer to a question is yes where one is asked, to a
-/// folder in which none of the files is yet. `BadData` where the class is none of the plan.
+/// Exports the records that meet a choice, and whose messages have what is asked of them, to a folder in which none of the
+/// files is yet. `BadData` where the class is none of the plan, and where a number that is typed by itself is not found.
 pub fn export_to<S: Alter>(
     rt: &HostRuntime,
     archive: &mut Store<S>,
     choice: &Choice<'_>,
-    question: Option<&TestQuestion>,
+    questions: &Questions,
     folder: &str,
 ) -> Result<(), Failure> {
-    judge_class(rt, choice, archive.plan())?;
+    let search = Search::new(rt, archive, choice, questions)?;
     make_folder(rt, folder)?;
     let mut manifest = make_file(rt, folder, "manifest.csv")?;
     write_to(rt, folder, &mut manifest, MANIFEST_HEADER.as_bytes())?;
@@ -186,5 +182,5 @@ pub fn export_to<S: Alter>(
         sums: make_file(rt, folder, "SHA256SUMS")?,
         last: None,
     };
-    export_records(rt, archive, &mut export, choice, question)
+    export_records(rt, archive, &mut export, search)
 }

@@ -1,6 +1,6 @@
 //! What `mailfile-store` reads of an archive, for each of its subcommands that change nothing.
 //!
-//! - `choice`: which records a list or an export has;
+//! - `choice`: what is asked of the records that a command is about;
 //! - `list`, `show`, `export`, `judge` (for `check`), `why` and `report`: these subcommands;
 //! - `sums`: what a copy is compared by.
 //!

@@ -1,10 +1,9 @@
 //! `list`: the records, a line each.
 
-use crate::choice::{choice_of, judge_class};
-use cli_console::{Failure, Walk, write_data};
+use cli_choice::Questions;
+use cli_console::{Failure, Search, write_data};
 use cli_texts::{LIST_HEADER, Row, json_object, listed_line, listed_row};
 use command_lines::archives::{Choice, Format};
-use record_question::TestQuestion;
 use record_store::{RecordEntry, Store};
 use sqlite::Alter;
 use std::alloc::{AllocError, Global};
@@ -65,19 +64,16 @@ fn write_page(
     write_data(rt, text.as_slice())
 }
 
-/// Writes the chosen records. Answers how many there are.
+/// Writes the records that are found. Answers how many there are.
 fn write_records<S: Alter>(
     rt: &HostRuntime,
     archive: &mut Store<S>,
-    choice: &Choice<'_>,
-    question: Option<&TestQuestion>,
+    search: &mut Search<'_, '_>,
     format: Format,
 ) -> Result<u64, Failure> {
-    let chosen = choice_of(rt.alloc(), choice)?;
-    let mut walk = Walk::asking(&chosen, question, choice.from);
     let mut count: u64 = 0;
     for _ in 0..u64::MAX {
-        let Some(page) = walk.next_page(rt, archive)? else {
+        let Some(page) = search.next_page(rt, archive)? else {
             break;
         };
         write_page(rt, page.as_slice(), format, count)?;
@@ -95,13 +91,13 @@ fn text_after(alloc: Global, format: Format, count: u64) -> Result<String, Alloc
     }
 }
 
-/// Writes the records that meet a choice, and to whose message the answer to a question is yes where one is asked, with
-/// what a format has before and after them. `BadData` where the class is none of the plan.
+/// Writes the records that meet a choice, and whose messages have what is asked of them, with what a format has before and
+/// after them. `BadData` where the class is none of the plan, and where a number that is typed by itself is not found.
 pub fn write_list<S: Alter>(
     rt: &HostRuntime,
     archive: &mut Store<S>,
     choice: &Choice<'_>,
-    question: Option<&TestQuestion>,
+    questions: &Questions,
     format: Format,
 ) -> Result<(), Failure> {
     let before = match format {
@@ -109,8 +105,9 @@ pub fn write_list<S: Alter>(
         Format::Csv => LIST_HEADER,
         Format::Json => "[",
     };
-    judge_class(rt, choice, archive.plan())?;
+    let mut search = Search::new(rt, archive, choice, questions)?;
     write_data(rt, before.as_bytes())?;
-    let count = write_records(rt, archive, choice, question, format)?;
-    write_data(rt, text_after(rt.alloc(), format, count)?.as_bytes())
+    let count = write_records(rt, archive, &mut search, format)?;
+    write_data(rt, text_after(rt.alloc(), format, count)?.as_bytes())?;
+    search.end(rt, archive)
 }

@@ -1,12 +1,14 @@
 //! `report`: one page of HTML on what is kept, what is due and what is held.
 
 use class_plan::{Date, Plan};
-use cli_console::{Failure, Status, Walk, now, today, write_data};
+use cli_choice::Questions;
+use cli_console::{Failure, Search, Status, now, today, write_data};
 use cli_page::{Heading, Page, Record, Report, ReportFault};
 use cli_texts::moment_text;
-use record_choice::Choice;
+use command_lines::archives::Choice;
 use record_store::{RecordEntry, Store};
 use sqlite::Alter;
+use std::alloc::{AllocError, Global};
 
 /// The failure of a report.
 fn report_failure(rt: &HostRuntime, fault: ReportFault) -> Failure {
@@ -46,16 +48,15 @@ fn add_page(
     Ok(())
 }
 
-/// Adds all records, a page of the archive at a time.
+/// Adds the records that are found, a page at a time.
 fn add_records<S: Alter>(
     rt: &HostRuntime,
     archive: &mut Store<S>,
     report: &mut Report,
+    search: &mut Search<'_, '_>,
 ) -> Result<(), Failure> {
-    let every = Choice::every();
-    let mut walk = Walk::from(&every, 1);
     for _ in 0..u64::MAX {
-        let Some(page) = walk.next_page(rt, archive)? else {
+        let Some(page) = search.next_page(rt, archive)? else {
             break;
         };
         add_page(rt, archive.plan(), report, page.as_slice())?;
@@ -63,20 +64,85 @@ fn add_records<S: Alter>(
     Ok(())
 }
 
-/// Writes the page of a report.
+/// Adds an option with its value to a text, if it is typed.
+fn push_typed(text: &mut String, option: &str, value: Option<&str>) -> Result<(), AllocError> {
+    if let Some(value) = value {
+        push_word(text, option)?;
+        push_word(text, value)?;
+    }
+    Ok(())
+}
+
+/// Adds a word to a text, after a blank.
+fn push_word(text: &mut String, word: &str) -> Result<(), AllocError> {
+    if !text.is_empty() {
+        text.push(' ')?;
+    }
+    text.push_str(word)
+}
+
+/// Adds an option with its day to a text, if it is typed.
+fn push_day(
+    alloc: Global,
+    text: &mut String,
+    option: &str,
+    day: Option<Date>,
+) -> Result<(), AllocError> {
+    match day {
+        Some(day) => {
+            let day = format!(in alloc; "{day}")?;
+            push_typed(text, option, Some(day.as_str()))
+        }
+        None => Ok(()),
+    }
+}
+
+/// Adds a flag to a text, if it is typed.
+fn push_flag(text: &mut String, flag: &str, is_typed: bool) -> Result<(), AllocError> {
+    if is_typed {
+        push_word(text, flag)?;
+    }
+    Ok(())
+}
+
+/// The conditions of a choice, as they are typed.
+fn conditions_of(alloc: Global, choice: &Choice<'_>) -> Result<String, AllocError> {
+    let mut text = String::new(alloc);
+    push_typed(&mut text, "--sender", choice.sender)?;
+    push_typed(&mut text, "--recipient", choice.recipient)?;
+    push_typed(&mut text, "--subject", choice.subject)?;
+    push_typed(&mut text, "--where", choice.test)?;
+    push_typed(&mut text, "--class", choice.class)?;
+    push_day(alloc, &mut text, "--since", choice.since)?;
+    push_day(alloc, &mut text, "--until", choice.until)?;
+    push_day(alloc, &mut text, "--due", choice.due)?;
+    push_flag(&mut text, "--held", choice.is_held)?;
+    push_flag(&mut text, "--live", choice.is_live)?;
+    push_flag(&mut text, "--destroyed", choice.is_destroyed)?;
+    Ok(text)
+}
+
+/// Writes the page of a report on the records of a choice.
 fn write_page(
     rt: &HostRuntime,
     plan: &Plan,
     report: &Report,
     file: &str,
     day: Date,
+    choice: &Choice<'_>,
 ) -> Result<(), Failure> {
     let moment = moment_text(rt.alloc(), now(rt)?)?;
+    let conditions = conditions_of(rt.alloc(), choice)?;
     let heading = Heading {
         file,
         day,
         today: today(rt)?,
         moment: moment.as_str(),
+        conditions: if choice.is_empty() {
+            None
+        } else {
+            Some(conditions.as_str())
+        },
     };
     let mut page = Page::new(rt.alloc());
     report
@@ -85,16 +151,21 @@ fn write_page(
     write_data(rt, page.as_str().as_bytes())
 }
 
-/// Writes a report by a day to standard output, as a page of HTML that names the store's file.
+/// Writes a report by a day to standard output, as a page of HTML that names the store's file. It is on the records that
+/// meet a choice, and whose messages have what is asked of them. `BadData` where the class is none of the plan.
 pub fn write_report<S: Alter>(
     rt: &HostRuntime,
     archive: &mut Store<S>,
     file: &str,
     day: Date,
+    choice: &Choice<'_>,
+    questions: &Questions,
 ) -> Result<(), Failure> {
+    let mut search = Search::new(rt, archive, choice, questions)?;
     let mut report = Report::new(rt.alloc(), archive.plan(), day).map_err(|fault| report_failure(
         rt, fault,
     ))?;
-    add_records(rt, archive, &mut report)?;
-    write_page(rt, archive.plan(), &report, file, day)
+    add_records(rt, archive, &mut report, &mut search)?;
+    write_page(rt, archive.plan(), &report, file, day, choice)?;
+    search.end(rt, archive)
 }

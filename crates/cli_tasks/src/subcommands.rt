@@ -5,20 +5,20 @@ use crate::copy::{Paths, copy_to};
 use crate::drafts::make;
 use class_plan::Date;
 use cli_changes::{
-    Change, FilingRules, Intake, Timing, change_holds, day_of_disposal, deliver_to, dispose_by,
+    FilingRules, Intake, Timing, change_holds, day_of_disposal, deliver_to, dispose_by,
     read_message, read_plan, replace_plan, report_delivery, take_new, write_plan,
 };
+use cli_choice::{Change, Questions};
 use cli_console::{Failure, day_or_today};
 use cli_readings::{
     Captured, export_to, judge_choice, message_of_record, read_captured, write_contents,
     write_list, write_message, write_report, write_why,
 };
 use command_lines::archives::{
-    Choice, Command, CommandLine, Disposal, Filing, Format, Holding, TypedNumber, Why,
+    Choice, Command, CommandLine, Disposal, Filing, Format, Holding, Report, TypedNumber, Why,
 };
 use desk_commands::Payload;
 use filing_desk::Delivery;
-use record_question::TestQuestion;
 use record_store::Store;
 use sqlite::{Alter, Connection};
 
@@ -28,11 +28,11 @@ enum Task<'a> {
     WritePlan,
     ReplacePlan { plan: &'a str, is_agreed: bool },
     Check,
-    Hold(Change, Holding<'a>),
+    Hold(Change, Holding<'a>, Questions),
     /// Lists or destroys what is due by a day.
-    Dispose(Disposal<'a>, Date),
-    /// Reports by a day, with the path of the store.
-    Report(&'a str, Date),
+    Dispose(Disposal, Date),
+    /// Reports by a day on the records of a choice, with the path of the store.
+    Report(&'a str, Date, Choice<'a>, Questions),
 }
 
 impl Task<'_> {
@@ -42,9 +42,13 @@ impl Task<'_> {
             Task::WritePlan => write_plan(rt, archive.plan()),
             Task::ReplacePlan { plan, is_agreed } => replace_plan(rt, archive, *plan, *is_agreed),
             Task::Check => write_contents(rt, archive),
-            Task::Hold(change, asked) => change_holds(rt, archive, *change, asked),
+            Task::Hold(change, asked, questions) => {
+                change_holds(rt, archive, *change, asked, questions)
+            }
             Task::Dispose(asked, day) => dispose_by(rt, archive, asked, *day),
-            Task::Report(store, day) => write_report(rt, archive, *store, *day),
+            Task::Report(store, day, choice, questions) => {
+                write_report(rt, archive, *store, *day, choice, questions)
+            }
         }
     }
 }
@@ -67,7 +71,7 @@ impl Work for Task<'_> {
 #[derive(Drop)]
 struct ListRecords<'c, 'a> {
     choice: &'c Choice<'a>,
-    question: Option<TestQuestion>,
+    questions: Questions,
     format: Format,
 }
 
@@ -80,8 +84,7 @@ impl Work for ListRecords<'_, '_> {
         archive: Store<S>,
     ) -> (Connection<S>, Result<(), Failure>) {
         let mut archive = archive;
-        let question = self.question.as_ref();
-        let done = write_list(rt, &mut archive, self.choice, question, self.format);
+        let done = write_list(rt, &mut archive, self.choice, &self.questions, self.format);
         (archive.into_connection(), done)
     }
 }
@@ -90,7 +93,7 @@ impl Work for ListRecords<'_, '_> {
 #[derive(Drop)]
 struct ExportRecords<'c, 'a, 'f> {
     choice: &'c Choice<'a>,
-    question: Option<TestQuestion>,
+    questions: Questions,
     folder: &'f str,
 }
 
@@ -103,8 +106,7 @@ impl Work for ExportRecords<'_, '_, '_> {
         archive: Store<S>,
     ) -> (Connection<S>, Result<(), Failure>) {
         let mut archive = archive;
-        let question = self.question.as_ref();
-        let done = export_to(rt, &mut archive, self.choice, question, self.folder);
+        let done = export_to(rt, &mut archive, self.choice, &self.questions, self.folder);
         (archive.into_connection(), done)
     }
 }
@@ -255,10 +257,10 @@ fn list<A: Archives>(
     choice: &Choice<'_>,
     format: Format,
 ) -> Result<(), Failure> {
-    let question = judge_choice(rt, choice)?;
+    let questions = judge_choice(rt, choice)?;
     let task = ListRecords {
         choice,
-        question,
+        questions,
         format,
     };
     lend(rt, archives, store, task)
@@ -272,10 +274,10 @@ fn export<A: Archives>(
     choice: &Choice<'_>,
     folder: &str,
 ) -> Result<(), Failure> {
-    let question = judge_choice(rt, choice)?;
+    let questions = judge_choice(rt, choice)?;
     let task = ExportRecords {
         choice,
-        question,
+        questions,
         folder,
     };
     lend(rt, archives, store, task)
@@ -286,21 +288,40 @@ fn dispose<A: Archives>(
     rt: &HostRuntime,
     archives: &A,
     store: &str,
-    asked: Disposal<'_>,
+    asked: Disposal,
 ) -> Result<(), Failure> {
     let day = day_of_disposal(rt, &asked)?;
     lend(rt, archives, store, Task::Dispose(asked, day))
 }
 
-/// Writes a report on the archive by a day, or else by today.
+/// Changes a hold on records.
+fn change_hold<A: Archives>(
+    rt: &HostRuntime,
+    archives: &A,
+    store: &str,
+    change: Change,
+    asked: Holding<'_>,
+) -> Result<(), Failure> {
+    let questions = judge_choice(rt, &asked.choice)?;
+    lend(rt, archives, store, Task::Hold(change, asked, questions))
+}
+
+/// Writes a report on records by a day, or else by today.
 fn report<A: Archives>(
     rt: &HostRuntime,
     archives: &A,
     store: &str,
-    day: Option<Date>,
+    asked: Report<'_>,
 ) -> Result<(), Failure> {
+    let Report { day, choice } = asked;
     let day = day_or_today(rt, day)?;
-    lend(rt, archives, store, Task::Report(store, day))
+    let questions = judge_choice(rt, &choice)?;
+    lend(
+        rt,
+        archives,
+        store,
+        Task::Report(store, day, choice, questions),
+    )
 }
 
 /// Does what a command line asks for.
@@ -324,9 +345,9 @@ pub fn execute<A: Archives>(
         Command::Copy { new } => copy_to(rt, archives, Paths { store, new }),
         Command::Check => lend(rt, archives, store, Task::Check),
         Command::Why(asked) => why(rt, archives, store, &asked),
-        Command::Hold(asked) => lend(rt, archives, store, Task::Hold(Change::Place, asked)),
-        Command::Release(asked) => lend(rt, archives, store, Task::Hold(Change::End, asked)),
+        Command::Hold(asked) => change_hold(rt, archives, store, Change::Place, asked),
+        Command::Release(asked) => change_hold(rt, archives, store, Change::End, asked),
         Command::Dispose(asked) => dispose(rt, archives, store, asked),
-        Command::Report { day } => report(rt, archives, store, day),
+        Command::Report(asked) => report(rt, archives, store, asked),
     }
 }

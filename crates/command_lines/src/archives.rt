@@ -4,6 +4,8 @@ mod words;
 
 use crate::reading::{NoCommand, day_of, has_flag, read_words, required, value_of, values_of};
 use crate::table::Word;
+use choice_words::{read_numbers, reads_as_number};
+pub use choice_words::{Choice, TypedNumbers};
 use clap::ArgMatches;
 use jiff::civil::Date;
 use session_words::{is_name, read_number};
@@ -63,12 +65,9 @@ pub enum Command<'a> {
     Hold(Holding<'a>),
     /// Ends a hold.
     Release(Holding<'a>),
-    Dispose(Disposal<'a>),
+    Dispose(Disposal),
     /// Writes a page of HTML.
-    Report {
-        /// The day by which records are due, which may be later than today; none for today.
-        day: Option<Date>,
-    },
+    Report(Report<'a>),
 }
 
 /// The moment of a capture.
@@ -91,28 +90,6 @@ pub struct Filing<'a> {
     /// Whether mail goes to `unfiled` where the rules are at fault.
     pub unfiled_on_fault: bool,
     pub moment: Moment,
-}
-
-/// Which records a list or an export has: those that meet each condition that is given.
-#[derive(Clone, Copy)]
-pub struct Choice<'a> {
-    /// In this class or below it.
-    pub class: Option<&'a str>,
-    /// Live, and due by this day.
-    pub due: Option<Date>,
-    /// Captured on this day or later.
-    pub since: Option<Date>,
-    /// Captured on this day or before.
-    pub until: Option<Date>,
-    /// Kept by a hold.
-    pub is_held: bool,
-    /// Not destroyed.
-    pub is_live: bool,
-    pub is_destroyed: bool,
-    /// With a message that meets this test, as it is typed.
-    pub test: Option<&'a str>,
-    /// With this number or a greater one.
-    pub from: u32,
 }
 
 /// How records are listed.
@@ -152,18 +129,28 @@ pub struct Why<'a> {
 pub struct Holding<'a> {
     /// 1 to 64 octets from 33 to 126.
     pub name: &'a str,
-    pub records: Vec<TypedNumber<'a>>,
+    /// It asks for something.
+    pub choice: Choice<'a>,
 }
 
 /// The destruction of what is due.
 #[derive(Drop)]
-pub struct Disposal<'a> {
+pub struct Disposal {
     /// The day by which records are due; none for today.
     pub day: Option<Date>,
     /// Whether records are destroyed, and not only listed.
     pub destroys: bool,
     /// The records that are meant; all that are due, where there is none.
-    pub records: Vec<TypedNumber<'a>>,
+    pub numbers: Vec<TypedNumbers>,
+}
+
+/// A page of HTML on records.
+#[derive(Drop)]
+pub struct Report<'a> {
+    /// The day by which they are due, which may be later than today; none for today.
+    pub day: Option<Date>,
+    /// It has no numbers.
+    pub choice: Choice<'a>,
 }
 
 /// The number of a record, as it is typed: one of 32 bits, in decimal digits without a leading zero.
@@ -188,20 +175,18 @@ fn record_asked<'a>(alloc: Global, asked: &ArgMatches<'a>) -> Result<TypedNumber
     })
 }
 
-/// The numbers of records that are given.
-fn records_asked<'a>(
-    alloc: Global,
-    asked: &ArgMatches<'a>,
-) -> Result<Vec<TypedNumber<'a>>, NoCommand> {
+/// The numbers of records that are given, and the ranges of them.
+fn numbers_asked(alloc: Global, asked: &ArgMatches<'_>) -> Result<Vec<TypedNumbers>, NoCommand> {
     let typed = values_of(asked, words::NUMBERS).unwrap_or(&[]);
-    let mut records = Vec::with_capacity(alloc, typed.len())?;
+    let mut numbers = Vec::with_capacity(alloc, typed.len())?;
     for word in typed {
-        records.push(TypedNumber {
-            word: *word,
-            number: number_of(alloc, *word)?,
-        })?;
+        let Some(read) = read_numbers(word.as_bytes()) else {
+            let reason = "neither a number of a record, as 3, nor a range of numbers, as 5-9";
+            return Err(NoCommand::wrong(alloc, *word, reason));
+        };
+        numbers.push(read)?;
     }
-    Ok(records)
+    Ok(numbers)
 }
 
 /// A day, where it is given.
@@ -267,22 +252,32 @@ fn first_asked(alloc: Global, asked: &ArgMatches<'_>) -> Result<u32, NoCommand> 
     }
 }
 
-/// Which records are chosen.
-fn choice_asked<'a>(alloc: Global, asked: &ArgMatches<'a>) -> Result<Choice<'a>, NoCommand> {
-    let class = value_of(asked, words::CLASS);
-    let due = day_asked(alloc, asked, words::DUE)?;
+/// The conditions of a choice, without numbers.
+fn conditions_asked<'a>(alloc: Global, asked: &ArgMatches<'a>) -> Result<Choice<'a>, NoCommand> {
     let (since, until) = days_asked(alloc, asked)?;
     Ok(Choice {
-        class,
-        due,
+        numbers: Vec::new(alloc),
+        from: 1,
+        class: value_of(asked, words::CLASS),
+        due: day_asked(alloc, asked, words::DUE)?,
         since,
         until,
         is_held: has_flag(asked, words::HELD),
         is_live: has_flag(asked, words::LIVE),
         is_destroyed: has_flag(asked, words::DESTROYED),
         test: value_of(asked, words::WHERE),
-        from: first_asked(alloc, asked)?,
+        sender: value_of(asked, words::SENDER),
+        recipient: value_of(asked, words::RECIPIENT),
+        subject: value_of(asked, words::SUBJECT),
     })
+}
+
+/// Which records are chosen, from the first that is looked at on.
+fn choice_asked<'a>(alloc: Global, asked: &ArgMatches<'a>) -> Result<Choice<'a>, NoCommand> {
+    let mut choice = conditions_asked(alloc, asked)?;
+    choice.numbers = numbers_asked(alloc, asked)?;
+    choice.from = first_asked(alloc, asked)?;
+    Ok(choice)
 }
 
 /// The formats that a list can have, with the flags that ask for them.
@@ -321,28 +316,52 @@ fn plan_asked<'a>(alloc: Global, asked: &ArgMatches<'a>) -> Result<Command<'a>, 
     }
 }
 
-/// A hold on records.
-fn holding_asked<'a>(alloc: Global, asked: &ArgMatches<'a>) -> Result<Holding<'a>, NoCommand> {
+/// The name of a hold.
+fn name_asked<'a>(alloc: Global, asked: &ArgMatches<'a>) -> Result<&'a str, NoCommand> {
     let name = required(asked, words::NAME)?;
-    if !is_name(name.as_bytes()) {
-        return Err(NoCommand::wrong(
-            alloc,
-            name,
-            "a hold's name is 1 to 64 octets from 33 to 126",
-        ));
+    if is_name(name.as_bytes()) {
+        return Ok(name);
     }
-    Ok(Holding {
-        name,
-        records: records_asked(alloc, asked)?,
-    })
+    let reason = "a hold's name is 1 to 64 octets from 33 to 126";
+    Err(NoCommand::wrong(alloc, name, reason))
+}
+
+/// A hold on records, which must be named.
+fn holding_asked<'a>(alloc: Global, asked: &ArgMatches<'a>) -> Result<Holding<'a>, NoCommand> {
+    let name = name_asked(alloc, asked)?;
+    let mut choice = conditions_asked(alloc, asked)?;
+    choice.numbers = numbers_asked(alloc, asked)?;
+    if choice.is_empty() {
+        let reason = "name the records by their numbers, or by conditions as --sender";
+        return Err(NoCommand::Wrong(String::from_str(alloc, reason)?));
+    }
+    Ok(Holding { name, choice })
+}
+
+/// A hold that is to be placed. A name that reads as numbers is refused, since the name was more likely forgotten.
+fn new_holding_asked<'a>(alloc: Global, asked: &ArgMatches<'a>) -> Result<Holding<'a>, NoCommand> {
+    let name = name_asked(alloc, asked)?;
+    if reads_as_number(name.as_bytes()) {
+        let reason = "a number of a record; did you forget the hold's name?";
+        return Err(NoCommand::wrong(alloc, name, reason));
+    }
+    holding_asked(alloc, asked)
 }
 
 /// What is to be destroyed.
-fn disposal_asked<'a>(alloc: Global, asked: &ArgMatches<'a>) -> Result<Disposal<'a>, NoCommand> {
+fn disposal_asked(alloc: Global, asked: &ArgMatches<'_>) -> Result<Disposal, NoCommand> {
     Ok(Disposal {
         day: day_asked(alloc, asked, words::DAY)?,
         destroys: has_flag(asked, words::YES),
-        records: records_asked(alloc, asked)?,
+        numbers: numbers_asked(alloc, asked)?,
+    })
+}
+
+/// What a report is to be on.
+fn report_asked<'a>(alloc: Global, asked: &ArgMatches<'a>) -> Result<Report<'a>, NoCommand> {
+    Ok(Report {
+        day: day_asked(alloc, asked, words::DAY)?,
+        choice: conditions_asked(alloc, asked)?,
     })
 }
 
@@ -362,7 +381,7 @@ fn change_asked<'a>(
             maildir: required(asked, words::MAILDIR)?,
             filing: filing_asked(alloc, asked)?,
         },
-        "hold" => Command::Hold(holding_asked(alloc, asked)?),
+        "hold" => Command::Hold(new_holding_asked(alloc, asked)?),
         "release" => Command::Release(holding_asked(alloc, asked)?),
         "dispose" => Command::Dispose(disposal_asked(alloc, asked)?),
         _ => return Ok(None),
@@ -398,11 +417,34 @@ fn reading_asked<'a>(
             officer: required(asked, words::OFFICER)?,
             record: record_asked(alloc, asked)?,
         }),
-        "report" => Command::Report {
-            day: day_asked(alloc, asked, words::DAY)?,
-        },
+        "report" => Command::Report(report_asked(alloc, asked)?),
         _ => return Ok(None),
     }))
+}
+
+/// What the subcommand of a name is asked to do.
+fn command_asked<'a>(
+    alloc: Global,
+    name: &str,
+    asked: &ArgMatches<'a>,
+) -> Result<Command<'a>, NoCommand> {
+    match change_asked(alloc, name, asked)? {
+        Some(command) => Ok(command),
+        None => reading_asked(alloc, name, asked)?.ok_or(NoCommand::Unread),
+    }
+}
+
+/// The store, and what the subcommand of a name is asked to do with it.
+fn line_asked<'a>(
+    alloc: Global,
+    name: &str,
+    asked: &ArgMatches<'a>,
+) -> Result<CommandLine<'a>, NoCommand> {
+    let store = required(asked, words::STORE)?;
+    match command_asked(alloc, name, asked) {
+        Ok(command) => Ok(CommandLine { store, command }),
+        Err(none) => Err(none),
+    }
 }
 
 /// Reads the words of a command line, the program's name first. A value that its option or place cannot have is
@@ -412,13 +454,8 @@ pub fn read_command_line<'a>(
     words: &'a [String],
 ) -> Result<CommandLine<'a>, NoCommand> {
     let matches = read_words(rt, &words::PROGRAM, words)?;
-    let Some((name, asked)) = matches.subcommand() else {
-        return Err(NoCommand::Unread);
-    };
-    let store = required(asked, words::STORE)?;
-    let command = match change_asked(rt.alloc(), name, asked)? {
-        Some(command) => command,
-        None => reading_asked(rt.alloc(), name, asked)?.ok_or(NoCommand::Unread)?,
-    };
-    Ok(CommandLine { store, command })
+    match matches.subcommand() {
+        Some((name, asked)) => line_asked(rt.alloc(), name, asked),
+        None => Err(NoCommand::Unread),
+    }
 }

@@ -10,11 +10,13 @@ pub const STORE: Word = Word {
     ..OPTION
 };
 
-/// The numbers of records.
+/// The numbers of records, and ranges of them.
 pub const NUMBERS: Word = Word {
-    name: "numbers",
+    name: "chosen",
     form: Form::Places,
     value: "NUMBER",
+    is_required: false,
+    help: Some("The records with these numbers, as 3, or in these ranges, as 5-9"),
     ..PLACE
 };
 
@@ -188,6 +190,29 @@ pub const WHERE: Word = Word {
     ..OPTION
 };
 
+pub const SENDER: Word = Word {
+    name: "sender",
+    value: "TEXT",
+    help: Some(
+        "Records whose message has this text in its senders, whatever the case of its letters",
+    ),
+    ..OPTION
+};
+
+pub const RECIPIENT: Word = Word {
+    name: "recipient",
+    value: "TEXT",
+    help: Some("Records whose message has this text in its recipients"),
+    ..OPTION
+};
+
+pub const SUBJECT: Word = Word {
+    name: "subject",
+    value: "TEXT",
+    help: Some("Records whose message has this text in its subject"),
+    ..OPTION
+};
+
 pub const ONLY_NUMBERS: Word = Word {
     name: "numbers",
     help: Some("Prints the numbers alone, a line each"),
@@ -216,22 +241,26 @@ pub const JSON: Word = Word {
 const LIST: Subcommand = Subcommand {
     name: "list",
     about: "Prints a line for each record: number, class, day, due date or never, holds, and whether it is destroyed",
-    example: "Example: mailfile-store list --store records.db --class finance --live",
+    example: "Example: mailfile-store list --store records.db --sender müller --since 2026-03-01",
     words: &[
         STORE,
+        SENDER,
+        RECIPIENT,
+        SUBJECT,
+        WHERE,
         CLASS,
-        DUE,
         SINCE,
         UNTIL,
+        DUE,
         HELD,
         LIVE,
         DESTROYED,
-        WHERE,
         FROM,
         CSV,
         JSON,
         ONLY_NUMBERS,
         COUNT,
+        NUMBERS,
     ],
 };
 
@@ -259,7 +288,8 @@ const EXPORT: Subcommand = Subcommand {
     about: "Writes the messages of records to a folder, with manifest.csv and SHA256SUMS; replaces nothing",
     example: "Example: mailfile-store export --store records.db --class finance for-court",
     words: &[
-        STORE, CLASS, DUE, SINCE, UNTIL, HELD, LIVE, DESTROYED, WHERE, FROM, FOLDER,
+        STORE, SENDER, RECIPIENT, SUBJECT, WHERE, CLASS, SINCE, UNTIL, DUE, HELD, LIVE, DESTROYED,
+        FROM, FOLDER, NUMBERS,
     ],
 };
 
@@ -318,15 +348,21 @@ pub const NAME: Word = Word {
 const HOLD: Subcommand = Subcommand {
     name: "hold",
     about: "Keeps records from destruction by a hold of that name",
-    example: "Example: mailfile-store hold --store records.db audit 1 2 3",
-    words: &[STORE, NAME, NUMBERS],
+    example: "Example: mailfile-store hold --store records.db --class finance --until 2026-06-30 audit",
+    words: &[
+        STORE, SENDER, RECIPIENT, SUBJECT, WHERE, CLASS, SINCE, UNTIL, DUE, HELD, LIVE, DESTROYED,
+        NAME, NUMBERS,
+    ],
 };
 
 const RELEASE: Subcommand = Subcommand {
     name: "release",
     about: "Ends the hold of that name on records",
-    example: "Example: mailfile-store release --store records.db audit 1 2 3",
-    words: &[STORE, NAME, NUMBERS],
+    example: "Example: mailfile-store release --store records.db audit 1 5-9",
+    words: &[
+        STORE, SENDER, RECIPIENT, SUBJECT, WHERE, CLASS, SINCE, UNTIL, DUE, HELD, LIVE, DESTROYED,
+        NAME, NUMBERS,
+    ],
 };
 
 const DISPOSE: Subcommand = Subcommand {
@@ -345,10 +381,7 @@ const DISPOSE: Subcommand = Subcommand {
             help: Some("Destroys the records"),
             ..YES
         },
-        Word {
-            is_required: false,
-            ..NUMBERS
-        },
+        NUMBERS,
     ],
 };
 
@@ -358,6 +391,17 @@ const REPORT: Subcommand = Subcommand {
     example: "Example: mailfile-store report --store records.db --day 2026-12-31 > report.html",
     words: &[
         STORE,
+        SENDER,
+        RECIPIENT,
+        SUBJECT,
+        WHERE,
+        CLASS,
+        SINCE,
+        UNTIL,
+        DUE,
+        HELD,
+        LIVE,
+        DESTROYED,
         Word {
             help: Some(
                 "The day by which records are due, which may be later than today; today if none is given",

@@ -1,0 +1,31 @@
+-- The definitions on worked rows.
+use Rattle.std.proofs.Common.{◌≡◌, ℕ, List, [], ◌∷◌, map, codes, Option, Some, None, refl}
+use Rattle.session_words.specs.Words.{digits_up_to, number_up_to}
+use Rattle.choice_words.specs.declared.numbers.TypedNumbers.{TypedNumbers}
+use Rattle.choice_words.specs.declared.numbers.TypedNumbers.TheVariants.{One, Range}
+use Rattle.choice_words.specs.Numbers.{numbers_typed}
+
+-- each word, and the numbers that it is
+abbrev rows : List (List ℕ × Option TypedNumbers)
+rows =
+    (codes "3", Some (One 3)) ∷
+    (codes "4294967295", Some (One 4294967295)) ∷
+    (codes "5-9", Some (Range 5 9)) ∷
+    (codes "7-7", Some (Range 7 7)) ∷
+    (codes "9-5", None) ∷
+    (codes "0", None) ∷
+    (codes "0-5", None) ∷
+    (codes "05", None) ∷
+    (codes "+5", None) ∷
+    (codes "-5", None) ∷
+    (codes "5-", None) ∷
+    (codes "1-2-3", None) ∷
+    (codes "4294967296", None) ∷
+    (codes "", None) ∷
+    (codes "2024-03", None) ∷
+    (codes "audit", None) ∷
+    []
+
+numbers_are : map (λ r. numbers_typed r.0) rows ≡ map (λ r. r.1) rows
+unfolding digits_up_to number_up_to
+numbers_are = refl

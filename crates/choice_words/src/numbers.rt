@@ -1,0 +1,74 @@
+//! The numbers of records that a word is.
+
+ghost use Rattle.std.specs.Prelude.{◌≡◌, is_some};
+ghost use Rattle.std.specs.List.{position};
+ghost use Rattle.choice_words.specs.Numbers.{is_hyphen, record_number, numbers_typed, range_typed};
+
+use session_words::read_number;
+
+/// Numbers of records, as a word has them.
+#[derive(Clone, Copy)]
+pub enum TypedNumbers {
+    /// One number, as `3`.
+    One(u32),
+    /// The numbers from one to another, both included, as `5-9`.
+    Range { first: u32, last: u32 },
+}
+
+/// The number of a record that a word is: 1 to 4,294,967,295, in decimal digits without a leading zero. None for any other
+/// word.
+pub fn read_record_number(word: &[u8]) -> Option<u32>
+    ensures { result ≡ record_number word.now }
+{
+    match read_number(word, u64::from(u32::MAX)) {
+        None | Some(0) => None,
+        Some(number) => Some(number as u32),
+    }
+}
+
+/// The numbers from one to another. None where one of the two is none, and where the last is before the first.
+fn range_of(first: Option<u32>, last: Option<u32>) -> Option<TypedNumbers>
+    ensures { result ≡ range_typed first last }
+{
+    match (first, last) {
+        (Some(first), Some(last)) => {
+            if first <= last {
+                Some(TypedNumbers::Range { first, last })
+            } else {
+                None
+            }
+        }
+        _ => None,
+    }
+}
+
+/// Where the first hyphen stands in a word.
+fn first_hyphen(word: &[u8]) -> Option<usize>
+    ensures { result ≡ position is_hyphen word.now }
+{
+    word.iter().position(|octet| *octet == b'-')
+}
+
+/// The numbers of records that a word is: a number of a record, or two with a hyphen between them, of which the second is
+/// not the smaller one. None for any other word.
+pub fn read_numbers(word: &[u8]) -> Option<TypedNumbers>
+    ensures { result ≡ numbers_typed word.now }
+{
+    match first_hyphen(word) {
+        None => match read_record_number(word) {
+            Some(number) => Some(TypedNumbers::One(number)),
+            None => None,
+        },
+        Some(at) => range_of(
+            read_record_number(&word[..at]),
+            read_record_number(&word[at + 1..]),
+        ),
+    }
+}
+
+/// Whether a word is numbers of records, and so more likely one of these than a name.
+pub fn reads_as_number(word: &[u8]) -> bool
+    ensures { result ≡ is_some (numbers_typed word.now) }
+{
+    read_numbers(word).is_some()
+}

@@ -1,0 +1,4 @@
+pub mod Typed
+pub mod Questions
+pub mod Holds
+pub mod Disposals

@@ -1,0 +1,148 @@
+//! What is asked of messages.
+
+ghost use Rattle.std.specs.Prelude.{◌≡◌, IfOk};
+ghost use Rattle.record_choice.specs.Choices.{where_asked};
+ghost use Rattle.record_question.specs.Questions.{is_yes};
+ghost use Rattle.cli_choice.specs.Questions.{IsTestTyped, fields_typed, asks_nothing, is_found, is_missed, is_found_answer, is_unread_answer, meets_fields, misses_fields};
+
+use choice_words::Choice;
+use mail_display::{FieldGroup, FieldQuestion, FieldQuestionFault};
+use record_choice::Judge;
+use record_question::{QuestionFault, TestQuestion};
+use std::alloc::{AllocError, Global};
+
+/// Why what is typed asks nothing.
+#[derive(Clone, Copy)]
+pub enum QuestionsFault {
+    /// The test is none, or none that a rule may have.
+    Test(QuestionFault),
+    /// The text for fields of this group is empty, so that each field would have it.
+    EmptyText(FieldGroup),
+    /// No memory.
+    NoMemory,
+}
+
+/// What is asked of the messages of records.
+#[derive(Drop)]
+pub struct Questions {
+    /// A test of a rule.
+    test: Option<TestQuestion>,
+    /// Texts in fields.
+    fields: Option<FieldQuestion>,
+}
+
+/// What a message answers.
+#[derive(Clone, Copy)]
+pub enum Answer {
+    /// It has all that is asked.
+    Found,
+    /// It lacks a text, but fields that the text is looked for in could not be read in full.
+    Unread,
+    /// It lacks something.
+    Lacking,
+}
+
+/// The fault of a test.
+fn test_fault(fault: QuestionFault) -> QuestionsFault {
+    match fault {
+        QuestionFault::NoMemory => QuestionsFault::NoMemory,
+        fault => QuestionsFault::Test(fault),
+    }
+}
+
+/// The fault of a text.
+fn text_fault(fault: FieldQuestionFault) -> QuestionsFault {
+    match fault {
+        FieldQuestionFault::Empty(group) => QuestionsFault::EmptyText(group),
+        FieldQuestionFault::NoMemory(_) => QuestionsFault::NoMemory,
+    }
+}
+
+/// The test that is typed, if one is.
+fn read_test(alloc: Global, text: Option<&str>) -> Result<Option<TestQuestion>, QuestionsFault>
+    ensures { IfOk result (λ o. IsTestTyped text.entry o) }
+{
+    let Some(text) = text else {
+        return Ok(None);
+    };
+    match TestQuestion::read(alloc, text.as_bytes()) {
+        Ok(question) => Ok(Some(question)),
+        Err(fault) => Err(test_fault(fault)),
+    }
+}
+
+/// The texts that are typed for fields, if one is.
+fn read_fields(alloc: Global, typed: &Choice<'_>) -> Result<Option<FieldQuestion>, QuestionsFault>
+    ensures { IfOk result (λ o. o ≡ fields_typed typed.now) }
+{
+    if typed.sender.is_none() && typed.recipient.is_none() && typed.subject.is_none() {
+        return Ok(None);
+    }
+    match FieldQuestion::new(alloc, typed.sender, typed.recipient, typed.subject) {
+        Ok(question) => Ok(Some(question)),
+        Err(fault) => Err(text_fault(fault)),
+    }
+}
+
+impl Questions {
+    /// What is typed of messages: the test of a rule, and texts in fields. Refused are a test that no rule may have, and an
+    /// empty text.
+    pub fn read(alloc: Global, typed: &Choice<'_>) -> Result<Questions, QuestionsFault>
+        ensures test { IfOk result (λ q. IsTestTyped typed.now.test q.test) }
+        ensures fields { IfOk result (λ q. q.fields ≡ fields_typed typed.now) }
+    {
+        Ok(Questions {
+            test: read_test(alloc, typed.test)?,
+            fields: read_fields(alloc, typed)?,
+        })
+    }
+
+    /// Whether nothing is asked, so that no message is read.
+    pub(crate) fn is_nothing(&self) -> bool
+        ensures { result ≡ asks_nothing self.now }
+    {
+        self.test.is_none() && self.fields.is_none()
+    }
+
+    /// Whether a message meets the test, if there is one.
+    fn meets_test(&self, alloc: Global, message: &[u8]) -> Result<bool, AllocError>
+        ensures { IfOk result (λ b. b ≡ where_asked (λ t. is_yes t message.now) self.now.test) }
+    {
+        match &self.test {
+            Some(test) => test.judge(alloc, message),
+            None => Ok(true),
+        }
+    }
+
+    /// What a message answers to the texts, if there are any.
+    fn answer_by_fields(&self, alloc: Global, message: &[u8]) -> Result<Answer, AllocError>
+        ensures found { IfOk result
+            (λ x. is_found_answer x ≡ meets_fields self.now.fields message.now) }
+        ensures unread { IfOk result
+            (λ x. is_unread_answer x ≡ misses_fields self.now.fields message.now) }
+    {
+        let Some(fields) = &self.fields else {
+            return Ok(Answer::Found);
+        };
+        let found = fields.judge(alloc, message)?;
+        if found.is_found {
+            Ok(Answer::Found)
+        } else if found.unread > 0 {
+            Ok(Answer::Unread)
+        } else {
+            Ok(Answer::Lacking)
+        }
+    }
+
+    /// What a message answers. Fails only for want of memory.
+    pub fn answer(&self, alloc: Global, message: &[u8]) -> Result<Answer, AllocError>
+        ensures found { IfOk result (λ x. is_found_answer x ≡ is_found self.now message.now) }
+        ensures unread { IfOk result (λ x. is_unread_answer x ≡ is_missed self.now message.now) }
+    {
+        let is_met = self.meets_test(alloc, message)?;
+        if !is_met {
+            return Ok(Answer::Lacking);
+        }
+        self.answer_by_fields(alloc, message)
+    }
+}
