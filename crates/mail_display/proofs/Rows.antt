@@ -1,16 +1,17 @@
 -- Examples of the definitions.
 use Rattle.std.proofs.Common.{◌≡◌, ◌∷◌, ◌++◌, [], refl}
 use Rattle.std.specs.Prelude.{codes}
-use Rattle.mail_display.specs.Undecoded.{charsets_in, with_word}
+use Rattle.mail_display.specs.Words.{word_at}
+use Rattle.mail_display.specs.Undecoded.{charset_at, charsets_in, with_word}
 
 -- a word in quotation marks, and one with another letter for its encoding
 two_words : charsets_in (codes "\"=?utf-8?q?a?=\" =?x?z??=") ≡ codes "utf-8" ∷ codes "x" ∷ []
-unfolding charsets_in
+unfolding charsets_in charset_at word_at
 two_words = refl
 
 -- no charset, and no end
 no_word : charsets_in (codes "=??q?a?= =?x?q?a") ≡ []
-unfolding charsets_in
+unfolding charsets_in charset_at word_at
 no_word = refl
 
 -- one like it is there, in other letters

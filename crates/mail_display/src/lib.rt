@@ -22,6 +22,7 @@ mod unfolding;
 mod words;
 
 pub use fields::{date, sender, subject};
+pub use folding::fold;
 pub use groups::FieldGroup;
 pub use question::{FieldQuestion, FieldQuestionFault, Found};
 pub use showing::{DisplayText, display};

@@ -1,6 +1,4 @@
-use Rattle.std.proofs.Common.{fold}
-use Rattle.mail_display.specs.Undecoded.{with_word}
-use Rattle.mail_display.proofs.UndecodedLemmas.{words_of, with-word, with-none, with-all}
+use Rattle.mail_display.proofs.UndecodedLemmas.{with-word, with-none, with-all}
 use Rattle.mail_display.proofs.UnfoldingLemmas.{empty}
 use Rattle.mail_display.proofs.undecoded.add_words.Goals as goal
 
