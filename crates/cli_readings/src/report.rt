@@ -1,9 +1,9 @@
 //! `report`: one page of HTML on what is kept, what is due and what is held.
 
 use class_plan::{Date, Plan};
-use cli_console::{Failure, Status, Walk, now, today, write_data};
+use cli_console::{Failure, Status, Walk, is_by, message_of, now, today, write_data};
 use cli_page::{Heading, Page, Record, Report, ReportFault};
-use cli_texts::moment_text;
+use cli_texts::{Headers, headers_of, moment_text};
 use record_choice::Choice;
 use record_store::{RecordEntry, Store};
 use sqlite::Alter;
@@ -19,8 +19,8 @@ fn report_failure(rt: &HostRuntime, fault: ReportFault) -> Failure {
     Failure::told(rt.alloc(), Status::BadData, words)
 }
 
-/// A record as a report reads it.
-fn record_of(entry: &RecordEntry) -> Record<'_> {
+/// A record as a page reads it.
+pub fn record_of(entry: &RecordEntry) -> Record<'_> {
     Record {
         number: entry.number,
         path: entry.path.as_slice(),
@@ -31,16 +31,32 @@ fn record_of(entry: &RecordEntry) -> Record<'_> {
     }
 }
 
-/// Adds the records of a page of the archive.
-fn add_page(
+/// What the header of a record's message says, where the record is live and due by a day.
+fn headers_of_due<S: Alter>(
     rt: &HostRuntime,
-    plan: &Plan,
+    archive: &mut Store<S>,
+    entry: &RecordEntry,
+    day: Date,
+) -> Result<Option<Headers>, Failure> {
+    if entry.destroyed || !is_by(entry.due, day) {
+        return Ok(None);
+    }
+    let message = message_of(rt, archive, entry)?;
+    Ok(Some(headers_of(rt.alloc(), message.as_slice())?))
+}
+
+/// Adds the records of a page of the archive to a report by a day.
+fn add_page<S: Alter>(
+    rt: &HostRuntime,
+    archive: &mut Store<S>,
     report: &mut Report,
     page: &[RecordEntry],
+    day: Date,
 ) -> Result<(), Failure> {
     for entry in page {
+        let headers = headers_of_due(rt, archive, entry, day)?;
         report
-            .add(plan, &record_of(entry))
+            .add(archive.plan(), &record_of(entry), headers.as_ref())
             .map_err(|fault| report_failure(rt, fault))?;
     }
     Ok(())
@@ -51,6 +67,7 @@ fn add_records<S: Alter>(
     rt: &HostRuntime,
     archive: &mut Store<S>,
     report: &mut Report,
+    day: Date,
 ) -> Result<(), Failure> {
     let every = Choice::every();
     let mut walk = Walk::from(&every, 1);
@@ -58,7 +75,7 @@ fn add_records<S: Alter>(
         let Some(page) = walk.next_page(rt, archive)? else {
             break;
         };
-        add_page(rt, archive.plan(), report, page.as_slice())?;
+        add_page(rt, archive, report, page.as_slice(), day)?;
     }
     Ok(())
 }
@@ -95,6 +112,6 @@ pub fn write_report<S: Alter>(
     let mut report = Report::new(rt.alloc(), archive.plan(), day).map_err(|fault| report_failure(
         rt, fault,
     ))?;
-    add_records(rt, archive, &mut report)?;
+    add_records(rt, archive, &mut report, day)?;
     write_page(rt, archive.plan(), &report, file, day)
 }
