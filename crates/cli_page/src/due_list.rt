@@ -4,6 +4,7 @@ use crate::fault::ReportFault;
 use crate::page::{Page, put};
 use crate::report::Record;
 use class_plan::{Action, Date, Plan, Schedule};
+use cli_texts::Headers;
 use std::alloc::{AllocError, Global};
 
 /// What may be done with a record that is due.
@@ -27,6 +28,8 @@ struct Item {
     ruling: Ruling,
     /// The names of its holds.
     holds: Vec<Vec<u8>>,
+    /// What its message's header says, each text cut to 80 columns.
+    headers: Option<Headers>,
 }
 
 /// What is due by the day, in the order of the records' numbers.
@@ -111,6 +114,12 @@ impl Item {
             "</td><td class=\"d\">" date(self.day)
             "</td><td class=\"d\">" date(self.due) "</td><td>"
         )?;
+        if let Some(headers) = &self.headers {
+            put!(page;
+                text(headers.sender.as_str()) "<br>" text(headers.subject.as_str())
+            )?;
+        }
+        page.markup("</td><td>")?;
         self.bar(page)?;
         page.markup("</td><td class=\"sign\"></td></tr>\n")
     }
@@ -123,10 +132,20 @@ impl DueList {
         DueList { alloc, items }
     }
 
-    /// Adds a record that is due.
-    pub fn add(&mut self, plan: &Plan, record: &Record<'_>, due: Date) -> Result<(), ReportFault> {
+    /// Adds a record that is due, and what its message's header says.
+    pub fn add(
+        &mut self,
+        plan: &Plan,
+        record: &Record<'_>,
+        headers: Option<&Headers>,
+        due: Date,
+    ) -> Result<(), ReportFault> {
         let path = Vec::from_slice(self.alloc, record.path)?;
         let holds = copy_of(self.alloc, record.holds)?;
+        let headers = match headers {
+            Some(headers) => Some(headers.cut(self.alloc)?),
+            None => None,
+        };
         let item = Item {
             number: record.number,
             path,
@@ -134,6 +153,7 @@ impl DueList {
             due,
             ruling: ruling_of(plan, record.path),
             holds,
+            headers,
         };
         self.items.push(item)?;
         Ok(())
@@ -168,8 +188,9 @@ impl DueList {
         put!(page;
             "<table>\n<caption>Live records that are due by " date(day)
             ", by number</caption>\n<thead><tr><th scope=\"col\" class=\"n\">Record</th>\
-            <th scope=\"col\" class=\"p\">Class</th><th scope=\"col\">Captured</th>\
-            <th scope=\"col\">Due</th><th scope=\"col\">What bars destruction</th>\
+            <th scope=\"col\">Class</th><th scope=\"col\">Captured</th>\
+            <th scope=\"col\">Due</th><th scope=\"col\" class=\"t\">Sender and subject</th>\
+            <th scope=\"col\">What bars destruction</th>\
             <th scope=\"col\" class=\"sign\">Approved (initials)</th></tr></thead>\n<tbody>\n"
         )?;
         for item in self.items.as_slice() {

@@ -1,7 +1,9 @@
-//! The pages of a report on an archive: one document of HTML, without scripts and without anything that it would load.
+//! Pages of HTML on an archive, without scripts and without anything that they would load: a report, and the index of an
+//! export.
 //!
 //! A [`Report`] counts records one after the other, and keeps what it lists: the holds, and what is due by its day. Then it
-//! writes its parts. What a part has of an archive's names goes through [`Page::text`], and so cannot be taken for markup.
+//! writes its parts. An [`Index`] lists exported records, with links to their files. What a page has of an archive's names and
+//! messages goes through [`Page::text`], and so cannot be taken for markup.
 #![tactic(auto)]
 
 mod counts;
@@ -9,7 +11,9 @@ mod dates;
 mod due_list;
 mod escaping;
 mod fault;
+mod head;
 mod holds;
+mod index;
 mod page;
 mod report;
 mod style;
@@ -23,6 +27,7 @@ pub use counts::{Counts, Seen};
 pub use dates::{DueDay, due_day};
 pub use escaping::escaped;
 pub use fault::ReportFault;
+pub use index::{Index, IndexHeading, Order};
 pub use page::Page;
 pub use report::{Heading, Record, Report};
 pub use tally::{ClassCounts, Tally};

@@ -10,6 +10,7 @@ use crate::summary::{classes, heading, totals};
 use crate::tally::Tally;
 use crate::timeline::timeline;
 use class_plan::{Date, Plan};
+use cli_texts::Headers;
 use std::alloc::Global;
 
 /// A record, as a report reads it.
@@ -68,8 +69,14 @@ impl Report {
         })
     }
 
-    /// Adds a record, after those with smaller numbers.
-    pub fn add(&mut self, plan: &Plan, record: &Record<'_>) -> Result<(), ReportFault> {
+    /// Adds a record, after those with smaller numbers, and what its message's header says, which is listed where the record
+    /// is due.
+    pub fn add(
+        &mut self,
+        plan: &Plan,
+        record: &Record<'_>,
+        headers: Option<&Headers>,
+    ) -> Result<(), ReportFault> {
         let due = match record.due {
             Some(date) => Some(due_day(date).ok_or(ReportFault::NoDay)?),
             None => None,
@@ -84,7 +91,9 @@ impl Report {
             self.holds.add(name.as_slice(), record.number)?;
         }
         match record.due {
-            Some(date) if seen.is_due(self.day_number) => self.due.add(plan, record, date),
+            Some(date) if seen.is_due(self.day_number) => {
+                self.due.add(plan, record, headers, date)
+            }
             _ => Ok(()),
         }
     }

@@ -31,6 +31,9 @@ tfoot th, tfoot td { border-top: 2px solid var(--line); font-weight: bold; }
 .n { text-align: right; overflow-wrap: normal; }
 .n, .d { font-variant-numeric: tabular-nums; }
 .p { width: 32%; }
+.t { width: 30%; }
+.index { max-width: 80rem; page: wide; }
+.index .t { width: 24%; }
 .d, time { white-space: nowrap; }
 .sign { width: 7em; border-left: 1px solid var(--line); }
 .barred td, .barred th { color: var(--faint); }
@@ -46,6 +49,7 @@ svg .day { stroke: var(--ink); stroke-dasharray: 5 3; }
 .signature ul { display: grid; grid-template-columns: 1fr 1fr; gap: 1.6rem 2rem; margin: 1.8rem 0 0; padding: 0; list-style: none; }
 .signature li { padding-bottom: .2rem; border-bottom: 1px solid var(--ink); }
 footer { margin-top: 2rem; padding-top: .4rem; border-top: 1px solid var(--line); color: var(--faint); font-size: .85rem; }
+@page wide { size: A4 landscape; }
 @page { size: A4; margin: 16mm 15mm 18mm; @bottom-right { content: counter(page) \" / \" counter(pages); font: 9pt sans-serif; } }
 @media print {
 :root { color-scheme: light; --ink: #000; --paper: #fff; --faint: #444; --line: #999; --band: #eee; --due: #a3261f; --later: #3c6fa6; --note: #fff; }

@@ -3,24 +3,18 @@
 ghost use Rattle.class_plan.specs.Schedules.{IsInRange};
 
 use crate::counts::Counts;
+use crate::head::{close_head, open_head};
 use crate::page::{Page, put};
 use crate::report::Heading;
-use crate::style::{STYLE, policy};
 use crate::tally::{ClassCounts, Tally};
 use class_plan::{Date, Plan, Schedule, day_number, schedule_text};
 use std::alloc::{AllocError, Global};
 
 /// Adds what comes before the body of a page.
 fn push_head(alloc: Global, page: &mut Page, heading: &Heading<'_>) -> Result<(), AllocError> {
-    let policy = policy(alloc)?;
-    put!(page;
-        "<!DOCTYPE html>\n<html lang=\"en\">\n<head>\n<meta charset=\"utf-8\">\n"
-        "<meta http-equiv=\"Content-Security-Policy\" content=\"" text(policy.as_str())
-        "\">\n<meta name=\"viewport\" content=\"width=device-width, initial-scale=1\">\n"
-        "<meta name=\"referrer\" content=\"no-referrer\">\n<title>Disposal report by "
-        date(heading.day) ": " text(heading.file)
-        "</title>\n<style>" markup(STYLE) "</style>\n</head>\n"
-    )
+    open_head(alloc, page)?;
+    put!(page; "Disposal report by " date(heading.day) ": " text(heading.file))?;
+    close_head(page)
 }
 
 /// Adds that the day has not come yet, where that is so.

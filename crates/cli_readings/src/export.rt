@@ -1,26 +1,33 @@
-//! `export`: records as files, with a manifest.
+//! `export`: records as files, with lists of them.
 
+use crate::folder::{ListFile, judge_free, make_file, make_folder, write_to};
 use crate::list::row_of;
+use crate::report::record_of;
 use cli_choice::Questions;
-use cli_console::{Failure, Search, Status, message_of};
-use cli_texts::{Kept, MANIFEST_HEADER, manifest_row, sum_of};
-use command_lines::archives::Choice;
+use cli_console::{Failure, Search, message_of, now};
+use cli_page::{Index, IndexHeading, Order, Page};
+use cli_texts::{Headers, Kept, MANIFEST_HEADER, headers_of, manifest_row, moment_text, sum_of};
+use command_lines::archives::{Choice, Sorting, Target};
 use record_store::{RecordEntry, Store};
 use sqlite::Alter;
 use std::alloc::{AllocError, Global};
-use std::fs::{self, File, OpenOptions};
-use std::io::{self, ErrorKind, Write};
-use std::os::unix::fs::OpenOptionsExt;
 
-/// The permissions of a file of an export, as of a store.
-const MODE: u32 = 0o600;
+/// The file of an export that lists its records.
+const MANIFEST: &str = "manifest.csv";
 
-/// The folder of an export, with the files that list the others.
+/// The file of an export that has the sums of the others.
+const SUMS: &str = "SHA256SUMS";
+
+/// The file of an export that lists its records for people.
+const INDEX: &str = "index.html";
+
+/// An export to a folder, with what lists its files.
 #[derive(Drop)]
-struct ExportFiles<'a> {
+struct Export<'a> {
     folder: &'a str,
-    manifest: File,
-    sums: File,
+    manifest: ListFile,
+    sums: ListFile,
+    index: Index,
     /// The message that was written last.
     last: Option<Written>,
 }
@@ -32,6 +39,7 @@ struct Written {
     file: String,
     octets: usize,
     sum: String,
+    headers: Headers,
 }
 
 impl Written {
@@ -41,50 +49,15 @@ impl Written {
             file: self.file.as_str(),
             octets: self.octets,
             sum: self.sum.as_str(),
+            headers: &self.headers,
         }
-    }
-}
-
-/// The failure of a file that cannot be made or written.
-fn file_failure(rt: &HostRuntime, path: &str, error: io::Error) -> Failure {
-    let status = match error.kind() {
-        ErrorKind::OutOfMemory => return Failure::NoMemory,
-        ErrorKind::StorageFull | ErrorKind::QuotaExceeded => Status::TryAgain,
-        _ => Status::CannotMake,
-    };
-    Failure::at(rt.alloc(), status, path, &error)
-}
-
-/// A new file of a folder, which only its owner may read. One that is there is not replaced.
-fn make_file(rt: &HostRuntime, folder: &str, name: &str) -> Result<File, Failure> {
-    let path = format!(in rt.alloc(); "{folder}/{name}")?;
-    OpenOptions::new()
-        .write(true)
-        .create_new(true)
-        .mode(MODE)
-        .open(rt, path.as_str())
-        .map_err(|error| file_failure(rt, path.as_str(), error))
-}
-
-/// Writes octets to a file of a folder.
-fn write_to(rt: &HostRuntime, folder: &str, file: &mut File, octets: &[u8]) -> Result<(), Failure> {
-    file.write_all(octets)
-        .map_err(|error| file_failure(rt, folder, error))
-}
-
-/// Makes the folder, if it is not there.
-fn make_folder(rt: &HostRuntime, folder: &str) -> Result<(), Failure> {
-    match fs::create_dir(rt, folder) {
-        Ok(()) => Ok(()),
-        Err(error) if error.kind() == ErrorKind::AlreadyExists => Ok(()),
-        Err(error) => Err(file_failure(rt, folder, error)),
     }
 }
 
 /// Writes a message to a new file that is named by its number.
 fn write_message(
     rt: &HostRuntime,
-    export: &mut ExportFiles<'_>,
+    export: &mut Export<'_>,
     number: u32,
     octets: &[u8],
 ) -> Result<Written, Failure> {
@@ -94,12 +67,13 @@ fn write_message(
     write_to(rt, export.folder, &mut file, octets)?;
     let sum = sum_of(alloc, octets)?;
     let line = format!(in alloc; "{sum}  {name}\n")?;
-    write_to(rt, export.folder, &mut export.sums, line.as_bytes())?;
+    export.sums.write(rt, export.folder, line.as_bytes())?;
     Ok(Written {
         message: number,
         file: name,
         octets: octets.len(),
         sum,
+        headers: headers_of(alloc, octets)?,
     })
 }
 
@@ -107,7 +81,7 @@ fn write_message(
 fn write_new<S: Alter>(
     rt: &HostRuntime,
     archive: &mut Store<S>,
-    export: &mut ExportFiles<'_>,
+    export: &mut Export<'_>,
     entry: &RecordEntry,
 ) -> Result<(), Failure> {
     let last = export.last.as_ref();
@@ -119,38 +93,41 @@ fn write_new<S: Alter>(
     Ok(())
 }
 
-/// The row of a record whose message is in a file.
+/// Adds a record to an index, and answers its row for the manifest. Its message, if it has one, is the one that was written
+/// last.
 fn row_beside(
     alloc: Global,
+    index: &mut Index,
     entry: &RecordEntry,
-    written: &Option<Written>,
+    written: Option<&Written>,
 ) -> Result<Vec<u8>, AllocError> {
-    let kept = written.as_ref().map(|written| written.kept());
-    manifest_row(alloc, &row_of(entry), kept)
+    let letter = written.map(|written| (written.message, &written.headers));
+    index.add(&record_of(entry), letter)?;
+    manifest_row(alloc, &row_of(entry), written.map(|written| written.kept()))
 }
 
 /// Exports a record: its message, unless it is destroyed, and its row.
 fn export_record<S: Alter>(
     rt: &HostRuntime,
     archive: &mut Store<S>,
-    export: &mut ExportFiles<'_>,
+    export: &mut Export<'_>,
     entry: &RecordEntry,
 ) -> Result<(), Failure> {
     let row = if entry.destroyed {
-        manifest_row(rt.alloc(), &row_of(entry), None)?
+        row_beside(rt.alloc(), &mut export.index, entry, None)?
     } else {
         write_new(rt, archive, export, entry)?;
-        row_beside(rt.alloc(), entry, &export.last)?
+        row_beside(rt.alloc(), &mut export.index, entry, export.last.as_ref())?
     };
-    write_to(rt, export.folder, &mut export.manifest, row.as_slice())
+    export.manifest.write(rt, export.folder, row.as_slice())
 }
 
 /// Exports the records that are found.
 fn export_records<S: Alter>(
     rt: &HostRuntime,
     archive: &mut Store<S>,
-    export: &mut ExportFiles<'_>,
-    mut search: Search<'_, '_>,
+    export: &mut Export<'_>,
+    search: &mut Search<'_, '_>,
 ) -> Result<(), Failure> {
     for _ in 0..u64::MAX {
         let Some(page) = search.next_page(rt, archive)? else {
@@ -160,27 +137,57 @@ fn export_records<S: Alter>(
             export_record(rt, archive, export, entry)?;
         }
     }
-    search.end(rt, archive)
+    Ok(())
+}
+
+/// The order of an index.
+fn order_of(sorting: Sorting) -> Order {
+    match sorting {
+        Sorting::Number => Order::Number,
+        Sorting::Date => Order::Date,
+        Sorting::Sender => Order::Sender,
+    }
+}
+
+/// Writes an index to its file.
+fn write_index(rt: &HostRuntime, index: Index, target: Target<'_>) -> Result<(), Failure> {
+    let moment = moment_text(rt.alloc(), now(rt)?)?;
+    let heading = IndexHeading {
+        moment: moment.as_str(),
+        order: order_of(target.sorting),
+    };
+    let mut page = Page::new(rt.alloc());
+    index.write(&mut page, &heading)?;
+    let mut file = make_file(rt, target.folder, INDEX)?;
+    write_to(rt, target.folder, &mut file, page.as_str().as_bytes())
 }
 
 /// Exports the records that meet a choice, and whose messages have what is asked of them, to a folder in which none of the
-/// files is yet. `BadData` where the class is none of the plan, and where a number that is typed by itself is not found.
+/// files is yet. The index is written after the messages: where it is missing, the export was cut off. `BadData` where the
+/// class is none of the plan, and where a number that is typed by itself is not found.
 pub fn export_to<S: Alter>(
     rt: &HostRuntime,
     archive: &mut Store<S>,
     choice: &Choice<'_>,
     questions: &Questions,
-    folder: &str,
+    target: Target<'_>,
 ) -> Result<(), Failure> {
-    let search = Search::new(rt, archive, choice, questions)?;
+    let mut search = Search::new(rt, archive, choice, questions)?;
+    let folder = target.folder;
     make_folder(rt, folder)?;
-    let mut manifest = make_file(rt, folder, "manifest.csv")?;
-    write_to(rt, folder, &mut manifest, MANIFEST_HEADER.as_bytes())?;
-    let mut export = ExportFiles {
+    for name in [MANIFEST, SUMS, INDEX] {
+        judge_free(rt, folder, name)?;
+    }
+    let mut export = Export {
         folder,
-        manifest,
-        sums: make_file(rt, folder, "SHA256SUMS")?,
+        manifest: ListFile::new(MANIFEST, MANIFEST_HEADER),
+        sums: ListFile::new(SUMS, ""),
+        index: Index::new(rt.alloc()),
         last: None,
     };
-    export_records(rt, archive, &mut export, search)
+    export_records(rt, archive, &mut export, &mut search)?;
+    export.manifest.write(rt, folder, b"")?;
+    export.sums.write(rt, folder, b"")?;
+    write_index(rt, export.index, target)?;
+    search.end(rt, archive)
 }

@@ -2,6 +2,7 @@
 //!
 //! - `choice`: what is asked of the records that a command is about;
 //! - `list`, `show`, `export`, `judge` (for `check`), `why` and `report`: these subcommands;
+//! - `folder`: the files of an export;
 //! - `sums`: what a copy is compared by.
 //!
 //! Each works on a store that is lent to it. What it writes, no contract speaks of: tests of the program show it.
@@ -9,6 +10,7 @@
 
 mod choice;
 mod export;
+mod folder;
 mod judge;
 mod list;
 mod report;

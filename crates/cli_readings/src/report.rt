@@ -2,9 +2,9 @@
 
 use class_plan::{Date, Plan};
 use cli_choice::Questions;
-use cli_console::{Failure, Search, Status, now, today, write_data};
+use cli_console::{Failure, Search, Status, is_by, message_of, now, today, write_data};
 use cli_page::{Heading, Page, Record, Report, ReportFault};
-use cli_texts::moment_text;
+use cli_texts::{Headers, headers_of, moment_text};
 use command_lines::archives::Choice;
 use record_store::{RecordEntry, Store};
 use sqlite::Alter;
@@ -21,8 +21,8 @@ fn report_failure(rt: &HostRuntime, fault: ReportFault) -> Failure {
     Failure::told(rt.alloc(), Status::BadData, words)
 }
 
-/// A record as a report reads it.
-fn record_of(entry: &RecordEntry) -> Record<'_> {
+/// A record as a page reads it.
+pub fn record_of(entry: &RecordEntry) -> Record<'_> {
     Record {
         number: entry.number,
         path: entry.path.as_slice(),
@@ -33,16 +33,32 @@ fn record_of(entry: &RecordEntry) -> Record<'_> {
     }
 }
 
-/// Adds the records of a page of the archive.
-fn add_page(
+/// What the header of a record's message says, where the record is live and due by a day.
+fn headers_of_due<S: Alter>(
     rt: &HostRuntime,
-    plan: &Plan,
+    archive: &mut Store<S>,
+    entry: &RecordEntry,
+    day: Date,
+) -> Result<Option<Headers>, Failure> {
+    if entry.destroyed || !is_by(entry.due, day) {
+        return Ok(None);
+    }
+    let message = message_of(rt, archive, entry)?;
+    Ok(Some(headers_of(rt.alloc(), message.as_slice())?))
+}
+
+/// Adds the records of a page of the archive to a report by a day.
+fn add_page<S: Alter>(
+    rt: &HostRuntime,
+    archive: &mut Store<S>,
     report: &mut Report,
     page: &[RecordEntry],
+    day: Date,
 ) -> Result<(), Failure> {
     for entry in page {
+        let headers = headers_of_due(rt, archive, entry, day)?;
         report
-            .add(plan, &record_of(entry))
+            .add(archive.plan(), &record_of(entry), headers.as_ref())
             .map_err(|fault| report_failure(rt, fault))?;
     }
     Ok(())
@@ -54,12 +70,13 @@ fn add_records<S: Alter>(
     archive: &mut Store<S>,
     report: &mut Report,
     search: &mut Search<'_, '_>,
+    day: Date,
 ) -> Result<(), Failure> {
     for _ in 0..u64::MAX {
         let Some(page) = search.next_page(rt, archive)? else {
             break;
         };
-        add_page(rt, archive.plan(), report, page.as_slice())?;
+        add_page(rt, archive, report, page.as_slice(), day)?;
     }
     Ok(())
 }
@@ -165,7 +182,7 @@ pub fn write_report<S: Alter>(
     let mut report = Report::new(rt.alloc(), archive.plan(), day).map_err(|fault| report_failure(
         rt, fault,
     ))?;
-    add_records(rt, archive, &mut report, &mut search)?;
+    add_records(rt, archive, &mut report, &mut search, day)?;
     write_page(rt, archive.plan(), &report, file, day, choice)?;
     search.end(rt, archive)
 }

@@ -5,7 +5,7 @@ use crate::show::message_of_record;
 use class_plan::{Date, Plan, day_number};
 use cli_console::{Failure, Status, write_data, write_text};
 use cli_sources::{Script, read_rules};
-use cli_texts::{listed_line, plan_text};
+use cli_texts::{ListedHeaders, listed_line, plan_text, undecoded_lines};
 use command_lines::archives::{TypedNumber, Why};
 use desk_commands::Payload;
 use record_store::{RecordEntry, Store};
@@ -245,7 +245,10 @@ fn answer_by_rules(
 
 /// Writes a record as it is listed.
 fn write_entry(rt: &HostRuntime, entry: &RecordEntry) -> Result<(), Failure> {
-    write_text(rt, &listed_line(rt.alloc(), &row_of(entry))?)
+    write_text(
+        rt,
+        &listed_line(rt.alloc(), &row_of(entry), ListedHeaders::Unasked)?,
+    )
 }
 
 /// Writes a report.
@@ -265,6 +268,16 @@ fn write_answer(rt: &HostRuntime, entry: &RecordEntry, answer: &Answer) -> Resul
     write_verdict(rt, entry, answer)
 }
 
+/// Writes which words of a message's fields rules see undecoded.
+fn write_undecoded(rt: &HostRuntime, message: &[u8]) -> Result<(), Failure> {
+    for line in undecoded_lines(rt.alloc(), message)? {
+        let mut line = line;
+        line.end_line()?;
+        write_text(rt, &line)?;
+    }
+    Ok(())
+}
+
 /// Writes why a record with a message is in its class.
 fn explain(
     rt: &HostRuntime,
@@ -274,6 +287,7 @@ fn explain(
 ) -> Result<(), Failure> {
     let today = answer_by_rules(rt, asked.rules, asked.officer, captured, message)?;
     write_answer(rt, &captured.entry, &today)?;
+    write_undecoded(rt, message)?;
     let Some(folder) = asked.formerly else {
         return Ok(());
     };
@@ -282,7 +296,8 @@ fn explain(
 }
 
 /// Writes why a record is in its class: the record, a report on the run of today's rules over its message at its day,
-/// and whether that files it there again; with the rules of former times also where their run differs.
+/// whether that files it there again, and which words of its fields rules see undecoded; with the rules of former times
+/// also where their run differs.
 pub fn write_why(rt: &HostRuntime, asked: &Why<'_>, captured: &Captured) -> Result<(), Failure> {
     match &captured.message {
         Some(message) => explain(rt, asked, captured, message.as_slice()),

@@ -15,7 +15,8 @@ use cli_readings::{
     write_list, write_message, write_report, write_why,
 };
 use command_lines::archives::{
-    Choice, Command, CommandLine, Disposal, Filing, Format, Holding, Report, TypedNumber, Why,
+    Choice, Command, CommandLine, Disposal, Filing, Holding, Listing, Report, Target, TypedNumber,
+    Why,
 };
 use desk_commands::Payload;
 use filing_desk::Delivery;
@@ -72,7 +73,7 @@ impl Work for Task<'_> {
 struct ListRecords<'c, 'a> {
     choice: &'c Choice<'a>,
     questions: Questions,
-    format: Format,
+    listing: Listing,
 }
 
 impl Work for ListRecords<'_, '_> {
@@ -84,17 +85,17 @@ impl Work for ListRecords<'_, '_> {
         archive: Store<S>,
     ) -> (Connection<S>, Result<(), Failure>) {
         let mut archive = archive;
-        let done = write_list(rt, &mut archive, self.choice, &self.questions, self.format);
+        let done = write_list(rt, &mut archive, self.choice, &self.questions, self.listing);
         (archive.into_connection(), done)
     }
 }
 
 /// Exports records to a folder.
 #[derive(Drop)]
-struct ExportRecords<'c, 'a, 'f> {
+struct ExportRecords<'c, 'a, 't> {
     choice: &'c Choice<'a>,
     questions: Questions,
-    folder: &'f str,
+    target: Target<'t>,
 }
 
 impl Work for ExportRecords<'_, '_, '_> {
@@ -106,7 +107,7 @@ impl Work for ExportRecords<'_, '_, '_> {
         archive: Store<S>,
     ) -> (Connection<S>, Result<(), Failure>) {
         let mut archive = archive;
-        let done = export_to(rt, &mut archive, self.choice, &self.questions, self.folder);
+        let done = export_to(rt, &mut archive, self.choice, &self.questions, self.target);
         (archive.into_connection(), done)
     }
 }
@@ -255,13 +256,13 @@ fn list<A: Archives>(
     archives: &A,
     store: &str,
     choice: &Choice<'_>,
-    format: Format,
+    listing: Listing,
 ) -> Result<(), Failure> {
     let questions = judge_choice(rt, choice)?;
     let task = ListRecords {
         choice,
         questions,
-        format,
+        listing,
     };
     lend(rt, archives, store, task)
 }
@@ -272,13 +273,13 @@ fn export<A: Archives>(
     archives: &A,
     store: &str,
     choice: &Choice<'_>,
-    folder: &str,
+    target: Target<'_>,
 ) -> Result<(), Failure> {
     let questions = judge_choice(rt, choice)?;
     let task = ExportRecords {
         choice,
         questions,
-        folder,
+        target,
     };
     lend(rt, archives, store, task)
 }
@@ -339,9 +340,9 @@ pub fn execute<A: Archives>(
         }
         Command::Deliver(filing) => deliver(rt, archives, store, &filing),
         Command::Intake { maildir, filing } => intake(rt, archives, store, maildir, &filing),
-        Command::List { choice, format } => list(rt, archives, store, &choice, format),
+        Command::List { choice, listing } => list(rt, archives, store, &choice, listing),
         Command::Show { record, fields } => show(rt, archives, store, record, fields),
-        Command::Export { choice, folder } => export(rt, archives, store, &choice, folder),
+        Command::Export { choice, target } => export(rt, archives, store, &choice, target),
         Command::Copy { new } => copy_to(rt, archives, Paths { store, new }),
         Command::Check => lend(rt, archives, store, Task::Check),
         Command::Why(asked) => why(rt, archives, store, &asked),

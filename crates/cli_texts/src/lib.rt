@@ -1,13 +1,19 @@
-//! Texts for those who run an archive: records as lines, as rows of CSV and as JSON; certificates; sums; and the text of a
-//! plan.
+//! Texts for those who run an archive: records as lines, as rows of CSV and as JSON; what the headers of their messages say;
+//! certificates; sums; and the text of a plan.
 #![tactic(auto)]
 
 mod certificates;
+mod headers;
 mod plans;
 mod records;
 mod rows;
+#[cfg(test)]
+mod tests;
 
 pub use certificates::{Certificate, certificate_line, moment_text, sum_of, sum_text};
+pub use headers::{Headers, ListedHeaders, headers_of, undecoded_lines};
 pub use plans::{due_by, plan_of_text, plan_text};
 pub use records::{Row, captured_line, json_object, listed_line};
-pub use rows::{Kept, LIST_HEADER, MANIFEST_HEADER, csv_row, listed_row, manifest_row};
+pub use rows::{
+    Kept, LIST_HEADER, LIST_HEADER_WITH_TEXTS, MANIFEST_HEADER, csv_row, listed_row, manifest_row,
+};

@@ -1,8 +1,9 @@
 //! Records as lines and as JSON.
 
+use crate::headers::{Headers, ListedHeaders};
 use class_plan::Date;
 use record_archive::Line;
-use serde_json::{Value, json};
+use serde_json::{Map, Value, json};
 use std::alloc::{AllocError, Global};
 use std::str;
 use tool_texts::{Shown, put};
@@ -67,9 +68,24 @@ pub fn captured_line(alloc: Global, line: &Line) -> Result<Shown, AllocError> {
     Ok(text)
 }
 
+/// Adds the texts of a header in quotation marks, each cut to 80 columns.
+fn put_headers(line: &mut Shown, headers: &Headers) -> Result<(), AllocError> {
+    let cut = headers.cut(line.allocator())?;
+    put!(line;
+        " sender " quoted(cut.sender.as_bytes())
+        " subject " quoted(cut.subject.as_bytes())
+        " date " quoted(cut.date.as_bytes())
+    )
+}
+
 /// The line of a listed record: `record 1 class finance day 2023-11-14 due 2030-11-14`, then ` hold NAME` for each hold. One
-/// that is destroyed has ` destroyed` in place of its due date.
-pub fn listed_line(alloc: Global, row: &Row<'_>) -> Result<Shown, AllocError> {
+/// that is destroyed has ` destroyed` in place of its due date. What is listed of its message's header comes last, as
+/// ` sender "Ann" subject "a bill" date ""`: each text in quotation marks, and cut to 80 columns.
+pub fn listed_line(
+    alloc: Global,
+    row: &Row<'_>,
+    headers: ListedHeaders<'_>,
+) -> Result<Shown, AllocError> {
     let mut line = Shown::new(alloc);
     put!(line; "record " value(&row.number) " class " named(row.path) " day " value(&row.day))?;
     if row.destroyed {
@@ -80,6 +96,9 @@ pub fn listed_line(alloc: Global, row: &Row<'_>) -> Result<Shown, AllocError> {
     }
     for name in row.holds {
         put!(line; " hold " named(name.as_slice()))?;
+    }
+    if let Some(texts) = headers.texts() {
+        put_headers(&mut line, texts)?;
     }
     line.end_line()?;
     Ok(line)
@@ -102,14 +121,72 @@ fn json_holds(alloc: Global, holds: &[Vec<u8>]) -> Result<Value, AllocError> {
     Ok(Value::Array(names))
 }
 
-/// A record as a JSON object.
-pub fn json_object(alloc: Global, row: &Row<'_>) -> Result<String, AllocError> {
+/// A member of a JSON object with a text, or null.
+fn add_text(
+    alloc: Global,
+    object: &mut Map<String, Value>,
+    name: &str,
+    text: Option<&str>,
+) -> Result<(), AllocError> {
+    let value = match text {
+        Some(text) => Value::String(String::from_str(alloc, text)?),
+        None => Value::Null,
+    };
+    object.insert(String::from_str(alloc, name)?, value)?;
+    Ok(())
+}
+
+/// Adds the texts of a header to a JSON object.
+fn add_headers(
+    alloc: Global,
+    object: &mut Map<String, Value>,
+    headers: Option<&Headers>,
+) -> Result<(), AllocError> {
+    add_text(
+        alloc,
+        object,
+        "sender",
+        headers.map(|it| it.sender.as_str()),
+    )?;
+    add_text(
+        alloc,
+        object,
+        "subject",
+        headers.map(|it| it.subject.as_str()),
+    )?;
+    add_text(alloc, object, "date", headers.map(|it| it.date.as_str()))
+}
+
+/// A JSON text in ASCII: each other character, which can only stand in a string, by its code units of UTF-16 (RFC 8259,
+/// section 7). So a terminal takes none of it for a command.
+fn in_ascii(alloc: Global, json: &str) -> Result<String, AllocError> {
+    let mut ascii = String::new(alloc);
+    for c in json.chars() {
+        if c.is_ascii() && !c.is_ascii_control() {
+            ascii.push(c)?;
+        } else {
+            let mut units = [0; 2];
+            for unit in c.encode_utf16(&mut units).iter() {
+                write!(ascii, "\\u{unit:04x}")?;
+            }
+        }
+    }
+    Ok(ascii)
+}
+
+/// A record as a JSON object, in ASCII. Where what its message's header says is asked for, the object has it as `sender`,
+/// `subject` and `date`: as texts, or null where the message is destroyed.
+pub fn json_object(
+    alloc: Global,
+    row: &Row<'_>,
+    headers: ListedHeaders<'_>,
+) -> Result<String, AllocError> {
     let path = shown(alloc, row.path)?;
     let date = row.day;
     let day = format!(in alloc; "{date}")?;
     let due = json_due(alloc, row.due)?;
     let holds = json_holds(alloc, row.holds)?;
-    let object = json!(in alloc; {
+    let mut object = json!(in alloc; {
         "number": row.number,
         "class": path,
         "day": day,
@@ -117,5 +194,10 @@ pub fn json_object(alloc: Global, row: &Row<'_>) -> Result<String, AllocError> {
         "holds": holds,
         "destroyed": row.destroyed
     })?;
-    object.to_string(alloc)
+    if let Value::Object(members) = &mut object {
+        if !matches!(&headers, ListedHeaders::Unasked) {
+            add_headers(alloc, members, headers.texts())?;
+        }
+    }
+    in_ascii(alloc, object.to_string(alloc)?.as_str())
 }

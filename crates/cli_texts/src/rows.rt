@@ -1,14 +1,21 @@
 //! Records as rows of CSV (RFC 4180).
 
+use crate::headers::{Headers, ListedHeaders};
 use crate::records::{Row, listed_due, shown};
 use csv::WriterBuilder;
 use std::alloc::{AllocError, Global};
+use tool_texts::Shown;
 
 /// The header of a list.
 pub const LIST_HEADER: &str = "number,class,day,due,holds,destroyed\n";
 
+/// The header of a list with what the messages' headers say.
+pub const LIST_HEADER_WITH_TEXTS: &str =
+    "number,class,day,due,holds,destroyed,sender,subject,date\n";
+
 /// The header of a manifest.
-pub const MANIFEST_HEADER: &str = "number,class,day,due,holds,file,octets,sha256\n";
+pub const MANIFEST_HEADER: &str =
+    "number,class,day,due,holds,file,octets,sha256,sender,subject,date\n";
 
 /// The message of a record, as an export keeps it.
 #[derive(Clone, Copy)]
@@ -19,6 +26,8 @@ pub struct Kept<'a> {
     pub octets: usize,
     /// Its SHA-256, in hexadecimal digits.
     pub sum: &'a str,
+    /// What its header says.
+    pub headers: &'a Headers,
 }
 
 /// Whether a spreadsheet could take a cell for a formula, or drop its beginning.
@@ -61,46 +70,79 @@ fn hold_names(alloc: Global, holds: &[Vec<u8>]) -> Result<String, AllocError> {
     Ok(names)
 }
 
-/// The row of a listed record.
-pub fn listed_row(alloc: Global, row: &Row<'_>) -> Result<Vec<u8>, AllocError> {
-    let (number, day) = (row.number, row.day);
-    let number = format!(in alloc; "{number}")?;
-    let day = format!(in alloc; "{day}")?;
-    let due = listed_due(alloc, row)?;
-    let holds = hold_names(alloc, row.holds)?;
-    let destroyed = if row.destroyed { "yes" } else { "no" };
-    csv_row(
-        alloc,
-        &[
-            number.as_bytes(),
-            row.path,
-            day.as_bytes(),
-            due.as_bytes(),
-            holds.as_bytes(),
-            destroyed.as_bytes(),
-        ],
-    )
+/// A text of a header as CSV has it: whole, with the numbers of its hidden characters in place of these.
+fn visible(alloc: Global, text: &str) -> Result<String, AllocError> {
+    let mut shown = Shown::new(alloc);
+    shown.value(&text)?;
+    Ok(shown.into_string())
 }
 
-/// The row of a record in a manifest. Without a message, which a destroyed record has no more, the last three fields are
+/// The cells of the texts of a header: the sender, the subject and the date. They are empty where there are none.
+fn header_cells(alloc: Global, headers: Option<&Headers>) -> Result<[String; 3], AllocError> {
+    let Some(headers) = headers else {
+        return Ok([String::new(alloc), String::new(alloc), String::new(alloc)]);
+    };
+    Ok([
+        visible(alloc, headers.sender.as_str())?,
+        visible(alloc, headers.subject.as_str())?,
+        visible(alloc, headers.date.as_str())?,
+    ])
+}
+
+/// The cells that each row of a record begins with.
+fn first_cells(alloc: Global, row: &Row<'_>) -> Result<[String; 4], AllocError> {
+    let (number, day) = (row.number, row.day);
+    Ok([
+        format!(in alloc; "{number}")?,
+        format!(in alloc; "{day}")?,
+        listed_due(alloc, row)?,
+        hold_names(alloc, row.holds)?,
+    ])
+}
+
+/// The row of a listed record: with the texts of its message's header, where they are asked for, and with empty cells where
+/// the message is destroyed.
+pub fn listed_row(
+    alloc: Global,
+    row: &Row<'_>,
+    headers: ListedHeaders<'_>,
+) -> Result<Vec<u8>, AllocError> {
+    let [number, day, due, holds] = first_cells(alloc, row)?;
+    let destroyed = if row.destroyed { "yes" } else { "no" };
+    let [sender, subject, date] = header_cells(alloc, headers.texts())?;
+    let cells = [
+        number.as_bytes(),
+        row.path,
+        day.as_bytes(),
+        due.as_bytes(),
+        holds.as_bytes(),
+        destroyed.as_bytes(),
+        sender.as_bytes(),
+        subject.as_bytes(),
+        date.as_bytes(),
+    ];
+    match headers {
+        ListedHeaders::Unasked => csv_row(alloc, &cells[..6]),
+        ListedHeaders::Destroyed | ListedHeaders::Texts(_) => csv_row(alloc, &cells),
+    }
+}
+
+/// The row of a record in a manifest. Without a message, which a destroyed record has no more, the last six fields are
 /// empty.
 pub fn manifest_row(
     alloc: Global,
     row: &Row<'_>,
     kept: Option<Kept<'_>>,
 ) -> Result<Vec<u8>, AllocError> {
-    let (number, day) = (row.number, row.day);
-    let number = format!(in alloc; "{number}")?;
-    let day = format!(in alloc; "{day}")?;
-    let due = listed_due(alloc, row)?;
-    let holds = hold_names(alloc, row.holds)?;
-    let (file, octets, sum) = match kept {
+    let [number, day, due, holds] = first_cells(alloc, row)?;
+    let (file, octets, sum) = match &kept {
         Some(kept) => {
             let octets = kept.octets;
             (kept.file, format!(in alloc; "{octets}")?, kept.sum)
         }
         None => ("", String::new(alloc), ""),
     };
+    let [sender, subject, date] = header_cells(alloc, kept.map(|kept| kept.headers))?;
     csv_row(
         alloc,
         &[
@@ -112,6 +154,9 @@ pub fn manifest_row(
             file.as_bytes(),
             octets.as_bytes(),
             sum.as_bytes(),
+            sender.as_bytes(),
+            subject.as_bytes(),
+            date.as_bytes(),
         ],
     )
 }

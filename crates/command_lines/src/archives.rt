@@ -42,7 +42,7 @@ pub enum Command<'a> {
     },
     List {
         choice: Choice<'a>,
-        format: Format,
+        listing: Listing,
     },
     /// Writes the message of a record.
     Show {
@@ -53,7 +53,7 @@ pub enum Command<'a> {
     /// Writes records to files of a folder.
     Export {
         choice: Choice<'a>,
-        folder: &'a str,
+        target: Target<'a>,
     },
     /// Makes a copy in a new file at a path.
     Copy {
@@ -103,6 +103,33 @@ pub enum Format {
     Numbers,
     /// How many there are.
     Count,
+}
+
+/// What a list has of each record, and how.
+#[derive(Clone, Copy)]
+pub struct Listing {
+    pub format: Format,
+    /// Whether it has the sender, the subject and the date of the message's header.
+    pub headers: bool,
+}
+
+/// The order of an export's index.
+#[derive(Clone, Copy)]
+pub enum Sorting {
+    /// By number.
+    Number,
+    /// By the date of the message's header.
+    Date,
+    /// By sender.
+    Sender,
+}
+
+/// Where an export goes, and how its index is sorted.
+#[derive(Clone, Copy)]
+pub struct Target<'a> {
+    /// The path of the folder.
+    pub folder: &'a str,
+    pub sorting: Sorting,
 }
 
 /// The number of a record.
@@ -303,6 +330,27 @@ fn format_asked(alloc: Global, asked: &ArgMatches<'_>) -> Result<Format, NoComma
     Ok(format.unwrap_or(Format::Lines))
 }
 
+/// What a list has. Headers of messages are refused where no record has more than its number.
+fn listing_asked(alloc: Global, asked: &ArgMatches<'_>) -> Result<Listing, NoCommand> {
+    let format = format_asked(alloc, asked)?;
+    let headers = has_flag(asked, words::HEADERS);
+    if headers && matches!(format, Format::Numbers | Format::Count) {
+        let reason = "--headers cannot be used with --numbers or --count";
+        return Err(NoCommand::Wrong(String::from_str(alloc, reason)?));
+    }
+    Ok(Listing { format, headers })
+}
+
+/// How the index of an export is sorted: by number, where nothing is said.
+fn sorting_asked(alloc: Global, asked: &ArgMatches<'_>) -> Result<Sorting, NoCommand> {
+    match value_of(asked, words::SORT) {
+        None | Some("number") => Ok(Sorting::Number),
+        Some("date") => Ok(Sorting::Date),
+        Some("sender") => Ok(Sorting::Sender),
+        Some(word) => Err(NoCommand::wrong(alloc, word, "none of number, date and sender")),
+    }
+}
+
 /// What is done with the plan. `--yes` is refused where there is no plan to agree to.
 fn plan_asked<'a>(alloc: Global, asked: &ArgMatches<'a>) -> Result<Command<'a>, NoCommand> {
     let is_agreed = has_flag(asked, words::YES);
@@ -397,7 +445,7 @@ fn reading_asked<'a>(
     Ok(Some(match name {
         "list" => Command::List {
             choice: choice_asked(alloc, asked)?,
-            format: format_asked(alloc, asked)?,
+            listing: listing_asked(alloc, asked)?,
         },
         "show" => Command::Show {
             record: record_asked(alloc, asked)?,
@@ -405,7 +453,10 @@ fn reading_asked<'a>(
         },
         "export" => Command::Export {
             choice: choice_asked(alloc, asked)?,
-            folder: required(asked, words::FOLDER)?,
+            target: Target {
+                folder: required(asked, words::FOLDER)?,
+                sorting: sorting_asked(alloc, asked)?,
+            },
         },
         "copy" => Command::Copy {
             new: required(asked, words::NEW)?,

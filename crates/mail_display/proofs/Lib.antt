@@ -2,3 +2,5 @@ mod ShownLemmas
 mod QuotedLemmas
 mod QuestionLemmas
 mod UnfoldingLemmas
+mod UndecodedLemmas
+mod Rows

@@ -8,3 +8,4 @@ pub mod Groups
 pub mod Fields
 pub mod Question
 pub mod Asking
+pub mod Undecoded

@@ -4,7 +4,8 @@
 //! `unfolding` reads a folded body as one line (RFC 5322, section 2.2.3). `words` takes an encoded word apart (RFC 2047,
 //! section 2), wherever it stands, and `decoding` decodes it, by `quoted` where its encoding is Q. `showing` puts the
 //! text together. `fields` shows the fields that a list of messages has. `folding` makes texts comparable without case,
-//! and `question` answers whether a message has given texts in its fields.
+//! and `question` answers whether a message has given texts in its fields. `undecoded` names the words that rules do not
+//! decode.
 #![tactic(auto)]
 
 mod decoding;
@@ -16,10 +17,13 @@ mod quoted;
 mod showing;
 #[cfg(test)]
 mod tests;
+mod undecoded;
 mod unfolding;
 mod words;
 
 pub use fields::{date, sender, subject};
+pub use folding::fold;
 pub use groups::FieldGroup;
 pub use question::{FieldQuestion, FieldQuestionFault, Found};
 pub use showing::{DisplayText, display};
+pub use undecoded::{UndecodedWord, undecoded_words};

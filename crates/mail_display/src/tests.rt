@@ -183,3 +183,66 @@ fn reads_hostile_bodies(rt: HostRuntime) -> Result<(), AllocError> {
     }
     Ok(())
 }
+
+/// The words that rules see undecoded in a message, as `Subject windows-1252,`.
+fn undecoded(alloc: Global, message: &[u8]) -> Result<String, AllocError> {
+    let mut text = String::new(alloc);
+    for word in undecoded_words(alloc, message)? {
+        let (field, charset) = (word.field().escape_ascii(), word.charset().escape_ascii());
+        text.push_str(format!(in alloc; "{field} {charset},")?.as_str())?;
+    }
+    Ok(text)
+}
+
+#[test]
+fn names_undecoded_words(rt: HostRuntime) -> Result<(), AllocError> {
+    let messages: [(&[u8], &str); 10] = [
+        (
+            b"Subject: =?windows-1252?q?=93a=94?=\n\n",
+            "Subject windows-1252,",
+        ),
+        (
+            b"From: =?KOI8-R?b?8NLJ?=\r\n =?koi8-r?b?8NLJ?= <a@example.org>\r\nfrom: =?koi8-r?q?a?=\r\n\r\n",
+            "From KOI8-R,",
+        ),
+        (
+            b"Subject: a\nX-Note: =?gb2312?b?xOO6ww==?= b\n\n",
+            "X-Note gb2312,",
+        ),
+        // rules decode these
+        (b"Subject: =?utf-8?q?a?= (=?iso-8859-1?q?=FC?=)\n\n", ""),
+        // a part of ISO 8859 of which they read the octets below 128
+        (
+            b"Subject: =?iso-8859-15?q?a=A4?= =?iso-8859-15?q?a?=\n\n",
+            "Subject iso-8859-15,",
+        ),
+        // in quotation marks, with a language, and with a blank in its text
+        (
+            b"From: \"=?utf-8?q?a?=\" <a@example.org>\nSubject: =?us-ascii*en?q?a?=\nTo: =?utf-8?q?a b?=\n\n",
+            "From utf-8,Subject us-ascii*en,To utf-8,",
+        ),
+        // padding left out
+        (b"Subject: =?utf-8?b?w7w?=\n\n", "Subject utf-8,"),
+        // no words
+        (b"Subject: =?x?= =??q?a?= =?utf-8?q?a\n\n", ""),
+        // in the body
+        (b"Subject: a\n\nSubject: =?windows-1252?q?a?=\n", ""),
+        (b"", ""),
+    ];
+    for (message, words) in messages {
+        assert_eq!(rt; undecoded(rt.alloc(), message)?.as_str(), words);
+    }
+    Ok(())
+}
+
+#[test]
+fn names_twenty_undecoded_words(rt: HostRuntime) -> Result<(), AllocError> {
+    let alloc = rt.alloc();
+    let mut message = Vec::new(alloc);
+    for number in 0..30 {
+        message.extend_from_slice(format!(in alloc; "X-{number}: =?x?q?a?=\n")?.as_bytes())?;
+    }
+    let words = undecoded_words(alloc, message.as_slice())?;
+    assert_eq!(rt; words.len(), 20);
+    Ok(())
+}

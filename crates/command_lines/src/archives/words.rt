@@ -213,6 +213,12 @@ pub const SUBJECT: Word = Word {
     ..OPTION
 };
 
+pub const HEADERS: Word = Word {
+    name: "headers",
+    help: Some("Adds the sender, the subject and the date of each message's header"),
+    ..FLAG
+};
+
 pub const ONLY_NUMBERS: Word = Word {
     name: "numbers",
     help: Some("Prints the numbers alone, a line each"),
@@ -256,6 +262,7 @@ const LIST: Subcommand = Subcommand {
         LIVE,
         DESTROYED,
         FROM,
+        HEADERS,
         CSV,
         JSON,
         ONLY_NUMBERS,
@@ -277,6 +284,15 @@ const SHOW: Subcommand = Subcommand {
     words: &[STORE, FIELDS, NUMBER],
 };
 
+pub const SORT: Word = Word {
+    name: "sort",
+    value: "ORDER",
+    help: Some(
+        "The order of index.html: number, date (that of the header) or sender; by number if none is given",
+    ),
+    ..OPTION
+};
+
 pub const FOLDER: Word = Word {
     name: "folder",
     value: "FOLDER",
@@ -285,11 +301,11 @@ pub const FOLDER: Word = Word {
 
 const EXPORT: Subcommand = Subcommand {
     name: "export",
-    about: "Writes the messages of records to a folder, with manifest.csv and SHA256SUMS; replaces nothing",
+    about: "Writes the messages of records to a folder, with manifest.csv, SHA256SUMS and index.html; replaces nothing",
     example: "Example: mailfile-store export --store records.db --class finance for-court",
     words: &[
         STORE, SENDER, RECIPIENT, SUBJECT, WHERE, CLASS, SINCE, UNTIL, DUE, HELD, LIVE, DESTROYED,
-        FROM, FOLDER, NUMBERS,
+        FROM, SORT, FOLDER, NUMBERS,
     ],
 };
 

@@ -1,0 +1,130 @@
+//! What a message's header says, as people read it.
+
+ghost use Rattle.std.specs.Prelude.{◌≡◌, IfOk, string_bytes};
+ghost use Rattle.mail_head.specs.Fields.{fields_of};
+ghost use Rattle.mail_display.specs.Fields.{IsShownOf};
+ghost use Rattle.cli_texts.specs.Headers.{sender_of, subject_of, date_of};
+
+use mail_display::{DisplayText, UndecodedWord, date, sender, subject, undecoded_words};
+use std::alloc::{AllocError, Global};
+use tool_texts::{Shown, put};
+use unicode_width::UnicodeWidthChar;
+
+/// How many columns a text of a header has at most in a line or on a page.
+const COLUMNS: usize = 80;
+
+/// Texts of a message's header as people read them (see `mail_display::display`). Each may have any characters, and is
+/// empty where the message has no such field.
+#[derive(Drop)]
+pub struct Headers {
+    /// Of the first From, or else of the first Sender.
+    pub sender: String,
+    /// Of the first Subject.
+    pub subject: String,
+    /// Of the first Date. It need not be a date.
+    pub date: String,
+}
+
+/// What is listed of the header of a record's message.
+#[derive(Clone, Copy)]
+pub enum ListedHeaders<'a> {
+    /// Nothing, since it is not asked for.
+    Unasked,
+    /// Nothing, since the message is destroyed.
+    Destroyed,
+    Texts(&'a Headers),
+}
+
+impl<'a> ListedHeaders<'a> {
+    /// The texts, if there are any.
+    pub(crate) fn texts(self) -> Option<&'a Headers> {
+        match self {
+            ListedHeaders::Texts(headers) => Some(headers),
+            ListedHeaders::Unasked | ListedHeaders::Destroyed => None,
+        }
+    }
+}
+
+/// What is shown of a field, if there is one.
+fn text_of(alloc: Global, shown: Option<DisplayText>) -> String {
+    match shown {
+        Some(shown) => shown.text,
+        None => String::new(alloc),
+    }
+}
+
+/// The sender, the subject and the date of a message. The one error is out of memory.
+pub fn headers_of(alloc: Global, message: &[u8]) -> Result<Headers, AllocError>
+    ensures sender { IfOk result (λ h. string_bytes h.sender ≡ sender_of message.now) }
+    ensures subject { IfOk result (λ h. string_bytes h.subject ≡ subject_of message.now) }
+    ensures date { IfOk result (λ h. string_bytes h.date ≡ date_of message.now) }
+{
+    Ok(Headers {
+        sender: text_of(alloc, sender(alloc, message)?),
+        subject: text_of(alloc, subject(alloc, message)?),
+        date: text_of(alloc, date(alloc, message)?),
+    })
+}
+
+/// How many columns a character is counted as: one at least, so that a text is never longer than its columns.
+fn columns_of(c: char) -> usize {
+    c.width().unwrap_or(1).max(1)
+}
+
+/// The front of a text that has at most so many columns.
+fn front_of(alloc: Global, text: &str, most: usize) -> Result<String, AllocError> {
+    let mut front = String::new(alloc);
+    let mut left = most;
+    for c in text.chars() {
+        let Some(rest) = left.checked_sub(columns_of(c)) else {
+            break;
+        };
+        front.push(c)?;
+        left = rest;
+    }
+    Ok(front)
+}
+
+/// A text of at most 80 columns: the whole text, or its front and an ellipsis. A character that takes no column is counted
+/// as one, so there are at most 80 characters.
+fn cut(alloc: Global, text: &str) -> Result<String, AllocError> {
+    let whole = front_of(alloc, text, COLUMNS)?;
+    if whole.len() == text.len() {
+        return Ok(whole);
+    }
+    let mut front = front_of(alloc, text, COLUMNS - 1)?;
+    front.push('…')?;
+    Ok(front)
+}
+
+impl Headers {
+    /// The texts, each cut to at most 80 columns, with an ellipsis where something is left out.
+    pub fn cut(&self, alloc: Global) -> Result<Headers, AllocError> {
+        Ok(Headers {
+            sender: cut(alloc, self.sender.as_str())?,
+            subject: cut(alloc, self.subject.as_str())?,
+            date: cut(alloc, self.date.as_str())?,
+        })
+    }
+}
+
+/// A line for a word that rules see undecoded, without its end: `Subject has a word in windows-1252, which rules see
+/// undecoded`.
+fn undecoded_line(alloc: Global, word: &UndecodedWord) -> Result<Shown, AllocError> {
+    let mut line = Shown::new(alloc);
+    put!(line;
+        named(word.field()) " has a word in " named(word.charset())
+        ", which rules see undecoded"
+    )?;
+    Ok(line)
+}
+
+/// A line for each name of a field and each charset in which it has words that rules see undecoded, at most 20 (see
+/// `mail_display::undecoded_words`). The end of a line is not part of it.
+pub fn undecoded_lines(alloc: Global, message: &[u8]) -> Result<Vec<Shown>, AllocError> {
+    let mut lines = Vec::new(alloc);
+    for word in undecoded_words(alloc, message)? {
+        lines.push(undecoded_line(alloc, &word)?)?;
+    }
+    Ok(lines)
+}
