@@ -2,11 +2,12 @@
 
 use crate::moments::{Timing, date_of_clock};
 use crate::rules::FilingRules;
+use crate::time_limit::{TimeLimit, too_slow_words};
 use cli_console::{Failure, Status, is_by, tell, write_text};
 use cli_sources::read_payload;
 use cli_texts::captured_line;
 use desk_commands::{Capture, DeskFault, MAX_MESSAGE_OCTETS, Payload};
-use filing_desk::{Delivery, deliver};
+use filing_desk::{Delivery, Desk, deliver};
 use record_archive::{Line, Records};
 use record_store::Store;
 use sieve_meaning::RunFault;
@@ -120,6 +121,21 @@ fn delivery_failure(alloc: Global, fault: DeskFault) -> Failure {
     desk_failure(alloc, name, fault)
 }
 
+/// Delivers a message to a desk by rules at a moment, in seconds since 1970, within the time that it may take.
+fn deliver_in_time<A: Records>(
+    rt: &HostRuntime,
+    desk: &mut Desk<A>,
+    filing: &FilingRules<'_>,
+    moment: u64,
+    message: Payload,
+) -> Result<Delivery, Failure> {
+    let mut time = TimeLimit::from_now(rt, filing.limit)?;
+    let officer = filing.officer.as_bytes();
+    deliver(desk, officer, moment, message, filing.on_fault, &mut time).map_err(
+        |fault| delivery_failure(rt.alloc(), fault),
+    )
+}
+
 /// Delivers a message at a moment, in seconds since 1970, to an archive by rules, and gives the archive back.
 fn deliver_at<A: Records>(
     rt: &HostRuntime,
@@ -132,10 +148,7 @@ fn deliver_at<A: Records>(
         Ok(desk) => desk,
         Err((archive, failure)) => return (archive, Err(failure)),
     };
-    let officer = filing.officer.as_bytes();
-    let done = deliver(&mut desk, officer, moment, message, filing.on_fault).map_err(
-        |fault| delivery_failure(rt.alloc(), fault),
-    );
+    let done = deliver_in_time(rt, &mut desk, filing, moment, message);
     (desk.into_store(), done)
 }
 
@@ -166,8 +179,9 @@ pub fn deliver_to<S: Alter>(
     }
 }
 
-/// Writes the records of a delivery to standard output. Where its message was given up, that is a failure.
-pub fn report_delivery(rt: &HostRuntime, delivered: &Delivery) -> Result<(), Failure> {
+/// Writes the records of a delivery to standard output. Where its message was given up, also since it took longer than
+/// `limit` seconds, that is a failure.
+pub fn report_delivery(rt: &HostRuntime, delivered: &Delivery, limit: u64) -> Result<(), Failure> {
     match delivered {
         Delivery::Captured(capture) => {
             report_capture(rt, &Shown::new(rt.alloc()), capture);
@@ -176,6 +190,10 @@ pub fn report_delivery(rt: &HostRuntime, delivered: &Delivery) -> Result<(), Fai
         Delivery::GivenUp(fault) => Err(Failure::shown(
             Status::TryAgain,
             given_up_words(rt.alloc(), *fault),
+        )),
+        Delivery::OutOfTime => Err(Failure::shown(
+            Status::TryAgain,
+            too_slow_words(rt.alloc(), limit),
         )),
     }
 }

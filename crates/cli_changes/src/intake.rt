@@ -3,6 +3,7 @@
 use crate::deliver::{desk_failure, given_up_words, report_capture};
 use crate::moments::Timing;
 use crate::rules::FilingRules;
+use crate::time_limit::{TimeLimit, too_slow_reason};
 use cli_console::{Failure, Status, tell, tell_words};
 use cli_sources::maildir::{
     NewMail, has_cur, is_in_cur, move_to_cur, new_mail, new_path, settle, try_move,
@@ -13,7 +14,6 @@ use desk_commands::{Capture, DeskFault, MAX_MESSAGE_OCTETS, Payload};
 use filing_desk::{Delivery, Desk, deliver};
 use record_archive::Records;
 use record_store::Store;
-use sieve_meaning::RunFault;
 use sqlite::Alter;
 use std::alloc::{AllocError, Global};
 use std::fmt::Display;
@@ -30,7 +30,7 @@ enum Taken {
     Filed,
     /// It stays, for a reason of its own.
     Stays,
-    /// It stays, since its run ended with a fault, or there was no memory for it.
+    /// It stays, since its run ended with a fault or took too long, or there was no memory for it.
     GivenUp,
 }
 
@@ -158,14 +158,14 @@ fn file_away(rt: &HostRuntime, maildir: &str, name: &str) -> Result<Taken, Failu
     Err(Failure::shown(Status::TryAgain, not_moved(rt.alloc(), name, &error)))
 }
 
-/// Names a message whose run ended with a fault.
-fn name_given_up(rt: &HostRuntime, name: &str, fault: RunFault) -> Taken {
-    match given_up_words(rt.alloc(), fault) {
+/// Names a message that is given up, with a reason that was just put into words, if there was memory for them.
+fn name_given_up(rt: &HostRuntime, name: &str, reason: Result<Shown, AllocError>) -> Taken {
+    match reason {
         Ok(words) => {
             name_one(rt, name, &words);
             Taken::GivenUp
         }
-        Err(_) => give_up(rt, name),
+        Err(AllocError) => give_up(rt, name),
     }
 }
 
@@ -183,18 +183,19 @@ fn take_one<A: Records>(
     };
     let moment = run.timing.moment(rt)?;
     let filing = &job.filing;
-    match deliver(
-        desk,
-        filing.officer.as_bytes(),
-        moment,
-        message,
-        filing.on_fault,
-    ) {
+    let officer = filing.officer.as_bytes();
+    let mut time = TimeLimit::from_now(rt, filing.limit)?;
+    match deliver(desk, officer, moment, message, filing.on_fault, &mut time) {
         Ok(Delivery::Captured(capture)) => {
             report_named(rt, name, &capture);
             file_away(rt, job.maildir, name)
         }
-        Ok(Delivery::GivenUp(fault)) => Ok(name_given_up(rt, name, fault)),
+        Ok(Delivery::GivenUp(fault)) => {
+            Ok(name_given_up(rt, name, given_up_words(rt.alloc(), fault)))
+        }
+        Ok(Delivery::OutOfTime) => {
+            Ok(name_given_up(rt, name, too_slow_reason(rt.alloc(), filing.limit)))
+        }
         Err(DeskFault::NoMemory) => Ok(give_up(rt, name)),
         Err(fault) => Err(desk_failure(rt.alloc(), name, fault)),
     }

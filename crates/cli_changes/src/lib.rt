@@ -2,7 +2,8 @@
 //!
 //! - `plan`: the plan, and another one in its place; `plan_file`: a plan that is read from a file;
 //! - `rules`: the rules by which mail is filed;
-//! - `moments`: when mail is captured; `deliver` and `intake`: one message, and those of a Maildir;
+//! - `moments`: when mail is captured; `time_limit`: how long the work on a message may take;
+//! - `deliver` and `intake`: one message, and those of a Maildir;
 //! - `holds` and `dispose`: records that must not be destroyed, and the destruction of what is due.
 //!
 //! Each works on a store that is lent to it. What it writes, and what a Maildir or a terminal does, no contract speaks of:
@@ -17,6 +18,7 @@ mod moments;
 mod plan;
 mod plan_file;
 mod rules;
+mod time_limit;
 
 pub use deliver::{deliver_to, read_message, report_delivery};
 pub use dispose::{day_of_disposal, dispose_by};

@@ -11,6 +11,8 @@ use record_archive::Records;
 pub struct FilingRules<'a> {
     pub officer: &'a str,
     pub on_fault: OnFault,
+    /// How long the work on a message may take, in seconds.
+    pub limit: u64,
     /// None where the rules are at fault, and mail may go to `unfiled` then.
     rules: Option<Rules>,
 }
@@ -50,6 +52,7 @@ impl<'a> FilingRules<'a> {
         Ok(FilingRules {
             officer,
             on_fault,
+            limit: asked.limit,
             rules,
         })
     }

@@ -212,7 +212,7 @@ fn deliver<A: Archives>(
         .lend(rt, store, work)
         .map_err(|failure| failure.kept())?;
     let delivery = settled(rt, store, done, closed)??;
-    report_delivery(rt, &delivery)
+    report_delivery(rt, &delivery, filing.limit)
 }
 
 /// Captures the new messages of a Maildir.

@@ -90,6 +90,8 @@ pub struct Filing<'a> {
     /// Whether mail goes to `unfiled` where the rules are at fault.
     pub unfiled_on_fault: bool,
     pub moment: Moment,
+    /// How long the work on a message may take, in seconds.
+    pub limit: u64,
 }
 
 /// How records are listed.
@@ -239,6 +241,23 @@ fn moment_asked(alloc: Global, asked: &ArgMatches<'_>) -> Result<Moment, NoComma
     }
 }
 
+/// How long the work on a message may take where it is not said, in seconds.
+const LIMIT: u64 = 60;
+
+/// The longest time that the work on a message may be given, in seconds: a day.
+const GREATEST_LIMIT: u64 = 86_400;
+
+/// How long the work on a message may take, in seconds.
+fn limit_asked(alloc: Global, asked: &ArgMatches<'_>) -> Result<u64, NoCommand> {
+    let Some(word) = value_of(asked, words::LIMIT) else {
+        return Ok(LIMIT);
+    };
+    match read_number(word.as_bytes(), GREATEST_LIMIT) {
+        Some(seconds) if seconds > 0 => Ok(seconds),
+        _ => Err(NoCommand::wrong(alloc, word, "not a number of seconds from 1 to 86400")),
+    }
+}
+
 /// How mail is filed.
 fn filing_asked<'a>(alloc: Global, asked: &ArgMatches<'a>) -> Result<Filing<'a>, NoCommand> {
     Ok(Filing {
@@ -246,6 +265,7 @@ fn filing_asked<'a>(alloc: Global, asked: &ArgMatches<'a>) -> Result<Filing<'a>,
         officer: required(asked, words::OFFICER)?,
         unfiled_on_fault: has_flag(asked, words::UNFILED_ON_FAULT),
         moment: moment_asked(alloc, asked)?,
+        limit: limit_asked(alloc, asked)?,
     })
 }
 

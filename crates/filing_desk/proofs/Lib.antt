@@ -20,3 +20,4 @@ pub mod CallLemmas
 pub mod FaultyRunLemmas
 pub mod BegunLemmas
 pub mod HeedLemmas
+pub mod TurnLemmas

@@ -9,6 +9,8 @@ ghost use Rattle.filing_desk.specs.Standing.{StandsFor, desk_keeper};
 ghost use Rattle.filing_desk.specs.Deliveries.{BeginsCapture, Delivers, TellsFault};
 
 use crate::desk::Desk;
+use crate::patience::Patience;
+use crate::turns::make_turns;
 use desk_commands::{Capture, DeskFault, Payload, Registry};
 use record_archive::Records;
 use sieve_meaning::RunFault;
@@ -30,21 +32,28 @@ pub enum Delivery {
     Captured(Capture),
     /// Its run ended with this fault, and nothing of it is stored.
     GivenUp(RunFault),
+    /// The patience was over before its run came to its end, and nothing of it is stored.
+    OutOfTime,
 }
 
-/// Begins a capture, and lets its run come to its end. Answers the ticket.
-fn begin_and_run<A: Records>(
+/// Begins a capture, and lets its run come to its end. Answers the ticket; none where the patience was over before.
+fn begin_and_run<A: Records, P: Patience>(
     desk: &mut Desk<A>,
     officer: &[u8],
     moment: u64,
     message: Payload,
-) -> Result<u32, DeskFault>
+    patience: &mut P,
+) -> Result<Option<u32>, DeskFault>
     ensures { (m : List ℕ) → IsOf greatest_message message m
-        → BeginsCapture (desk_keeper A.keeper) desk.old officer.now moment m result desk.new }
+        → BeginsCapture (desk_keeper A.keeper) P.asked desk.old officer.now moment m
+        patience.old result patience.new desk.new }
 {
     let (ticket, budget) = desk.begin(officer, moment, message)?;
-    desk.turn(u64::from(ticket), budget)?;
-    Ok(ticket)
+    if make_turns(desk, u64::from(ticket), budget, patience)? {
+        Ok(Some(ticket))
+    } else {
+        Ok(None)
+    }
 }
 
 /// The fault of a capture that has come to its end, if its run ended with one.
@@ -79,25 +88,30 @@ fn fault_against<A: Records>(
     }
 }
 
-/// Delivers a message at a moment, in seconds since 1970-01-01T00:00:00Z, by the program of an officer: BEGIN, as many
-/// steps as its budget, and FINISH.
+/// Delivers a message at a moment, in seconds since 1970-01-01T00:00:00Z, by the program of an officer: BEGIN, turns up
+/// to the end of its run, and FINISH. Between two turns the patience is asked, and where it is over the message is given
+/// up (`OutOfTime`), whatever is done on a fault.
 ///
 /// What is answered as captured is what FINISH answered, and the desk comes to the state after these calls. A message that
 /// is given up, or that one of the calls refuses, leaves the archive as it was; its capture may stay in flight.
 ///
 /// Under `GiveUp` a message is given up for the fault with which its run ended, and one that is captured has no fault.
-/// Under `Capture` none is given up.
-pub fn deliver<A: Records>(
+/// Under `Capture` none is given up for a fault.
+pub fn deliver<A: Records, P: Patience>(
     desk: &mut Desk<A>,
     officer: &[u8],
     moment: u64,
     message: Payload,
     on_fault: OnFault,
+    patience: &mut P,
 ) -> Result<Delivery, DeskFault>
     ensures { (m : List ℕ) → IsOf greatest_message message m
-        → Delivers (desk_keeper A.keeper) desk.old officer.now moment m on_fault result desk.new }
+        → Delivers (desk_keeper A.keeper) P.asked desk.old officer.now moment m on_fault
+        patience.old result patience.new desk.new }
 {
-    let ticket = begin_and_run(desk, officer, moment, message)?;
+    let Some(ticket) = begin_and_run(desk, officer, moment, message, patience)? else {
+        return Ok(Delivery::OutOfTime);
+    };
     if let Some(fault) = fault_against(desk, ticket, on_fault)? {
         return Ok(Delivery::GivenUp(fault));
     }

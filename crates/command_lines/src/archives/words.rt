@@ -107,11 +107,20 @@ pub const AT: Word = Word {
     ..OPTION
 };
 
+pub const LIMIT: Word = Word {
+    name: "limit",
+    value: "SECONDS",
+    help: Some(
+        "How long the rules may work on a message, from 1 second to 86,400; 60 if none is given. After that it is not captured",
+    ),
+    ..OPTION
+};
+
 const DELIVER: Subcommand = Subcommand {
     name: "deliver",
     about: "Captures the message on standard input, and prints its records",
     example: "Example: mailfile-store deliver --store records.db --rules rules ann < mail.eml",
-    words: &[STORE, AT, RULES, UNFILED_ON_FAULT, OFFICER],
+    words: &[STORE, AT, LIMIT, RULES, UNFILED_ON_FAULT, OFFICER],
 };
 
 pub const MAILDIR: Word = Word {
@@ -124,7 +133,7 @@ const INTAKE: Subcommand = Subcommand {
     name: "intake",
     about: "Captures each message in MAILDIR/new, and moves it to MAILDIR/cur once its records are in the file",
     example: "Example: mailfile-store intake --store records.db --rules rules ann Maildir",
-    words: &[STORE, AT, RULES, UNFILED_ON_FAULT, OFFICER, MAILDIR],
+    words: &[STORE, AT, LIMIT, RULES, UNFILED_ON_FAULT, OFFICER, MAILDIR],
 };
 
 pub const CLASS: Word = Word {
