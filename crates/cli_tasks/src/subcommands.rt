@@ -69,13 +69,13 @@ impl Work for Task<'_> {
 
 /// Lists records.
 #[derive(Drop)]
-struct ListRecords<'c, 'a> {
-    choice: &'c Choice<'a>,
+struct ListRecords<'a> {
+    choice: Choice<'a>,
     questions: Questions,
     format: Format,
 }
 
-impl Work for ListRecords<'_, '_> {
+impl Work for ListRecords<'_> {
     type Answer = ();
 
     fn work<S: Alter>(
@@ -84,20 +84,20 @@ impl Work for ListRecords<'_, '_> {
         archive: Store<S>,
     ) -> (Connection<S>, Result<(), Failure>) {
         let mut archive = archive;
-        let done = write_list(rt, &mut archive, self.choice, &self.questions, self.format);
+        let done = write_list(rt, &mut archive, &self.choice, &self.questions, self.format);
         (archive.into_connection(), done)
     }
 }
 
 /// Exports records to a folder.
 #[derive(Drop)]
-struct ExportRecords<'c, 'a, 'f> {
-    choice: &'c Choice<'a>,
+struct ExportRecords<'a, 'f> {
+    choice: Choice<'a>,
     questions: Questions,
     folder: &'f str,
 }
 
-impl Work for ExportRecords<'_, '_, '_> {
+impl Work for ExportRecords<'_, '_> {
     type Answer = ();
 
     fn work<S: Alter>(
@@ -106,7 +106,7 @@ impl Work for ExportRecords<'_, '_, '_> {
         archive: Store<S>,
     ) -> (Connection<S>, Result<(), Failure>) {
         let mut archive = archive;
-        let done = export_to(rt, &mut archive, self.choice, &self.questions, self.folder);
+        let done = export_to(rt, &mut archive, &self.choice, &self.questions, self.folder);
         (archive.into_connection(), done)
     }
 }
@@ -254,10 +254,10 @@ fn list<A: Archives>(
     rt: &HostRuntime,
     archives: &A,
     store: &str,
-    choice: &Choice<'_>,
+    choice: Choice<'_>,
     format: Format,
 ) -> Result<(), Failure> {
-    let questions = judge_choice(rt, choice)?;
+    let questions = judge_choice(rt, &choice)?;
     let task = ListRecords {
         choice,
         questions,
@@ -271,10 +271,10 @@ fn export<A: Archives>(
     rt: &HostRuntime,
     archives: &A,
     store: &str,
-    choice: &Choice<'_>,
+    choice: Choice<'_>,
     folder: &str,
 ) -> Result<(), Failure> {
-    let questions = judge_choice(rt, choice)?;
+    let questions = judge_choice(rt, &choice)?;
     let task = ExportRecords {
         choice,
         questions,
@@ -339,9 +339,9 @@ pub fn execute<A: Archives>(
         }
         Command::Deliver(filing) => deliver(rt, archives, store, &filing),
         Command::Intake { maildir, filing } => intake(rt, archives, store, maildir, &filing),
-        Command::List { choice, format } => list(rt, archives, store, &choice, format),
+        Command::List { choice, format } => list(rt, archives, store, choice, format),
         Command::Show { record, fields } => show(rt, archives, store, record, fields),
-        Command::Export { choice, folder } => export(rt, archives, store, &choice, folder),
+        Command::Export { choice, folder } => export(rt, archives, store, choice, folder),
         Command::Copy { new } => copy_to(rt, archives, Paths { store, new }),
         Command::Check => lend(rt, archives, store, Task::Check),
         Command::Why(asked) => why(rt, archives, store, &asked),
