@@ -70,13 +70,13 @@ impl Work for Task<'_> {
 
 /// Lists records.
 #[derive(Drop)]
-struct ListRecords<'c, 'a> {
-    choice: &'c Choice<'a>,
+struct ListRecords<'a> {
+    choice: Choice<'a>,
     questions: Questions,
     listing: Listing,
 }
 
-impl Work for ListRecords<'_, '_> {
+impl Work for ListRecords<'_> {
     type Answer = ();
 
     fn work<S: Alter>(
@@ -85,20 +85,20 @@ impl Work for ListRecords<'_, '_> {
         archive: Store<S>,
     ) -> (Connection<S>, Result<(), Failure>) {
         let mut archive = archive;
-        let done = write_list(rt, &mut archive, self.choice, &self.questions, self.listing);
+        let done = write_list(rt, &mut archive, &self.choice, &self.questions, self.listing);
         (archive.into_connection(), done)
     }
 }
 
 /// Exports records to a folder.
 #[derive(Drop)]
-struct ExportRecords<'c, 'a, 't> {
-    choice: &'c Choice<'a>,
+struct ExportRecords<'a, 't> {
+    choice: Choice<'a>,
     questions: Questions,
     target: Target<'t>,
 }
 
-impl Work for ExportRecords<'_, '_, '_> {
+impl Work for ExportRecords<'_, '_> {
     type Answer = ();
 
     fn work<S: Alter>(
@@ -107,7 +107,7 @@ impl Work for ExportRecords<'_, '_, '_> {
         archive: Store<S>,
     ) -> (Connection<S>, Result<(), Failure>) {
         let mut archive = archive;
-        let done = export_to(rt, &mut archive, self.choice, &self.questions, self.target);
+        let done = export_to(rt, &mut archive, &self.choice, &self.questions, self.target);
         (archive.into_connection(), done)
     }
 }
@@ -255,10 +255,10 @@ fn list<A: Archives>(
     rt: &HostRuntime,
     archives: &A,
     store: &str,
-    choice: &Choice<'_>,
+    choice: Choice<'_>,
     listing: Listing,
 ) -> Result<(), Failure> {
-    let questions = judge_choice(rt, choice)?;
+    let questions = judge_choice(rt, &choice)?;
     let task = ListRecords {
         choice,
         questions,
@@ -272,10 +272,10 @@ fn export<A: Archives>(
     rt: &HostRuntime,
     archives: &A,
     store: &str,
-    choice: &Choice<'_>,
+    choice: Choice<'_>,
     target: Target<'_>,
 ) -> Result<(), Failure> {
-    let questions = judge_choice(rt, choice)?;
+    let questions = judge_choice(rt, &choice)?;
     let task = ExportRecords {
         choice,
         questions,
@@ -340,9 +340,9 @@ pub fn execute<A: Archives>(
         }
         Command::Deliver(filing) => deliver(rt, archives, store, &filing),
         Command::Intake { maildir, filing } => intake(rt, archives, store, maildir, &filing),
-        Command::List { choice, listing } => list(rt, archives, store, &choice, listing),
+        Command::List { choice, listing } => list(rt, archives, store, choice, listing),
         Command::Show { record, fields } => show(rt, archives, store, record, fields),
-        Command::Export { choice, target } => export(rt, archives, store, &choice, target),
+        Command::Export { choice, target } => export(rt, archives, store, choice, target),
         Command::Copy { new } => copy_to(rt, archives, Paths { store, new }),
         Command::Check => lend(rt, archives, store, Task::Check),
         Command::Why(asked) => why(rt, archives, store, &asked),

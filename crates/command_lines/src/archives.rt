@@ -518,6 +518,14 @@ fn line_asked<'a>(
     }
 }
 
+/// What the words that were found ask for.
+fn read_matches<'a>(alloc: Global, matches: &ArgMatches<'a>) -> Result<CommandLine<'a>, NoCommand> {
+    match matches.subcommand() {
+        Some((name, asked)) => line_asked(alloc, name, asked),
+        None => Err(NoCommand::Unread),
+    }
+}
+
 /// Reads the words of a command line, the program's name first. A value that its option or place cannot have is
 /// `Wrong`; help, and what `clap` refuses, are printed.
 pub fn read_command_line<'a>(
@@ -525,8 +533,5 @@ pub fn read_command_line<'a>(
     words: &'a [String],
 ) -> Result<CommandLine<'a>, NoCommand> {
     let matches = read_words(rt, &words::PROGRAM, words)?;
-    match matches.subcommand() {
-        Some((name, asked)) => line_asked(rt.alloc(), name, asked),
-        None => Err(NoCommand::Unread),
-    }
+    read_matches(rt.alloc(), &matches)
 }
