@@ -11,12 +11,28 @@ use filing_machine::{Trace, trace_run};
 use filing_verify::Verified;
 use mail_case::Case;
 use sieve_meaning::{Location, Outcome, RunFault};
+use std::alloc::{AllocError, Global};
 use tool_checks::Refusals;
 use tool_console::{Failure, Verdict, tell_words, write_data, write_text};
 use tool_inquiry::{
     Answer, Form, Inquiry, ScriptFile, Scripts, Written, answer_to, compiled, open_case,
     outcome_text,
 };
+
+/// Scripts without the main one, which may be in a folder too.
+fn without_main(
+    alloc: Global,
+    main: &ScriptFile,
+    scripts: Vec<ScriptFile>,
+) -> Result<Vec<ScriptFile>, AllocError> {
+    let mut others = Vec::with_capacity(alloc, scripts.len())?;
+    for script in scripts {
+        if script.path.as_str() != main.path.as_str() {
+            others.push(script)?;
+        }
+    }
+    Ok(others)
+}
 
 /// A script and those of the folders; none where one is refused, which is added to what is found.
 fn read_scripts(
@@ -27,10 +43,11 @@ fn read_scripts(
     let Some(main) = read_script(rt, refusals, source.path(), Location::Personal)? else {
         return Ok(None);
     };
-    match read_folders(rt, refusals, source)? {
-        Some(others) => unless_full(refusals, Scripts::new(rt.alloc(), main, others)),
-        None => Ok(None),
-    }
+    let Some(scripts) = read_folders(rt, refusals, source)? else {
+        return Ok(None);
+    };
+    let others = without_main(rt.alloc(), &main, scripts)?;
+    unless_full(refusals, Scripts::new(rt.alloc(), main, others))
 }
 
 /// Says on standard error where to look for what a run that ended with a fault has missed.
