@@ -54,7 +54,7 @@ shows_messages() {
     done
 }
 
-# Whether an export of a store has the messages of a case, octet by octet, their manifest, their sums, and no other file.
+# Whether an export of a store has the messages of a case, octet by octet, their manifest, their sums, an index, and no other file.
 exports_messages() {
     local file out=$here/out messages=0
     does export --store "$2" --live "$out" && cmp -- "$1/manifest.csv" "$out/manifest.csv" || return
@@ -63,7 +63,7 @@ exports_messages() {
         messages=$((messages + 1))
     done
     (cd -- "$out" && sha256sum --quiet --strict -c SHA256SUMS) && (($(wc -l < "$out/SHA256SUMS") == messages)) &&
-        (($(find "$out" -type f | wc -l) == messages + 2))
+        [[ -f $out/index.html ]] && (($(find "$out" -type f | wc -l) == messages + 3))
 }
 
 # Copies the store, as a case says.

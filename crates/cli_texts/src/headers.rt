@@ -1,6 +1,6 @@
 //! What a message's header says, as people read it.
 
-ghost use Rattle.std.specs.Prelude.{◌≡◌, IfOk, string_bytes};
+ghost use Rattle.std.specs.Prelude.{◌≡◌, [], IfOk, MatchOption, string_bytes};
 ghost use Rattle.mail_head.specs.Fields.{fields_of};
 ghost use Rattle.mail_display.specs.Fields.{IsShownOf};
 ghost use Rattle.cli_texts.specs.Headers.{sender_of, subject_of, date_of};
@@ -46,7 +46,10 @@ impl<'a> ListedHeaders<'a> {
 }
 
 /// What is shown of a field, if there is one.
-fn text_of(alloc: Global, shown: Option<DisplayText>) -> String {
+fn text_of(alloc: Global, shown: Option<DisplayText>) -> String
+    ensures { MatchOption shown (string_bytes result ≡ [])
+        (λ d. string_bytes result ≡ string_bytes d.text) }
+{
     match shown {
         Some(shown) => shown.text,
         None => String::new(alloc),
@@ -54,6 +57,7 @@ fn text_of(alloc: Global, shown: Option<DisplayText>) -> String {
 }
 
 /// The sender, the subject and the date of a message. The one error is out of memory.
+#[tactic(auto, using(crate::proofs::HeaderLemmas::shown_text))]
 pub fn headers_of(alloc: Global, message: &[u8]) -> Result<Headers, AllocError>
     ensures sender { IfOk result (λ h. string_bytes h.sender ≡ sender_of message.now) }
     ensures subject { IfOk result (λ h. string_bytes h.subject ≡ subject_of message.now) }
