@@ -154,6 +154,20 @@ pub(crate) fn singles_of(alloc: Global, typed: &[TypedNumbers]) -> Result<Vec<u3
     Ok(numbers)
 }
 
+/// Those of some numbers that are not among others.
+fn not_among(alloc: Global, numbers: Vec<u32>, others: &[u32]) -> Result<Vec<u32>, AllocError>
+    ensures { IfOk result (λ v. v.items ≡ filter (λ n. not (is_one_of others.now n)) numbers.items) }
+{
+    let set = set_of(alloc, others)?;
+    let mut kept = Vec::new(alloc);
+    for number in numbers {
+        if !set.contains(&number) {
+            kept.push(number)?;
+        }
+    }
+    Ok(kept)
+}
+
 /// The numbers that are typed by themselves and were not found, in the order in which they are typed.
 pub fn not_found(
     alloc: Global,
@@ -163,13 +177,6 @@ pub fn not_found(
     ensures { IfOk result
         (λ v. v.items ≡ filter (λ n. not (is_one_of found.now n)) (singles typed.now)) }
 {
-    let set = set_of(alloc, found)?;
     let singles = singles_of(alloc, typed)?;
-    let mut missing = Vec::new(alloc);
-    for number in singles {
-        if !set.contains(&number) {
-            missing.push(number)?;
-        }
-    }
-    Ok(missing)
+    not_among(alloc, singles, found)
 }
