@@ -1,6 +1,6 @@
 //! What is typed of a choice.
 
-ghost use Rattle.std.specs.Prelude.{◌≡◌, ◌||◌, ℕ, not, map, filter, true, option_map, IfOk};
+ghost use Rattle.std.specs.Prelude.{◌≡◌, ◌||◌, ◌∷◌, ℕ, not, map, filter, true, option_map, IfOk};
 ghost use Rattle.std.specs.List.{list_any};
 ghost use Rattle.std.specs.BTreeSet.{contains};
 ghost use Rattle.std.specs.Ordering.{nat_cmp};
@@ -96,21 +96,28 @@ fn widened(span: Span, typed: TypedNumbers) -> Span
     }
 }
 
+/// A span in which the numbers of a first word and of others are.
+fn span_of_all(first: TypedNumbers, others: &[TypedNumbers]) -> Span
+    ensures { (n : ℕ) → is_among (first ∷ others.now) n ≡ true → is_in n (span_view result) ≡ true }
+{
+    let mut span = span_of(first);
+    for numbers in others {
+        span = widened(span, *numbers);
+    }
+    span
+}
+
 /// A span in which each number is that is typed, and each number of all where none is typed.
 pub fn bounds_of(typed: &[TypedNumbers]) -> Span
     ensures { (n : ℕ) → is_among typed.now n ≡ true → is_in n (span_view result) ≡ true }
 {
-    let [first, rest @ ..] = typed else {
-        return Span {
+    match typed {
+        [] => Span {
             first: 1,
             last: u32::MAX,
-        };
-    };
-    let mut span = span_of(*first);
-    for numbers in rest {
-        span = widened(span, *numbers);
+        },
+        [first, rest @ ..] => span_of_all(*first, rest),
     }
-    span
 }
 
 /// Whether a word is this number alone.

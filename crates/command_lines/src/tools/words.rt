@@ -41,6 +41,7 @@ const FRAME: Subcommand = Subcommand {
     about: "Reads commands with @PATH in place of lengths, and writes the octets of a session",
     example: "Example: printf 'FILE @main.sieve @mail.eml\\n' | mailfile-tool frame | mailfile",
     words: &[COMMANDS],
+    has_shared: false,
 };
 
 /// The script that was refused.
@@ -70,6 +71,7 @@ const EXPLAIN: Subcommand = Subcommand {
     about: "Reads replies, and writes them with a text after each number of a refusal or fault",
     example: "Example: mailfile < officer.session | mailfile-tool explain",
     words: &[REFUSED, NUMBERS, NUMBER],
+    has_shared: false,
 };
 
 pub const FILES: Word = Word {
@@ -94,6 +96,7 @@ const CHECK: Subcommand = Subcommand {
     about: "Checks scripts, and plans by the ending .toml: prints nothing for good ones, else FILE:LINE:COLUMN: NUMBER: TEXT for each fault, with status 1",
     example: "Example: mailfile-tool check plan.toml scripts/*.sieve --plan plan.toml; - is standard input, a script",
     words: &[FILES, PRESENT_PLAN, PERSONAL, GLOBAL],
+    has_shared: false,
 };
 
 pub const OUTPUT: Word = Word {
@@ -107,6 +110,7 @@ const COMPILE: Subcommand = Subcommand {
     about: "Writes the image of a script, and prints its budget in steps",
     example: "Example: mailfile-tool compile main.sieve --global shared -o main.image",
     words: &[SCRIPT, OUTPUT, PERSONAL, GLOBAL],
+    has_shared: false,
 };
 
 const DUMP: Subcommand = Subcommand {
@@ -114,6 +118,7 @@ const DUMP: Subcommand = Subcommand {
     about: "Shows an image as text, and whether it may run",
     example: "Example: mailfile-tool dump main.image",
     words: &[IMAGE],
+    has_shared: false,
 };
 
 pub const MESSAGE: Word = Word {
@@ -166,6 +171,7 @@ const WHY: Subcommand = Subcommand {
     words: &[
         SCRIPT, MESSAGE, PLAN, DAY, STEPS, JSON, RUN, PERSONAL, GLOBAL,
     ],
+    has_shared: false,
 };
 
 /// The whole command line, with all subcommands.
@@ -173,4 +179,5 @@ pub const PROGRAM: Program = Program {
     name: "mailfile-tool",
     about: "Tools for mailfile: sessions without counting octets, texts for numbers, script checks, images as text, and why a message is filed",
     subcommands: &[FRAME, EXPLAIN, CHECK, COMPILE, DUMP, WHY],
+    shared: &[],
 };
