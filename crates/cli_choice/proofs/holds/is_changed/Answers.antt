@@ -12,11 +12,11 @@ shown : (names : List (Vec ℕ Global)) (name : List ℕ)
     → shows_hold (name_list names) (named name) ≡ list_any (λ (n : Vec ℕ Global). bytes_eq n.items name) names
 shown names name = any_viewed (λ (n : List ℕ). bytes_eq n name) (λ (n : Vec ℕ Global). n.items) names
 
-placed : (gone kept other : Bool) → not gone ≡ true → kept ≡ other → not kept ≡ (not gone && not other)
+placed : (gone kept other : Bool) → gone ≡ false → kept ≡ other → not kept ≡ (not gone && not other)
 placed false kept other live same = ap not same
 placed true kept other live same = absurd cc
 
-ended : (gone kept other : Bool) → not gone ≡ true → kept ≡ other → kept ≡ (not gone && other)
+ended : (gone kept other : Bool) → gone ≡ false → kept ≡ other → kept ≡ (not gone && other)
 ended false kept other live same = same
 ended true kept other live same = absurd cc
 
