@@ -145,7 +145,7 @@ fn meant_by<S: Alter>(
     day: Date,
 ) -> Result<Meant, Failure> {
     let lines = asked_lines(rt.alloc(), archive, &[], day).map_err(|fault| refused(rt, fault))?;
-    Ok(meant_of(rt.alloc(), typed, lines.as_slice())?)
+    Ok(meant_of(rt.alloc(), typed, lines)?)
 }
 
 /// Tells whether messages are gone, and why a disposal ended where that is no success.

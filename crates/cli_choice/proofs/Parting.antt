@@ -1,15 +1,21 @@
 -- A page of chosen records, parted by what their messages answer.
 use Rattle.std.proofs.Common.{◌≡◌, ◌==◌, ◌<◌, ℕ, Bool, true, false, not, ◌&&◌, cond, List, [], ◌∷◌, ◌++◌, map, filter, find}
 use Rattle.std.proofs.Common.{Option, Some, None, Ok, Err, refl, sym, ap, ap₂, ◌∙◌, arith}
+use Rattle.std.specs.Prelude.{is_none}
 use Rattle.std.specs.List.{AllByRecursion}
 use Rattle.std.proofs.lemmas.Bool.Decides.{nat_tests}
 use Rattle.std.proofs.lemmas.List.Elements.{filter-append}
 use Rattle.record_archive.specs.Lists.{IsAscending}
 use Rattle.record_archive.specs.Archive.{Archive, Record, IsArchive, has_number, record_at, body_of, message_one}
 use Rattle.record_archive.specs.declared.fault.ArchiveRefusal.TheVariants as refusal
-use Rattle.record_choice.specs.Choices.{Choice, Question, is_yes, meets, message_of, meets_asked}
+use Rattle.record_choice.specs.Choices.{Choice, Question, where_asked, is_yes, meets, message_of, meets_asked}
 use Rattle.record_choice.specs.Entries.{RecordEntry, entry_of}
 use Rattle.record_choice.specs.Walks.{chosen_after, records_after, is_told, shows_answer, IsPageOf}
+use Rattle.record_question.specs.declared.question.TestQuestion.{TestQuestion}
+use Rattle.record_question.specs.Questions.{is_yes as is_test_yes}
+use Rattle.mail_display.specs.Question.{Asked}
+use Rattle.cli_choice.specs.declared.questions.Questions.{Questions}
+use Rattle.cli_choice.specs.Questions.{asks_nothing, is_found, is_missed, misses_fields, question_of}
 use Rattle.record_choice.proofs.PageLaws.{Below, is_from, all_weaker, all_kept, filter_mapped}
 
 -- ---- lists
@@ -97,20 +103,40 @@ part_is asks c a is from next page part whole kept =
 
 -- ---- what no message answers
 
-none_yes : (o : Option (List ℕ)) → is_yes (λ message. false) o ≡ false
-none_yes None = refl
-none_yes (Some message) = refl
+none_yes : (asks : List ℕ → Bool) → ((message : List ℕ) → asks message ≡ false) → (o : Option (List ℕ)) → is_yes asks o ≡ false
+none_yes asks never None = refl
+none_yes asks never (Some message) = never message
 
-never : (b c : Bool) → c ≡ false → (b && c) ≡ false
-never true c e = e
-never false c e = refl
+no_and : (b c : Bool) → c ≡ false → (b && c) ≡ false
+no_and true c e = e
+no_and false c e = refl
 
-none_chosen : (c : Choice) (a : Archive) (rs : List Record) → filter (meets_asked (Some (λ message. false)) c a) rs ≡ []
-none_chosen c a [] = refl
-none_chosen c a (r ∷ rs) =
-    ap₂ (λ b l. cond b (r ∷ l) l) (never (meets c a r) (is_yes (λ message. false) (message_of a r)) (none_yes (message_of a r))) (none_chosen c a rs)
+none_chosen : (asks : List ℕ → Bool) → ((message : List ℕ) → asks message ≡ false) → (c : Choice) (a : Archive) (rs : List Record)
+    → filter (meets_asked (Some asks) c a) rs ≡ []
+none_chosen asks never c a [] = refl
+none_chosen asks never c a (r ∷ rs) =
+    ap₂ (λ b l. cond b (r ∷ l) l) (no_and (meets c a r) (is_yes asks (message_of a r)) (none_yes asks never (message_of a r)))
+    (none_chosen asks never c a rs)
 
 -- no record is chosen by a question to which the answer is never yes
-pub none_is : (c : Choice) (a : Archive) (from next : Option ℕ) → IsPageOf (Some (λ message. false)) c a from [] next
-none_is c a from next =
-    ap (map (entry_of a)) (none_chosen c a (records_after a next) ∙ sym (none_chosen c a (records_after a from)))
+none_is : (asks : List ℕ → Bool) → ((message : List ℕ) → asks message ≡ false) → (c : Choice) (a : Archive) (from next : Option ℕ)
+    → IsPageOf (Some asks) c a from [] next
+none_is asks never c a from next =
+    ap (map (entry_of a)) (none_chosen asks never c a (records_after a next) ∙ sym (none_chosen asks never c a (records_after a from)))
+
+-- ---- where nothing is asked
+
+nothing_missed : (t : Option TestQuestion) (f : Option Asked) → (is_none t && is_none f) ≡ true → (message : List ℕ)
+    → (where_asked (λ x. is_test_yes x message) t && misses_fields f message) ≡ false
+nothing_missed None None e message = refl
+nothing_missed None (Some f) e message = absurd cc
+nothing_missed (Some t) f e message = absurd cc
+
+-- where nothing is asked, nothing is missed
+pub none_missed : (q : Questions) → asks_nothing q ≡ true → (c : Choice) (a : Archive) (from next : Option ℕ)
+    → IsPageOf (Some (is_missed q)) c a from [] next
+none_missed q e c a from next = none_is (is_missed q) (nothing_missed q.test q.fields e) c a from next
+
+-- where something is asked, this is the question
+pub asked_is : (q : Questions) → asks_nothing q ≡ false → Some (is_found q) ≡ question_of q
+asked_is q e = sym (ap (λ b. cond {A = Question} b None (Some (is_found q))) e)

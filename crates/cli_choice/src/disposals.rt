@@ -38,8 +38,12 @@ fn is_ranged(typed: &[TypedNumbers], number: u32) -> bool
 }
 
 /// Those that are typed by themselves, and those of the lines that are in a range.
-fn numbers_of(alloc: Global, typed: &[TypedNumbers], lines: &[Line]) -> Result<Vec<u32>, AllocError>
-    ensures { IfOk result (λ v. v.items ≡ numbers_meant typed.now (map line_view lines.now)) }
+fn numbers_of(
+    alloc: Global,
+    typed: &[TypedNumbers],
+    lines: Vec<Line>,
+) -> Result<Vec<u32>, AllocError>
+    ensures { IfOk result (λ v. v.items ≡ numbers_meant typed.now (map line_view lines.items)) }
 {
     let mut numbers = singles_of(alloc, typed)?;
     for line in lines {
@@ -52,8 +56,12 @@ fn numbers_of(alloc: Global, typed: &[TypedNumbers], lines: &[Line]) -> Result<V
 
 /// Which of the records that may be destroyed, as these lines list them, a disposal is about: those in the ranges that are
 /// typed. Those that are typed by themselves are meant whether or not they may be destroyed.
-pub fn meant_of(alloc: Global, typed: &[TypedNumbers], lines: &[Line]) -> Result<Meant, AllocError>
-    ensures { IfOk result (λ m. IsMeant typed.now (map line_view lines.now) m) }
+pub fn meant_of(
+    alloc: Global,
+    typed: &[TypedNumbers],
+    lines: Vec<Line>,
+) -> Result<Meant, AllocError>
+    ensures { IfOk result (λ m. IsMeant typed.now (map line_view lines.items) m) }
 {
     if typed.is_empty() {
         return Ok(Meant::All);

@@ -1,6 +1,6 @@
 //! What is typed of a choice.
 
-ghost use Rattle.std.specs.Prelude.{◌≡◌, ◌||◌, ℕ, not, map, filter, true, option_map, IfOk};
+ghost use Rattle.std.specs.Prelude.{◌≡◌, ◌||◌, ◌∷◌, ℕ, not, map, filter, true, option_map, IfOk};
 ghost use Rattle.std.specs.List.{list_any};
 ghost use Rattle.std.specs.BTreeSet.{contains};
 ghost use Rattle.std.specs.Ordering.{nat_cmp};
@@ -96,21 +96,28 @@ fn widened(span: Span, typed: TypedNumbers) -> Span
     }
 }
 
+/// A span in which the numbers of a first word and of others are.
+fn span_of_all(first: TypedNumbers, others: &[TypedNumbers]) -> Span
+    ensures { (n : ℕ) → is_among (first ∷ others.now) n ≡ true → is_in n (span_view result) ≡ true }
+{
+    let mut span = span_of(first);
+    for numbers in others {
+        span = widened(span, *numbers);
+    }
+    span
+}
+
 /// A span in which each number is that is typed, and each number of all where none is typed.
 pub fn bounds_of(typed: &[TypedNumbers]) -> Span
     ensures { (n : ℕ) → is_among typed.now n ≡ true → is_in n (span_view result) ≡ true }
 {
-    let [first, rest @ ..] = typed else {
-        return Span {
+    match typed {
+        [] => Span {
             first: 1,
             last: u32::MAX,
-        };
-    };
-    let mut span = span_of(*first);
-    for numbers in rest {
-        span = widened(span, *numbers);
+        },
+        [first, rest @ ..] => span_of_all(*first, rest),
     }
-    span
 }
 
 /// Whether a word is this number alone.
@@ -154,6 +161,20 @@ pub(crate) fn singles_of(alloc: Global, typed: &[TypedNumbers]) -> Result<Vec<u3
     Ok(numbers)
 }
 
+/// Those of some numbers that are not among others.
+fn not_among(alloc: Global, numbers: Vec<u32>, others: &[u32]) -> Result<Vec<u32>, AllocError>
+    ensures { IfOk result (λ v. v.items ≡ filter (λ n. not (is_one_of others.now n)) numbers.items) }
+{
+    let set = set_of(alloc, others)?;
+    let mut kept = Vec::new(alloc);
+    for number in numbers {
+        if !set.contains(&number) {
+            kept.push(number)?;
+        }
+    }
+    Ok(kept)
+}
+
 /// The numbers that are typed by themselves and were not found, in the order in which they are typed.
 pub fn not_found(
     alloc: Global,
@@ -163,13 +184,6 @@ pub fn not_found(
     ensures { IfOk result
         (λ v. v.items ≡ filter (λ n. not (is_one_of found.now n)) (singles typed.now)) }
 {
-    let set = set_of(alloc, found)?;
     let singles = singles_of(alloc, typed)?;
-    let mut missing = Vec::new(alloc);
-    for number in singles {
-        if !set.contains(&number) {
-            missing.push(number)?;
-        }
-    }
-    Ok(missing)
+    not_among(alloc, singles, found)
 }

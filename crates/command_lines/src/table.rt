@@ -70,6 +70,8 @@ pub struct Subcommand {
     pub example: &'static str,
     /// Its words, in the order in which they are shown.
     pub words: &'static [Word],
+    /// Whether the shared words of its program come after them.
+    pub has_shared: bool,
 }
 
 /// The version of the programs.
@@ -84,6 +86,8 @@ pub struct Program {
     pub about: &'static str,
     /// Its subcommands, in the order in which they are shown.
     pub subcommands: &'static [Subcommand],
+    /// The words that several of them have.
+    pub shared: &'static [Word],
 }
 
 /// An argument in the form of a word.
@@ -136,15 +140,34 @@ fn with_word<'a>(
     command.arg(argument)
 }
 
-/// A subcommand with its words.
-fn subcommand_of<'a>(alloc: Global, described: &Subcommand) -> Result<Command<'a>, AllocError> {
-    let mut command = Command::new(alloc, described.name)
-        .about(described.about)
-        .after_help(described.example);
-    for word in described.words {
+/// Adds words to a subcommand.
+fn with_words<'a>(
+    alloc: Global,
+    command: Command<'a>,
+    words: &[Word],
+) -> Result<Command<'a>, AllocError> {
+    let mut command = command;
+    for word in words {
         command = with_word(alloc, command, word)?;
     }
     Ok(command)
+}
+
+/// A subcommand with its words.
+fn subcommand_of<'a>(
+    alloc: Global,
+    described: &Subcommand,
+    shared: &[Word],
+) -> Result<Command<'a>, AllocError> {
+    let command = Command::new(alloc, described.name)
+        .about(described.about)
+        .after_help(described.example);
+    let command = with_words(alloc, command, described.words)?;
+    if described.has_shared {
+        with_words(alloc, command, shared)
+    } else {
+        Ok(command)
+    }
 }
 
 /// Adds a subcommand to a program.
@@ -152,8 +175,9 @@ fn with_subcommand<'a>(
     alloc: Global,
     command: Command<'a>,
     described: &Subcommand,
+    shared: &[Word],
 ) -> Result<Command<'a>, AllocError> {
-    let subcommand = subcommand_of(alloc, described)?;
+    let subcommand = subcommand_of(alloc, described, shared)?;
     command.subcommand(subcommand)
 }
 
@@ -173,7 +197,7 @@ pub fn bare_command<'a>(
 pub fn command_of<'a>(alloc: Global, program: &Program) -> Result<Command<'a>, AllocError> {
     let mut command = bare_command(alloc, program.name, program.about)?.subcommand_required(true);
     for described in program.subcommands {
-        command = with_subcommand(alloc, command, described)?;
+        command = with_subcommand(alloc, command, described, program.shared)?;
     }
     Ok(command)
 }

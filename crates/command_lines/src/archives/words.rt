@@ -45,6 +45,7 @@ const CREATE: Subcommand = Subcommand {
     about: "Makes a new store with a plan, in a file that only its owner may read and write",
     example: "Example: mailfile-store create --store records.db --plan plan.toml",
     words: &[STORE, PLAN_FILE],
+    has_shared: false,
 };
 
 pub const YES: Word = Word {
@@ -77,6 +78,7 @@ const PLAN: Subcommand = Subcommand {
             ..YES
         },
     ],
+    has_shared: false,
 };
 
 /// The rules by which mail is filed.
@@ -121,6 +123,7 @@ const DELIVER: Subcommand = Subcommand {
     about: "Captures the message on standard input, and prints its records",
     example: "Example: mailfile-store deliver --store records.db --rules rules ann < mail.eml",
     words: &[STORE, AT, LIMIT, RULES, UNFILED_ON_FAULT, OFFICER],
+    has_shared: false,
 };
 
 pub const MAILDIR: Word = Word {
@@ -134,6 +137,7 @@ const INTAKE: Subcommand = Subcommand {
     about: "Captures each message in MAILDIR/new, and moves it to MAILDIR/cur once its records are in the file",
     example: "Example: mailfile-store intake --store records.db --rules rules ann Maildir",
     words: &[STORE, AT, LIMIT, RULES, UNFILED_ON_FAULT, OFFICER, MAILDIR],
+    has_shared: false,
 };
 
 pub const CLASS: Word = Word {
@@ -257,27 +261,8 @@ const LIST: Subcommand = Subcommand {
     name: "list",
     about: "Prints a line for each record: number, class, day, due date or never, holds, and whether it is destroyed",
     example: "Example: mailfile-store list --store records.db --sender müller --since 2026-03-01",
-    words: &[
-        STORE,
-        SENDER,
-        RECIPIENT,
-        SUBJECT,
-        WHERE,
-        CLASS,
-        SINCE,
-        UNTIL,
-        DUE,
-        HELD,
-        LIVE,
-        DESTROYED,
-        FROM,
-        HEADERS,
-        CSV,
-        JSON,
-        ONLY_NUMBERS,
-        COUNT,
-        NUMBERS,
-    ],
+    words: &[STORE, FROM, HEADERS, CSV, JSON, ONLY_NUMBERS, COUNT, NUMBERS],
+    has_shared: true,
 };
 
 pub const FIELDS: Word = Word {
@@ -291,6 +276,7 @@ const SHOW: Subcommand = Subcommand {
     about: "Prints the message of a record, octet by octet",
     example: "Example: mailfile-store show --store records.db 1 > mail.eml",
     words: &[STORE, FIELDS, NUMBER],
+    has_shared: false,
 };
 
 pub const SORT: Word = Word {
@@ -312,10 +298,8 @@ const EXPORT: Subcommand = Subcommand {
     name: "export",
     about: "Writes the messages of records to a folder, with manifest.csv, SHA256SUMS and index.html; replaces nothing",
     example: "Example: mailfile-store export --store records.db --class finance for-court",
-    words: &[
-        STORE, SENDER, RECIPIENT, SUBJECT, WHERE, CLASS, SINCE, UNTIL, DUE, HELD, LIVE, DESTROYED,
-        FROM, SORT, FOLDER, NUMBERS,
-    ],
+    words: &[STORE, FROM, SORT, FOLDER, NUMBERS],
+    has_shared: true,
 };
 
 pub const NEW: Word = Word {
@@ -329,6 +313,7 @@ const COPY: Subcommand = Subcommand {
     about: "Makes a new store with the same archive, without the octets of what was destroyed",
     example: "Example: mailfile-store copy --store records.db backup.db",
     words: &[STORE, NEW],
+    has_shared: false,
 };
 
 const CHECK: Subcommand = Subcommand {
@@ -336,6 +321,7 @@ const CHECK: Subcommand = Subcommand {
     about: "Checks a whole store, and prints its totals",
     example: "Example: mailfile-store check --store records.db",
     words: &[STORE],
+    has_shared: false,
 };
 
 pub const FORMERLY: Word = Word {
@@ -361,6 +347,7 @@ const WHY: Subcommand = Subcommand {
         OFFICER,
         NUMBER,
     ],
+    has_shared: false,
 };
 
 /// The name of a hold.
@@ -374,20 +361,16 @@ const HOLD: Subcommand = Subcommand {
     name: "hold",
     about: "Keeps records from destruction by a hold of that name",
     example: "Example: mailfile-store hold --store records.db --class finance --until 2026-06-30 audit",
-    words: &[
-        STORE, SENDER, RECIPIENT, SUBJECT, WHERE, CLASS, SINCE, UNTIL, DUE, HELD, LIVE, DESTROYED,
-        NAME, NUMBERS,
-    ],
+    words: &[STORE, NAME, NUMBERS],
+    has_shared: true,
 };
 
 const RELEASE: Subcommand = Subcommand {
     name: "release",
     about: "Ends the hold of that name on records",
     example: "Example: mailfile-store release --store records.db audit 1 5-9",
-    words: &[
-        STORE, SENDER, RECIPIENT, SUBJECT, WHERE, CLASS, SINCE, UNTIL, DUE, HELD, LIVE, DESTROYED,
-        NAME, NUMBERS,
-    ],
+    words: &[STORE, NAME, NUMBERS],
+    has_shared: true,
 };
 
 const DISPOSE: Subcommand = Subcommand {
@@ -408,6 +391,7 @@ const DISPOSE: Subcommand = Subcommand {
         },
         NUMBERS,
     ],
+    has_shared: false,
 };
 
 const REPORT: Subcommand = Subcommand {
@@ -416,17 +400,6 @@ const REPORT: Subcommand = Subcommand {
     example: "Example: mailfile-store report --store records.db --day 2026-12-31 > report.html",
     words: &[
         STORE,
-        SENDER,
-        RECIPIENT,
-        SUBJECT,
-        WHERE,
-        CLASS,
-        SINCE,
-        UNTIL,
-        DUE,
-        HELD,
-        LIVE,
-        DESTROYED,
         Word {
             help: Some(
                 "The day by which records are due, which may be later than today; today if none is given",
@@ -434,7 +407,13 @@ const REPORT: Subcommand = Subcommand {
             ..DAY
         },
     ],
+    has_shared: true,
 };
+
+/// The conditions of a choice of records.
+const CONDITIONS: &[Word] = &[
+    SENDER, RECIPIENT, SUBJECT, WHERE, CLASS, SINCE, UNTIL, DUE, HELD, LIVE, DESTROYED,
+];
 
 pub const PROGRAM: Program = Program {
     name: "mailfile-store",
@@ -443,4 +422,5 @@ pub const PROGRAM: Program = Program {
         CREATE, PLAN, DELIVER, INTAKE, LIST, SHOW, EXPORT, COPY, CHECK, WHY, HOLD, RELEASE,
         DISPOSE, REPORT,
     ],
+    shared: CONDITIONS,
 };

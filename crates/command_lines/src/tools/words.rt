@@ -53,6 +53,7 @@ const FRAME: Subcommand = Subcommand {
     about: "Reads commands with @PATH in place of lengths, and writes the octets of a session",
     example: "Example: printf 'FILE @main.sieve @mail.eml\\n' | mailfile-tool frame | mailfile",
     words: &[COMMANDS],
+    has_shared: false,
 };
 
 /// The script that was refused.
@@ -82,6 +83,7 @@ const EXPLAIN: Subcommand = Subcommand {
     about: "Reads replies, and writes them with a text after each number of a refusal or fault",
     example: "Example: mailfile < officer.session | mailfile-tool explain",
     words: &[REFUSED, NUMBERS, NUMBER],
+    has_shared: false,
 };
 
 pub const FILES: Word = Word {
@@ -106,6 +108,7 @@ const CHECK: Subcommand = Subcommand {
     about: "Checks scripts, and plans by the ending .toml: prints nothing for good ones, else FILE:LINE:COLUMN: NUMBER: TEXT for each fault, with status 1",
     example: "Example: mailfile-tool check --plan plan.toml --rules rules ann; or mailfile-tool check plan.toml scripts/*.sieve, where - is standard input, a script",
     words: &[FILES, PRESENT_PLAN, RULES, PERSONAL, GLOBAL],
+    has_shared: false,
 };
 
 pub const OUTPUT: Word = Word {
@@ -119,6 +122,7 @@ const COMPILE: Subcommand = Subcommand {
     about: "Writes the image of a script, and prints its budget in steps",
     example: "Example: mailfile-tool compile main.sieve --global shared -o main.image",
     words: &[SCRIPT, OUTPUT, RULES, PERSONAL, GLOBAL],
+    has_shared: false,
 };
 
 const DUMP: Subcommand = Subcommand {
@@ -126,6 +130,7 @@ const DUMP: Subcommand = Subcommand {
     about: "Shows an image as text, and whether it may run",
     example: "Example: mailfile-tool dump main.image",
     words: &[IMAGE],
+    has_shared: false,
 };
 
 pub const MESSAGE: Word = Word {
@@ -179,6 +184,7 @@ const WHY: Subcommand = Subcommand {
     words: &[
         SCRIPT, MESSAGE, PLAN, DAY, STEPS, JSON, RUN, RULES, PERSONAL, GLOBAL,
     ],
+    has_shared: false,
 };
 
 /// The whole command line, with all subcommands.
@@ -186,4 +192,5 @@ pub const PROGRAM: Program = Program {
     name: "mailfile-tool",
     about: "Tools for mailfile: sessions without counting octets, texts for numbers, script checks, images as text, and why a message is filed",
     subcommands: &[FRAME, EXPLAIN, CHECK, COMPILE, DUMP, WHY],
+    shared: &[],
 };
