@@ -2,7 +2,7 @@
 
 use cli_choice::{Change, Questions, is_meant};
 use cli_console::{Failure, Search, Status, tell, write_text};
-use command_lines::archives::Holding;
+use command_lines::archives::Choice;
 use record_store::{RecordEntry, Store, StoreFault};
 use sqlite::Alter;
 use std::alloc::{AllocError, Global};
@@ -74,11 +74,11 @@ fn change_page<S: Alter>(
     rt: &HostRuntime,
     archive: &mut Store<S>,
     change: Change,
-    holding: &Holding<'_>,
+    name: &str,
+    choice: &Choice<'_>,
     page: &[RecordEntry],
 ) -> Result<bool, Failure> {
-    let name = holding.name;
-    let typed = holding.choice.numbers.as_slice();
+    let typed = choice.numbers.as_slice();
     let mut is_done = true;
     for entry in page {
         if is_meant(change, name.as_bytes(), typed, entry) {
@@ -94,16 +94,17 @@ pub fn change_holds<S: Alter>(
     rt: &HostRuntime,
     archive: &mut Store<S>,
     change: Change,
-    holding: &Holding<'_>,
+    name: &str,
+    choice: &Choice<'_>,
     questions: &Questions,
 ) -> Result<(), Failure> {
-    let mut search = Search::new(rt, archive, &holding.choice, questions)?;
+    let mut search = Search::new(rt, archive, choice, questions)?;
     let mut is_done = true;
     for _ in 0..u64::MAX {
         let Some(page) = search.next_page(rt, archive)? else {
             break;
         };
-        is_done = change_page(rt, archive, change, holding, page.as_slice())? && is_done;
+        is_done = change_page(rt, archive, change, name, choice, page.as_slice())? && is_done;
     }
     search.end(rt, archive)?;
     if is_done {

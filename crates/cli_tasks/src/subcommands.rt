@@ -15,8 +15,7 @@ use cli_readings::{
     write_list, write_message, write_report, write_why,
 };
 use command_lines::archives::{
-    Choice, Command, CommandLine, Disposal, Filing, Holding, Listing, Report, Target, TypedNumber,
-    Why,
+    Choice, ChosenTask, Command, CommandLine, Disposal, Filing, TypedNumber, Why,
 };
 use desk_commands::Payload;
 use filing_desk::Delivery;
@@ -29,11 +28,8 @@ enum Task<'a> {
     WritePlan,
     ReplacePlan { plan: &'a str, is_agreed: bool },
     Check,
-    Hold(Change, Holding<'a>, Questions),
     /// Lists or destroys what is due by a day.
     Dispose(Disposal, Date),
-    /// Reports by a day on the records of a choice, with the path of the store.
-    Report(&'a str, Date, Choice<'a>, Questions),
 }
 
 impl Task<'_> {
@@ -43,13 +39,7 @@ impl Task<'_> {
             Task::WritePlan => write_plan(rt, archive.plan()),
             Task::ReplacePlan { plan, is_agreed } => replace_plan(rt, archive, *plan, *is_agreed),
             Task::Check => write_contents(rt, archive),
-            Task::Hold(change, asked, questions) => {
-                change_holds(rt, archive, *change, asked, questions)
-            }
             Task::Dispose(asked, day) => dispose_by(rt, archive, asked, *day),
-            Task::Report(store, day, choice, questions) => {
-                write_report(rt, archive, *store, *day, choice, questions)
-            }
         }
     }
 }
@@ -68,37 +58,38 @@ impl Work for Task<'_> {
     }
 }
 
-/// Lists records.
+/// Does something with the records of a choice, and of the questions that are asked of their messages.
 #[derive(Drop)]
-struct ListRecords<'a> {
+struct OnRecords<'a> {
+    /// The path of the store, which a report names.
+    store: &'a str,
     choice: Choice<'a>,
     questions: Questions,
-    listing: Listing,
+    task: ChosenTask<'a>,
 }
 
-impl Work for ListRecords<'_> {
-    type Answer = ();
-
-    fn work<S: Alter>(
-        self,
-        rt: &HostRuntime,
-        archive: Store<S>,
-    ) -> (Connection<S>, Result<(), Failure>) {
-        let mut archive = archive;
-        let done = write_list(rt, &mut archive, &self.choice, &self.questions, self.listing);
-        (archive.into_connection(), done)
+impl OnRecords<'_> {
+    /// Does it.
+    fn perform<S: Alter>(&self, rt: &HostRuntime, archive: &mut Store<S>) -> Result<(), Failure> {
+        let (choice, questions) = (&self.choice, &self.questions);
+        match self.task {
+            ChosenTask::List(listing) => write_list(rt, archive, choice, questions, listing),
+            ChosenTask::Export(target) => export_to(rt, archive, choice, questions, target),
+            ChosenTask::Hold(name) => {
+                change_holds(rt, archive, Change::Place, name, choice, questions)
+            }
+            ChosenTask::Release(name) => {
+                change_holds(rt, archive, Change::End, name, choice, questions)
+            }
+            ChosenTask::Report { day } => {
+                let day = day_or_today(rt, day)?;
+                write_report(rt, archive, self.store, day, choice, questions)
+            }
+        }
     }
 }
 
-/// Exports records to a folder.
-#[derive(Drop)]
-struct ExportRecords<'a, 't> {
-    choice: Choice<'a>,
-    questions: Questions,
-    target: Target<'t>,
-}
-
-impl Work for ExportRecords<'_, '_> {
+impl Work for OnRecords<'_> {
     type Answer = ();
 
     fn work<S: Alter>(
@@ -107,7 +98,7 @@ impl Work for ExportRecords<'_, '_> {
         archive: Store<S>,
     ) -> (Connection<S>, Result<(), Failure>) {
         let mut archive = archive;
-        let done = export_to(rt, &mut archive, &self.choice, &self.questions, self.target);
+        let done = self.perform(rt, &mut archive);
         (archive.into_connection(), done)
     }
 }
@@ -250,38 +241,22 @@ fn why<A: Archives>(
     write_why(rt, asked, &captured)
 }
 
-/// Lists records.
-fn list<A: Archives>(
+/// Does something with the records of a choice.
+fn on_records<'a, A: Archives>(
     rt: &HostRuntime,
     archives: &A,
-    store: &str,
-    choice: Choice<'_>,
-    listing: Listing,
+    store: &'a str,
+    choice: Choice<'a>,
+    task: ChosenTask<'a>,
 ) -> Result<(), Failure> {
     let questions = judge_choice(rt, &choice)?;
-    let task = ListRecords {
+    let work = OnRecords {
+        store,
         choice,
         questions,
-        listing,
+        task,
     };
-    lend(rt, archives, store, task)
-}
-
-/// Exports records to a folder.
-fn export<A: Archives>(
-    rt: &HostRuntime,
-    archives: &A,
-    store: &str,
-    choice: Choice<'_>,
-    target: Target<'_>,
-) -> Result<(), Failure> {
-    let questions = judge_choice(rt, &choice)?;
-    let task = ExportRecords {
-        choice,
-        questions,
-        target,
-    };
-    lend(rt, archives, store, task)
+    lend(rt, archives, store, work)
 }
 
 /// Lists what is due and may be destroyed, or destroys it.
@@ -293,36 +268,6 @@ fn dispose<A: Archives>(
 ) -> Result<(), Failure> {
     let day = day_of_disposal(rt, &asked)?;
     lend(rt, archives, store, Task::Dispose(asked, day))
-}
-
-/// Changes a hold on records.
-fn change_hold<A: Archives>(
-    rt: &HostRuntime,
-    archives: &A,
-    store: &str,
-    change: Change,
-    asked: Holding<'_>,
-) -> Result<(), Failure> {
-    let questions = judge_choice(rt, &asked.choice)?;
-    lend(rt, archives, store, Task::Hold(change, asked, questions))
-}
-
-/// Writes a report on records by a day, or else by today.
-fn report<A: Archives>(
-    rt: &HostRuntime,
-    archives: &A,
-    store: &str,
-    asked: Report<'_>,
-) -> Result<(), Failure> {
-    let Report { day, choice } = asked;
-    let day = day_or_today(rt, day)?;
-    let questions = judge_choice(rt, &choice)?;
-    lend(
-        rt,
-        archives,
-        store,
-        Task::Report(store, day, choice, questions),
-    )
 }
 
 /// Does what a command line asks for.
@@ -340,15 +285,11 @@ pub fn execute<A: Archives>(
         }
         Command::Deliver(filing) => deliver(rt, archives, store, &filing),
         Command::Intake { maildir, filing } => intake(rt, archives, store, maildir, &filing),
-        Command::List { choice, listing } => list(rt, archives, store, choice, listing),
         Command::Show { record, fields } => show(rt, archives, store, record, fields),
-        Command::Export { choice, target } => export(rt, archives, store, choice, target),
         Command::Copy { new } => copy_to(rt, archives, Paths { store, new }),
         Command::Check => lend(rt, archives, store, Task::Check),
         Command::Why(asked) => why(rt, archives, store, &asked),
-        Command::Hold(asked) => change_hold(rt, archives, store, Change::Place, asked),
-        Command::Release(asked) => change_hold(rt, archives, store, Change::End, asked),
         Command::Dispose(asked) => dispose(rt, archives, store, asked),
-        Command::Report(asked) => report(rt, archives, store, asked),
+        Command::Chosen(choice, task) => on_records(rt, archives, store, choice, task),
     }
 }

@@ -40,20 +40,11 @@ pub enum Command<'a> {
         maildir: &'a str,
         filing: Filing<'a>,
     },
-    List {
-        choice: Choice<'a>,
-        listing: Listing,
-    },
     /// Writes the message of a record.
     Show {
         record: TypedNumber<'a>,
         /// Whether the fields of its header are written instead.
         fields: bool,
-    },
-    /// Writes records to files of a folder.
-    Export {
-        choice: Choice<'a>,
-        target: Target<'a>,
     },
     /// Makes a copy in a new file at a path.
     Copy {
@@ -62,12 +53,26 @@ pub enum Command<'a> {
     /// Judges the whole store.
     Check,
     Why(Why<'a>),
-    Hold(Holding<'a>),
-    /// Ends a hold.
-    Release(Holding<'a>),
     Dispose(Disposal),
-    /// Writes a page of HTML.
-    Report(Report<'a>),
+    /// Does something with the records of a choice.
+    Chosen(Choice<'a>, ChosenTask<'a>),
+}
+
+/// What is done with the records of a choice.
+#[derive(Clone, Copy)]
+pub enum ChosenTask<'a> {
+    List(Listing),
+    /// Writes them to files of a folder.
+    Export(Target<'a>),
+    /// Keeps them by the hold of a name, which is 1 to 64 octets from 33 to 126. The choice asks for something.
+    Hold(&'a str),
+    /// Ends the hold of such a name on them. The choice asks for something.
+    Release(&'a str),
+    /// Writes a page of HTML on them. The choice has no numbers.
+    Report {
+        /// The day by which records are due, which may be later than today; none for today.
+        day: Option<Date>,
+    },
 }
 
 /// The moment of a capture.
@@ -153,15 +158,6 @@ pub struct Why<'a> {
     pub record: TypedNumber<'a>,
 }
 
-/// A hold on records, which is placed or ended.
-#[derive(Drop)]
-pub struct Holding<'a> {
-    /// 1 to 64 octets from 33 to 126.
-    pub name: &'a str,
-    /// It asks for something.
-    pub choice: Choice<'a>,
-}
-
 /// The destruction of what is due.
 #[derive(Drop)]
 pub struct Disposal {
@@ -171,15 +167,6 @@ pub struct Disposal {
     pub destroys: bool,
     /// The records that are meant; all that are due, where there is none.
     pub numbers: Vec<TypedNumbers>,
-}
-
-/// A page of HTML on records.
-#[derive(Drop)]
-pub struct Report<'a> {
-    /// The day by which they are due, which may be later than today; none for today.
-    pub day: Option<Date>,
-    /// It has no numbers.
-    pub choice: Choice<'a>,
 }
 
 /// The number of a record, as it is typed: one of 32 bits, in decimal digits without a leading zero.
@@ -394,26 +381,25 @@ fn name_asked<'a>(alloc: Global, asked: &ArgMatches<'a>) -> Result<&'a str, NoCo
     Err(NoCommand::wrong(alloc, name, reason))
 }
 
-/// A hold on records, which must be named.
-fn holding_asked<'a>(alloc: Global, asked: &ArgMatches<'a>) -> Result<Holding<'a>, NoCommand> {
+/// The name of a hold that is to be placed. One that reads as numbers is refused, since the name was more likely forgotten.
+fn new_name_asked<'a>(alloc: Global, asked: &ArgMatches<'a>) -> Result<&'a str, NoCommand> {
     let name = name_asked(alloc, asked)?;
+    if reads_as_number(name.as_bytes()) {
+        let reason = "a number of a record; did you forget the hold's name?";
+        return Err(NoCommand::wrong(alloc, name, reason));
+    }
+    Ok(name)
+}
+
+/// Which records a hold is about. They must be named.
+fn held_asked<'a>(alloc: Global, asked: &ArgMatches<'a>) -> Result<Choice<'a>, NoCommand> {
     let mut choice = conditions_asked(alloc, asked)?;
     choice.numbers = numbers_asked(alloc, asked)?;
     if choice.is_empty() {
         let reason = "name the records by their numbers, or by conditions as --sender";
         return Err(NoCommand::Wrong(String::from_str(alloc, reason)?));
     }
-    Ok(Holding { name, choice })
-}
-
-/// A hold that is to be placed. A name that reads as numbers is refused, since the name was more likely forgotten.
-fn new_holding_asked<'a>(alloc: Global, asked: &ArgMatches<'a>) -> Result<Holding<'a>, NoCommand> {
-    let name = name_asked(alloc, asked)?;
-    if reads_as_number(name.as_bytes()) {
-        let reason = "a number of a record; did you forget the hold's name?";
-        return Err(NoCommand::wrong(alloc, name, reason));
-    }
-    holding_asked(alloc, asked)
+    Ok(choice)
 }
 
 /// What is to be destroyed.
@@ -422,14 +408,6 @@ fn disposal_asked(alloc: Global, asked: &ArgMatches<'_>) -> Result<Disposal, NoC
         day: day_asked(alloc, asked, words::DAY)?,
         destroys: has_flag(asked, words::YES),
         numbers: numbers_asked(alloc, asked)?,
-    })
-}
-
-/// What a report is to be on.
-fn report_asked<'a>(alloc: Global, asked: &ArgMatches<'a>) -> Result<Report<'a>, NoCommand> {
-    Ok(Report {
-        day: day_asked(alloc, asked, words::DAY)?,
-        choice: conditions_asked(alloc, asked)?,
     })
 }
 
@@ -449,8 +427,6 @@ fn change_asked<'a>(
             maildir: required(asked, words::MAILDIR)?,
             filing: filing_asked(alloc, asked)?,
         },
-        "hold" => Command::Hold(new_holding_asked(alloc, asked)?),
-        "release" => Command::Release(holding_asked(alloc, asked)?),
         "dispose" => Command::Dispose(disposal_asked(alloc, asked)?),
         _ => return Ok(None),
     }))
@@ -463,20 +439,9 @@ fn reading_asked<'a>(
     asked: &ArgMatches<'a>,
 ) -> Result<Option<Command<'a>>, NoCommand> {
     Ok(Some(match name {
-        "list" => Command::List {
-            choice: choice_asked(alloc, asked)?,
-            listing: listing_asked(alloc, asked)?,
-        },
         "show" => Command::Show {
             record: record_asked(alloc, asked)?,
             fields: has_flag(asked, words::FIELDS),
-        },
-        "export" => Command::Export {
-            choice: choice_asked(alloc, asked)?,
-            target: Target {
-                folder: required(asked, words::FOLDER)?,
-                sorting: sorting_asked(alloc, asked)?,
-            },
         },
         "copy" => Command::Copy {
             new: required(asked, words::NEW)?,
@@ -488,9 +453,42 @@ fn reading_asked<'a>(
             officer: required(asked, words::OFFICER)?,
             record: record_asked(alloc, asked)?,
         }),
-        "report" => Command::Report(report_asked(alloc, asked)?),
         _ => return Ok(None),
     }))
+}
+
+/// What a subcommand does with the records of a choice, where the name is that of one which does.
+fn task_asked<'a>(
+    alloc: Global,
+    name: &str,
+    asked: &ArgMatches<'a>,
+) -> Result<Option<ChosenTask<'a>>, NoCommand> {
+    Ok(Some(match name {
+        "list" => ChosenTask::List(listing_asked(alloc, asked)?),
+        "export" => ChosenTask::Export(Target {
+            folder: required(asked, words::FOLDER)?,
+            sorting: sorting_asked(alloc, asked)?,
+        }),
+        "hold" => ChosenTask::Hold(new_name_asked(alloc, asked)?),
+        "release" => ChosenTask::Release(name_asked(alloc, asked)?),
+        "report" => ChosenTask::Report {
+            day: day_asked(alloc, asked, words::DAY)?,
+        },
+        _ => return Ok(None),
+    }))
+}
+
+/// The records with which a subcommand does something.
+fn chosen_asked<'a>(
+    alloc: Global,
+    asked: &ArgMatches<'a>,
+    task: ChosenTask<'a>,
+) -> Result<Choice<'a>, NoCommand> {
+    match task {
+        ChosenTask::List(_) | ChosenTask::Export(_) => choice_asked(alloc, asked),
+        ChosenTask::Hold(_) | ChosenTask::Release(_) => held_asked(alloc, asked),
+        ChosenTask::Report { .. } => conditions_asked(alloc, asked),
+    }
 }
 
 /// What the subcommand of a name is asked to do.
@@ -499,6 +497,9 @@ fn command_asked<'a>(
     name: &str,
     asked: &ArgMatches<'a>,
 ) -> Result<Command<'a>, NoCommand> {
+    if let Some(task) = task_asked(alloc, name, asked)? {
+        return Ok(Command::Chosen(chosen_asked(alloc, asked, task)?, task));
+    }
     match change_asked(alloc, name, asked)? {
         Some(command) => Ok(command),
         None => reading_asked(alloc, name, asked)?.ok_or(NoCommand::Unread),

@@ -261,7 +261,16 @@ const LIST: Subcommand = Subcommand {
     name: "list",
     about: "Prints a line for each record: number, class, day, due date or never, holds, and whether it is destroyed",
     example: "Example: mailfile-store list --store records.db --sender müller --since 2026-03-01",
-    words: &[STORE, FROM, HEADERS, CSV, JSON, ONLY_NUMBERS, COUNT, NUMBERS],
+    words: &[
+        STORE,
+        FROM,
+        HEADERS,
+        CSV,
+        JSON,
+        ONLY_NUMBERS,
+        COUNT,
+        NUMBERS,
+    ],
     has_shared: true,
 };
 
