@@ -358,6 +358,14 @@ fn sorting_asked(alloc: Global, asked: &ArgMatches<'_>) -> Result<Sorting, NoCom
     }
 }
 
+/// Where an export is written, and how its index is sorted.
+fn target_asked<'a>(alloc: Global, asked: &ArgMatches<'a>) -> Result<Target<'a>, NoCommand> {
+    Ok(Target {
+        folder: required(asked, words::FOLDER)?,
+        sorting: sorting_asked(alloc, asked)?,
+    })
+}
+
 /// What is done with the plan. `--yes` is refused where there is no plan to agree to.
 fn plan_asked<'a>(alloc: Global, asked: &ArgMatches<'a>) -> Result<Command<'a>, NoCommand> {
     let is_agreed = has_flag(asked, words::YES);
@@ -457,38 +465,36 @@ fn reading_asked<'a>(
     }))
 }
 
-/// What a subcommand does with the records of a choice, where the name is that of one which does.
-fn task_asked<'a>(
+/// A subcommand that does something with the records of a choice, where the name is that of one.
+fn chosen_asked<'a>(
     alloc: Global,
     name: &str,
     asked: &ArgMatches<'a>,
-) -> Result<Option<ChosenTask<'a>>, NoCommand> {
-    Ok(Some(match name {
-        "list" => ChosenTask::List(listing_asked(alloc, asked)?),
-        "export" => ChosenTask::Export(Target {
-            folder: required(asked, words::FOLDER)?,
-            sorting: sorting_asked(alloc, asked)?,
-        }),
-        "hold" => ChosenTask::Hold(new_name_asked(alloc, asked)?),
-        "release" => ChosenTask::Release(name_asked(alloc, asked)?),
-        "report" => ChosenTask::Report {
-            day: day_asked(alloc, asked, words::DAY)?,
-        },
+) -> Result<Option<Command<'a>>, NoCommand> {
+    let (choice, task) = match name {
+        "list" => (
+            choice_asked(alloc, asked)?,
+            ChosenTask::List(listing_asked(alloc, asked)?),
+        ),
+        "export" => (
+            choice_asked(alloc, asked)?,
+            ChosenTask::Export(target_asked(alloc, asked)?),
+        ),
+        "hold" => (
+            held_asked(alloc, asked)?,
+            ChosenTask::Hold(new_name_asked(alloc, asked)?),
+        ),
+        "release" => (
+            held_asked(alloc, asked)?,
+            ChosenTask::Release(name_asked(alloc, asked)?),
+        ),
+        "report" => {
+            let day = day_asked(alloc, asked, words::DAY)?;
+            (conditions_asked(alloc, asked)?, ChosenTask::Report { day })
+        }
         _ => return Ok(None),
-    }))
-}
-
-/// The records with which a subcommand does something.
-fn chosen_asked<'a>(
-    alloc: Global,
-    asked: &ArgMatches<'a>,
-    task: ChosenTask<'a>,
-) -> Result<Choice<'a>, NoCommand> {
-    match task {
-        ChosenTask::List(_) | ChosenTask::Export(_) => choice_asked(alloc, asked),
-        ChosenTask::Hold(_) | ChosenTask::Release(_) => held_asked(alloc, asked),
-        ChosenTask::Report { .. } => conditions_asked(alloc, asked),
-    }
+    };
+    Ok(Some(Command::Chosen(choice, task)))
 }
 
 /// What the subcommand of a name is asked to do.
@@ -497,8 +503,8 @@ fn command_asked<'a>(
     name: &str,
     asked: &ArgMatches<'a>,
 ) -> Result<Command<'a>, NoCommand> {
-    if let Some(task) = task_asked(alloc, name, asked)? {
-        return Ok(Command::Chosen(chosen_asked(alloc, asked, task)?, task));
+    if let Some(command) = chosen_asked(alloc, name, asked)? {
+        return Ok(command);
     }
     match change_asked(alloc, name, asked)? {
         Some(command) => Ok(command),
