@@ -1,0 +1,36 @@
+use Rattle.std.proofs.Common.{◌≡◌, ◌≤◌, ◌+◌, ℕ, suc, [], ◌∷◌, Bool, true, false, Result, Ok, Err, refl, sym, subst, arith}
+use Rattle.std.proofs.lemmas.Grind.{common_steps}
+use Rattle.desk_commands.specs.CallAnswers.{answer_of_turn}
+use Rattle.desk_commands.specs.Faults.{refused_by}
+use Rattle.desk_commands.specs.Standing.{turn}
+use Rattle.desk_commands.specs.declared.fault.DeskFault.{DeskFault}
+use Rattle.filing_desk.specs.Standing.{desk_keeper}
+use Rattle.filing_desk.specs.Deliveries.{MadeTurns, MakesTurns}
+use Rattle.filing_desk.proofs.CallLemmas.{one_call, passed_on}
+use Rattle.filing_desk.proofs.TurnLemmas.{turns_on, turns_told, turns_whole}
+use Rattle.filing_desk.proofs.turns.make_turns.Goals as goal
+
+pub turns-init : goal.turns-init
+turns-init g c =
+    let keeper = desk_keeper g.A.Records.keeper in
+    record {
+      within = grind (arith, common_steps);
+      asks = (0, grind (arith, common_steps), refl);
+      follows = one_call keeper c.args.desk.now c.turn.new.self (turn c.args.ticket c.min-made.result) (answer_of_turn (Ok c.in_ok-turn.turn))
+          c.in_ok-turn.ensures;
+    }
+
+-- the patience was asked, and lasted
+pub turns-preserved : goal.turns-preserved
+turns-preserved g c =
+    let keeper = desk_keeper g.A.Records.keeper in
+    let l = c.turns in
+    let so_far = l.invariant.asks in
+    let lasted : c.is_over.result ≡ false = grind (arith, common_steps) in
+    let Asked : Bool → Type 0 = λ b. g.P.Patience.asked l.patience b c.is_over.new.self in
+    record {
+      within = grind (arith, common_steps);
+      asks = (suc so_far.0, omega (arith, so_far.1), (l.patience, so_far.2, subst Asked lasted c.is_over.ensures));
+      follows = turns_on keeper c.args.desk.now l.desk c.turn-2.new.self c.args.ticket l.made 1 (answer_of_turn (Ok l.turn))
+          (answer_of_turn (Ok c.in_ok-turn-2.turn)) (turns_told l.turn) l.invariant.follows c.in_ok-turn-2.ensures;
+    }
