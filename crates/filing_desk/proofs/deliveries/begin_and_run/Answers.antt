@@ -65,8 +65,8 @@ returns-then-lasted g c = λ m is.
           (one_call keeper c.args.desk.now c.begin.new.self first.command first.answer (c.in_ok-ticket.ensures m is)) made.2,
     )
 
-pub returns : goal.returns
-returns g c = λ m is.
+pub returns-else-lasted : goal.returns-else-lasted
+returns-else-lasted g c = λ m is.
     let keeper = desk_keeper g.A.Records.keeper in
     let t = c.in_ok-ticket.ticket in
     let b = c.in_ok-ticket.budget in
