@@ -58,5 +58,5 @@ lasts_twice = (2, (3, refl, (refl, refl)), (refl, refl))
 never_out : {D P : Type 0} (keeper : Keeper D Standing) (asked : P → Bool → P → Type 0) (old new : D) (officer : List ℕ)
     (moment : ℕ) (message : List ℕ) (on_fault : OnFault) (before after : P) → ((p q : P) → asked p true q → ⊥)
     → Delivers keeper asked old officer moment message on_fault before (Ok OutOfTime) after new → ⊥
-never_out keeper asked old new officer moment message on_fault before after never (calls, (t, cut), rest) =
+never_out keeper asked old new officer moment message on_fault before after never (calls, (t, cut), follows, kept) =
     let (b, mid, run, over, same) = cut in never mid after over

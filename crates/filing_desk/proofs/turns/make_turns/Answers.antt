@@ -31,6 +31,6 @@ turns-preserved g c =
     record {
       within = grind (arith, common_steps);
       asks = (suc so_far.0, omega (arith, so_far.1), (l.patience, so_far.2, subst Asked lasted c.is_over.ensures));
-      follows = turns_on keeper c.args.desk.now l.desk c.turn-2.new.self c.args.ticket l.made 1 (answer_of_turn (Ok l.turn))
+      follows = turns_on keeper c.args.desk.now l.desk c.turn-in-turns.new.self c.args.ticket l.made 1 (answer_of_turn (Ok l.turn))
           (answer_of_turn (Ok c.in_ok-turn-2.turn)) (turns_told l.turn) l.invariant.follows c.in_ok-turn-2.ensures;
     }
