@@ -34,3 +34,34 @@ turns-preserved g c =
       follows = turns_on keeper c.args.desk.now l.desk c.turn-in-turns.new.self c.args.ticket l.made 1 (answer_of_turn (Ok l.turn))
           (answer_of_turn (Ok c.in_ok-turn-2.turn)) (turns_told l.turn) l.invariant.follows c.in_ok-turn-2.ensures;
     }
+
+pub returns-in_err-turn : goal.returns-in_err-turn
+returns-in_err-turn g c =
+    let keeper = desk_keeper g.A.Records.keeper in
+    let out = c.from_residual in
+    let fault = c.in_err-turn.field-0.0 in
+    let Told : Result Bool DeskFault → Type 0 = λ r.
+    MakesTurns keeper g.P.Patience.asked c.args.desk.now c.args.ticket c.args.budget c.args.patience.now r c.args.patience.now c.turn.new.self in
+    subst Told (sym (passed_on out.result fault out.ensures.0 out.ensures.1)) (
+      record { made = c.min-made.result; last = refused_by fault; times = 0; within = grind (arith, common_steps); between = grind (arith, common_steps); lasts = refl },
+      refl,
+      one_call keeper c.args.desk.now c.turn.new.self (turn c.args.ticket c.min-made.result) (refused_by fault) c.in_err-turn.ensures,
+    )
+
+pub returns-then-is_over : goal.returns-then-is_over
+returns-then-is_over g c =
+    let l = c.turns in
+    let over : c.is_over.result ≡ true = grind (arith, common_steps) in
+    let Asked : Bool → Type 0 = λ b. g.P.Patience.asked l.patience b c.is_over.new.self in (
+      l.patience,
+      record {
+        made = l.made;
+        last = answer_of_turn (Ok l.turn);
+        times = l.invariant.asks.0;
+        within = l.invariant.within;
+        between = l.invariant.asks.1;
+        lasts = l.invariant.asks.2;
+      },
+      subst Asked over c.is_over.ensures,
+      l.invariant.follows,
+    )
