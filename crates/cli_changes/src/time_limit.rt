@@ -7,6 +7,7 @@ use std::time::{Duration, Instant};
 use tool_texts::{Shown, put};
 
 /// The time that the work on a message may take, by a clock that cannot be set.
+#[derive(Drop)]
 pub struct TimeLimit<'a> {
     rt: &'a HostRuntime,
     begun: Instant,

@@ -60,7 +60,7 @@ module _ (s to : Standing) (officer : List ℕ) (moment : ℕ) (message : List �
       → TurnStep mid t made (flight_of t mid.flights) turned to → (k : ℕ) × (flight_of t to.flights ≡ Some (granted_more k f))
   turned_of mid f e step =
       let Steps : Option Flight → Type 0 = λ x. TurnStep mid t made x turned to in
-      elim (subst Steps e step) [ inl all ↦ after b all.1 | inr some ↦ after some.1.0 some.1.2 ]
+      elim (subst Steps e step) [ inl all ↦ after made all.1 | inr some ↦ after some.1.0 some.1.2 ]
     where
       after : (k : ℕ) → to ≡ with_turns mid t k → (n : ℕ) × (flight_of t to.flights ≡ Some (granted_more n f))
       after k is = (

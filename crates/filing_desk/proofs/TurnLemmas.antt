@@ -86,6 +86,7 @@ module _ {D : Type 0} (keeper : Keeper D Standing) where
         let l = first.leads (λ e. absurd (false≢true e)) s there in
         let k = call.leads (λ e. absurd (false≢true e)) l.to l.there in
         let Steps : Standing → Type 0 = λ z. Step s (turn t n) a z in
-        let step = turned_twice s l.to k.to t n m a b told (subst Steps (sym l.is_one.2) l.is_one.1) k.is_one in
+        let (z, made, same) = l.is_one in
+        let step = turned_twice s l.to k.to t n m a b told (subst Steps (sym same) made) k.is_one in
         record { to = k.to; is_one = (k.to, step, refl); there = k.there };
   }

@@ -49,11 +49,8 @@ fn begin_and_run<A: Records, P: Patience>(
         patience.old result patience.new desk.new }
 {
     let (ticket, budget) = desk.begin(officer, moment, message)?;
-    if make_turns(desk, u64::from(ticket), budget, patience)? {
-        Ok(Some(ticket))
-    } else {
-        Ok(None)
-    }
+    let lasted = make_turns(desk, u64::from(ticket), budget, patience)?;
+    if lasted { Ok(Some(ticket)) } else { Ok(None) }
 }
 
 /// The fault of a capture that has come to its end, if its run ended with one.
