@@ -57,6 +57,7 @@ fn text_of(alloc: Global, shown: Option<DisplayText>) -> String
 }
 
 /// The sender, the subject and the date of a message. The one error is out of memory.
+#[tactic(auto, using(crate::proofs::HeaderLemmas::shown_text))]
 pub fn headers_of(alloc: Global, message: &[u8]) -> Result<Headers, AllocError>
     ensures sender { IfOk result (λ h. string_bytes h.sender ≡ sender_of message.now) }
     ensures subject { IfOk result (λ h. string_bytes h.subject ≡ subject_of message.now) }
