@@ -3,18 +3,21 @@
 //! - `file_system`: the calls that are made of the system, as a trait, so that a contract can say which were;
 //! - `system`: the system's own file system;
 //! - `places`: what lies at a path, and new files;
+//! - `standing`: what is judged of a file, as values;
 //! - `fault`: why there is no place for a store.
 //!
-//! The module `Calls` of `specs/` names the calls. Code that has a `FileSystem`, and no `HostRuntime`, reaches files by
+//! The module `Calls` of `specs/` names the calls, and `Looks` says which files are found right. Code that has a `FileSystem`, and no `HostRuntime`, reaches files by
 //! it alone.
 #![tactic(auto)]
 
 mod fault;
 mod file_system;
 mod places;
+mod standing;
 mod system;
 
 pub use fault::NoPlace;
 pub use file_system::FileSystem;
 pub use places::{has_log, is_there, judge_log, judge_place, look_at, make_file, make_ready};
+pub use standing::Standing;
 pub use system::System;

@@ -1,14 +1,13 @@
 //! What lies at a path, and new files. A look changes nothing, so what only looks takes the file system by `&`.
 
-ghost use Rattle.std.specs.Prelude.{◌≡◌, [], ◌∷◌, IfOk};
+ghost use Rattle.std.specs.Prelude.{◌≡◌, ◌++◌, [], ◌∷◌, Bool, false, Ok, IfOk, OnOk};
+ghost use Rattle.record_places.specs.Looks.{FindsStore, HasJudged, IsFreePlace};
 ghost use Rattle.record_places.specs.Calls.{Makes, MayMake, create, owner_only};
 
 use crate::fault::NoPlace;
 use crate::file_system::FileSystem;
 use std::alloc::Global;
-use std::fs::Metadata;
 use std::io::{self, ErrorKind};
-use std::os::unix::fs::MetadataExt;
 
 /// How a database file of SQLite begins.
 const MAGIC: &[u8] = b"SQLite format 3\0";
@@ -16,17 +15,11 @@ const MAGIC: &[u8] = b"SQLite format 3\0";
 /// The permissions of a new store: its owner alone may read and write it.
 const MODE: u32 = 0o600;
 
-/// The permissions of a file's group to read and write it.
-const GROUP: u32 = 0o060;
-
-/// The permissions of all to read, write and execute a file.
-const ALL: u32 = 0o777;
-
 /// How many octets the log beside a file has, if there is one.
 fn log_octets<F: FileSystem>(files: &F, alloc: Global, path: &str) -> io::Result<u64> {
     let log = format!(in alloc; "{path}-wal")?;
     match files.metadata(log.as_str()) {
-        Ok(found) => Ok(found.len()),
+        Ok(found) => Ok(found.octets),
         Err(error) if error.kind() == ErrorKind::NotFound => Ok(0),
         Err(error) => Err(error),
     }
@@ -37,22 +30,13 @@ pub fn has_log<F: FileSystem>(files: &F, alloc: Global, path: &str) -> bool {
     log_octets(files, alloc, path).map_or(true, |octets| octets > 0)
 }
 
-/// Whether a log lets nobody read or write who may not do so with its store. A log of the store's group may be that of
-/// another member, where the group may read and write the store.
-fn is_as_private(log: &Metadata, store: &Metadata) -> bool {
-    let is_of_group = log.gid() == store.gid();
-    let is_shared = is_of_group && store.mode() & GROUP == GROUP;
-    log.is_file()
-        && (log.uid() == store.uid() || is_shared)
-        && log.mode() & !store.mode() & ALL == 0
-        && (is_of_group || log.mode() & GROUP == 0)
-}
-
 /// Whether a log lies beside the store at a path; refused where it lets others read or write than the store does.
-pub fn judge_log<F: FileSystem>(files: &F, alloc: Global, path: &str) -> Result<bool, NoPlace> {
+pub fn judge_log<F: FileSystem>(files: &F, alloc: Global, path: &str) -> Result<bool, NoPlace>
+    ensures { IfOk result (HasJudged F.leads F.shows F.lacks files.now path.now) }
+{
     let (store, log) = files.log_path(alloc, path)?;
     match files.symlink_metadata(log.as_str()) {
-        Ok(log) if is_as_private(&log, &store) => Ok(true),
+        Ok(log) if log.is_as_private(store) => Ok(true),
         Ok(_) => Err(NoPlace::OpenLog),
         Err(error) if error.kind() == ErrorKind::NotFound => Ok(false),
         Err(error) => Err(NoPlace::from(error)),
@@ -61,9 +45,13 @@ pub fn judge_log<F: FileSystem>(files: &F, alloc: Global, path: &str) -> Result<
 
 /// Finds that a store may be in the file at a path: it is a regular file with one name, may be read and written, and
 /// begins as a database does, and its log is none for others. Nothing is made and nothing changes.
-pub fn look_at<F: FileSystem>(files: &F, alloc: Global, path: &str) -> Result<(), NoPlace> {
+pub fn look_at<F: FileSystem>(files: &F, alloc: Global, path: &str) -> Result<(), NoPlace>
+    ensures found { OnOk result (FindsStore F.finds files.now path.now) }
+    ensures private { OnOk result ((there : Bool)
+        × HasJudged F.leads F.shows F.lacks files.now path.now there) }
+{
     let found = files.metadata(path)?;
-    if !found.is_file() || found.nlink() != 1 {
+    if !found.may_be_store() {
         return Err(NoPlace::NoFile);
     }
     let first = files.first_octets(alloc, path, MAGIC.len() as u64)?;
@@ -78,7 +66,9 @@ pub fn look_at<F: FileSystem>(files: &F, alloc: Global, path: &str) -> Result<()
 }
 
 /// Whether anything is at a path. A link is there, whatever it leads to.
-pub fn is_there<F: FileSystem>(files: &F, path: &str) -> io::Result<bool> {
+pub fn is_there<F: FileSystem>(files: &F, path: &str) -> io::Result<bool>
+    ensures { result ≡ Ok false → F.lacks files.now path.now }
+{
     match files.symlink_metadata(path) {
         Ok(_) => Ok(true),
         Err(error) if error.kind() == ErrorKind::NotFound => Ok(false),
@@ -87,18 +77,17 @@ pub fn is_there<F: FileSystem>(files: &F, path: &str) -> io::Result<bool> {
 }
 
 /// Whether anything is at the path with this ending.
-fn is_beside<F: FileSystem>(
-    files: &F,
-    alloc: Global,
-    path: &str,
-    ending: &str,
-) -> io::Result<bool> {
+fn is_beside<F: FileSystem>(files: &F, alloc: Global, path: &str, ending: &str) -> io::Result<bool>
+    ensures { result ≡ Ok false → F.lacks files.now (path.now ++ ending.now) }
+{
     let beside = format!(in alloc; "{path}{ending}")?;
     is_there(files, beside.as_str())
 }
 
 /// Finds that a new store may be made at a path: nothing is there, and no log or journal is beside it, be it empty.
-pub fn judge_place<F: FileSystem>(files: &F, alloc: Global, path: &str) -> Result<(), NoPlace> {
+pub fn judge_place<F: FileSystem>(files: &F, alloc: Global, path: &str) -> Result<(), NoPlace>
+    ensures { OnOk result (IsFreePlace F.lacks files.now path.now) }
+{
     if is_there(files, path)? {
         return Err(NoPlace::There);
     }
@@ -113,6 +102,8 @@ pub fn make_file<F: FileSystem>(files: &mut F, alloc: Global, path: &str) -> Res
     ensures calls { Makes F.made files.old files.new (MayMake path.now) }
     ensures made { IfOk result (λ _. Makes F.made files.old files.new
         (λ calls. calls ≡ create path.now owner_only ∷ [])) }
+    ensures named { OnOk result (F.has_named files.new path.now) }
+    ensures free { OnOk result (IsFreePlace F.lacks files.old path.now) }
 {
     judge_place(files, alloc, path)?;
     match files.create(path, MODE) {

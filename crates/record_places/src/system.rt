@@ -1,9 +1,10 @@
 //! The system's own file system.
 
 use crate::file_system::FileSystem;
+use crate::standing::Standing;
 use sqlite::{Connection, Error, FileFrom, FileStore, Leftover, Start};
 use std::alloc::Global;
-use std::fs::{self, Metadata, OpenOptions};
+use std::fs::{self, OpenOptions};
 use std::io::{self, Read};
 use std::os::unix::fs::OpenOptionsExt;
 
@@ -21,20 +22,41 @@ impl<'a> System<'a> {
     }
 }
 
+/// The folder in which the file at a path is.
+fn folder_of(path: &str) -> &str {
+    match path.rsplit_once('/') {
+        Some(("", _)) => "/",
+        Some((folder, _)) => folder,
+        None => ".",
+    }
+}
+
 impl<'a> FileSystem for System<'a> {
     ghost made = { λ _ _. Unit {0} };
 
-    fn metadata(&self, path: &str) -> io::Result<Metadata> {
-        fs::metadata(self.rt, path)
+    ghost has_named = { λ _ _. Unit {0} };
+
+    ghost finds = { λ _ _ _. Unit {0} };
+
+    ghost shows = { λ _ _ _. Unit {0} };
+
+    ghost lacks = { λ _ _. Unit {0} };
+
+    ghost leads = { λ _ _ _ _. Unit {0} };
+
+    fn metadata(&self, path: &str) -> io::Result<Standing> {
+        let found = fs::metadata(self.rt, path)?;
+        Ok(Standing::of(&found))
     }
 
-    fn symlink_metadata(&self, path: &str) -> io::Result<Metadata> {
-        fs::symlink_metadata(self.rt, path)
+    fn symlink_metadata(&self, path: &str) -> io::Result<Standing> {
+        let found = fs::symlink_metadata(self.rt, path)?;
+        Ok(Standing::of(&found))
     }
 
-    fn log_path(&self, alloc: Global, path: &str) -> io::Result<(Metadata, String)> {
+    fn log_path(&self, alloc: Global, path: &str) -> io::Result<(Standing, String)> {
         let real = fs::canonicalize(self.rt, path)?;
-        let store = fs::symlink_metadata(self.rt, real.as_str())?;
+        let store = self.symlink_metadata(real.as_str())?;
         let log = format!(in alloc; "{}-wal", real.as_str())?;
         Ok((store, log))
     }
@@ -64,6 +86,10 @@ impl<'a> FileSystem for System<'a> {
 
     fn hard_link(&mut self, original: &str, path: &str) -> io::Result<()> {
         fs::hard_link(self.rt, original, path)
+    }
+
+    fn settle(&mut self, path: &str) -> io::Result<()> {
+        fs::open(self.rt, folder_of(path))?.sync_all()
     }
 
     fn open_store<S: Start>(
