@@ -104,11 +104,7 @@ pub fn judge(alloc: Global, text: &[u8]) -> Result<Option<Report>, AllocError>
 /// The findings of a search each of which comes after the one before, the first one after the verdict: so none is told
 /// twice.
 #[tactic(auto, using(crate::proofs::Rising::rises_more, crate::proofs::Rising::last_of_more))]
-fn rising(
-    alloc: Global,
-    verdict: Finding,
-    found: Vec<Finding>,
-) -> Result<Vec<Finding>, AllocError>
+fn rising(alloc: Global, verdict: Finding, found: Vec<Finding>) -> Result<Vec<Finding>, AllocError>
     ensures { IfOk result (λ v. Rises verdict v.items) }
 {
     let mut others = Vec::with_capacity(alloc, found.len())?;

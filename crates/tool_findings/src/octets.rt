@@ -123,7 +123,8 @@ fn mend_typographic(script: &mut Repaired, at: usize, end: usize) -> Result<(), 
 /// Repairs an octet at which no token begins.
 fn mend_octet(script: &mut Repaired, at: usize, subject: Subject) -> Result<(), AllocError> {
     if let Subject::Typographic(_, _, plain) = subject {
-        let rest = &script.text()[at.min(script.text().len())..];
+        let text = script.text();
+        let rest = &text[at.min(text.len())..];
         let length = typographic_mark(rest).map_or(1, |(length, _)| length);
         let end = at.saturating_add(length);
         if plain == "\"" {
@@ -135,7 +136,8 @@ fn mend_octet(script: &mut Repaired, at: usize, subject: Subject) -> Result<(), 
             with: plain.as_bytes(),
         });
     }
-    let length = length_taken(&script.text()[at.min(script.text().len())..]);
+    let text = script.text();
+    let length = length_taken(&text[at.min(text.len())..]);
     script.patch(Patch {
         start: at,
         end: at.saturating_add(length),
@@ -146,7 +148,8 @@ fn mend_octet(script: &mut Repaired, at: usize, subject: Subject) -> Result<(), 
 /// Cuts a script off before a string or comment that is not closed: behind the last command that ends before it, with the
 /// open blocks closed.
 fn cut(alloc: Global, script: &mut Repaired, at: usize) -> Result<bool, AllocError> {
-    let tokens = match scan(alloc, &script.text()[..at.min(script.text().len())]) {
+    let text = script.text();
+    let tokens = match scan(alloc, &text[..at.min(text.len())]) {
         Ok(tokens) => tokens,
         Err(ScanFault::NoMemory) => return Err(AllocError),
         Err(ScanFault::Refused(_, _)) => return Ok(false),

@@ -105,7 +105,8 @@ fn unknown_test(alloc: Global, tokens: &[Token]) -> Result<Subject, AllocError> 
     for (number, token) in tokens.iter().enumerate().skip(1) {
         if let Some(name) = name_of(token) {
             if !is_among(name, TESTS) {
-                return unknown_name(alloc, &tokens[..number], token, name);
+                let before = tokens.get(..number).unwrap_or(tokens);
+                return unknown_name(alloc, before, token, name);
             }
         }
     }

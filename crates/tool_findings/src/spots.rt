@@ -217,7 +217,7 @@ fn distance(alloc: Global, text: &[u8], is_cut: bool) -> Result<Option<usize>, A
 /// the grammar is taken.
 const LONG_TEXT: usize = 32_768;
 
-/// The text in which ways on from a place are tried, before which these tokens do not come.
+/// The text in which ways on from a place are tried. These tokens come from there on.
 fn trial_of<'t>(text: &'t [u8], following: &[Token]) -> Trial<'t> {
     let end = some_commands_end(following).unwrap_or(text.len());
     if text.len() > LONG_TEXT && end < text.len() {

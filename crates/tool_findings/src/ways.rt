@@ -246,23 +246,24 @@ impl Ways {
         let Some(last) = following.iter().find(|token| is_limit(token)) else {
             return Ok(());
         };
-        let (end, with): (u32, &[u8]) = if is_mark(last, "{") {
-            (last.end, b"if true {")
-        } else if is_mark(last, "}") {
-            (last.start, b"")
-        } else {
-            (last.end, b"")
-        };
-        let patch = Patch {
-            start,
-            end: end as usize,
-            with,
-        };
+        let (end, with) = left_out_to(last);
+        let patch = Patch { start, end, with };
         let subject = match stop.token {
             Some(token) => joined(token),
             None => Subject::Whole,
         };
         self.add(patch, subject)
+    }
+}
+
+/// Where a command ends that is left out up to this mark, and what stands in its place.
+fn left_out_to(last: &Token) -> (usize, &'static [u8]) {
+    if is_mark(last, "{") {
+        (last.end as usize, b"if true {")
+    } else if is_mark(last, "}") {
+        (last.start as usize, b"")
+    } else {
+        (last.end as usize, b"")
     }
 }
 
