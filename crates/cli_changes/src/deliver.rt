@@ -5,7 +5,7 @@ use crate::rules::FilingRules;
 use crate::time_limit::{TimeLimit, too_slow_words};
 use cli_console::{Failure, Status, is_by, tell, write_text};
 use cli_sources::read_payload;
-use cli_texts::captured_line;
+use cli_texts::{captured_line, undecoded_lines};
 use desk_commands::{Capture, DeskFault, MAX_MESSAGE_OCTETS, Payload};
 use filing_desk::{Delivery, Desk, deliver};
 use record_archive::{Line, Records};
@@ -87,12 +87,41 @@ fn tell_due(rt: &HostRuntime, before: &Shown, capture: &Capture) {
     }
 }
 
-/// Reports a capture. It is made, so whatever happens to the report is no failure.
-pub fn report_capture(rt: &HostRuntime, before: &Shown, capture: &Capture) {
+/// What is told of the words of a message that rules see undecoded, if there is memory for it.
+pub fn undecoded_in(alloc: Global, message: &Payload) -> Vec<Shown> {
+    let Payload::Whole(octets) = message else {
+        return Vec::new(alloc);
+    };
+    match undecoded_lines(alloc, octets.as_slice()) {
+        Ok(lines) => lines,
+        Err(AllocError) => Vec::new(alloc),
+    }
+}
+
+/// Two texts, one behind the other.
+fn joined(alloc: Global, before: &Shown, after: &Shown) -> Result<Shown, AllocError> {
+    let mut text = Shown::new(alloc);
+    put!(text; text(before) text(after))?;
+    Ok(text)
+}
+
+/// Tells lines, each after a text.
+fn tell_lines(rt: &HostRuntime, before: &Shown, lines: &[Shown]) {
+    for line in lines {
+        if let Ok(text) = joined(rt.alloc(), before, line) {
+            tell(rt, &text);
+        }
+    }
+}
+
+/// Reports a capture, with what is told of its undecoded words. It is made, so whatever happens to the report is no
+/// failure.
+pub fn report_capture(rt: &HostRuntime, before: &Shown, capture: &Capture, undecoded: &[Shown]) {
     if let Ok(text) = record_lines(rt.alloc(), before, capture) {
         let _ = write_text(rt, &text);
     }
     tell_due(rt, before, capture);
+    tell_lines(rt, before, undecoded);
     if let Some(fault) = capture.fault {
         if let Ok(words) = fault_words(rt.alloc(), fault) {
             tell(rt, &words);
@@ -179,12 +208,17 @@ pub fn deliver_to<S: Alter>(
     }
 }
 
-/// Writes the records of a delivery to standard output. Where its message was given up, also since it took longer than
-/// `limit` seconds, that is a failure.
-pub fn report_delivery(rt: &HostRuntime, delivered: &Delivery, limit: u64) -> Result<(), Failure> {
+/// Writes the records of a delivery to standard output, and tells of its undecoded words. Where its message was given up,
+/// also since it took longer than `limit` seconds, that is a failure.
+pub fn report_delivery(
+    rt: &HostRuntime,
+    delivered: &Delivery,
+    limit: u64,
+    undecoded: &[Shown],
+) -> Result<(), Failure> {
     match delivered {
         Delivery::Captured(capture) => {
-            report_capture(rt, &Shown::new(rt.alloc()), capture);
+            report_capture(rt, &Shown::new(rt.alloc()), capture, undecoded);
             Ok(())
         }
         Delivery::GivenUp(fault) => Err(Failure::shown(

@@ -1,6 +1,6 @@
 //! `intake`: the new messages of a Maildir.
 
-use crate::deliver::{desk_failure, given_up_words, report_capture};
+use crate::deliver::{desk_failure, given_up_words, report_capture, undecoded_in};
 use crate::moments::Timing;
 use crate::rules::FilingRules;
 use crate::time_limit::{TimeLimit, too_slow_reason};
@@ -135,9 +135,9 @@ fn name_before(alloc: Global, name: &str) -> Result<Shown, AllocError> {
 }
 
 /// Reports a capture, each line after the name of its message, as far as there is memory for that.
-fn report_named(rt: &HostRuntime, name: &str, capture: &Capture) {
+fn report_named(rt: &HostRuntime, name: &str, capture: &Capture, undecoded: &[Shown]) {
     if let Ok(before) = name_before(rt.alloc(), name) {
-        report_capture(rt, &before, capture);
+        report_capture(rt, &before, capture, undecoded);
     }
 }
 
@@ -184,10 +184,11 @@ fn take_one<A: Records>(
     let moment = run.timing.moment(rt)?;
     let filing = &job.filing;
     let officer = filing.officer.as_bytes();
+    let undecoded = undecoded_in(rt.alloc(), &message);
     let mut time = TimeLimit::from_now(rt, filing.limit)?;
     match deliver(desk, officer, moment, message, filing.on_fault, &mut time) {
         Ok(Delivery::Captured(capture)) => {
-            report_named(rt, name, &capture);
+            report_named(rt, name, &capture, undecoded.as_slice());
             file_away(rt, job.maildir, name)
         }
         Ok(Delivery::GivenUp(fault)) => {

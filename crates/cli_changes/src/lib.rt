@@ -20,7 +20,7 @@ mod plan_file;
 mod rules;
 mod time_limit;
 
-pub use deliver::{deliver_to, read_message, report_delivery};
+pub use deliver::{deliver_to, read_message, report_delivery, undecoded_in};
 pub use dispose::{day_of_disposal, dispose_by};
 pub use holds::change_holds;
 pub use intake::{Intake, take_new};

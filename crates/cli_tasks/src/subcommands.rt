@@ -6,7 +6,7 @@ use crate::drafts::make;
 use class_plan::Date;
 use cli_changes::{
     FilingRules, Intake, Timing, change_holds, day_of_disposal, deliver_to, dispose_by,
-    read_message, read_plan, replace_plan, report_delivery, take_new, write_plan,
+    read_message, read_plan, replace_plan, report_delivery, take_new, undecoded_in, write_plan,
 };
 use cli_choice::{Change, Questions};
 use cli_console::{Failure, day_or_today};
@@ -193,6 +193,7 @@ fn deliver<A: Archives>(
 ) -> Result<(), Failure> {
     let timing = Timing::new(rt, filing.moment)?;
     let message = read_message(rt)?;
+    let undecoded = undecoded_in(rt.alloc(), &message);
     let rules = FilingRules::read(rt, filing)?;
     let work = DeliverOne {
         rules,
@@ -203,7 +204,7 @@ fn deliver<A: Archives>(
         .lend(rt, store, work)
         .map_err(|failure| failure.kept())?;
     let delivery = settled(rt, store, done, closed)??;
-    report_delivery(rt, &delivery, filing.limit)
+    report_delivery(rt, &delivery, filing.limit, undecoded.as_slice())
 }
 
 /// Captures the new messages of a Maildir.
