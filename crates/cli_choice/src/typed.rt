@@ -163,7 +163,8 @@ pub(crate) fn singles_of(alloc: Global, typed: &[TypedNumbers]) -> Result<Vec<u3
 
 /// Those of some numbers that are not among others.
 fn not_among(alloc: Global, numbers: Vec<u32>, others: &[u32]) -> Result<Vec<u32>, AllocError>
-    ensures { IfOk result (λ v. v.items ≡ filter (λ n. not (is_one_of others.now n)) numbers.items) }
+    ensures { IfOk result (λ v. v.items ≡
+        filter (λ n. not (is_one_of others.now n)) numbers.items) }
 {
     let set = set_of(alloc, others)?;
     let mut kept = Vec::new(alloc);
