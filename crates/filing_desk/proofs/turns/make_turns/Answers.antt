@@ -44,7 +44,14 @@ returns-in_err-turn g c =
     let Told : Result Bool DeskFault → Type 0 = λ r.
     MakesTurns keeper g.P.Patience.asked c.args.desk.now c.args.ticket c.args.budget c.args.patience.now r c.args.patience.now c.turn.new.self in
     subst Told (sym (passed_on out.result fault out.ensures.0 out.ensures.1)) (
-      record { made = c.min-made.result; last = refused_by fault; times = 0; within = grind (arith, common_steps); between = grind (arith, common_steps); lasts = refl },
+      record {
+        made = c.min-made.result;
+        last = refused_by fault;
+        times = 0;
+        within = grind (arith, common_steps);
+        between = grind (arith, common_steps);
+        lasts = refl;
+      },
       refl,
       one_call keeper c.args.desk.now c.turn.new.self (turn c.args.ticket c.min-made.result) (refused_by fault) c.in_err-turn.ensures,
     )
