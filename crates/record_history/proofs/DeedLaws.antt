@@ -147,7 +147,11 @@ paths_cut p (q ∷ qs) h =
 
 paths_back : (ps : List (List ℕ)) → are_paths ps ≡ true → slice_split is_comma (paths_text ps) ≡ ps
 paths_back [] h = absurd (cc)
-paths_back (p ∷ ps) h = paths_cut p ps (and_right (nat_lt 0 (length (p ∷ ps))) (list_all is_path (p ∷ ps)) h)
+paths_back (p ∷ ps) h = paths_cut p ps h
+
+each_path : (ps : List (List ℕ)) → are_paths ps ≡ true → list_all is_path ps ≡ true
+each_path [] h = absurd (cc)
+each_path (p ∷ ps) h = h
 
 -- ---- schedules in parentheses
 
@@ -330,7 +334,7 @@ captured_back first seal day filing paths z fits size sum within_days filed are 
     ++ paths_text paths ++ z ≡ t0 = simp append_assoc refl in
     let a = split (decimal first) (codes " on " ++ t1) (number_plain first (small first fits)) refl in
     let b = split (day_text day) (codes " message " ++ t2) (day_plain day) refl in
-    let c = split (paths_text paths) z (paths_plain paths (and_right (nat_lt 0 (length paths)) (list_all is_path paths) are)) e in
+    let c = split (paths_text paths) z (paths_plain paths (each_path paths are)) e in
     let to_day : next (next t0) ≡ t1 = ap next a.rest in
     let to_seal : next (next (next (next t0))) ≡ t2 = ap (λ t. next (next t)) to_day ∙ ap next b.rest in
     let sealed = ap seal_at to_seal ∙ seal_back seal t3 size sum (filing_end filing t4) in

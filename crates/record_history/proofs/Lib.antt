@@ -1,9 +1,9 @@
-mod Days
+pub mod Days
 mod DeedLaws
 mod HistoryLemmas
 mod LineLaws
 mod Marks
-mod Paths
+pub mod Paths
 mod Real
 mod ReplayLemmas
 mod Rows

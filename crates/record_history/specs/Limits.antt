@@ -1,5 +1,5 @@
 -- Which events have a line.
-use Rattle.std.specs.Prelude.{◌≡◌, ℕ, ◌^◌, ◌<◌, nat_le, nat_lt, ◌==◌, Bool, true, false, not, ◌&&◌, ◌||◌, if◌then◌else◌, List, [], ◌∷◌, length, Option, Some, None}
+use Rattle.std.specs.Prelude.{◌≡◌, ℕ, ◌^◌, ◌<◌, nat_le, ◌==◌, Bool, true, false, not, ◌&&◌, ◌||◌, if◌then◌else◌, List, [], ◌∷◌, length, Option, Some, None}
 use Rattle.std.specs.List.{list_all}
 use Rattle.class_paths.specs.Path.{is_path}
 use Rattle.class_plan.specs.Parts.{in_range}
@@ -33,7 +33,8 @@ is_filing (Some f) = is_name f.officer && is_sum f.rules
 
 -- one path or more
 abbrev pub are_paths : List (List ℕ) → Bool
-are_paths paths = nat_lt 0 (length paths) && list_all is_path paths
+are_paths [] = false
+are_paths (q ∷ qs) = list_all is_path (q ∷ qs)
 
 abbrev pub is_deed : Deed → Bool
 is_deed (Captured first seal day filing paths) = is_sum seal.sum && is_day day && is_filing filing && are_paths paths

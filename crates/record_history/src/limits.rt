@@ -72,10 +72,14 @@ fn fit_paths(paths: &[Vec<u8>]) -> bool
     paths.iter().all(|path| fits_path(path.as_slice()))
 }
 
+#[tactic(auto, using(crate::proofs::Paths::paths_all))]
 fn are_paths(paths: &[Vec<u8>]) -> bool
     ensures { result ≡ spec.are_paths (octets_of paths.now) }
 {
-    !paths.is_empty() && fit_paths(paths)
+    match paths {
+        [] => false,
+        _ => fit_paths(paths),
+    }
 }
 
 /// The greatest count of a unit.

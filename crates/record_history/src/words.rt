@@ -1,8 +1,5 @@
 //! The words of a line, and what they are.
 
-ghost use Rattle.std.specs.Prelude.{◌≡◌};
-ghost use Rattle.record_history.specs.Reading.{first_word, next};
-
 use crate::faults::LineFault;
 use class_plan::{Date, day_number};
 use jiff::civil::{DateTime, date};
@@ -10,10 +7,7 @@ use session_words::read_number;
 use std::str;
 
 /// A text up to its first space, and what comes after the space.
-pub(crate) fn split_word(text: &[u8]) -> (&[u8], &[u8])
-    ensures first { result.0.now ≡ first_word text.now }
-    ensures rest { result.1.now ≡ next text.now }
-{
+pub(crate) fn split_word(text: &[u8]) -> (&[u8], &[u8]) {
     match text.iter().position(|octet| *octet == b' ') {
         Some(end) => (&text[..end], &text[end + 1..]),
         None => (text, &[]),
