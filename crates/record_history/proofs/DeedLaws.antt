@@ -351,11 +351,11 @@ captured_back first seal day filing paths z fits size sum within_days filed are 
 pub deed_back : (d : Deed) (z : List ℕ) → is_deed d ≡ true → Fits d → TellsNoPlan d → IsEnd z → deed_at (deed_text d ++ z) ≡ Some (d, behind z)
 unfolding deed_at
 deed_back (Held name n) z ok fits none e =
-    ap (λ o. o >>= λ h. Some (held_by Held h)) (hold_back name n z (name_plain name ok) fits e)
+    ap (λ o. o >>= λ h. Some (held_by (λ name number. Held name number) h)) (hold_back name n z (name_plain name ok) fits e)
 deed_back (Released name n) z ok fits none e =
-    ap (λ o. o >>= λ h. Some (held_by Released h)) (hold_back name n z (name_plain name ok) fits e)
+    ap (λ o. o >>= λ h. Some (held_by (λ name number. Released name number) h)) (hold_back name n z (name_plain name ok) fits e)
 deed_back (FoundHold name n) z ok fits none e =
-    ap (λ o. o >>= λ h. Some (held_by FoundHold h)) (hold_back name n z (name_plain name ok) fits e)
+    ap (λ o. o >>= λ h. Some (held_by (λ name number. FoundHold name number) h)) (hold_back name n z (name_plain name ok) fits e)
 deed_back (ClassAdded q) z ok fits none e = class_back q z ok e
 deed_back (PlanReplaced p) z ok fits none e = absurd none
 deed_back (FoundPlan p) z ok fits none e = absurd none

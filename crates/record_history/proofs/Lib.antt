@@ -1,3 +1,4 @@
+pub mod Classes
 pub mod Days
 mod DeedLaws
 mod HistoryLemmas

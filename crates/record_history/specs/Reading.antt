@@ -142,7 +142,7 @@ held_by deed h = (deed h.0.0 h.0.1, h.1)
 abbrev pub found_at : List ℕ → Read
 found_at t = if bytes_eq (first_word t) (codes "message") then message_at (next t)
     else if bytes_eq (first_word t) (codes "record") then record_at (next t)
-    else if bytes_eq (first_word t) (codes "hold") then (hold_at (next t) >>= λ h. Some (held_by FoundHold h))
+    else if bytes_eq (first_word t) (codes "hold") then (hold_at (next t) >>= λ h. Some (held_by (λ name number. FoundHold name number) h))
     else None
 
 abbrev pub class_at : List ℕ → Read
@@ -151,8 +151,8 @@ class_at t = Some (ClassAdded (first_word (next t)), next (next t))
 -- a deed by its first word; no plan is read here
 unfoldable pub deed_at : List ℕ → Read
 deed_at t = if bytes_eq (first_word t) (codes "captured") then capture_at (next t)
-    else if bytes_eq (first_word t) (codes "held") then (hold_at (next t) >>= λ h. Some (held_by Held h))
-    else if bytes_eq (first_word t) (codes "released") then (hold_at (next t) >>= λ h. Some (held_by Released h))
+    else if bytes_eq (first_word t) (codes "held") then (hold_at (next t) >>= λ h. Some (held_by (λ name number. Held name number) h))
+    else if bytes_eq (first_word t) (codes "released") then (hold_at (next t) >>= λ h. Some (held_by (λ name number. Released name number) h))
     else if bytes_eq (first_word t) (codes "destroyed") then destruction_at (next t)
     else if bytes_eq (first_word t) (codes "found") then found_at (next t)
     else if bytes_eq (first_word t) (codes "added") then class_at (next t)
