@@ -18,7 +18,7 @@ marks_more mark [] l = refl
 marks_more mark (x ∷ xs) l = ap (λ ms. mark_after mark x ∷ ms) (marks_more (mark_after mark x) xs l)
 
 pub none_comes : Comes [] []
-none_comes = record { events = []; history = record { lines = refl; marks = refl }; mark = refl }
+none_comes = record { events = []; history = record { lines = refl; marks = refl }; last = refl }
 
 pub one_comes : (rows : List code.Row) (mark : List ℕ) (row : code.Row) (n : ℕ) (e : Event) → Comes rows mark → n ≡ length rows + 1
     → row.line.items ≡ line_of n e → row.mark.items ≡ mark_after mark row.line.items → Comes (rows ++ row ∷ []) row.mark.items
@@ -28,7 +28,7 @@ one_comes rows mark row n e so number line made =
     let l = row.line.items in
     let more : lines_in (rows ++ row ∷ []) ≡ ls ++ l ∷ [] = map-append (λ r. r.line.items) rows (row ∷ []) in
     let marks : marks_in (rows ++ row ∷ []) ≡ marks_in rows ++ row.mark.items ∷ [] = map-append (λ r. r.mark.items) rows (row ∷ []) in
-    let last : row.mark.items ≡ mark_after (chain ls) l = made ∙ ap (λ m. mark_after m l) so.mark in
+    let last : row.mark.items ≡ mark_after (chain ls) l = made ∙ ap (λ m. mark_after m l) so.last in
     let counted : length es ≡ length rows = omega (arith, length_of_lines 1 es, ap length so.history.lines, length-map rows (λ r. r.line.items)) in
     let at : n ≡ 1 + length es = omega (arith, number, counted) in record {
       events = es ++ e ∷ [];
@@ -37,5 +37,5 @@ one_comes rows mark row n e so number line made =
         marks = marks ∙ ap (λ x. x ++ row.mark.items ∷ []) so.history.marks ∙ ap (λ x. marks_from [] ls ++ x ∷ []) last
             ∙ sym (marks_more [] ls l) ∙ ap (marks_from []) (sym more);
       };
-      mark = last ∙ sym (chain_more [] ls l) ∙ ap chain (sym more);
+      last = last ∙ sym (chain_more [] ls l) ∙ ap chain (sym more);
     }

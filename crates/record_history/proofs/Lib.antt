@@ -3,7 +3,7 @@ pub mod Days
 mod DeedLaws
 mod HistoryLemmas
 mod LineLaws
-mod Marks
+mod MarkRows
 pub mod Paths
 mod Real
 mod ReplayLemmas

@@ -21,4 +21,4 @@ pub record IsHistory (rows : List code.Row) (es : List Event) : Type 0 where
 pub record Comes (rows : List code.Row) (mark : List ℕ) : Type 0 where
   pub events : List Event
   pub history : IsHistory rows events
-  pub mark : mark ≡ chain (lines_in rows)
+  pub last : mark ≡ chain (lines_in rows)
