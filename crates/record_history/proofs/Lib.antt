@@ -1,1 +1,2 @@
 mod ReplayLemmas
+mod Rows
