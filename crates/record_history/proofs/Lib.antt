@@ -1,2 +1,3 @@
+mod MarkRows
 mod ReplayLemmas
 mod Rows
