@@ -1,10 +1,3 @@
-mod Days
-mod DeedLaws
-mod HistoryLemmas
-mod LineLaws
-mod Marks
-mod Paths
-mod Real
+mod MarkRows
 mod ReplayLemmas
 mod Rows
-mod WordLaws

@@ -1,20 +1,20 @@
 -- Each command does the same to a sealed archive as to the archive.
-use Rattle.std.proofs.Common.{◌≡◌, ◌==◌, ◌+◌, ℕ, ℤ, Bool, true, false, not, cond, List, [], ◌∷◌, ◌++◌, map, filter, Option, Some, None, negsuc}
+use Rattle.std.proofs.Common.{◌≡◌, ◌==◌, ◌+◌, ℕ, Bool, true, false, not, cond, List, [], ◌∷◌, ◌++◌, map, filter, Option, Some, None, negsuc}
 use Rattle.std.proofs.Common.{option_map, option_and_then, length, arith, Result, Ok, Err, refl, sym, ap, ◌∙◌}
 use Rattle.std.proofs.lemmas.List.{map-append}
-use Rattle.std.proofs.lemmas.Bool.{ne_eqb, eq-eqb}
+use Rattle.std.proofs.lemmas.Bool.{eq-eqb}
 use Rattle.class_plan.specs.declared.faults.PlanFault.{PlanFault}
 use Rattle.class_plan.specs.Plans.{Listing, schedule_at, keeps}
 use Rattle.class_plan.specs.Changes.{addition}
 use Rattle.record_archive.specs.Archive.{Archive, Message, Record, empty_archive, next_number, record_at, is_held, is_held_by, is_shared}
 use Rattle.record_archive.specs.Archive.{capture, after_capture, has_room, hold, hold_one, release, release_one, destroy, destroy_on, destroy_by}
-use Rattle.record_archive.specs.Archive.{destroys, is_by_any, due_of, from_1970, without, with_hold, without_hold, messages_without, add_class, plan_answer, revise}
+use Rattle.record_archive.specs.Archive.{destroys, is_by_any, due_of, without, with_hold, without_hold, messages_without, add_class, plan_answer, revise}
 use Rattle.record_archive.specs.declared.fault.ArchiveRefusal.{ArchiveRefusal}
 use Rattle.record_archive.specs.declared.fault.ArchiveRefusal.TheVariants as refusal
 use Rattle.record_history.specs.Events.{Event, Deed}
-use Rattle.record_history.specs.Replay.{seal, sealed_message, sealed, made, after, replay, Explains}
+use Rattle.record_history.specs.Replay.{seal, sealed_message, sealed, made, after, replay}
 use Rattle.record_history.specs.Lines.{line_of, lines_from, seal_text}
-use Rattle.record_history.specs.Laws.{Tells, Told, TellsInLines, CommandsAreTold}
+use Rattle.record_history.specs.Laws.{Tells, TellsInLines, CommandsAreTold}
 
 -- the command does the same to the sealed archive
 abbrev Same : (here there : Result Archive ArchiveRefusal) → Type 0

@@ -5,9 +5,9 @@ use Rattle.class_plan.specs.declared.schedules.Action.TheVariants.{Destroy, Revi
 use Rattle.class_plan.specs.declared.schedules.Schedule.TheVariants.{Permanent, After}
 use Rattle.class_plan.specs.declared.schedules.Unit.TheVariants.{Days, Years}
 use Rattle.class_plan.specs.Plans.{Listing, open_row}
-use Rattle.record_archive.specs.Archive.{Archive, empty_archive}
+use Rattle.record_archive.specs.Archive.{empty_archive}
 use Rattle.record_history.specs.Events.{Event, Deed, Seal}
-use Rattle.record_history.specs.Events.{Captured, Held, Released, Destroyed, ClassAdded, PlanReplaced, FoundPlan, FoundMessage, FoundRecord, FoundHold}
+use Rattle.record_history.specs.Events.{Captured, Held, Released, Destroyed, ClassAdded, PlanReplaced, FoundMessage, FoundRecord}
 use Rattle.record_history.specs.Lines.{day_text, moment_text, line_of}
 use Rattle.record_history.specs.Replay.{after, replay}
 

@@ -6,9 +6,7 @@ use Rattle.record_archive.specs.Archive.{Archive, empty_archive, next_number, ca
 use Rattle.record_archive.specs.declared.fault.ArchiveRefusal.{ArchiveRefusal}
 use Rattle.record_history.specs.Events.{Event, Deed, Filing}
 use Rattle.record_history.specs.Events.{Captured, Held, Released, Destroyed, ClassAdded, PlanReplaced}
-use Rattle.record_history.specs.Limits.{HasLine}
 use Rattle.record_history.specs.Lines.{line_of, lines_from}
-use Rattle.record_history.specs.Reading.{TellsNoPlan}
 use Rattle.record_history.specs.Replay.{Explains, seal}
 
 -- where events explain an archive and the command makes another of it, the events and one more of this deed explain the other
@@ -39,8 +37,3 @@ pub record CommandsAreTold : Type 0 where
   pub additions : (path : List ℕ) → Tells (λ a. ClassAdded path) (λ a. add_class a path)
   pub plans : (p : Listing) → Tells (λ a. PlanReplaced p) (λ a. revise a p)
   pub lines : (deed : Archive → Deed) (command : Archive → Result Archive ArchiveRefusal) → Tells deed command → TellsInLines deed command
-
--- THE LAW OF ONE READING: where two events without a plan have one line, they are one event with one number
-abbrev pub OneReading : Type 0
-OneReading = (n m : ℕ) (e f : Event) → HasLine n e → HasLine m f → TellsNoPlan e.deed → TellsNoPlan f.deed → line_of n e ≡ line_of m f →
-    (n ≡ m) × (e ≡ f)

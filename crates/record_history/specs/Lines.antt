@@ -5,7 +5,7 @@
 -- one word at a fixed place, and the reason, which ends the line. A deed begins with its own word. Three more words are
 -- kept for deeds that come later: `refiled`, `titled` and `continued`, which names the last mark of another volume. So no
 -- line that stands today is ever written in another way, or read as another event.
-use Rattle.std.specs.Prelude.{ℕ, ◌+◌, ◌/◌, ◌%◌, Bool, true, false, if◌then◌else◌, List, [], ◌∷◌, ◌++◌, flat_map, Option, Some, None, codes, decimal}
+use Rattle.std.specs.Prelude.{ℕ, ◌+◌, ◌/◌, ◌%◌, Bool, true, false, List, [], ◌∷◌, ◌++◌, flat_map, Option, Some, None, codes, decimal}
 use Rattle.class_plan.specs.declared.schedules.Schedule.{Schedule}
 use Rattle.class_plan.specs.Texts.{text_of}
 use Rattle.class_plan.specs.Plans.{Listing, Row}

@@ -1,5 +1,5 @@
 -- Two marks, as `sha256sum` gives them.
-use Rattle.std.proofs.Common.{◌≡◌, List, [], codes, refl}
+use Rattle.std.proofs.Common.{◌≡◌, [], codes, refl}
 use Rattle.sha2.specs.Sha256.{compress, digest_bytes, first_words, hash_after, rounds, schedule, sha256}
 use Rattle.hex.specs.Hex.{encode_with}
 use Rattle.record_history.specs.Chain.{mark_after}
