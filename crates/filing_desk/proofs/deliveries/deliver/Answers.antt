@@ -90,7 +90,8 @@ pub returns-in-Some-2 : goal.returns-in-Some-2
 returns-in-Some-2 g c = λ m is.
     let keeper = desk_keeper g.A.Records.keeper in
     let (calls, whole, follows) = subst (λ (o : Option ℕ). BeginsCapture (desk_keeper g.A.Records.keeper)
-    g.P.Patience.asked c.args.desk.now c.args.officer.now c.args.moment m c.args.patience.now (Ok o) c.begin_and_run.new.patience c.begin_and_run.new.desk) c.in-Some.is
+    g.P.Patience.asked c.args.desk.now c.args.officer.now c.args.moment m c.args.patience.now (Ok o)
+    c.begin_and_run.new.patience c.begin_and_run.new.desk) c.in-Some.is
     (c.in_ok-ticket.ensures m is) in
     let (b, run, all, same) = whole in
     let t = c.in-Some.ticket in
