@@ -8,7 +8,8 @@ use Rattle.class_plan.specs.Plans.{Listing, schedule_at, keeps}
 use Rattle.class_plan.specs.Changes.{addition}
 use Rattle.record_archive.specs.Archive.{Archive, Message, Record, empty_archive, next_number, record_at, is_held, is_held_by, is_shared}
 use Rattle.record_archive.specs.Archive.{capture, after_capture, has_room, hold, hold_one, release, release_one, destroy, destroy_on, destroy_by}
-use Rattle.record_archive.specs.Archive.{destroys, is_by_any, due_of, without, with_hold, without_hold, messages_without, add_class, plan_answer, revise}
+use Rattle.record_archive.specs.Archive.{destroys, is_by_any, due_of, without, with_hold}
+use Rattle.record_archive.specs.Archive.{without_hold, messages_without, add_class, plan_answer, revise}
 use Rattle.record_archive.specs.declared.fault.ArchiveRefusal.{ArchiveRefusal}
 use Rattle.record_archive.specs.declared.fault.ArchiveRefusal.TheVariants as refusal
 use Rattle.record_history.specs.Events.{Event, Deed}
