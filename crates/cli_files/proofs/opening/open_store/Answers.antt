@@ -1,5 +1,7 @@
+use Rattle.std.proofs.Common.{refl}
 use Rattle.sqlite.specs.WalFiles.{image_at}
 use Rattle.record_store.specs.Layouts.{HasArchiveTables}
+use Rattle.record_tables.specs.Tables.{IsApart}
 use Rattle.record_files.proofs.OpeningLemmas.{finds_opened, holds_tables}
 use Rattle.cli_files.proofs.opening.open_store.Goals as goal
 
@@ -16,3 +18,10 @@ returns-in-Ok-adopt_found-clause-layout g c clean =
     let adopted = c.in-Ok-adopt_found.ensures in
     let early = adopted.clean clean in
     holds_tables HasArchiveTables c.in-Ok.conn (image_at g.S.Start) (opened.opened early) (opened.found early) adopted.layout
+
+pub returns-in-Ok-adopt_found-clause-apart : goal.returns-in-Ok-adopt_found-clause-apart
+returns-in-Ok-adopt_found-clause-apart g c clean =
+    let opened = c.in-Ok.ensures in
+    let adopted = c.in-Ok-adopt_found.ensures in
+    let early = adopted.clean clean in
+    holds_tables IsApart c.in-Ok.conn (image_at g.S.Start) (opened.opened early) (opened.found early) adopted.apart
