@@ -1,15 +1,18 @@
 //! The store in the file at a path, as programs have it.
 //!
 //! What the files held before, and how a write that a crash cuts short is read, is what `S` says; programs pass
-//! `Unknown`. No code knows it, so what is said here holds whatever it is. No clause ties the files to the path.
+//! `Unknown`. No code knows it, so what is said here holds whatever it is.
 
-ghost use Rattle.std.specs.Prelude.{◌≡◌, false, IfOk};
+ghost use Rattle.std.specs.Prelude.{◌≡◌, ◌++◌, ◌∷◌, [], ℕ, List, false, true, IfOk, OnErr, OnOk};
 ghost use Rattle.sqlite.specs.State.{HasCleanDisk};
 ghost use Rattle.sqlite.specs.Held.{state};
 ghost use Rattle.sqlite.specs.WalReads.{AreClean};
 ghost use Rattle.sqlite.specs.WalFiles.{image_at};
 ghost use Rattle.sqlite.specs.Files.{file_state, over_files};
-ghost use Rattle.record_tables.specs.Tables.{IsFree};
+ghost use Rattle.record_tables.specs.Tables.{IsApart, IsFree};
+ghost use Rattle.record_places.specs.Calls.{Begins, Makes, open_store};
+ghost use Rattle.record_places.specs.Looks.{FindsStore, HasJudged, IsFreePlace};
+ghost use Rattle.cli_files.specs.Making.{MayOpen, making, removing};
 ghost use Rattle.record_archive.specs.Archive.{Archive, empty_archive};
 ghost use Rattle.record_store.specs.Layouts.{HasArchiveTables};
 ghost use Rattle.record_store.specs.Stores.{StandsFor};
@@ -17,18 +20,24 @@ ghost use Rattle.record_files.specs.Files.{FindsAt, HoldsTables, KeepsNew, Keeps
 
 use crate::fault::NoStore;
 use crate::opening::{close_store, open_store};
-use crate::places::{has_log, judge_log, look_at, make_file, remove_files};
+use crate::removal::{log_beside, remove_both};
 use class_plan::Plan;
 use record_files::leave;
+use record_places::{FileSystem, has_log, judge_log, look_at, make_file};
 use record_store::Store;
 use sqlite::{Alter, Connection, FileFrom, FileStore, Files, Start};
 use sqlite_disk::Disk;
 use std::alloc::Global;
 
 /// The store in the file at a path, which must be there and hold an archive. While the disk returns what was written to
-/// it, the store represents the archive that the files held, and what they held are an archive's tables.
-pub fn open_archive<S: Start>(
-    rt: &HostRuntime,
+/// it, the store represents the archive that the files held, and what they held are an archive's tables, and no table with a
+/// foreign key.
+///
+/// The file is a regular one, with one name, and its log is as private as it is. Nothing is made, removed or linked. Where
+/// the log is found open to others only once the store is open, it is refused all the same, with no further read or write.
+pub fn open_archive<F: FileSystem, S: Start>(
+    files: &mut F,
+    alloc: Global,
     path: &str,
     start: S,
 ) -> Result<Store<FileStore<FileFrom<S>>>, NoStore>
@@ -36,17 +45,26 @@ pub fn open_archive<S: Start>(
         → FindsAt (image_at S.Start) a → StandsFor over_files s a) }
     ensures layout { IfOk result (λ s. HasCleanDisk (file_state s.conn)
         → HoldsTables HasArchiveTables (image_at S.Start)) }
+    ensures apart { IfOk result (λ s. HasCleanDisk (file_state s.conn)
+        → HoldsTables IsApart (image_at S.Start)) }
+    ensures found { OnOk result (FindsStore F.finds files.old path.now) }
+    ensures private { OnOk result (HasJudged F.leads F.shows F.lacks files.new path.now true) }
+    ensures opens { OnOk result (Makes F.made files.old files.new
+        (λ calls. calls ≡ open_store path.now true ∷ [])) }
+    ensures tries { OnErr result (Makes F.made files.old files.new (MayOpen path.now)) }
 {
-    look_at(rt, path)?;
-    let store = match open_store(rt, path, start) {
+    look_at(files, alloc, path)?;
+    let store = match open_store(files, alloc, path, start) {
         Ok(store) => store,
         Err(fault) => return Err(fault),
     };
-    if let Ok(true) = judge_log(rt, path) {
-        return Ok(store);
+    match judge_log(files, alloc, path) {
+        Ok(true) => Ok(store),
+        Ok(false) | Err(_) => {
+            let _files = leave(store.into_connection());
+            Err(NoStore::OpenLog)
+        }
     }
-    let (_files, _closing) = close_store(store);
-    Err(NoStore::OpenLog)
 }
 
 /// A new archive with a plan, in a database that has none of its tables.
@@ -104,43 +122,57 @@ fn lay_files<D: Disk + Drop>(
     }
 }
 
-/// Makes an archive with a plan in the empty file at a path.
-fn fill_file<S: Start>(
-    rt: &HostRuntime,
+/// Makes an archive with a plan in the empty file at a path. Beside the opening no call is made.
+fn fill_file<F: FileSystem, S: Start>(
+    files: &mut F,
+    alloc: Global,
     path: &str,
     plan: Plan,
     start: S,
 ) -> Result<Files<FileFrom<S>>, NoStore>
-    ensures { IfOk result (KeepsNew (system_file S.Start) (image_at S.Start) plan) }
+    ensures keeps { IfOk result (KeepsNew (system_file S.Start) (image_at S.Start) plan) }
+    ensures calls { Makes F.made files.old files.new
+        (λ calls. calls ≡ open_store path.now true ∷ []) }
+    ensures kept { (name : List ℕ) → F.has_named files.old name → F.has_named files.new name }
 {
-    let conn = match Connection::open_from(rt, path, true, start) {
+    let conn = match files.open_store(path, true, start) {
         Ok(conn) => conn,
-        Err((error, _)) => return Err(NoStore::of_opening(error, has_log(rt, path))),
+        Err((error, _)) => {
+            return Err(NoStore::of_opening(error, has_log(files, alloc, path)));
+        }
     };
-    match lay_files(rt.alloc(), conn, plan) {
+    match lay_files(alloc, conn, plan) {
         Ok(files) => Ok(files),
         Err(fault) => Err(fault),
     }
 }
 
-/// Makes a new store with a plan in a new file at a path, which only its owner may read and write. Answers its files. As
-/// they held nothing before, the two together then keep an archive of that plan without records, while the disk returns
-/// what was written to it.
+/// Makes a new store with a plan in a new file at a path, which only its owner may read and write (0600), and whose pages
+/// end in sums. Answers its files. As they held nothing before, the two together then keep an archive of that plan without
+/// records, while the disk returns what was written to it.
 ///
-/// Where something refuses, no file is left; so also where the disk fails before the files are closed.
-pub fn create_archive<S: Start>(
-    rt: &HostRuntime,
+/// Where something refuses, the file that was made is removed with its log; so also where the disk fails before the files
+/// are closed. A file that was not made here is never removed.
+pub fn create_archive<F: FileSystem, S: Start>(
+    files: &mut F,
+    alloc: Global,
     path: &str,
     plan: Plan,
     start: S,
 ) -> Result<Files<FileFrom<S>>, NoStore>
-    ensures { IfOk result (KeepsNew (system_file S.Start) (image_at S.Start) plan) }
+    ensures keeps { IfOk result (KeepsNew (system_file S.Start) (image_at S.Start) plan) }
+    ensures free { OnOk result (IsFreePlace F.lacks files.old path.now) }
+    ensures makes { OnOk result (Makes F.made files.old files.new
+        (λ calls. calls ≡ making path.now)) }
+    ensures tries { OnErr result (Makes F.made files.old files.new
+        (Begins (making path.now ++ removing path.now) (F.has_named files.new path.now))) }
 {
-    make_file(rt, path)?;
-    match fill_file(rt, path, plan, start) {
-        Ok(files) => Ok(files),
+    let log = log_beside(alloc, path)?;
+    make_file(files, alloc, path)?;
+    match fill_file(files, alloc, path, plan, start) {
+        Ok(filled) => Ok(filled),
         Err(fault) => {
-            remove_files(rt, path);
+            remove_both(files, log.as_str(), path);
             Err(fault)
         }
     }

@@ -3,44 +3,52 @@
 //! It is made beside its place. So nobody opens a store that is not whole, and what is removed where something fails was
 //! never opened by others.
 
+ghost use Rattle.std.specs.Prelude.{◌≡◌, IfOk, OnErr, OnOk, string_bytes};
+ghost use Rattle.record_places.specs.Calls.{Begins, Makes};
+ghost use Rattle.record_places.specs.Looks.{IsFreePlace};
+ghost use Rattle.cli_files.specs.Making.{draft_of, placing};
+
 use crate::fault::NoStore;
-use crate::places::{is_there, judge_place, remove_log};
-use std::{fs, io};
+use crate::removal::log_beside;
+use record_places::{FileSystem, is_there, judge_place};
+use std::alloc::Global;
 
 /// What the name of a new store ends with until it is whole.
 const ENDING: &str = ".mailfile-new";
 
 /// The path at which a store is made that is to have its place at a path. Refused where something is at either of them, or
-/// a log or journal beside the path.
-pub fn draft_for(rt: &HostRuntime, path: &str) -> Result<String, NoStore> {
-    judge_place(rt, path)?;
-    let draft = format!(in rt.alloc(); "{path}{ENDING}")?;
-    if is_there(rt, draft.as_str())? {
+/// a log or journal beside the path. Nothing is made.
+pub fn draft_for<F: FileSystem>(files: &F, alloc: Global, path: &str) -> Result<String, NoStore>
+    ensures beside { IfOk result (λ draft. string_bytes draft ≡ draft_of path.now) }
+    ensures free { OnOk result (IsFreePlace F.lacks files.now path.now) }
+    ensures unfinished { OnOk result (F.lacks files.now (draft_of path.now)) }
+{
+    judge_place(files, alloc, path)?;
+    let draft = format!(in alloc; "{path}{ENDING}")?;
+    if is_there(files, draft.as_str())? {
         return Err(NoStore::Unfinished);
     }
     Ok(draft)
 }
 
-/// The folder in which the file at a path is.
-fn folder_of(path: &str) -> &str {
-    match path.rsplit_once('/') {
-        Some(("", _)) => "/",
-        Some((folder, _)) => folder,
-        None => ".",
-    }
-}
-
-/// Makes the names in the folder of a path last over a power cut.
-fn settle_names(rt: &HostRuntime, path: &str) -> io::Result<()> {
-    fs::open(rt, folder_of(path))?.sync_all()
-}
-
 /// Gives a store that is whole, all of it in the file at `draft`, its place at a path. Refused where something is there;
-/// nothing is replaced.
-pub fn give_place(rt: &HostRuntime, draft: &str, path: &str) -> Result<(), NoStore> {
-    judge_place(rt, path)?;
-    fs::hard_link(rt, draft, path)?;
-    remove_log(rt, draft);
-    fs::remove_file(rt, draft)?;
-    settle_names(rt, path).map_err(|_| NoStore::Disk)
+/// nothing is replaced. The first name is removed only once the file has the second.
+pub fn give_place<F: FileSystem>(
+    files: &mut F,
+    alloc: Global,
+    draft: &str,
+    path: &str,
+) -> Result<(), NoStore>
+    ensures free { OnOk result (IsFreePlace F.lacks files.old path.now) }
+    ensures places { OnOk result (Makes F.made files.old files.new
+        (λ calls. calls ≡ placing draft.now path.now)) }
+    ensures tries { OnErr result (Makes F.made files.old files.new
+        (Begins (placing draft.now path.now) (F.has_named files.new path.now))) }
+{
+    judge_place(files, alloc, path)?;
+    let log = log_beside(alloc, draft)?;
+    files.hard_link(draft, path)?;
+    let _ = files.remove(log.as_str());
+    files.remove(draft)?;
+    files.settle(path).map_err(|_| NoStore::Disk)
 }

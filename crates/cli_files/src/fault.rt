@@ -1,5 +1,6 @@
 //! Why there is no store, in words.
 
+use record_places::NoPlace;
 use record_store::{ArchiveRefusal, Cause, StoreFault};
 use sqlite::{Error, ErrorCode};
 use std::alloc::AllocError;
@@ -36,6 +37,8 @@ pub enum NoStore {
     NoTables,
     /// Tables of an archive's names have other columns, or some are missing.
     OtherTables,
+    /// A table of the database has a foreign key, beside which nothing is promised of an archive.
+    ForeignKey,
     /// 88: the rows of the tables are no archive's.
     NoArchive,
     /// The disk is full, or the file as long as its format allows.
@@ -77,6 +80,20 @@ impl From<StoreFault> for NoStore {
             StoreFault::Database(Cause::Sqlite(error)) => NoStore::of_opening(error, true),
             StoreFault::Database(Cause::Lost | Cause::Busy) => NoStore::DamagedOrMixed,
             StoreFault::NoMemory => NoStore::NoMemory,
+        }
+    }
+}
+
+impl From<NoPlace> for NoStore {
+    fn from(cause: NoPlace) -> NoStore {
+        match cause {
+            NoPlace::There => NoStore::There,
+            NoPlace::StrayLog => NoStore::StrayLog,
+            NoPlace::OpenLog => NoStore::OpenLog,
+            NoPlace::NoFile => NoStore::NoFile,
+            NoPlace::Empty => NoStore::Empty,
+            NoPlace::NoDatabase => NoStore::NoDatabase,
+            NoPlace::System(error) => NoStore::from(error),
         }
     }
 }
@@ -126,6 +143,9 @@ impl NoStore {
             }
             NoStore::NoTables => "no archive: the database has no table of one",
             NoStore::OtherTables => "no archive: the tables of the database are not those of one",
+            NoStore::ForeignKey => {
+                "a table of the database has a foreign key; beside such a table no archive is opened"
+            }
             NoStore::NoArchive => "no archive: the rows of the tables are not those of one",
             NoStore::Full => "the disk is full",
             NoStore::Disk => "the disk failed",

@@ -1,12 +1,14 @@
 //! A store over files.
 
-ghost use Rattle.std.specs.Prelude.{◌≡◌, false, IfOk, IfErr, IsTrue, OnOk};
+ghost use Rattle.std.specs.Prelude.{◌≡◌, ◌↔◌, ◌∷◌, [], false, true, IfOk, IfErr, IsTrue, OnOk};
 ghost use Rattle.sqlite.specs.State.{HasCleanDisk};
 ghost use Rattle.sqlite.specs.Held.{state};
 ghost use Rattle.sqlite.specs.WalReads.{AreClean};
 ghost use Rattle.sqlite.specs.WalFiles.{image_at, outcomes};
 ghost use Rattle.sqlite.specs.Recovery.{Image};
 ghost use Rattle.sqlite.specs.Files.{file_state, over_files};
+ghost use Rattle.record_tables.specs.Tables.{IsApart};
+ghost use Rattle.record_places.specs.Calls.{Makes, open_store};
 ghost use Rattle.record_archive.specs.Archive.{Archive};
 ghost use Rattle.record_adoption.specs.Adoption.{Finds};
 ghost use Rattle.record_store.specs.Layouts.{HasArchiveTables};
@@ -15,18 +17,30 @@ ghost use Rattle.record_files.specs.Closing.{HasCause, HoldsLeft, LeavesBy};
 ghost use Rattle.record_files.specs.Files.{FindsAt, HoldsTables, KeepsFiles};
 
 use crate::fault::NoStore;
-use crate::places::has_log;
 use record_files::{Closing, close, leave};
+use record_places::{FileSystem, has_log};
 use record_store::Store;
 use record_tables::layout::{Layout, layout_of};
 use sqlite::{Alter, Connection, FileFrom, FileStore, Files, Start};
 use sqlite_disk::Disk;
+use sqlite_schema::schema::Schema;
 use std::alloc::Global;
+
+/// Whether no table of a database has a foreign key, whatever its name.
+fn is_apart(schema: &Schema) -> bool
+    ensures { IsTrue result ↔ IsApart schema.now }
+{
+    schema
+        .tables
+        .as_slice()
+        .iter()
+        .all(|table| table.references.is_empty())
+}
 
 /// The store over a database that has an archive's tables. It represents the archive that is found there.
 ///
-/// Refused where the database has none of these tables, where they or their rows are not an archive's, where the
-/// database refuses, or for lack of memory. The connection is then handed back.
+/// Refused where the database has none of these tables, where they or their rows are not an archive's, where a table of any
+/// name has a foreign key, where the database refuses, or for lack of memory. The connection is then handed back.
 pub fn adopt_found<S: Alter>(
     alloc: Global,
     conn: Connection<S>,
@@ -35,6 +49,7 @@ pub fn adopt_found<S: Alter>(
     ensures stands { IfOk result (λ s. HasCleanDisk (state S.Store s.conn) → (a : Archive)
         → Finds (state S.Store conn).now a → StandsFor S.Store s a) }
     ensures layout { OnOk result (HasArchiveTables (state S.Store conn).now.schema) }
+    ensures apart { OnOk result (IsApart (state S.Store conn).now.schema) }
     ensures clean { IfOk result (λ s. HasCleanDisk (state S.Store s.conn)
         → HasCleanDisk (state S.Store conn)) }
 {
@@ -43,6 +58,9 @@ pub fn adopt_found<S: Alter>(
         Layout::Other => return Err((NoStore::OtherTables, conn)),
         Layout::First | Layout::FirstWithDues | Layout::Second => {}
     }
+    if !is_apart(conn.schema()) {
+        return Err((NoStore::ForeignKey, conn));
+    }
     match Store::adopt(alloc, conn) {
         Ok(adopted) => Ok(adopted),
         Err((fault, conn)) => Err((NoStore::from(fault), conn)),
@@ -50,10 +68,11 @@ pub fn adopt_found<S: Alter>(
 }
 
 /// The store in the file at a path. While the disk returns what was written to it, the store represents the archive that
-/// the files held, and what they held are an archive's tables. What they held is what `S` says; no code knows it, so
-/// this holds whatever it is.
-pub fn open_store<S: Start>(
-    rt: &HostRuntime,
+/// the files held, and what they held are an archive's tables, and no table with a foreign key. What they held is what `S`
+/// says; no code knows it, so this holds whatever it is. Beside the opening no call is made.
+pub fn open_store<F: FileSystem, S: Start>(
+    files: &mut F,
+    alloc: Global,
     path: &str,
     start: S,
 ) -> Result<Store<FileStore<FileFrom<S>>>, NoStore>
@@ -61,12 +80,18 @@ pub fn open_store<S: Start>(
         → FindsAt (image_at S.Start) a → StandsFor over_files s a) }
     ensures layout { IfOk result (λ s. HasCleanDisk (file_state s.conn)
         → HoldsTables HasArchiveTables (image_at S.Start)) }
+    ensures apart { IfOk result (λ s. HasCleanDisk (file_state s.conn)
+        → HoldsTables IsApart (image_at S.Start)) }
+    ensures calls { Makes F.made files.old files.new
+        (λ calls. calls ≡ open_store path.now true ∷ []) }
 {
-    let conn = match Connection::open_from(rt, path, true, start) {
+    let conn = match files.open_store(path, true, start) {
         Ok(conn) => conn,
-        Err((error, _)) => return Err(NoStore::of_opening(error, has_log(rt, path))),
+        Err((error, _)) => {
+            return Err(NoStore::of_opening(error, has_log(files, alloc, path)));
+        }
     };
-    match adopt_found(rt.alloc(), conn) {
+    match adopt_found(alloc, conn) {
         Ok(store) => Ok(store),
         Err((fault, conn)) => {
             let _files = leave(conn);

@@ -5,6 +5,7 @@ use cli_console::{Failure, Status};
 use cli_files::{NoStore, create_archive, draft_for, give_place, open_archive, remove_files};
 use cli_tasks::{Archives, Closed, Work};
 use record_files::{Closing, close};
+use record_places::System;
 use sqlite::Unknown;
 use std::alloc::Global;
 
@@ -50,7 +51,7 @@ impl Archives for FileArchives {
         path: &str,
         work: W,
     ) -> Result<(Result<W::Answer, Failure>, Closed), Failure> {
-        match open_archive(rt, path, Unknown) {
+        match open_archive(&mut System::new(rt), rt.alloc(), path, Unknown) {
             Ok(archive) => {
                 let (conn, done) = work.work(rt, archive);
                 let (_files, closing) = close(conn);
@@ -61,18 +62,23 @@ impl Archives for FileArchives {
     }
 
     fn create(&self, rt: &HostRuntime, path: &str, plan: Plan) -> Result<String, Failure> {
-        let draft = draft_for(rt, path).map_err(|cause| not_made(rt.alloc(), path, cause))?;
-        match create_archive(rt, draft.as_str(), plan, Unknown) {
+        let alloc = rt.alloc();
+        let mut system = System::new(rt);
+        let draft = draft_for(&system, alloc, path).map_err(|cause| not_made(alloc, path, cause))?;
+        match create_archive(&mut system, alloc, draft.as_str(), plan, Unknown) {
             Ok(_files) => Ok(draft),
-            Err(cause) => Err(not_made(rt.alloc(), path, cause)),
+            Err(cause) => Err(not_made(alloc, path, cause)),
         }
     }
 
     fn give_place(&self, rt: &HostRuntime, draft: &str, path: &str) -> Result<(), Failure> {
-        give_place(rt, draft, path).map_err(|cause| not_made(rt.alloc(), path, cause))
+        let alloc = rt.alloc();
+        give_place(&mut System::new(rt), alloc, draft, path).map_err(|cause| not_made(
+            alloc, path, cause,
+        ))
     }
 
     fn remove(&self, rt: &HostRuntime, draft: &str) {
-        remove_files(rt, draft);
+        remove_files(&mut System::new(rt), rt.alloc(), draft);
     }
 }
