@@ -149,17 +149,18 @@ fn write_page(
     choice: &Choice<'_>,
 ) -> Result<(), Failure> {
     let moment = moment_text(rt.alloc(), now(rt)?)?;
-    let conditions = conditions_of(rt.alloc(), choice)?;
+    let typed = conditions_of(rt.alloc(), choice)?;
+    let conditions = if choice.is_empty() {
+        None
+    } else {
+        Some(typed.as_str())
+    };
     let heading = Heading {
         file,
         day,
         today: today(rt)?,
         moment: moment.as_str(),
-        conditions: if choice.is_empty() {
-            None
-        } else {
-            Some(conditions.as_str())
-        },
+        conditions,
     };
     let mut page = Page::new(rt.alloc());
     report
