@@ -139,6 +139,23 @@ fn conditions_of(alloc: Global, choice: &Choice<'_>) -> Result<String, AllocErro
     Ok(text)
 }
 
+/// What stands at the head of a report.
+fn heading_of<'a>(
+    file: &'a str,
+    day: Date,
+    today: Date,
+    moment: &'a str,
+    conditions: Option<&'a str>,
+) -> Heading<'a> {
+    Heading {
+        file,
+        day,
+        today,
+        moment,
+        conditions,
+    }
+}
+
 /// Writes the page of a report on the records of a choice.
 fn write_page(
     rt: &HostRuntime,
@@ -155,13 +172,7 @@ fn write_page(
     } else {
         Some(typed.as_str())
     };
-    let heading = Heading {
-        file,
-        day,
-        today: today(rt)?,
-        moment: moment.as_str(),
-        conditions,
-    };
+    let heading = heading_of(file, day, today(rt)?, moment.as_str(), conditions);
     let mut page = Page::new(rt.alloc());
     report
         .write(&mut page, plan, &heading)
