@@ -60,36 +60,36 @@ impl Work for Task<'_> {
 
 /// Does something with the records of a choice, and of the questions that are asked of their messages.
 #[derive(Drop)]
-struct OnRecords<'a> {
+struct OnRecords<'a, 't> {
     /// The path of the store, which a report names.
     store: &'a str,
     choice: Choice<'a>,
     questions: Questions,
-    task: ChosenTask<'a>,
+    task: &'t ChosenTask<'a>,
 }
 
-impl OnRecords<'_> {
+impl OnRecords<'_, '_> {
     /// Does it.
     fn perform<S: Alter>(&self, rt: &HostRuntime, archive: &mut Store<S>) -> Result<(), Failure> {
         let (choice, questions) = (&self.choice, &self.questions);
         match self.task {
-            ChosenTask::List(listing) => write_list(rt, archive, choice, questions, listing),
-            ChosenTask::Export(target) => export_to(rt, archive, choice, questions, target),
+            ChosenTask::List(listing) => write_list(rt, archive, choice, questions, *listing),
+            ChosenTask::Export(target) => export_to(rt, archive, choice, questions, *target),
             ChosenTask::Hold(name) => {
-                change_holds(rt, archive, Change::Place, name, choice, questions)
+                change_holds(rt, archive, Change::Place, *name, choice, questions)
             }
             ChosenTask::Release(name) => {
-                change_holds(rt, archive, Change::End, name, choice, questions)
+                change_holds(rt, archive, Change::End, *name, choice, questions)
             }
             ChosenTask::Report { day } => {
-                let day = day_or_today(rt, day)?;
+                let day = day_or_today(rt, *day)?;
                 write_report(rt, archive, self.store, day, choice, questions)
             }
         }
     }
 }
 
-impl Work for OnRecords<'_> {
+impl Work for OnRecords<'_, '_> {
     type Answer = ();
 
     fn work<S: Alter>(
@@ -248,7 +248,7 @@ fn on_records<'a, A: Archives>(
     archives: &A,
     store: &'a str,
     choice: Choice<'a>,
-    task: ChosenTask<'a>,
+    task: &ChosenTask<'a>,
 ) -> Result<(), Failure> {
     let questions = judge_choice(rt, &choice)?;
     let work = OnRecords {
@@ -291,6 +291,6 @@ pub fn execute<A: Archives>(
         Command::Check => lend(rt, archives, store, Task::Check),
         Command::Why(asked) => why(rt, archives, store, &asked),
         Command::Dispose(asked) => dispose(rt, archives, store, asked),
-        Command::Chosen(choice, task) => on_records(rt, archives, store, choice, task),
+        Command::Chosen(choice, task) => on_records(rt, archives, store, choice, &task),
     }
 }
