@@ -3,6 +3,7 @@
 ghost use Rattle.std.specs.Prelude.{◌≡◌, ◌≤◌, ◌<◌, ◌++◌, map, filter, Some, IfOk, IfSome, OnOk};
 ghost use Rattle.record_archive.specs.Archive.{Archive};
 ghost use Rattle.record_choice.specs.Entries.{entry_view};
+ghost use Rattle.record_choice.specs.Reads.{OnlyReads};
 ghost use Rattle.record_choice.specs.Views.{choice_view};
 ghost use Rattle.record_choice.specs.Walks.{shows_answer, kept_if, IsPageOf};
 ghost use Rattle.cli_choice.specs.Questions.{is_found, is_missed, is_found_answer, is_unread_answer, question_of};
@@ -55,8 +56,7 @@ fn answer_of<R: Repository>(
     questions: &Questions,
     entry: &RecordEntry,
 ) -> Result<Answer, WalkFault<R::Fault>>
-    ensures stands { (a : Archive) → R.stands records.old a → R.stands records.new a }
-    ensures falls { R.clean records.new → R.clean records.old }
+    ensures reads { OnlyReads R.clean R.stands records.old records.new }
     ensures found { IfOk result (λ x. R.clean records.new → (a : Archive) → R.stands records.old a
         → is_found_answer x ≡ shows_answer a (is_found questions.now) (entry_view entry.now)) }
     ensures unread { IfOk result (λ x. R.clean records.new → (a : Archive) → R.stands records.old a
@@ -80,8 +80,7 @@ fn part<R: Repository>(
     questions: &Questions,
     entries: Vec<RecordEntry>,
 ) -> Result<Parts, WalkFault<R::Fault>>
-    ensures stands { (a : Archive) → R.stands records.old a → R.stands records.new a }
-    ensures falls { R.clean records.new → R.clean records.old }
+    ensures reads { OnlyReads R.clean R.stands records.old records.new }
     ensures found { IfOk result (λ p. R.clean records.new → (a : Archive) → R.stands records.old a
         → map entry_view p.found.items ≡
         filter (shows_answer a (is_found questions.now)) (map entry_view entries.items)) }
@@ -111,8 +110,7 @@ pub fn search_page<R: Repository>(
     most: usize,
 ) -> Result<FoundPage, WalkFault<R::Fault>>
     requires { 1 ≤ most }
-    ensures stands { (a : Archive) → R.stands records.old a → R.stands records.new a }
-    ensures falls { R.clean records.new → R.clean records.old }
+    ensures reads { OnlyReads R.clean R.stands records.old records.new }
 
     // What is found is a page of the records that meet the choice and have all that is asked.
     ensures found { IfOk result (λ p. R.clean records.new → (a : Archive) → R.stands records.old a

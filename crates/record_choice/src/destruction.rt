@@ -7,6 +7,7 @@ ghost use Rattle.record_archive.specs.Archive as archive;
 ghost use Rattle.record_archive.specs.Archive.{Archive, Record, record_at};
 ghost use Rattle.record_archive.specs.Calls.{Makes};
 ghost use Rattle.record_choice.specs.Entries.{RecordEntry as Listed, entry_of, entry_view};
+ghost use Rattle.record_choice.specs.Reads.{OnlyReads};
 ghost use Rattle.record_choice.specs.Walks.{above, last_of};
 ghost use Rattle.record_choice.specs.Disposals.{Certificate, certificate_view, keeps_entry, known_after, IsCertificate, IsKeptBy, IsKnown, IsSummed, IsTold, Finds, search_after};
 ghost use Rattle.record_choice.specs.declared.destruction.End.TheVariants.{Done};
@@ -57,8 +58,7 @@ pub struct Destroyed {
 
 /// The length and the sum of the message of a live record.
 fn read_sum<R: Repository>(records: &mut R, entry: &RecordEntry) -> Result<Summed, R::Fault>
-    ensures stands { (a : Archive) → R.stands records.old a → R.stands records.new a }
-    ensures falls { R.clean records.new → R.clean records.old }
+    ensures reads { OnlyReads R.clean R.stands records.old records.new }
     ensures of { IfOk result (λ s. s.message ≡ entry.now.message) }
     ensures told { IfOk result (λ s. R.clean records.new → (a : Archive) (r : Record)
         → R.stands records.old a → record_at a entry.now.number ≡ Some r → r.destroyed ≡ false
@@ -80,8 +80,7 @@ fn sum_message<R: Repository>(
     entry: &RecordEntry,
     known: Option<Summed>,
 ) -> Result<Summed, R::Fault>
-    ensures stands { (a : Archive) → R.stands records.old a → R.stands records.new a }
-    ensures falls { R.clean records.new → R.clean records.old }
+    ensures reads { OnlyReads R.clean R.stands records.old records.new }
     ensures of { IfOk result (λ s. s.message ≡ entry.now.message) }
     ensures told { IfOk result (λ s. R.clean records.new → (a : Archive) (r : Record)
         → R.stands records.old a → record_at a entry.now.number ≡ Some r → r.destroyed ≡ false
@@ -155,8 +154,7 @@ fn look_on<R: Repository>(
     message: u32,
     number: u32,
 ) -> Result<Search, R::Fault>
-    ensures stands { (a : Archive) → R.stands records.old a → R.stands records.new a }
-    ensures falls { R.clean records.new → R.clean records.old }
+    ensures reads { OnlyReads R.clean R.stands records.old records.new }
     ensures told { IfOk result (λ x. R.clean records.new → (a : Archive) → R.stands records.old a
         → Finds a message number from x) }
 {
@@ -174,8 +172,7 @@ fn keeper_of<R: Repository>(
     message: u32,
     number: u32,
 ) -> Result<Option<u32>, R::Fault>
-    ensures stands { (a : Archive) → R.stands records.old a → R.stands records.new a }
-    ensures falls { R.clean records.new → R.clean records.old }
+    ensures reads { OnlyReads R.clean R.stands records.old records.new }
     ensures told { IfOk result (λ o. R.clean records.new → (a : Archive) (r : Record)
         → R.stands records.old a → record_at a number ≡ Some r → r.destroyed ≡ false
         → r.message ≡ message → IsKeptBy a message number o) }
@@ -202,8 +199,7 @@ fn describe<R: Repository>(
     number: u32,
     known: Option<Summed>,
 ) -> Result<(Destroyed, Summed), R::Fault>
-    ensures stands { (a : Archive) → R.stands records.old a → R.stands records.new a }
-    ensures falls { R.clean records.new → R.clean records.old }
+    ensures reads { OnlyReads R.clean R.stands records.old records.new }
     ensures told { IfOk result (λ x. R.clean records.new → (a : Archive) → R.stands records.old a
         → IsKnown a known → IsTold a number (certificate_view x.0) x.1) }
 {

@@ -13,6 +13,7 @@ ghost use Rattle.record_archive.specs.Lines.{line_view};
 ghost use Rattle.record_choice.specs.declared.disposal.DisposeFault.TheVariants.{NotApproved};
 ghost use Rattle.record_choice.specs.declared.destruction.End.TheVariants.{Done};
 ghost use Rattle.record_choice.specs.Reasons.{MayGo, IsReason};
+ghost use Rattle.record_choice.specs.Reads.{OnlyReads};
 ghost use Rattle.record_choice.specs.Disposals.{Certificate, Destroys, DestroysThese, HandsOver, asked_list, disposable_list, is_one_of};
 
 use crate::destruction::{End, destroy_one};
@@ -66,8 +67,7 @@ fn disposable<R: Repository>(
     records: &mut R,
     day: Date,
 ) -> Result<Vec<Line>, DisposeFault<R::Fault>>
-    ensures falls { R.clean records.new → R.clean records.old }
-    ensures stands { (a : Archive) → R.stands records.old a → R.stands records.new a }
+    ensures reads { OnlyReads R.clean R.stands records.old records.new }
     ensures told { IfOk result (λ v. R.clean records.new → (a : Archive) → R.stands records.old a
         → map line_view v.items ≡ disposable_list a (epoch_day day)) }
     ensures reason { IfErr result (λ f. (n : ℕ) (why : Reason) → f ≡ NotApproved n why → ⊥) }
@@ -112,8 +112,7 @@ fn judge_each<R: Repository>(
     numbers: &[u32],
     day: Date,
 ) -> Result<(), DisposeFault<R::Fault>>
-    ensures falls { R.clean records.new → R.clean records.old }
-    ensures stands { (a : Archive) → R.stands records.old a → R.stands records.new a }
+    ensures reads { OnlyReads R.clean R.stands records.old records.new }
     ensures all { OnOk result (R.clean records.new → (a : Archive) → R.stands records.old a
         → AllByRecursion (MayGo a (epoch_day day)) numbers.now) }
     ensures reason { IfErr result (λ f. (n : ℕ) (why : Reason) → f ≡ NotApproved n why
@@ -140,8 +139,7 @@ pub fn asked_lines<R: Repository>(
     asked: &[u32],
     day: Date,
 ) -> Result<Vec<Line>, DisposeFault<R::Fault>>
-    ensures falls { R.clean records.new → R.clean records.old }
-    ensures stands { (a : Archive) → R.stands records.old a → R.stands records.new a }
+    ensures reads { OnlyReads R.clean R.stands records.old records.new }
     ensures lines { IfOk result (λ v. R.clean records.new → (a : Archive) → R.stands records.old a
         → map line_view v.items ≡ asked_list a (epoch_day day) asked.now) }
     ensures all { OnOk result (R.clean records.new → (a : Archive) → R.stands records.old a

@@ -19,7 +19,7 @@ pub use destruction::{Destroyed, End};
 pub use disposal::{DisposeFault, Disposed, asked_lines, dispose, these_and_no_other};
 pub use entry::RecordEntry;
 pub use pages::{Page, WalkFault, choose_page, walks_join};
-pub use questions::{Anything, Both, Judge};
+pub use questions::{Anything, Judge};
 pub use reasons::{Reason, destroys, why_not};
 pub use registrar::Registrar;
 pub use repository::Repository;

@@ -4,6 +4,7 @@ ghost use Rattle.std.specs.Prelude.{◌≡◌, ◌≤◌, ◌<◌, ◌++◌, Lis
 ghost use Rattle.record_archive.specs.Archive.{Archive};
 ghost use Rattle.record_choice.specs.Choices.{Choice as Chosen, Question, where_asked};
 ghost use Rattle.record_choice.specs.Entries.{RecordEntry as Listed, entry_view};
+ghost use Rattle.record_choice.specs.Reads.{OnlyReads};
 ghost use Rattle.record_choice.specs.Views.{choice_view, shows};
 ghost use Rattle.record_choice.specs.Walks.{last_of, above, shows_answer, kept_if, IsPageOf, WalkJoins};
 
@@ -79,8 +80,7 @@ fn is_answered<R: Repository, J: Judge>(
     judge: &J,
     entry: &RecordEntry,
 ) -> Result<bool, WalkFault<R::Fault>>
-    ensures stands { (a : Archive) → R.stands records.old a → R.stands records.new a }
-    ensures falls { R.clean records.new → R.clean records.old }
+    ensures reads { OnlyReads R.clean R.stands records.old records.new }
     ensures told { IfOk result (λ b. R.clean records.new → (a : Archive) → R.stands records.old a
         → b ≡ shows_answer a (J.asks judge.now) (entry_view entry.now)) }
 {
@@ -113,8 +113,7 @@ fn keep_answered<R: Repository, J: Judge>(
     judge: &J,
     entries: Vec<RecordEntry>,
 ) -> Result<Vec<RecordEntry>, WalkFault<R::Fault>>
-    ensures stands { (a : Archive) → R.stands records.old a → R.stands records.new a }
-    ensures falls { R.clean records.new → R.clean records.old }
+    ensures reads { OnlyReads R.clean R.stands records.old records.new }
     ensures kept { IfOk result (λ v. R.clean records.new → (a : Archive) → R.stands records.old a
         → map entry_view v.items ≡
         filter (shows_answer a (J.asks judge.now)) (map entry_view entries.items)) }
@@ -134,8 +133,7 @@ fn keep_asked<R: Repository, J: Judge>(
     question: Option<&J>,
     entries: Vec<RecordEntry>,
 ) -> Result<Vec<RecordEntry>, WalkFault<R::Fault>>
-    ensures stands { (a : Archive) → R.stands records.old a → R.stands records.new a }
-    ensures falls { R.clean records.new → R.clean records.old }
+    ensures reads { OnlyReads R.clean R.stands records.old records.new }
     ensures kept { IfOk result (λ v. R.clean records.new → (a : Archive) → R.stands records.old a
         → map entry_view v.items ≡ filter (λ e. where_asked (λ asks. shows_answer a asks e)
         (option_map (λ j. J.asks j.now) question.entry)) (map entry_view entries.items)) }
@@ -158,8 +156,7 @@ pub fn choose_page<R: Repository, J: Judge>(
     most: usize,
 ) -> Result<Page, WalkFault<R::Fault>>
     requires { 1 ≤ most }
-    ensures stands { (a : Archive) → R.stands records.old a → R.stands records.new a }
-    ensures falls { R.clean records.new → R.clean records.old }
+    ensures reads { OnlyReads R.clean R.stands records.old records.new }
     ensures page { IfOk result (λ p. R.clean records.new → (a : Archive) → R.stands records.old a
         → IsPageOf (option_map (λ j. J.asks j.now) question.entry) (choice_view choice.now) a
         (Some from) (map entry_view p.chosen.items) p.next) }

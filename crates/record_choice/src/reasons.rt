@@ -5,6 +5,7 @@ ghost use Rattle.jiff.specs.Words.{epoch_day};
 ghost use Rattle.record_archive.specs.Archive as archive;
 ghost use Rattle.record_archive.specs.Archive.{Archive, Record, record_at};
 ghost use Rattle.record_choice.specs.Entries.{OfRecord, entry_of, entry_view};
+ghost use Rattle.record_choice.specs.Reads.{OnlyReads};
 ghost use Rattle.record_choice.specs.Reasons.{MayGo, IsReason};
 
 use crate::choice::{has_any, is_due};
@@ -76,8 +77,7 @@ fn if_numbered(entry: RecordEntry, number: u32) -> Option<RecordEntry>
 
 /// The record with a number, if there is one.
 fn find_entry<R: Repository>(records: &mut R, number: u32) -> Result<Option<RecordEntry>, R::Fault>
-    ensures stands { (a : Archive) → R.stands records.old a → R.stands records.new a }
-    ensures falls { R.clean records.new → R.clean records.old }
+    ensures reads { OnlyReads R.clean R.stands records.old records.new }
     ensures told { IfOk result (λ o. R.clean records.new → (a : Archive) → R.stands records.old a
         → MatchOption o (record_at a number ≡ None)
         (λ e. OfRecord a number (λ r. entry_view e ≡ entry_of a r))) }
@@ -95,8 +95,7 @@ pub fn why_not<R: Repository>(
     number: u32,
     day: Date,
 ) -> Result<Option<Reason>, R::Fault>
-    ensures stands { (a : Archive) → R.stands records.old a → R.stands records.new a }
-    ensures falls { R.clean records.new → R.clean records.old }
+    ensures reads { OnlyReads R.clean R.stands records.old records.new }
     ensures told { IfOk result (λ o. R.clean records.new → (a : Archive) → R.stands records.old a
         → MatchOption o (MayGo a (epoch_day day) number) (IsReason a (epoch_day day) number)) }
 {

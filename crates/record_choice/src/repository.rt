@@ -7,6 +7,7 @@ ghost use Rattle.record_archive.specs.Archive.{Archive, IsArchive, Record, due_l
 ghost use Rattle.record_archive.specs.Calls.{Makes};
 ghost use Rattle.record_archive.specs.Lines.{line_view};
 ghost use Rattle.record_choice.specs.Entries.{OfRecord, entry_of, entry_view, entries_from};
+ghost use Rattle.record_choice.specs.Reads.{OnlyReads};
 
 use crate::entry::RecordEntry;
 use class_plan::{Date, Plan};
@@ -38,29 +39,25 @@ pub trait Repository {
 
     /// The records from a number on, in the order of their numbers, at most `most` of them.
     fn entries(&mut self, from: u32, most: usize) -> Result<Vec<RecordEntry>, Self::Fault>
-        ensures stands { (a : Archive) → stands self.old a → stands self.new a }
-        ensures falls { clean self.new → clean self.old }
+        ensures reads { OnlyReads clean stands self.old self.new }
         ensures told { IfOk result (λ v. clean self.new → (a : Archive) → stands self.old a
             → map entry_view v.items ≡ take most (entries_from a from)) };
 
     /// The record with a number. Fails where there is none.
     fn entry(&mut self, number: u32) -> Result<RecordEntry, Self::Fault>
-        ensures stands { (a : Archive) → stands self.old a → stands self.new a }
-        ensures falls { clean self.new → clean self.old }
+        ensures reads { OnlyReads clean stands self.old self.new }
         ensures told { IfOk result (λ e. clean self.new → (a : Archive) → stands self.old a
             → OfRecord a number (λ r. entry_view e ≡ entry_of a r)) };
 
     /// The octets of a record's message.
     fn message(&mut self, number: u32) -> Result<Vec<u8>, Self::Fault>
-        ensures stands { (a : Archive) → stands self.old a → stands self.new a }
-        ensures falls { clean self.new → clean self.old }
+        ensures reads { OnlyReads clean stands self.old self.new }
         ensures told { IfOk result (λ v. clean self.new → (a : Archive) → stands self.old a
             → archive.message a number ≡ Ok (Some v.items)) };
 
     /// The due list of a day.
     fn due(&mut self, day: Date) -> Result<Vec<Line>, Self::Fault>
-        ensures stands { (a : Archive) → stands self.old a → stands self.new a }
-        ensures falls { clean self.new → clean self.old }
+        ensures reads { OnlyReads clean stands self.old self.new }
         ensures told { IfOk result (λ v. clean self.new → (a : Archive) → stands self.old a
             → map line_view v.items ≡ due_list_on a (epoch_day day)) };
 

@@ -17,19 +17,19 @@ returns-then-is_nothing-clause-unread g c = λ clean (a : Archive) s.
 
 pub returns-clause-found : goal.returns-clause-found
 returns-clause-found g c = λ clean (a : Archive) s.
-    let before = c.part.ensures.falls clean in
+    let before = c.part.ensures.reads.falls clean in
     subst
     (λ q. IsPageOf q (choice_view c.args.choice.now) a (Some c.args.from) (map entry_view c.in_ok-parts.parts.found.items)
     c.in_ok-page.page.next) (asked_is c.args.questions.now (sym c.is_nothing.ensures ∙ c.if-is_nothing.false))
     (part_is (is_found c.args.questions.now) (choice_view c.args.choice.now) a (g.met.R.Repository.is_archive c.args.records.now a s)
     (Some c.args.from) c.in_ok-page.page.next (map entry_view c.in_ok-page.page.chosen.items)
     (map entry_view c.in_ok-parts.parts.found.items) (c.in_ok-page.ensures.page before a s)
-    (c.in_ok-parts.ensures.found clean a (c.in_ok-page.ensures.stands a s)))
+    (c.in_ok-parts.ensures.found clean a (c.in_ok-page.ensures.reads.stands a s)))
 
 pub returns-clause-unread : goal.returns-clause-unread
 returns-clause-unread g c = λ clean (a : Archive) s.
-    let before = c.part.ensures.falls clean in
+    let before = c.part.ensures.reads.falls clean in
     part_is (is_missed c.args.questions.now) (choice_view c.args.choice.now) a (g.met.R.Repository.is_archive c.args.records.now a s)
     (Some c.args.from) c.in_ok-page.page.next (map entry_view c.in_ok-page.page.chosen.items)
     (map entry_view c.in_ok-parts.parts.unread.items) (c.in_ok-page.ensures.page before a s)
-    (c.in_ok-parts.ensures.unread clean a (c.in_ok-page.ensures.stands a s))
+    (c.in_ok-parts.ensures.unread clean a (c.in_ok-page.ensures.reads.stands a s))

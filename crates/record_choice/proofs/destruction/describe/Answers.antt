@@ -8,9 +8,9 @@ use Rattle.record_choice.proofs.destruction.describe.Goals as goal
 pub returns-clause-told : goal.returns-clause-told
 returns-clause-told g c = λ clean (a : Archive) s known.
     let n = c.args.number in
-    let summed = c.keeper_of.ensures.falls clean in
-    let begun = c.entry.ensures.stands a s in
-    let told = c.in_ok-entry.ensures.told (c.sum_message.ensures.falls summed) a s in
+    let summed = c.keeper_of.ensures.reads.falls clean in
+    let begun = c.entry.ensures.reads.stands a s in
+    let told = c.in_ok-entry.ensures.told (c.sum_message.ensures.reads.falls summed) a s in
     let r = told.0 in
     let found = told.1 in
     let shown = told.2 in
@@ -26,7 +26,7 @@ returns-clause-told g c = λ clean (a : Archive) s known.
         λ live. (
           c.in_ok-summed.ensures.told summed a r begun (ap (record_at a) number ∙ found) live (sym message) known,
           subst (λ m. IsKeptBy a m n c.in_ok-kept_by.kept_by) message
-              (c.in_ok-kept_by.ensures.told clean a r (c.sum_message.ensures.stands a begun) found live (sym message)),
+              (c.in_ok-kept_by.ensures.told clean a r (c.sum_message.ensures.reads.stands a begun) found live (sym message)),
         ),
       ),
     )

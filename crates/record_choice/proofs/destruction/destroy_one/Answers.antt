@@ -14,5 +14,5 @@ returns-clause-done g c =
           let before = c.destroy.ensures.falls clean in
           rw c.known_after.ensures
           (told_gone (g.R.Repository.stands c.destroy.new.self) a c.args.number (epoch_day c.args.day) certificate x.1
-          (c.in-Ok.ensures.told before a s known) (c.in-Ok-destroy.ensures.done clean a (c.describe.ensures.stands a s))),
+          (c.in-Ok.ensures.told before a s known) (c.in-Ok-destroy.ensures.done clean a (c.describe.ensures.reads.stands a s))),
     )

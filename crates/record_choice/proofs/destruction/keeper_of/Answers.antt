@@ -13,33 +13,34 @@ returns-then-not-is_shared-clause-told g c = λ clean (a : Archive) (r : Record)
 
 pub loop-init : goal.loop-init
 loop-init g c = record {
-  stands = λ a s. s;
-  falls = λ clean. clean;
+  reads = record { stands = λ a s. s; falls = λ clean. clean };
   at = λ clean (a : Archive) s. (omega arith, omega arith);
   none = λ clean (a : Archive) s. begins_low a (g.met.R.Repository.is_archive c.args.records.now a s) c.args.message c.args.number;
 }
 
 pub loop-preserved : goal.loop-preserved
 loop-preserved g c = record {
-  stands = λ (a : Archive) s. c.look_on.ensures.stands a (c.loop.invariant.stands a s);
-  falls = λ clean. c.loop.invariant.falls (c.look_on.ensures.falls clean);
+  reads = record {
+    stands = λ (a : Archive) s. c.look_on.ensures.reads.stands a (c.loop.invariant.reads.stands a s);
+    falls = λ clean. c.loop.invariant.reads.falls (c.look_on.ensures.reads.falls clean);
+  };
   at = λ clean (a : Archive) s.
-      let before = c.look_on.ensures.falls clean in
+      let before = c.look_on.ensures.reads.falls clean in
       let at = c.loop.invariant.at before a s in
       let up =
-      finds_in a c.args.message c.args.number c.loop.from c.in-Further.is (c.in_ok-found.ensures.told clean a (c.loop.invariant.stands a s)) in
+      finds_in a c.args.message c.args.number c.loop.from c.in-Further.is (c.in_ok-found.ensures.told clean a (c.loop.invariant.reads.stands a s)) in
       (omega (arith, at.0, up.0), up.1);
   none = λ clean (a : Archive) s.
-      let before = c.look_on.ensures.falls clean in
-      (finds_in a c.args.message c.args.number c.loop.from c.in-Further.is (c.in_ok-found.ensures.told clean a (c.loop.invariant.stands a s))).2
+      let before = c.look_on.ensures.reads.falls clean in
+      (finds_in a c.args.message c.args.number c.loop.from c.in-Further.is (c.in_ok-found.ensures.told clean a (c.loop.invariant.reads.stands a s))).2
       ∙ c.loop.invariant.none before a s;
 }
 
 pub returns-in-Ended-clause-told : goal.returns-in-Ended-clause-told
 returns-in-Ended-clause-told g c = λ clean (a : Archive) (r : Record) s at live same.
-    let before = c.look_on.ensures.falls clean in
+    let before = c.look_on.ensures.reads.falls clean in
     sym (c.loop.invariant.none before a s)
-    ∙ finds_in a c.args.message c.args.number c.loop.from c.in-Ended.is (c.in_ok-found.ensures.told clean a (c.loop.invariant.stands a s))
+    ∙ finds_in a c.args.message c.args.number c.loop.from c.in-Ended.is (c.in_ok-found.ensures.told clean a (c.loop.invariant.reads.stands a s))
 
 pub returns-clause-told : goal.returns-clause-told
 returns-clause-told g c = λ clean (a : Archive) (r : Record) s at live same.

@@ -9,5 +9,5 @@ use Rattle.record_choice.proofs.disposal.asked_lines.Goals as goal
 pub returns-then-is_empty-clause-lines : goal.returns-then-is_empty-clause-lines
 returns-then-is_empty-clause-lines g c = λ clean (a : Archive) s.
     let none : length c.args.asked.now ≡ 0 = grind (arith, nat_tests, c.is_empty.ensures, c.if-is_empty.true) in
-    c.in_ok-lines.ensures.told clean a (c.judge_each.ensures.stands a s)
+    c.in_ok-lines.ensures.told clean a (c.judge_each.ensures.reads.stands a s)
     ∙ none_asked c.args.asked.now (disposable_list a (epoch_day c.args.day)) none

@@ -19,7 +19,7 @@ returns-clause-these g c =
             subst (λ l. IsPermutation (map (λ (x : Line). x.number) l) ns)
                 (ap (map line_view) c.as_slice.ensures.value ∙ c.in_ok-lines.ensures.lines before a s) c.in_ok-numbers.ensures,
             subst (λ l. Destroys (g.R.Repository.stands c.destroy_each.new.records) (epoch_day c.args.day)
-                (take c.destroy_each.result.count l) these.0 a) same (these.2 clean a (c.asked_lines.ensures.stands a s)),
+                (take c.destroy_each.result.count l) these.0 a) same (these.2 clean a (c.asked_lines.ensures.reads.stands a s)),
           ),
       λ done. c.destroy_each.ensures.all done ∙ ap length same,
     )
