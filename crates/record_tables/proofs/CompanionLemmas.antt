@@ -1,7 +1,8 @@
 -- A change and its companion in one transaction.
+use Rattle.std.proofs.Common.{refl}
 use Rattle.sqlite.specs.Effect.{Database}
 use Rattle.record_tables.specs.Rows.{Tables}
-use Rattle.record_tables.specs.Changes.{TurnsAlone}
+use Rattle.record_tables.specs.Changes.{Always, TurnsAlone}
 use Rattle.record_tables.specs.Companions.{Accompanies, MakesBoth, TurnsBoth}
 
 pub turns_both : (old new : Database) (Allows : Tables → Type 0) (change : Tables → Tables) (Needs : Database → Type 0)
@@ -32,4 +33,11 @@ none_accompanies db = record {
   stored = λ old t has rest s. s;
   sound = λ old t has rest s is. is;
   brought = λ old t has rest s. tt;
+}
+
+-- nothing is changed
+pub none_turns : (db : Database) → TurnsAlone db db Always (λ t. t)
+none_turns db = record {
+  turns = record { stored = λ t s keyed allowed. (s, keyed); sound = λ is t s keyed allowed. is };
+  beside = λ t s keyed allowed table apart was. record { stands = was; rows = refl };
 }

@@ -24,6 +24,7 @@ use Rattle.record_tables.specs.Changes.{IsBeside}
 use Rattle.record_tables.specs.Events.{Event, event_table, event_key, event_row, HasEvents, StoresEvents, Notes}
 use Rattle.record_tables.specs.Events.{KeepsEvents, NotesEvent}
 use Rattle.record_tables.specs.Companions.{Accompanies}
+use Rattle.record_tables.specs.Layouts.{Lays}
 use Rattle.record_tables.proofs.Compiling.{Means, means_insert}
 use Rattle.record_tables.proofs.WriteLemmas.{IsQuiet, inserts, cast_int, cast_null}
 use Rattle.record_tables.proofs.Described.{Others, no_works, trees_differ, at_place, rest_in}
@@ -185,4 +186,41 @@ note_accompanies mid new e n = record {
   brought = λ old t has rest s es stored past.
       let event = rest event_table event_is_beside stored.stands in
       n.noted s.schema.apart es (record { stands = event.stands; rows = event.rows ∙ stored.rows; keyed = stored.keyed }) past;
+}
+
+-- ---- a history begins
+
+pub begins : (old new : State) → Lays old new (event_table ∷ []) → Accompanies (λ db. Unit {0}) (λ was db. StoresEvents db []) old.now new.now
+begins old new l = record {
+  stored = λ was t has rest s.
+      let messages = l.others _ s.schema.common.messages in
+      let records = l.others _ s.schema.common.records in
+      let holds = l.others _ s.schema.common.holds in
+      let settings = l.others _ s.schema.common.settings in
+      let classes = l.others _ s.schema.common.classes in
+      let schedules = l.others _ s.schema.schedules in
+      let dues = l.others _ s.schema.dues in
+      record {
+        schema = record {
+          common = record {
+            messages = messages.stands;
+            records = records.stands;
+            holds = holds.stands;
+            settings = settings.stands;
+            classes = classes.stands;
+          };
+          schedules = schedules.stands;
+          dues = dues.stands;
+          apart = l.apart s.schema.apart;
+        };
+        messages = messages.rows ∙ s.messages;
+        records = records.rows ∙ s.records;
+        holds = holds.rows ∙ s.holds;
+        settings = settings.rows ∙ s.settings;
+        classes = classes.rows ∙ s.classes;
+        schedules = schedules.rows ∙ s.schedules;
+        dues = dues.rows ∙ s.dues;
+      };
+  sound = λ was t has rest s is. l.sound;
+  brought = λ was t has rest s. record { stands = l.made.0.stands; rows = l.made.0.empty; keyed = tt };
 }

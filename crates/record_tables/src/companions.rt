@@ -2,6 +2,7 @@
 
 ghost use Rattle.std.specs.Prelude.{OnOk};
 ghost use Rattle.sqlite.specs.Effect.{Database};
+ghost use Rattle.record_tables.specs.Changes.{Always, TurnsAlone};
 ghost use Rattle.record_tables.specs.Companions.{Accompanies, MakesBoth};
 ghost use Rattle.record_tables.specs.Layouts.{GoesOnIn};
 ghost use Rattle.record_tables.specs.Steps.{MakesIn, StaysInside};
@@ -58,6 +59,20 @@ impl<C: Change, D: Companion + Drop> Change for Accompanied<C, D> {
     fn make<S: Alter>(self, tx: &mut Transaction<'_, S>) -> Result<(), Error> {
         self.change.make(tx)?;
         self.companion.make(tx)?;
+        Ok(())
+    }
+}
+
+/// The change that changes nothing, of a companion that comes without one.
+#[derive(Drop)]
+pub struct Unchanged;
+
+impl Change for Unchanged {
+    ghost may_be_made = { λ c db. Unit {0} };
+
+    ghost makes = { λ c old new. TurnsAlone old new Always (λ t. t) };
+
+    fn make<S: Alter>(self, _tx: &mut Transaction<'_, S>) -> Result<(), Error> {
         Ok(())
     }
 }

@@ -1,7 +1,7 @@
 //! The history of an archive: a table of events beside its own.
 
 ghost use Rattle.std.specs.Prelude.{◌∷◌, [], OnOk};
-ghost use Rattle.record_tables.specs.Events.{Notes, KeepsEvents, NotesEvent, new_event, event_table};
+ghost use Rattle.record_tables.specs.Events.{Notes, KeepsEvents, NotesEvent, StoresEvents, new_event, event_table};
 ghost use Rattle.record_tables.specs.Layouts.{GoesOnIn, LaysIn};
 ghost use Rattle.record_tables.specs.Steps.{MakesIn, StaysInside};
 
@@ -41,6 +41,20 @@ pub fn insert_event<S: Alter>(
         &[number.to_sql(), ValueRef::Text(line), ValueRef::Text(mark)],
     )?;
     Ok(())
+}
+
+/// A history begins: the table of events is created, empty.
+#[derive(Drop)]
+pub struct Beginning;
+
+impl Companion for Beginning {
+    ghost needs = { λ c db. Unit {0} };
+
+    ghost brings = { λ c old new. StoresEvents new [] };
+
+    fn make<S: Alter>(self, tx: &mut Transaction<'_, S>) -> Result<(), Error> {
+        lay_events(tx)
+    }
 }
 
 /// An event, which tells of the change that it is noted beside.
