@@ -27,6 +27,7 @@ use Rattle.sqlite_schema.specs.Names.{table_named, index_named, view_named}
 use Rattle.record_tables.specs.Tables.{Stands, due_table, due_index}
 use Rattle.record_tables.specs.Tables.{message_table, record_table, hold_table, meta_table, class_table, schedule_table}
 use Rattle.record_tables.specs.Layouts.{IsBare, Defines, DefinesIndex}
+use Rattle.record_tables.specs.Events.{event_table}
 use Rattle.record_tables.proofs.Compiling.{parsed_from}
 
 -- ---- a meaning that is there came of each of its steps
@@ -238,6 +239,9 @@ create_index = codes "CREATE INDEX due_by_day ON due_day (day, record)"
 abbrev pub drop_dues : List ℕ
 drop_dues = codes "DROP TABLE due_day"
 
+abbrev pub create_event : List ℕ
+create_event = codes "CREATE TABLE event (number INTEGER PRIMARY KEY, line TEXT NOT NULL, mark TEXT NOT NULL) STRICT"
+
 pub defines_message : Defines create_message message_table
 unfolding listing_schema everything
 defines_message = record {
@@ -290,6 +294,14 @@ pub defines_due : Defines create_due due_table
 unfolding listing_schema everything
 defines_due = record {
   creates = makes_table create_due (record { read = refl; bare = refl; unlisted = refl; whole = refl }) refl;
+  defined = refl;
+  apart = refl;
+}
+
+pub defines_event : Defines create_event event_table
+unfolding listing_schema everything
+defines_event = record {
+  creates = makes_table create_event (record { read = refl; bare = refl; unlisted = refl; whole = refl }) refl;
   defined = refl;
   apart = refl;
 }

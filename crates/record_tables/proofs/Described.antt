@@ -19,6 +19,7 @@ use Rattle.record_tables.specs.Tables.{record_table, hold_table, meta_table, cla
 use Rattle.record_items.specs.Items.{Message, Record}
 use Rattle.record_tables.specs.Rows.{Tables, message_key, message_row, record_key, record_row, Hold, hold_key, hold_row}
 use Rattle.record_tables.specs.Rows.{Setting, setting_key, setting_row, Class, class_key, class_row, Schedule}
+use Rattle.record_tables.specs.Changes.{IsBeside, Rests, RestBeside}
 use Rattle.record_tables.specs.Rows.{schedule_key, schedule_row, Due, due_key, due_row, Stores, StoresKeyed, AreKeyed}
 use Rattle.record_tables.proofs.WriteLemmas.{IsQuiet}
 
@@ -70,6 +71,7 @@ put_all_in old new name rows (k ∷ ks) is was = (one (names_tell k.name name), 
 pub record Described (X : Type 0) : Type 0 where
   pub table : Table
   pub at : (schema : Schema) → IsArchiveSchema schema → Stands schema table
+  pub apart : (name : List ℕ) → IsBeside name → name ≢ table.name
   pub key : X → ℤ
   pub to_row : X → Row
   pub keyed : (x : X) → rowid (to_row x) ≡ Int (key x)
@@ -92,6 +94,7 @@ abbrev pub messages : Described Message
 messages = record {
   table = message_table;
   at = λ schema has. has.common.messages;
+  apart = λ name h. h.messages;
   key = message_key;
   to_row = message_row;
   keyed = λ x. refl;
@@ -109,6 +112,7 @@ abbrev pub records : Described Record
 records = record {
   table = record_table;
   at = λ schema has. has.common.records;
+  apart = λ name h. h.records;
   key = record_key;
   to_row = record_row;
   keyed = λ x. refl;
@@ -126,6 +130,7 @@ abbrev pub holds : Described Hold
 holds = record {
   table = hold_table;
   at = λ schema has. has.common.holds;
+  apart = λ name h. h.holds;
   key = hold_key;
   to_row = hold_row;
   keyed = λ x. refl;
@@ -143,6 +148,7 @@ abbrev pub settings : Described Setting
 settings = record {
   table = meta_table;
   at = λ schema has. has.common.settings;
+  apart = λ name h. h.settings;
   key = setting_key;
   to_row = setting_row;
   keyed = λ x. refl;
@@ -160,6 +166,7 @@ abbrev pub classes : Described Class
 classes = record {
   table = class_table;
   at = λ schema has. has.common.classes;
+  apart = λ name h. h.classes;
   key = class_key;
   to_row = class_row;
   keyed = λ x. refl;
@@ -177,6 +184,7 @@ abbrev pub schedules : Described Schedule
 schedules = record {
   table = schedule_table;
   at = λ schema has. has.schedules;
+  apart = λ name h. h.schedules;
   key = schedule_key;
   to_row = schedule_row;
   keyed = λ x. refl;
@@ -194,6 +202,7 @@ abbrev pub dues : Described Due
 dues = record {
   table = due_table;
   at = λ schema has. has.dues;
+  apart = λ name h. h.dues;
   key = due_key;
   to_row = due_row;
   keyed = λ x. refl;
@@ -209,7 +218,7 @@ dues = record {
 
 -- ---- any of them
 
-no_works : (schema : Schema) (keys : Keys) (tree : ℕ) (olds news : List Row) (ts : List Table) → AllByRecursion (λ (t : Table). t.references ≡ []) ts
+pub no_works : (schema : Schema) (keys : Keys) (tree : ℕ) (olds news : List Row) (ts : List Table) → AllByRecursion (λ (t : Table). t.references ≡ []) ts
     → flat_map (λ (child : Table). filter_map (work_for schema keys 0 tree olds news child) child.references) ts ≡ []
 no_works schema keys tree olds news [] h = refl
 no_works schema keys tree olds news (t ∷ ts) h = rw h.0 (no_works schema keys tree olds news ts h.1)
@@ -242,13 +251,13 @@ seen trees k = go (nat_le (2 ^ 31) k)
     go false = refl
 
 -- tables of different names have different trees
-trees_differ : (schema : Schema) (t u : Table) (a : Stands schema t) (b : Stands schema u) → t.name ≢ u.name → a.tree ≢ b.tree
+pub trees_differ : (schema : Schema) (t u : Table) (a : Stands schema t) (b : Stands schema u) → t.name ≢ u.name → a.tree ≢ b.tree
 trees_differ schema t u a b apart e =
     let one : Some (in_tree a.tree t) ≡ Some (in_tree b.tree u) =
     sym a.own ∙ ap (λ k. find (λ x. x.tree == k) schema.tables) e ∙ b.own in
     apart (ap (λ o. unwrap_or (option_map (λ (x : Table). x.name) o) []) one)
 
-at_place : (P : Table → Type 0) (ts : List Table) (i : ℕ) (t : Table) → AllByRecursion P ts → slice_get ts i ≡ Some t → P t
+pub at_place : (P : Table → Type 0) (ts : List Table) (i : ℕ) (t : Table) → AllByRecursion P ts → slice_get ts i ≡ Some t → P t
 at_place P [] i t all e = absurd cc
 at_place P (x ∷ ts) zero t all e = subst P (ap (λ o. unwrap_or o x) e) all.0
 at_place P (x ∷ ts) (suc i) t all e = at_place P ts i t all.1 e
@@ -313,3 +322,18 @@ changed {X} d old new t xs s keyed same others rows up =
       λ apart. at_place (λ (x : Table). x.tree ≢ tree d old.schema s.schema → new.trees x.tree ≡ old.trees x.tree) old.schema.tables b.place
           (in_tree b.tree u) others b.listed (trees_differ old.schema u d.table b (d.at old.schema s.schema) apart),
     )
+
+pub rest_in : (old new : Database) (table : Table) (was : Stands old.schema table) → new.schema ≡ old.schema
+    → new.trees was.tree ≡ old.trees was.tree → Rests old new table was
+rest_in old new table was same rows =
+    let on : (s : Stands new.schema table) × (s.tree ≡ was.tree) =
+    subst (λ schema. (s : Stands schema table) × (s.tree ≡ was.tree)) (sym same) (was, refl) in
+    record { stands = on.0; rows = ap new.trees on.1 ∙ rows }
+
+-- tables of other names keep their rows
+pub rest_beside : {X : Type 0} (d : Described X) (old new : Database) (has : IsArchiveSchema old.schema)
+    → new.schema ≡ old.schema → Others old.schema (tree d old.schema has) old.trees new.trees → RestBeside old new
+rest_beside d old new has same others = λ table apart was.
+    rest_in old new table was same (at_place (λ (x : Table). x.tree ≢ tree d old.schema has → new.trees x.tree ≡ old.trees x.tree)
+    old.schema.tables was.place (in_tree was.tree table) others was.listed
+    (trees_differ old.schema table d.table was (d.at old.schema has) (d.apart table.name apart)))

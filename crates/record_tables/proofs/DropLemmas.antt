@@ -20,6 +20,7 @@ use Rattle.record_tables.specs.Rows.{Tables, Stores, StoresFirst, StoresCommon, 
 use Rattle.record_tables.specs.Changes.{Puts, Always, without_dues}
 use Rattle.record_tables.specs.Layouts.{Drops, Lays, HasDues, Empties, TellsDues, TellsAlone}
 use Rattle.record_tables.proofs.Beside.{rests_without, apart_without}
+use Rattle.record_tables.proofs.Loops.{rest_then}
 use Rattle.record_tables.proofs.Definitions.{drop_dues, drops_due_table}
 use Rattle.record_tables.proofs.LayLemmas.{compiled_in, ran_as, laid_beside}
 use Rattle.record_tables.proofs.WriteLemmas.{went, same_value}
@@ -83,7 +84,7 @@ drops_dues old new count inside h = record {
   is_open = h.1.is_open ∙ sym h.1.was_open;
 }
 
-names_differ : (a b : List ℕ) → same_name a b ≡ false → a ≡ b → ⊥
+pub names_differ : (a b : List ℕ) → same_name a b ≡ false → a ≡ b → ⊥
 names_differ a b differ e =
     let same : same_name a b ≡ true = subst (λ n. same_name a n ≡ true) e (same_itself a) in
     let clash : true ≡ false = sym same ∙ differ in
@@ -201,6 +202,11 @@ emptied old mid new d l = record {
         },
       );
   sound = λ t s keyed alone. l.sound;
+  beside = λ t s table apart was.
+      let has : HasDues old.now.schema = (s.schema.dues, s.schema.apart) in
+      let mid = d.others has table apart.dues was in
+      let last = l.others table mid.stands in
+      record { stands = last.stands; rows = last.rows ∙ mid.rows };
   committed = l.committed ∙ d.committed;
   mode = l.mode ∙ d.mode;
   is_open = l.is_open ∙ d.is_open;
@@ -213,6 +219,9 @@ renewed old mid new change same tells e p = record {
   stored = λ t s keyed allowed.
       let none_left = e.stored t s keyed (tells refl) in
       subst (StoresKeyed new.now) (same t) (p.stored (without_dues t) none_left.0 none_left.1 tt);
+  beside = λ t s keyed allowed.
+      let none_left = e.stored t s keyed (tells refl) in
+      rest_then old.now mid.now new.now (e.beside t s) (p.beside (without_dues t) none_left.0 none_left.1 tt);
   sound = λ h t s keyed allowed.
       let alone = tells refl in
       let none_left = e.stored t s keyed alone in

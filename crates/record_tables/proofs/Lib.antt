@@ -16,3 +16,5 @@ pub mod Definitions
 pub mod LayLemmas
 pub mod DropLemmas
 pub mod LayoutLemmas
+pub mod EventLemmas
+pub mod CompanionLemmas

@@ -16,14 +16,24 @@ use Rattle.sqlite.proofs.StateLemmas.{survives_then}
 use Rattle.sqlite.proofs.Callers.{survives_begin}
 use Rattle.record_tables.specs.Steps.{Runs, Writes}
 use Rattle.record_tables.specs.Rows.{Tables, StoresKeyed, Due, class_key, schedule_key}
-use Rattle.record_tables.specs.Changes.{Puts, Turns, Always, HasNoDues, HasNoClasses, HasNoSchedules, IsPastDues}
+use Rattle.record_tables.specs.Changes.{RestBeside, Puts, Turns, TurnsAlone, Always, HasNoDues, HasNoClasses, HasNoSchedules, IsPastDues}
 use Rattle.record_tables.specs.Changes.{ClassEntry, Rule, schedule_at, classes_from, schedules_from, with_due}
 use Rattle.record_tables.specs.Changes.{with_dues, with_class, with_classes, with_schedule, with_schedules}
+
+-- tables of other names rest over two changes
+pub rest_then : (a b c : Database) → RestBeside a b → RestBeside b c → RestBeside a c
+rest_then a b c one two = λ table apart was.
+    let mid = one table apart was in
+    let last = two table apart mid.stands in
+    record { stands = last.stands; rows = last.rows ∙ mid.rows }
 
 pub puts_then : (a b c : State) (A B : Tables → Type 0) (f h : Tables → Tables) → ((t : Tables) → A t → B (f t))
     → Puts a b A f → Puts b c B h → Puts a c A (λ t. h (f t))
 puts_then a b c A B f h fits one two = record {
   stored = λ t s keyed allowed. let mid = one.stored t s keyed allowed in two.stored (f t) mid.0 mid.1 (fits t allowed);
+  beside = λ t s keyed allowed.
+      let mid = one.stored t s keyed allowed in
+      rest_then a.now b.now c.now (one.beside t s keyed allowed) (two.beside (f t) mid.0 mid.1 (fits t allowed));
   sound = λ h t s keyed allowed.
       let mid = one.stored t s keyed allowed in
       two.sound (one.sound h t s keyed allowed) (f t) mid.0 mid.1 (fits t allowed);
@@ -37,6 +47,7 @@ pub puts_as : (a b : State) (A B : Tables → Type 0) (f h : Tables → Tables) 
     → ((t : Tables) → B t → f t ≡ h t) → Puts a b A f → Puts a b B h
 puts_as a b A B f h fits same one = record {
   stored = λ t s keyed allowed. let to = one.stored t s keyed (fits t allowed) in subst (StoresKeyed b.now) (same t allowed) to;
+  beside = λ t s keyed allowed. one.beside t s keyed (fits t allowed);
   sound = λ h t s keyed allowed. one.sound h t s keyed (fits t allowed);
   committed = one.committed;
   mode = one.mode;
@@ -46,9 +57,13 @@ puts_as a b A B f h fits same one = record {
 pub turned : (a b : State) (A : Tables → Type 0) (f : Tables → Tables) → Puts a b A f → Turns a.now b.now A f
 turned a b A f one = record { stored = one.stored; sound = one.sound }
 
+pub turned_alone : (a b : State) (A : Tables → Type 0) (f : Tables → Tables) → Puts a b A f → TurnsAlone a.now b.now A f
+turned_alone a b A f one = record { turns = turned a b A f one; beside = one.beside }
+
 pub nothing_yet : (a : State) (A : Tables → Type 0) (f : Tables → Tables) → ((t : Tables) → A t → t ≡ f t) → Puts a a A f
 nothing_yet a A f same = record {
   stored = λ t s keyed allowed. subst (StoresKeyed a.now) (same t allowed) (s, keyed);
+  beside = λ t s keyed allowed table apart was. record { stands = was; rows = refl };
   sound = λ h t s keyed allowed. h;
   committed = refl;
   mode = refl;
@@ -57,7 +72,7 @@ nothing_yet a A f same = record {
 
 -- ---- calls in a transaction
 
-on_ok : {T E P Q : Type 0} (r : Result T E) → (P → Q) → OnOk r P → OnOk r Q
+pub on_ok : {T E P Q : Type 0} (r : Result T E) → (P → Q) → OnOk r P → OnOk r Q
 on_ok (Ok x) f p = f p
 on_ok (Err e) f p = tt
 

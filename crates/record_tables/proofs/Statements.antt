@@ -36,7 +36,7 @@ use Rattle.record_items.specs.Items.{Message, Record}
 use Rattle.record_tables.specs.Rows.{Tables, record_key, record_row, Hold, hold_row}
 use Rattle.record_tables.specs.Rows.{Due, Stores, StoresKeyed}
 use Rattle.record_tables.specs.Rows.{AreKeyed, as_flag}
-use Rattle.record_tables.specs.Changes.{Puts, Always, IsPastMessages, IsPastRecords, IsPastDues, with_message}
+use Rattle.record_tables.specs.Changes.{RestBeside, Puts, Always, IsPastMessages, IsPastRecords, IsPastDues, with_message}
 use Rattle.record_tables.specs.Changes.{with_record, with_due, with_hold, with_setting, with_class, Rule, schedule_at}
 use Rattle.record_tables.specs.Changes.{with_schedule, without_dues, without_classes, without_schedules}
 use Rattle.record_tables.specs.Changes.{without_settings, without_due, without_message, without_hold, is_hold}
@@ -49,7 +49,7 @@ use Rattle.record_tables.proofs.DeleteLemmas.{deletes, deleted_rows}
 use Rattle.record_tables.proofs.AnswerLemmas.{row_alone}
 use Rattle.record_tables.proofs.UpdateLemmas.{updates, changed as changed_rows}
 use Rattle.record_tables.proofs.Described.{Described, messages, records, holds, settings, classes, schedules, dues}
-use Rattle.record_tables.proofs.Described.{place, tree, table, quiet, seen, changed}
+use Rattle.record_tables.proofs.Described.{place, tree, table, quiet, seen, changed, rest_beside}
 
 -- ---- a row after the others
 
@@ -64,7 +64,7 @@ past_ints : {X : Type 0} (number : X → ℕ) (xs : List X) (n : ℕ) → AllByR
 past_ints number [] n h = tt
 past_ints number (x ∷ xs) n h = (grind (arith, ints, h.0), past_ints number xs n h.1)
 
-above_last : {X : Type 0} (number : X → ℕ) (xs : List X) (new : X) → AllByRecursion (λ x. number x < number new) xs
+pub above_last : {X : Type 0} (number : X → ℕ) (xs : List X) (new : X) → AllByRecursion (λ x. number x < number new) xs
     → insert_by (λ x. pos (number x)) xs new ≡ xs ++ new ∷ []
 above_last number xs new past = insert_last (λ x. pos (number x)) xs new (past_ints number xs (number new) past)
 
@@ -81,11 +81,13 @@ next_is key to_row same (x ∷ xs) a =
 -- a statement in a transaction, which continues
 puts_by : (old new : State) (text : List ℕ) (params : Row) (count : ℕ) (Allows : Tables → Type 0) (change : Tables
     → Tables) → IsTrue old.in_transaction → ExecutesInside 0 text params old new (Ok count)
-    → ((t : Tables) → Stores old.now t → AreKeyed t → Allows t → StoresKeyed new.now (change t) × IsDatabase new.now)
+    → ((t : Tables) → Stores old.now t → AreKeyed t → Allows t
+    → StoresKeyed new.now (change t) × RestBeside old.now new.now × IsDatabase new.now)
     → Puts old new Allows change
 puts_by old new text params count Allows change inside h made = record {
   stored = λ t s keyed allowed. (made t s keyed allowed).0;
-  sound = λ sound t s keyed allowed. (made t s keyed allowed).1;
+  beside = λ t s keyed allowed. (made t s keyed allowed).1;
+  sound = λ sound t s keyed allowed. (made t s keyed allowed).2;
   committed = h.1.committed_is;
   mode = h.1.mode ∙ sym inside;
   is_open = h.1.is_open ∙ sym h.1.was_open;
@@ -114,7 +116,7 @@ module _ {X : Type 0} (d : Described X) (text : List ℕ) (params : Row) where
       let rows = ins.1.rows ∙ edit old.now.trees (tree d schema has) t rows_are ∙ ap (put_row (d.to_row (one t))) rows_are
       ∙ puts-map d.key d.to_row d.keyed (one t ∷ []) (d.rows t) ∙ ap (map d.to_row) at_end in
       let up = subst (IsKeyedBy d.key) at_end (IsKeyedBy-insert_by d.key (d.rows t) (one t) (d.ordered t keyed)) in
-      (changed d old.now new.now t _ s keyed ins.0 ins.1.tables rows up, w.sound))
+      (changed d old.now new.now t _ s keyed ins.0 ins.1.tables rows up, rest_beside d old.now new.now has ins.0 ins.1.tables, w.sound))
 
   -- the same under the next rowid
   inserts_next : (terms : List Term) (width : ℕ) (means : (schema : Schema) (has : IsArchiveSchema schema)
@@ -149,6 +151,7 @@ module _ {X : Type 0} (d : Described X) (text : List ℕ) (params : Row) where
         changed d old.now new.now t _ s keyed done.0 done.1.2.tables (done.1.2.rows
             ∙ ap (λ l. without_all l (ids_of done.1.0)) (sym (seen old.now.trees at))
             ∙ left) (IsKeyedBy-delete_where d.key _ (d.rows t) (d.ordered t keyed)),
+        rest_beside d old.now new.now has done.0 done.1.2.tables,
         w.sound,
       ))
 
@@ -165,6 +168,7 @@ clears d text means old new count inside h =
     record {
       stored = λ t s keyed allowed.
           subst (λ xs. StoresKeyed new.now (d.with_rows xs t)) (all_gone (d.rows t)) (gone.stored t s keyed allowed);
+      beside = gone.beside;
       sound = gone.sound;
       committed = gone.committed;
       mode = gone.mode;
@@ -347,5 +351,8 @@ destroys old new n count inside h = puts_by old new Texts.set_destroyed (Int (po
     ∙ ap (λ l. edited old.now.trees (edit_of old.now.trees (in_tree at record_table) (ids_of l) Given 1 l)) rows
     ∙ update_edit old.now.trees at ys few
     ∙ ap (λ l. put_all (without_all l (map record_key ys)) (map (λ y. record_row (destruction_of y)) ys)) s.records
-    ∙ changed_rows record_key record_row (λ x. refl) (pos n) destruction_of (λ x. refl) t.records keyed.records ys refl few in
-    (changed records old.now new.now t _ s keyed done.0 done.1.2.tables written (keyed_destroyed n t.records keyed.records), w.sound))
+    ∙ changed_rows record_key record_row (λ x. refl) (pos n) destruction_of (λ x. refl) t.records keyed.records ys refl few in (
+      changed records old.now new.now t _ s keyed done.0 done.1.2.tables written (keyed_destroyed n t.records keyed.records),
+      rest_beside records old.now new.now has done.0 done.1.2.tables,
+      w.sound,
+    ))

@@ -1,5 +1,5 @@
 -- What statements make of the tables.
-use Rattle.std.specs.Prelude.{◌≡◌, ◌<◌, ◌++◌, ◌&&◌, ℕ, ℤ, pos, Bool, true, false, List, [], ◌∷◌, Option, codes, ◌+ℤ◌}
+use Rattle.std.specs.Prelude.{◌≡◌, ◌≢◌, ◌<◌, ◌++◌, ◌&&◌, ℕ, ℤ, pos, Bool, true, false, List, [], ◌∷◌, Option, codes, ◌+ℤ◌}
 use Rattle.std.specs.List.{AllByRecursion}
 use Rattle.std.specs.Cmp.Lexicographic.{slice_cmp}
 use Rattle.std.specs.Ordering.{nat_cmp, is_eq, int_eq}
@@ -7,13 +7,36 @@ use Rattle.sqlite_keyed.specs.Keyed.{next_key}
 use Rattle.sqlite_keyed.specs.Lists.{delete_where, update_where}
 use Rattle.sqlite.specs.State.{State}
 use Rattle.sqlite.specs.Effect.{Database, IsDatabase}
+use Rattle.sqlite.specs.Table.{Table}
 use Rattle.sqlite_trees.specs.Tree.{IsAscending}
 use Rattle.record_items.specs.Items.{Message, Record}
+use Rattle.record_tables.specs.Tables.{Stands}
 use Rattle.record_tables.specs.Rows.{Tables, Hold, Setting, Class, Schedule, Due, Stores, StoresKeyed, AreKeyed, hold_key, setting_key, class_key, schedule_key}
 
--- a statement in a transaction, which continues; a database that is sound stays so
+-- the table that stood in the one database stands in the other, with the same rows
+pub record Rests (old new : Database) (table : Table) (was : Stands old.schema table) : Type 0 where
+  pub stands : Stands new.schema table
+  pub rows : new.trees stands.tree ≡ old.trees was.tree
+
+-- the name is that of none of the archive's tables
+pub record IsBeside (name : List ℕ) : Type 0 where
+  pub messages : name ≢ codes "message"
+  pub records : name ≢ codes "record"
+  pub holds : name ≢ codes "hold"
+  pub settings : name ≢ codes "meta"
+  pub classes : name ≢ codes "class"
+  pub schedules : name ≢ codes "schedule"
+  pub dues : name ≢ codes "due_day"
+
+-- each table of another name that stood stands, with its rows
+abbrev pub RestBeside : (old new : Database) → Type 0
+RestBeside old new = (table : Table) → IsBeside table.name → (was : Stands old.schema table) → Rests old new table was
+
+-- a statement in a transaction, which continues; a database that is sound stays so, and tables of other names keep their
+-- rows
 pub record Puts (old new : State) (Allows : Tables → Type 0) (change : Tables → Tables) : Type 0 where
   pub stored : (t : Tables) → Stores old.now t → AreKeyed t → Allows t → StoresKeyed new.now (change t)
+  pub beside : (t : Tables) → Stores old.now t → AreKeyed t → Allows t → RestBeside old.now new.now
   pub sound : IsDatabase old.now → (t : Tables) → Stores old.now t → AreKeyed t → Allows t → IsDatabase new.now
   pub committed : new.committed ≡ old.committed
   pub mode : new.in_transaction ≡ old.in_transaction
@@ -107,6 +130,11 @@ pub record Turns (old new : Database) (Allows : Tables → Type 0) (change : Tab
   pub stored : (t : Tables) → Stores old t → AreKeyed t → Allows t → StoresKeyed new (change t)
   pub sound : IsDatabase old → (t : Tables) → Stores old t → AreKeyed t → Allows t → IsDatabase new
 
+-- the same, and tables of other names keep their rows
+pub record TurnsAlone (old new : Database) (Allows : Tables → Type 0) (change : Tables → Tables) : Type 0 where
+  pub turns : Turns old new Allows change
+  pub beside : (t : Tables) → Stores old t → AreKeyed t → Allows t → RestBeside old new
+
 -- a class as it is listed, without its rowid
 pub record ClassEntry : Type 0 where
   pub path : List ℕ
@@ -149,6 +177,10 @@ with_plan rs cs ds t = record t { classes = classes_from (pos 1) cs; schedules =
 -- what replacing a plan makes of a database
 abbrev pub IsRevised : List Rule → List ClassEntry → List Due → Database → Database → Type 0
 IsRevised rs cs ds old new = Turns old new Always (with_plan rs cs ds)
+
+-- the same, and tables of other names keep their rows
+abbrev pub IsRevisedAlone : List Rule → List ClassEntry → List Due → Database → Database → Type 0
+IsRevisedAlone rs cs ds old new = TurnsAlone old new Always (with_plan rs cs ds)
 
 abbrev pub HasNoClasses : Tables → Type 0
 HasNoClasses t = t.classes ≡ []

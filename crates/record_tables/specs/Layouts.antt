@@ -16,7 +16,8 @@ use Rattle.sqlite_schema.specs.declared.schema.Index.{Index}
 use Rattle.sqlite_resolve.specs.declared.compiled.Compiled.{Compiled}
 use Rattle.record_tables.specs.Tables.{archive_schema, due_table, in_tree, Stands, IsApart, IsFree, Lacks}
 use Rattle.record_tables.specs.Rows.{Tables, Due, Stores, StoresFirst, StoresKeyed, AreKeyed}
-use Rattle.record_tables.specs.Changes.{ClassEntry, Rule, with_version, with_plan, without_dues}
+pub use Rattle.record_tables.specs.Changes.{Rests}
+use Rattle.record_tables.specs.Changes.{ClassEntry, Rule, RestBeside, with_version, with_plan, without_dues}
 use Rattle.record_tables.specs.Steps.{Inside}
 
 -- a transaction that continues
@@ -24,11 +25,6 @@ pub record GoesOn (old new : State) : Type 0 where
   pub committed : new.committed ≡ old.committed
   pub mode : new.in_transaction ≡ old.in_transaction
   pub is_open : new.is_open ≡ old.is_open
-
--- the table that stood in the one database stands in the other, with the same rows
-pub record Rests (old new : Database) (table : Table) (was : Stands old.schema table) : Type 0 where
-  pub stands : Stands new.schema table
-  pub rows : new.trees stands.tree ≡ old.trees was.tree
 
 -- the table stands in the database, and has no row
 pub record StandsEmpty (db : Database) (table : Table) : Type 0 where
@@ -82,6 +78,7 @@ pub record Empties (old new : State) : Type 0 where
   pub stored : (t : Tables) → Stores old.now t → AreKeyed t → old.now.schema ≡ archive_schema →
       StoresKeyed new.now (without_dues t)
   pub sound : (t : Tables) → Stores old.now t → AreKeyed t → old.now.schema ≡ archive_schema → IsDatabase new.now
+  pub beside : (t : Tables) → Stores old.now t → RestBeside old.now new.now
   pub committed : new.committed ≡ old.committed
   pub mode : new.in_transaction ≡ old.in_transaction
   pub is_open : new.is_open ≡ old.is_open

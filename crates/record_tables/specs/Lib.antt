@@ -7,3 +7,5 @@ pub mod CodeRows
 pub mod Layouts
 pub mod Layout
 pub mod Faults
+pub mod Events
+pub mod Companions

@@ -15,7 +15,7 @@ use crate::transact::{Change, transact};
 use sqlite::{Alter, Connection, Error, Transaction};
 use sqlite_schema::schema::Index;
 
-fn define_table<S: Alter>(tx: &mut Transaction<'_, S>, text: &str) -> Result<(), Error>
+pub(crate) fn define_table<S: Alter>(tx: &mut Transaction<'_, S>, text: &str) -> Result<(), Error>
     ensures ok { OnOk result (LaysTable S.Store tx.old.conn.now tx.new.conn.now text.now) }
     ensures goes_on { GoesOnIn S.Store tx.old.conn.now tx.new.conn.now result }
     ensures frame { StaysInside S.Store tx.old.conn tx.new.conn result }

@@ -3,6 +3,8 @@
 #![tactic(auto)]
 
 pub mod alone;
+pub mod companions;
+pub mod events;
 pub mod fault;
 pub mod lay;
 pub mod layout;

@@ -1,14 +1,16 @@
 //! Replacing the rows of the plan, and the due days by it.
 
 ghost use Rattle.std.specs.Prelude.{◌≡◌, false, map};
-ghost use Rattle.record_tables.specs.Changes.{Always, HasNoClasses, HasNoSchedules, HasNoDues, IsPastDues, AreAscending, with_due, with_dues, with_classes, with_schedules, with_version, IsRevised, with_class_entry};
+ghost use Rattle.record_tables.specs.Changes.{Always, HasNoClasses, HasNoSchedules, HasNoDues, IsPastDues, AreAscending, with_due, with_dues, with_classes, with_schedules, with_version, IsRevised, IsRevisedAlone, with_class_entry};
 ghost use Rattle.sqlite.specs.Held.{state};
 ghost use Rattle.sqlite.specs.State.{IsLive};
 ghost use Rattle.record_tables.specs.Layouts.{TellsAlone};
 ghost use Rattle.record_tables.specs.CodeRows.{due_of, class_entry_of, rule_of, with_plan_rows};
+ghost use Rattle.record_tables.specs.Companions.{MakesBoth};
 ghost use Rattle.record_tables.specs.Steps.{Writes, CommitsWhole, Makes, IsCommitted, IsOpenOnOk, IsUndone, WasOpen};
 
 use crate::alone::is_alone;
+use crate::companions::{Accompanied, Alone, Companion};
 use crate::lay::empty_dues;
 use crate::rows::{ClassRow, DueRow, ScheduleRow};
 use crate::transact::{Change, transact};
@@ -144,7 +146,7 @@ impl Change for Renewal<'_> {
     ghost may_be_made = { λ c db. TellsAlone db.schema c.is_alone
         × AreAscending (map due_of c.dues.now) };
 
-    ghost makes = { λ c. IsRevised (map rule_of c.schedules.now) (map class_entry_of c.classes.now)
+    ghost makes = { λ c. IsRevisedAlone (map rule_of c.schedules.now) (map class_entry_of c.classes.now)
         (map due_of c.dues.now) };
 
     fn make<S: Alter>(self, tx: &mut Transaction<'_, S>) -> Result<(), Error> {
@@ -182,15 +184,39 @@ pub fn replace_plan<S: Alter>(
     ensures live { IsLive (state S.Store conn.old) }
     ensures open { IsOpenOnOk S.Store conn.old conn.new result }
 {
+    replace_plan_with(conn, schedules, classes, dues, Alone)
+}
+
+/// The same beside a companion, in one transaction.
+pub fn replace_plan_with<S: Alter, D: Companion + Drop>(
+    conn: &mut Connection<S>,
+    schedules: &[ScheduleRow],
+    classes: &[ClassRow],
+    dues: &[DueRow],
+    companion: D,
+) -> Result<(), Error>
+    requires idle { conn.old.in_transaction ≡ false }
+    requires ascending { AreAscending (map due_of dues.now) }
+    ensures idle { conn.new.in_transaction ≡ false }
+    ensures ok { Makes S.Store conn.old conn.new result
+        (MakesBoth (IsRevisedAlone (map rule_of schedules.now) (map class_entry_of classes.now)
+        (map due_of dues.now)) (D.needs companion) (D.brings companion)) }
+    ensures committed { IsCommitted S.Store conn.old conn.new result }
+    ensures err { IsUndone S.Store conn.old conn.new result }
+    ensures was_open { WasOpen S.Store conn.old conn.new }
+    ensures crash { CommitsWhole S.Store conn.old conn.new
+        (MakesBoth (IsRevisedAlone (map rule_of schedules.now) (map class_entry_of classes.now)
+        (map due_of dues.now)) (D.needs companion) (D.brings companion)) }
+    ensures live { IsLive (state S.Store conn.old) }
+    ensures open { IsOpenOnOk S.Store conn.old conn.new result }
+{
     let is_alone = is_alone(conn.schema());
-    transact(
-        conn,
-        Renewal {
-            is_alone,
-            schedules,
-            classes,
-            dues,
-        },
-    )?;
+    let change = Renewal {
+        is_alone,
+        schedules,
+        classes,
+        dues,
+    };
+    transact(conn, Accompanied { change, companion })?;
     Ok(())
 }
