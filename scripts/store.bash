@@ -115,22 +115,23 @@ has_the_delivery() {
     ((status == 0)) && [[ ! -s $work/error && $(< "$work/said") == 'record 1 class finance day 1970-01-01 due 1977-01-01' ]] || shows_run
 }
 
-# Wherever the disk fails, a delivery ends with 0 only where the store has its record. Otherwise it prints none and ends with 75, also
-# where the disk fails after the capture.
+# Wherever the disk fails, a delivery ends with 0 only where the store has its record, also where it fails while the log is copied.
+# Otherwise it prints none and ends with 75.
 fails_in_a_delivery() {
-    local at is_doubted=no
+    local at is_doubted=no is_kept=no
     for ((at = 1; at < 100; at++)); do
         archive_after create/new "$here" && delivers_as_it_fails "$at" || return
         grep -q INJECTED "$here/trace" || break
         if ((status == 0)); then
             has_the_delivery || return
+            is_kept=yes
         elif ((status != 75)) || [[ -s $work/said || ! -s $work/error ]]; then
             shows_run || return
         elif grep -q 'records.db: the disk failed, and what was done may not be kept$' "$work/error"; then
             is_doubted=yes
         fi
     done
-    ((status == 0 && at > 1 && at < 100)) && [[ $is_doubted == yes ]] || shows_run
+    ((status == 0 && at > 1 && at < 100)) && [[ $is_doubted == yes && $is_kept == yes ]] || shows_run
 }
 
 # ---- files that change while the program runs

@@ -94,7 +94,7 @@ pub fn lay_archive<S: Alter>(
 }
 
 /// Lays a new archive with a plan in the database of a connection, and closes its files, which together keep it. Refused
-/// also where a fault of the disk has shut the store, or fell while its log was copied.
+/// also where a fault of the disk has shut the store.
 fn lay_files<D: Disk + Drop>(
     alloc: Global,
     conn: Connection<FileStore<D>>,
@@ -114,7 +114,7 @@ fn lay_files<D: Disk + Drop>(
             return Err(fault);
         }
     };
-    let (files, closing) = close_store(store);
+    let (files, closing) = close_store(alloc, store);
     if closing.keeps_archive() {
         Ok(files)
     } else {

@@ -13,7 +13,7 @@ ghost use Rattle.record_archive.specs.Archive.{Archive};
 ghost use Rattle.record_adoption.specs.Adoption.{Finds};
 ghost use Rattle.record_store.specs.Layouts.{HasArchiveTables};
 ghost use Rattle.record_store.specs.Stores.{StandsFor};
-ghost use Rattle.record_files.specs.Closing.{HasCause, HoldsLeft, LeavesBy};
+ghost use Rattle.record_files.specs.Closing.{HasCause, HoldsLeft};
 ghost use Rattle.record_files.specs.Files.{FindsAt, HoldsTables, KeepsFiles};
 
 use crate::fault::NoStore;
@@ -102,19 +102,22 @@ pub fn open_store<F: FileSystem, S: Start>(
 
 /// Ends a store, and gives its files back. They keep the archive that the store represents: the database file alone where
 /// its log could be copied, and otherwise the two files together. A fault that shut the store before is reported (`Shut`);
-/// the files then hold one of the databases that a crash at that moment may leave. `Shut` and `Cut` are reported of an open
-/// store only where the disk fails.
-pub fn close_store<D: Disk + Drop>(store: Store<FileStore<D>>) -> (Files<D>, Closing)
+/// the files then hold one of the databases that a crash at that moment may leave. It is reported of an open store only where
+/// the disk fails.
+pub fn close_store<D: Disk + Drop>(
+    alloc: Global,
+    store: Store<FileStore<D>>,
+) -> (Files<D>, Closing)
     ensures clean { AreClean D.Disk result.0.log result.0.db
         → HasCleanDisk (file_state store.conn) }
     ensures keeps { AreClean D.Disk result.0.log result.0.db → (a : Archive)
         → StandsFor over_files store a → KeepsFiles D.Disk result.1 result.0 a }
     ensures leaves { AreClean D.Disk result.0.log result.0.db → (image : Image)
         → outcomes D.Disk result.0.log result.0.db image
-        → LeavesBy result.1 (HoldsLeft (file_state store.conn) image) }
+        → HoldsLeft (file_state store.conn) image }
     ensures cause { AreClean D.Disk result.0.log result.0.db
         → IsTrue (file_state store.conn).is_open
         → HasCause D.Disk (file_state store.conn).faults result.0 result.1 }
 {
-    close(store.into_connection())
+    close(alloc, store.into_connection())
 }

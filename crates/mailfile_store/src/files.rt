@@ -36,7 +36,7 @@ fn closed_by(closing: Closing) -> Closed {
     match closing {
         Closing::Copied => Closed::Whole,
         Closing::Logged(_) => Closed::WithLog,
-        Closing::Shut | Closing::Cut => Closed::Doubtful,
+        Closing::Shut => Closed::Doubtful,
     }
 }
 
@@ -54,7 +54,7 @@ impl Archives for FileArchives {
         match open_archive(&mut System::new(rt), rt.alloc(), path, Unknown) {
             Ok(archive) => {
                 let (conn, done) = work.work(rt, archive);
-                let (_files, closing) = close(conn);
+                let (_files, closing) = close(rt.alloc(), conn);
                 Ok((done, closed_by(closing)))
             }
             Err(cause) => Err(no_store(rt.alloc(), path, cause)),

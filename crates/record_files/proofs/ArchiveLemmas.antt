@@ -12,7 +12,7 @@ use Rattle.record_adoption.specs.Keeping.{StoresArchive}
 use Rattle.record_files.specs.Closing.{HoldsBy, HoldsNow, IsLeftOpen}
 use Rattle.record_files.specs.Files.{KeepsAt, KeepsFiles, KeepsTogether}
 use Rattle.record_files.specs.declared.closing.Closing.{Closing}
-use Rattle.record_files.specs.declared.closing.Closing.TheVariants.{Copied, Logged, Shut, Cut}
+use Rattle.record_files.specs.declared.closing.Closing.TheVariants.{Copied, Logged, Shut}
 
 -- a connection that is known by another name
 module _ {D : Type 0} {g : Ghosts D} (kept conn : Held (FileStore D g)) (same : conn ≡ kept) where
@@ -38,7 +38,6 @@ pub holds_alike : (closing : Closing) (P Q : Image → Type 0) → ((image : Ima
 holds_alike Copied P Q each image h = (each image h.0, each _ h.1)
 holds_alike (Logged why) P Q each image h = each image h
 holds_alike Shut P Q each image h = tt
-holds_alike Cut P Q each image h = tt
 
 -- where no fault has shut the store, the two files together keep what it had
 pub keeps_both : {D : Type 0} (g : Ghosts D) (closing : Closing) (files : Files D) (a : Archive) → IsLeftOpen closing
@@ -46,4 +45,3 @@ pub keeps_both : {D : Type 0} (g : Ghosts D) (closing : Closing) (files : Files 
 keeps_both g Copied files a left keeps image may = (keeps image may).0
 keeps_both g (Logged why) files a left keeps image may = keeps image may
 keeps_both g Shut files a left keeps image may = absurd left
-keeps_both g Cut files a left keeps image may = absurd left

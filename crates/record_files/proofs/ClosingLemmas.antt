@@ -1,44 +1,91 @@
 -- What the files hold of the last commit once its connection is given up.
-use Rattle.std.proofs.Common.{◌≡◌, ◌<◌, ◌≤◌, ◌⊎◌, ℕ, inl, inr, [], false, IsTrue, sym, ap, subst, ◌∙◌, refl, arith}
-use Rattle.std.proofs.lemmas.Bool.{false≢true}
+use Rattle.std.proofs.Common.{◌≡◌, ◌<◌, ◌≤◌, ℕ, [], length, false, IsTrue, refl, sym, ap, subst, ◌∙◌, arith}
+use Rattle.std.proofs.Math.Logic.{∥∥₁_elim, ∥∥₁_map}
 use Rattle.sqlite_disk.specs.Disk.{MoreFaults}
 use Rattle.sqlite_disk.specs.declared.Files.{Files}
-use Rattle.std.proofs.Math.Logic.{∥∥₁_map}
 use Rattle.sqlite_disk.specs.declared.Disk.{Ghosts}
+use Rattle.sqlite_wal.specs.PageSize.{IsPageSize, size_in_file}
+use Rattle.sqlite_wal.specs.Format.{be32}
+use Rattle.sqlite_wal.specs.Recovery.{IsIgnored}
 use Rattle.sqlite_wal.proofs.LogLemmas.{SeenMayStay}
+use Rattle.sqlite_pool.specs.Stored.{reserved, stored_size, RecoversAs}
+use Rattle.sqlite_pool.specs.StoredLaws.{carried, readable}
+use Rattle.sqlite_pool.proofs.ProbeLemmas.{size_by_log, size_by_file}
+use Rattle.sqlite_pool.proofs.ResealLemmas.{adopts_of}
+use Rattle.sqlite_pool.proofs.StateLemmas.{size_is_allowed}
 use Rattle.sqlite_trees.specs.Tree.{Trees}
 use Rattle.sqlite_store.specs.declared.store.FileStore.{FileStore}
-use Rattle.sqlite_store.specs.FileStore.{faults, files as stored_files, state, view, recovers}
+use Rattle.sqlite_store.specs.FileStore.{faults, files as stored_files, state, view, reading, recovers, schema_in}
 use Rattle.sqlite_store.specs.Laws.{settled_at}
+use Rattle.sqlite_store.specs.Listing.{IsOurs}
 use Rattle.sqlite.specs.Recovery.{Image}
 use Rattle.sqlite.specs.Effect.{Database}
 use Rattle.sqlite.specs.State.{IsLive}
 use Rattle.sqlite.specs.Held.{Held, AreDatabases}
-use Rattle.sqlite.specs.Files.{HoldsDatabase, file_state}
-use Rattle.sqlite.proofs.Theorems.{opens_again}
-use Rattle.record_files.specs.Closing.{HasCause, HaveCounted, HoldsBy, HoldsLeft, HoldsNow, IsLeftOpen, LeavesBy}
+use Rattle.sqlite.specs.Files.{HoldsDatabase, faults_of, file_state}
+use Rattle.record_files.specs.Closing.{HasCause, HaveCounted, HaveFailed, HoldsBy, HoldsLeft, HoldsNow, IsLeftOpen, IsShut}
+use Rattle.record_files.specs.Copying.{AreReadable, HasHindrance, IsTooLong}
 use Rattle.record_files.specs.declared.closing.Closing.{Closing}
-use Rattle.record_files.specs.declared.closing.Closing.TheVariants.{Copied, Logged, Shut, Cut}
-use Rattle.record_files.specs.declared.closing.Hindrance.TheVariants.{NoMemory, Fault}
+use Rattle.record_files.specs.declared.closing.Closing.TheVariants.{Copied, Logged, Shut}
+use Rattle.record_files.specs.declared.closing.Hindrance.TheVariants.{NoMemory, TooLong, Fault}
+use denote.Struct.Props.{props}
 
-pub by_closing : (closing : Closing) (Holds : Image → Type 0) (image : Image) → (IsLeftOpen closing → Holds image)
+pub by_closing : (closing : Closing) (Holds : Image → Type 0) (image : Image) → Holds image
     → (closing ≡ Copied → Holds (record image { log = [] })) → HoldsBy closing Holds image
-by_closing Copied Holds image both alone = (both tt, alone refl)
-by_closing (Logged why) Holds image both alone = both tt
+by_closing Copied Holds image both alone = (both, alone refl)
+by_closing (Logged why) Holds image both alone = both
 by_closing Shut Holds image both alone = tt
-by_closing Cut Holds image both alone = tt
 
-pub by_leaving : (closing : Closing) (Holds : Type 0) → (IsLeftOpen closing → Holds) → (closing ≡ Shut → Holds) → LeavesBy closing Holds
-by_leaving Copied Holds told shut = told tt
-by_leaving (Logged why) Holds told shut = told tt
-by_leaving Shut Holds told shut = shut refl
-by_leaving Cut Holds told shut = tt
+-- over a store that lists its trees, and whose outcomes of a crash are databases
+module _ {D : Type 0} {g : Ghosts D} (it : FileStore D g) (numbered : IsTrue (view it).is_numbered) (sound : AreDatabases (recovers it)) where
+  -- what stands for the pages of such an outcome holds the database that it recovers to
+  pub stands : (before image : Image) → (state it).may_leave before → RecoversAs (state it).page_size before image
+      → ∥ ((db : Trees) × recovers it db × HoldsDatabase image db) ∥₁
+  stands before image may same = ∥∥₁_elim it.safe squash₁ (λ all.
+      let found = all before may in
+      let db = reading it found.0 in
+      let allowed : recovers it db = (before, found.0, may, ∣ found.1 ∣₁, refl) in
+      let schema = sound db allowed in
+      ∥∥₁_elim (size_is_allowed it.pool) squash₁ (λ size. ∥∥₁_map found.2 (λ ours. let r : (x : Trees) × recovers it x × HoldsDatabase image x = (
+        db,
+        allowed,
+        (
+          (state it).page_size,
+          size,
+          record {
+            pages = found.0;
+            wanted = schema_in it found.0;
+            schema = schema.0;
+            found = adopts_of _ image found.0 (carried _ before image same found.0 found.1);
+            reads = refl;
+            sound = schema.1;
+            ours = subst (λ b. IsOurs (state it).page_size b (schema_in it found.0) found.0) numbered ours;
+          },
+        ),
+      ) in r)))
 
-pub leaves_map : (closing : Closing) (P Q : Type 0) → (P → Q) → LeavesBy closing P → LeavesBy closing Q
-leaves_map Copied P Q f h = f h
-leaves_map (Logged why) P Q f h = f h
-leaves_map Shut P Q f h = f h
-leaves_map Cut P Q f h = tt
+  size_allowed : IsPageSize (stored_size (state it).page_size)
+  size_allowed = ∥∥₁_elim (size_is_allowed it.pool) (hlevel props) (λ size. size)
+
+  large : 504 ≤ (state it).page_size
+  large = let few : reserved (state it).page_size ≤ 8 = grind arith in omega (arith, few, size_allowed.0)
+
+  -- the headers name the page size, and the pages are whole
+  pub are_readable : (image : Image) → (state it).may_leave image → AreReadable image (stored_size (state it).page_size)
+  are_readable image may =
+      let size = (state it).page_size in
+      let by_log : ¬ IsIgnored image.log → stored_size size ≡ be32 image.log 8 = λ seen. ∥∥₁_elim it.safe (hlevel props) (λ all.
+      let found = all image may in sym (size_by_log size image found.0 (adopts_of _ image found.0 found.1) seen)) in
+      let by_file : IsIgnored image.log → stored_size size ≡ size_in_file image.db = λ ignored. ∥∥₁_elim it.safe (hlevel props) (λ all.
+      let found = all image may in
+      ∥∥₁_elim found.2 (hlevel props) (λ ours.
+      sym (size_by_file size image found.0 (adopts_of _ image found.0 found.1) large ours.file.sound ignored))) in
+      record {
+        allowed = size_allowed;
+        named = (by_log, by_file);
+        readable = λ unreadable. ∥∥₁_elim it.safe (λ x y. absurd x) (λ all.
+            let found = all image may in readable size image found.0 found.1 unreadable);
+      }
 
 -- over an open connection between transactions
 module _ {D : Type 0} {g : Ghosts D} (conn : Held (FileStore D g)) (on : IsTrue (view conn.store).is_open) (live : IsLive (file_state conn))
@@ -50,72 +97,40 @@ module _ {D : Type 0} {g : Ghosts D} (conn : Held (FileStore D g)) (on : IsTrue 
     held = subst (λ db. ∥ HoldsDatabase image db ∥₁) (ap (λ (db : Database). db.trees) (sym settled)) held;
   }
 
-  -- a crash of a store that has no new outcome
+  -- what stands for a crash of a store that has no new outcome
   pub left_now : SeenMayStay g → (it : FileStore D g) → IsTrue (view it).is_numbered → AreDatabases (recovers it)
-      → ((db : Trees) → recovers it db → recovers conn.store db)
-      → (image : Image) → (state it).may_leave image → HoldsNow (file_state conn) image
-  left_now stays it numbered sound outcomes image may =
-      holds_now image (∥∥₁_map (opens_again it numbered sound image may) (λ left.
+      → ((db : Trees) → recovers it db → recovers conn.store db) → (before image : Image) → (state it).may_leave before
+      → RecoversAs (state it).page_size before image → HoldsNow (file_state conn) image
+  left_now stays it numbered sound outcomes before image may same =
+      holds_now image (∥∥₁_map (stands it numbered sound before image may same) (λ left.
       subst (HoldsDatabase image) (settled_at conn.store stays left.0 on (outcomes left.0 left.1)) left.2))
 
--- a crash of a numbered store that has no new outcome
+-- what stands for a crash of a numbered store that has no new outcome
 pub left_some : {D : Type 0} {g : Ghosts D} (conn : Held (FileStore D g)) (it : FileStore D g) → IsTrue (view it).is_numbered
-    → AreDatabases (recovers it) → ((db : Trees) → recovers it db → recovers conn.store db)
-    → (image : Image) → (state it).may_leave image → HoldsLeft (file_state conn) image
-left_some conn it numbered sound outcomes image may =
-    ∥∥₁_map (opens_again it numbered sound image may) (λ left. (left.0, outcomes left.0 left.1, left.2))
+    → AreDatabases (recovers it) → ((db : Trees) → recovers it db → recovers conn.store db) → (before image : Image)
+    → (state it).may_leave before → RecoversAs (state it).page_size before image → HoldsLeft (file_state conn) image
+left_some conn it numbered sound outcomes before image may same =
+    ∥∥₁_map (stands it numbered sound before image may same) (λ left. (left.0, outcomes left.0 left.1, left.2))
 
--- A store that was open is broken only where the disk has failed.
-pub by_cause : {D : Type 0} (g : Ghosts D) (conn : Held (FileStore D g)) (back mid last : FileStore D g) (closing : Closing)
-    (left : Files D) → stored_files last ≡ (left.log, left.db)
-    → IsTrue (view back).is_open ⊎ MoreFaults (faults conn.store) (faults back)
-    → (IsTrue (view back).is_open → IsTrue (view mid).is_open ⊎ MoreFaults (faults back) (faults mid))
-    → (IsTrue (view mid).is_open → IsTrue (view last).is_open ⊎ MoreFaults (faults mid) (faults last))
-    → faults back ≤ faults mid → faults mid ≤ faults last → faults conn.store ≤ faults back
-    → (IsTrue (view mid).is_open → (view mid).is_broken ≡ false)
-    → (IsTrue (view last).is_open → (view last).is_broken ≡ (view mid).is_broken)
-    → (closing ≡ Shut → IsTrue (view mid).is_broken) → (closing ≡ Cut → IsTrue (view last).is_broken)
-    → (closing ≡ Logged Fault → MoreFaults (faults mid) (faults last))
-    → HasCause g (faults conn.store) left closing
-by_cause g conn back mid last closing left files first second third more most early whole same shut cut logged = go closing refl
-  where
-    failed : IsTrue (view mid).is_broken ⊎ IsTrue (view last).is_broken → MoreFaults (faults conn.store) (faults last)
-    failed broken = elim first [
-      | inr more_faults ↦ omega (arith, more_faults, more, most)
-      | inl on ↦ elim (second on) [
-        | inr more_faults ↦ omega (arith, more_faults, most, early)
-        | inl here ↦
-            let fine : (view mid).is_broken ≡ false = whole here in
-            elim (third here) [
-              | inr more_faults ↦ omega (arith, more_faults, more, early)
-              | inl still ↦ absurd (elim broken [
-                | inl b ↦ false≢true (sym fine ∙ b)
-                | inr b ↦ false≢true (sym (same still ∙ fine) ∙ b)
-              ])
-            ]
-      ]
-    ]
-
-    go : (c : Closing) → closing ≡ c → HasCause g (faults conn.store) left c
-    go Copied is = tt
-    go (Logged NoMemory) is = tt
-    go (Logged Fault) is = (last, files, omega (arith, logged is, more, early))
-    go Shut is = (last, files, failed (inl (shut is)))
-    go Cut is = (last, files, failed (inr (cut is)))
+-- what hindered the copy is the cause that is reported
+pub by_hindrance : {D : Type 0} (g : Ghosts D) (before : ℕ) (old new : Files D) (last : FileStore D g) → (state last).faults ≡ faults_of g old
+    → before ≤ faults last → (closing : Closing) → HasHindrance g old new closing → HasCause g before new closing
+by_hindrance g before old new last same counted Copied h = tt
+by_hindrance g before old new last same counted (Logged NoMemory) h = tt
+by_hindrance g before old new last same counted (Logged TooLong) h = h
+by_hindrance g before old new last same counted (Logged Fault) h = record { last = last; counted = counted; failed = omega (arith, h, same) }
+by_hindrance g before old new last same counted Shut h = absurd h
 
 -- A store is shut only by a fault, whether the fault fell before its end or then.
 pub by_fault : {D : Type 0} (g : Ghosts D) (before : ℕ) (left : Files D) (closing : Closing) → HasCause g before left closing → HasCause
     g 0 left closing
 by_fault g before left Copied cause = tt
 by_fault g before left (Logged NoMemory) cause = tt
-by_fault g before left (Logged Fault) cause = (cause.0, cause.1, omega (arith, cause.2))
+by_fault g before left (Logged TooLong) cause = cause
+by_fault g before left (Logged Fault) cause = record { last = cause.last; counted = omega arith; failed = cause.failed }
 by_fault g before left Shut cause = (cause.0, cause.1, omega (arith, cause.2))
-by_fault g before left Cut cause = (cause.0, cause.1, omega (arith, cause.2))
 
-pub by_count : {D : Type 0} (g : Ghosts D) (before : ℕ) (left : Files D) (closing : Closing) → HaveCounted g before left → 0 < before
+pub by_count : {D : Type 0} (g : Ghosts D) (before : ℕ) (left : Files D) (closing : Closing) → IsShut g before left closing → 0 < before
     → HasCause g 0 left closing
-by_count g before left Copied counted some = tt
-by_count g before left (Logged NoMemory) counted some = tt
-by_count g before left (Logged Fault) counted some = (counted.0, counted.1, omega (arith, counted.2, some))
-by_count g before left Shut counted some = (counted.0, counted.1, omega (arith, counted.2, some))
-by_count g before left Cut counted some = (counted.0, counted.1, omega (arith, counted.2, some))
+by_count g before left closing shut some =
+    subst (HasCause g 0 left) (sym shut.told) (shut.last, shut.same, omega (arith, shut.counted, some))

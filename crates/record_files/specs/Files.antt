@@ -45,7 +45,7 @@ abbrev pub KeepsAt : Archive → Image → Type 0
 KeepsAt a image = Holds KeepsArchive image a
 
 -- However the files are left, also by a crash, they recover to a database that keeps the archive, and so does the
--- database file with no log where that was copied. Where a fault has shut the store, see `LeavesBy`.
+-- database file with no log where that was copied. Where a fault has shut the store, see `HoldsLeft`.
 abbrev pub KeepsFiles : {D : Type 0} → Ghosts D → Closing → Files D → Archive → Type 0
 KeepsFiles g closing files a = (image : Image) → outcomes g files.log files.db image → HoldsBy closing (KeepsAt a) image
 

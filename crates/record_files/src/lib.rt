@@ -4,5 +4,6 @@
 #![tactic(auto)]
 
 mod closing;
+mod copying;
 
 pub use closing::{Closing, Hindrance, close, leave};

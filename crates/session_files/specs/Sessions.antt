@@ -16,7 +16,6 @@ use Rattle.session_protocol.specs.Done.{HasDone, Hears, Says}
 use Rattle.session_protocol.specs.Session.{Session, IsServed, IsAnswered, IsCut, session_in}
 use Rattle.session_protocol.specs.declared.session.ServeFault.{ServeFault}
 use Rattle.session_protocol.specs.declared.session.ServeFault.TheVariants.{Read, Write}
-use Rattle.record_files.specs.Closing.{LeavesBy}
 use Rattle.record_files.specs.Files.{KeepsAt, KeepsFiles}
 use Rattle.session_files.specs.declared.session.EndedSession.{EndedSession}
 
@@ -67,11 +66,10 @@ pub record LeadsTo {D : Type 0} (g : Ghosts D) (ended : EndedSession D) (a : Arc
 
 -- From an archive, commands were done. However the disk has failed since, whatever a crash may leave of the files keeps the
 -- archive after the first of the commands, by the answers that were given to them, or after one more, which a fault may
--- have cut short. By their answers, the archive has carried out none but the first. Only of a fault while the log was
--- copied at the end is nothing said.
+-- have cut short. By their answers, the archive has carried out none but the first.
 pub record LeavesSome {D : Type 0} (g : Ghosts D) (ended : EndedSession D) (a : Archive) (hears says : Type 0)
     (left old written : List ℕ) : Type 0 where
   pub to : Standing
   pub reached : IsDone hears says ended.session left old written (opening a) to
-  pub kept : (image : Image) → outcomes g ended.files.log ended.files.db image → LeavesBy ended.closing
-      (∥ IsLeftOf (λ i b. KeepsAt b i) image (opening a) reached.items reached.answers ∥₁)
+  pub kept : (image : Image) → outcomes g ended.files.log ended.files.db image
+      → ∥ IsLeftOf (λ i b. KeepsAt b i) image (opening a) reached.items reached.answers ∥₁

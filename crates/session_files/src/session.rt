@@ -12,7 +12,7 @@ ghost use Rattle.record_archive.specs.Faults.{is_trouble};
 ghost use Rattle.desk_commands.specs.Standing.{Standing};
 ghost use Rattle.session_protocol.specs.Session.{session_in};
 ghost use Rattle.record_store.specs.Layouts.{HasArchiveTablesOrNone};
-ghost use Rattle.record_files.specs.Closing.{HasCause, HaveCounted, HoldsLeft, LeavesBy};
+ghost use Rattle.record_files.specs.Closing.{HasCause, HoldsLeft};
 ghost use Rattle.record_files.specs.Files.{FindsAt, HoldsTables, KeepsAt, KeepsFiles, system_file};
 ghost use Rattle.record_places.specs.Calls.{Makes, MayMake, OpensStore};
 ghost use Rattle.session_files.specs.Refusals.{RefusalHasCause};
@@ -91,7 +91,7 @@ pub fn serve_connection<D: Disk + Drop, In: Source, Out: Sink>(
 {
     match serve_over(alloc, conn, source, sink) {
         Ok((session, conn)) => {
-            let (files, closing) = close(conn);
+            let (files, closing) = close(alloc, conn);
             Ok(EndedSession {
                 session,
                 closing,
@@ -107,9 +107,9 @@ pub fn serve_connection<D: Disk + Drop, In: Source, Out: Sink>(
 ///
 /// While the disk returns what was written to it, the session begins at the archive that the files held, what is
 /// written are the answers of its commands there, and the files keep the archive that it leads to, also over a crash,
-/// unless the end is `Shut` or `Cut`. Unless it is `Cut`, whatever faults of the disk shut the store, and wherever a
-/// crash falls, the files keep the archive after the first of the commands, among them all that the archive has carried
-/// out (`left`). `Shut` and `Cut` are reported only where the disk has failed (`shut`). A session is served only where
+/// unless the end is `Shut`. Whatever faults of the disk shut the store, and wherever a crash falls, the files keep the
+/// archive after the first of the commands, among them all that the archive has carried out (`left`). `Shut`, and a fault
+/// that hindered the copy of the log, are reported only where the disk has failed (`shut`). A session is served only where
 /// the files hold an archive's tables, or none of their names (`layout`). Of octets it says what the streams know of
 /// theirs. What the files held, and how a write that a crash cuts short is read, is what `S` says. No code knows it, so
 /// this holds whatever it is.

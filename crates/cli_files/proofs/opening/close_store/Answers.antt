@@ -1,6 +1,6 @@
 use Rattle.std.proofs.Common.{IsTrue, subst, sym}
 use Rattle.sqlite.specs.Files.{file_state}
-use Rattle.record_files.specs.Closing.{HasCause, HoldsLeft, HoldsNow, LeavesBy}
+use Rattle.record_files.specs.Closing.{HasCause, HoldsLeft, HoldsNow}
 use Rattle.record_files.specs.Files.{KeepsAt}
 use Rattle.record_files.proofs.ArchiveLemmas.{holds_alike, idle_alike, keeps_now}
 use Rattle.cli_files.proofs.opening.close_store.Goals as goal
@@ -16,7 +16,7 @@ returns-clause-keeps g c honest a stands image may =
 
 pub returns-clause-leaves : goal.returns-clause-leaves
 returns-clause-leaves g c honest image may =
-    let P : _ → Type 0 = λ conn. LeavesBy c.close.result.1 (HoldsLeft (file_state conn) image) in
+    let P : _ → Type 0 = λ conn. HoldsLeft (file_state conn) image in
     subst P c.into_connection.ensures (c.close.ensures.leaves honest image may)
 
 pub returns-clause-cause : goal.returns-clause-cause

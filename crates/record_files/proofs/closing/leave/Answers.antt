@@ -23,8 +23,8 @@ returns-clause-holds g c honest idle on image may =
     let made = c.into_store.ensures in
     let settled = c.is_autocommit-settled.ensures.settled (c.is_autocommit-settled.ensures.value ∙ ap not idle) on in
     left_now c.args.conn on c.schema-live.ensures.live settled
-    g.met.D.Disk.seen_may_stay back (made.numbered none) (made.sound none) made.quiet.outcomes image
-    (may_leave_is back.pool image sure (subst (λ p. outcomes g.D.Disk p.0 p.1 image) c.close.ensures may))
+    g.met.D.Disk.seen_may_stay back (made.numbered none) (made.sound none) made.quiet.outcomes image image
+    (may_leave_is back.pool image sure (subst (λ p. outcomes g.D.Disk p.0 p.1 image) c.close.ensures may)) (λ pages was. was)
 
 pub returns-clause-leaves : goal.returns-clause-leaves
 returns-clause-leaves g c honest image may =
@@ -32,5 +32,5 @@ returns-clause-leaves g c honest image may =
     let sure = subst (λ p. AreClean g.D.Disk p.0 p.1) c.close.ensures honest in
     let none : IsClean (view back) = no_doubt _ (clean_is back.pool ∙ sure) in
     let made = c.into_store.ensures in
-    left_some c.args.conn back (made.numbered none) (made.sound none) made.quiet.outcomes image
-    (may_leave_is back.pool image sure (subst (λ p. outcomes g.D.Disk p.0 p.1 image) c.close.ensures may))
+    left_some c.args.conn back (made.numbered none) (made.sound none) made.quiet.outcomes image image
+    (may_leave_is back.pool image sure (subst (λ p. outcomes g.D.Disk p.0 p.1 image) c.close.ensures may)) (λ pages was. was)

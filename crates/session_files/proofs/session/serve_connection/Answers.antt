@@ -5,7 +5,7 @@ use Rattle.sqlite.specs.Files.{over_files, file_state}
 use Rattle.desk_commands.specs.Standing.{opening}
 use Rattle.record_store.specs.Stores.{TreesKeep}
 use Rattle.record_files.specs.Files.{KeepsAt}
-use Rattle.record_files.proofs.ClosingLemmas.{by_count, by_fault, leaves_map}
+use Rattle.record_files.proofs.ClosingLemmas.{by_count, by_fault}
 use Rattle.session_files.proofs.SessionLemmas.{keeps_left, leads_to, left_in}
 use Rattle.session_files.proofs.UnservedLemmas.{holds_still}
 use Rattle.session_files.proofs.session.serve_connection.Goals as goal
@@ -34,9 +34,9 @@ returns-in-Ok-clause-left g c honest =
           record {
             to = e.to;
             reached = e.reached;
-            kept = λ image may. leaves_map ended.result.1 _ _ (λ h. ∥∥₁_map h (λ left.
+            kept = λ image may. ∥∥₁_map (ended.ensures.leaves honest image may) (λ left.
                 left_in TreesKeep (λ i b. KeepsAt b i) left.0 image (λ b kept. keeps_left image left.0 b left.2 kept)
-                (opening a) e.reached.items e.reached.answers (e.kept left.0 left.1))) (ended.ensures.leaves honest image may);
+                (opening a) e.reached.items e.reached.answers (e.kept left.0 left.1));
           },
     )
 
@@ -49,7 +49,7 @@ returns-in-Ok-clause-shut g c honest =
       λ a found.
           elim (cases_Bool (file_state last).is_open) [
             | inl on ↦ by_fault g.D.Disk (file_state last).faults ended.result.0 ended.result.1 (ended.ensures.cause honest on)
-            | inr closed ↦ by_count g.D.Disk (file_state last).faults ended.result.0 ended.result.1 ended.ensures.counts
+            | inr closed ↦ by_count g.D.Disk (file_state last).faults ended.result.0 ended.result.1 (ended.ensures.shut honest closed)
                 ((it.1 a found).shut closed)
           ],
     )
