@@ -1,7 +1,7 @@
 //! A test that stands by itself, as a question has it.
 
 ghost use Rattle.std.specs.Prelude.{IfOk};
-ghost use Rattle.tool_findings.specs.LoneTests.{IsFindingIn};
+ghost use Rattle.tool_findings.specs.LoneTests.{AreTokensFromIf, IsAtToken, IsFindingIn};
 
 use crate::findings::Finding;
 use crate::rules::{name_of, subject_of_rule};
@@ -13,17 +13,19 @@ use std::alloc::{AllocError, Global};
 
 /// The tokens of a command `if` with a test, without its block. The `if` has no octets, and the other tokens are at their
 /// places in the test.
-fn tokens_from_if(alloc: Global, test: &[u8]) -> Result<Vec<Token>, AllocError> {
-    let own = tokens_of(alloc, test)?;
-    let mut tokens = Vec::with_capacity(alloc, own.len())?;
-    tokens.push(Token {
-        kind: TokenKind::Identifier(Text::from_slice(alloc, b"if")?),
-        start: 0,
-        end: 0,
-    })?;
-    for token in own {
-        tokens.push(token)?;
-    }
+fn tokens_from_if(alloc: Global, test: &[u8]) -> Result<Vec<Token>, AllocError>
+    ensures { IfOk result (λ v. AreTokensFromIf test.now v.items) }
+{
+    let mut tokens = tokens_of(alloc, test)?;
+    let name = Text::from_slice(alloc, b"if")?;
+    tokens.insert(
+        0,
+        Token {
+            kind: TokenKind::Identifier(name),
+            start: 0,
+            end: 0,
+        },
+    )?;
     Ok(tokens)
 }
 
@@ -49,19 +51,31 @@ fn subject_in_test(
     })
 }
 
+/// An offset at which one of these tokens begins; 0 for any other.
+fn place_among(tokens: &[Token], at: usize) -> usize
+    ensures { IsAtToken tokens.now result }
+{
+    if tokens.iter().any(|token| token.start as usize == at) {
+        at
+    } else {
+        0
+    }
+}
+
 /// What is wrong with a text that is one test (RFC 5228, section 5) and is refused by a rule of well made scripts, as the
-/// test of an `if`. Its number is that of the refusal, 30 to 41. It is shown at an offset of the text, in octets: at the
-/// word that it is about, or else where the test begins. Fails only if memory runs out.
+/// test of an `if`. Its number is that of the refusal, 30 to 41. It is shown at an offset of the text, in octets, where a
+/// token begins: the word that it is about, or else the first one. Fails only if memory runs out.
 pub fn finding_in_test(alloc: Global, test: &[u8], fault: CheckFault) -> Result<Finding, AllocError>
     ensures { IfOk result (λ f. IsFindingIn test.now fault f) }
 {
     let tokens = tokens_from_if(alloc, test)?;
     let subject = subject_in_test(alloc, fault, tokens.as_slice())?;
-    let at = tokens.get(1).map_or(0, |first| first.start as usize);
+    let own = &tokens[1..];
+    let at = own.first().map_or(0, |first| first.start as usize);
     Ok(Finding {
         number: fault.number(),
         at,
-        place: subject.place().unwrap_or(at).min(test.len()),
+        place: place_among(own, subject.place().unwrap_or(at)),
         subject,
     })
 }
