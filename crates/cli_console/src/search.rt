@@ -157,9 +157,9 @@ impl<'s, 'a> Search<'s, 'a> {
             PAGE,
         )
         .map_err(|fault| walk_failure(rt.alloc(), fault))?;
-        self.from = page.next;
         self.note_found(page.found.as_slice())?;
         self.note_unread(page.unread.as_slice())?;
+        self.from = page.next;
         Ok(Some(page.found))
     }
 
