@@ -5,7 +5,7 @@ use crate::rules::FilingRules;
 use crate::time_limit::{TimeLimit, too_slow_words};
 use cli_console::{Failure, Status, is_by, tell, write_text};
 use cli_sources::read_payload;
-use cli_texts::{captured_line, undecoded_lines};
+use cli_texts::{captured_line, captured_words, undecoded_lines};
 use desk_commands::{Capture, DeskFault, MAX_MESSAGE_OCTETS, Payload};
 use filing_desk::{Delivery, Desk, deliver};
 use record_archive::{Line, Records};
@@ -57,7 +57,6 @@ fn record_lines(alloc: Global, before: &Shown, capture: &Capture) -> Result<Show
     let mut text = Shown::new(alloc);
     for line in capture.lines.as_slice() {
         put!(text; text(before) text(&captured_line(alloc, line)?))?;
-        text.end_line()?;
     }
     if capture.lines.is_empty() {
         put!(text; text(before) "discarded")?;
@@ -69,7 +68,7 @@ fn record_lines(alloc: Global, before: &Shown, capture: &Capture) -> Result<Show
 /// What is told of a record that is due as it is captured.
 fn due_words(alloc: Global, before: &Shown, line: &Line) -> Result<Shown, AllocError> {
     let mut text = Shown::new(alloc);
-    put!(text; text(before) text(&captured_line(alloc, line)?) " is due already")?;
+    put!(text; text(before) text(&captured_words(alloc, line)?) " is due already")?;
     Ok(text)
 }
 

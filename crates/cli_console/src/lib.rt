@@ -5,8 +5,8 @@
 //! - `clock`: the time and the day;
 //! - `walk`: the records of an archive, a page at a time; `search`: those that a command line asks for.
 //!
-//! No contract speaks of a clock, a terminal or a stream. So these calls are only proved to be safe, and tests of the
-//! program show what they do.
+//! No contract speaks of a clock, a terminal or a stream. So most of these calls are only proved to be safe, and tests of the
+//! program show what they do. In `specs/`, `Turns` says what a call for the next page answers.
 #![tactic(auto)]
 
 mod clock;

@@ -1,5 +1,11 @@
 //! A search for the records that a command is about. Which these are, `cli_choice` decides.
 
+ghost use Rattle.std.specs.Prelude.{IfOk};
+ghost use Rattle.record_archive.specs.Archive.{Archive};
+ghost use Rattle.record_choice.specs.Views.{choice_view};
+ghost use Rattle.cli_choice.specs.Questions.{question_of};
+ghost use Rattle.cli_console.specs.Turns.{IsSearchTurn, page_view};
+
 use crate::failure::{Failure, Status};
 use crate::output::tell;
 use crate::walk::{PAGE, walk_failure};
@@ -7,7 +13,7 @@ use choice_words::Choice;
 use class_plan::Plan;
 use cli_choice::{Questions, bounds_of, choice_of, is_single, not_found, search_page};
 use record_choice::{RecordEntry, Repository};
-use record_store::Store;
+use record_store::{Store, StoreFault};
 use sqlite::Alter;
 use std::alloc::{AllocError, Global};
 use tool_texts::{Shown, put};
@@ -122,12 +128,20 @@ impl<'s, 'a> Search<'s, 'a> {
         Ok(())
     }
 
-    /// The next records that are found, which may be none; `None` at the end. A failure is that of the store.
-    pub fn next_page<S: Alter>(
+    /// The next records that are found, which may be none; `None` at the end. A failure is that of the store, or no memory.
+    pub fn next_page<R: Repository<Fault = StoreFault>>(
         &mut self,
         rt: &HostRuntime,
-        archive: &mut Store<S>,
-    ) -> Result<Option<Vec<RecordEntry>>, Failure> {
+        archive: &mut R,
+    ) -> Result<Option<Vec<RecordEntry>>, Failure>
+        ensures stands { (a : Archive) → R.stands archive.old a → R.stands archive.new a }
+        ensures falls { R.clean archive.new → R.clean archive.old }
+
+        // The calls answer the pages of a walk: what meets the choice and the questions, and no other record.
+        ensures page { IfOk result (λ o. R.clean archive.new → (a : Archive) → R.stands archive.old a
+            → IsSearchTurn (question_of self.old.questions.now) (choice_view self.old.choice) a
+            self.old.last self.old.from (page_view o) self.new.from) }
+    {
         let Some(from) = self.from else {
             return Ok(None);
         };
@@ -143,9 +157,9 @@ impl<'s, 'a> Search<'s, 'a> {
             PAGE,
         )
         .map_err(|fault| walk_failure(rt.alloc(), fault))?;
-        self.from = page.next;
         self.note_found(page.found.as_slice())?;
         self.note_unread(page.unread.as_slice())?;
+        self.from = page.next;
         Ok(Some(page.found))
     }
 

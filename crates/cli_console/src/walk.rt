@@ -1,7 +1,12 @@
 //! A walk over the chosen records of an archive. Which these are, `record_choice` decides.
 
+ghost use Rattle.std.specs.Prelude.{◌≡◌, Some, None, IfOk};
+ghost use Rattle.record_archive.specs.Archive.{Archive};
+ghost use Rattle.record_choice.specs.Views.{choice_view};
+ghost use Rattle.cli_console.specs.Turns.{IsTurn, page_view};
+
 use crate::failure::Failure;
-use record_choice::{Anything, Choice, WalkFault, choose_page};
+use record_choice::{Anything, Choice, Repository, WalkFault, choose_page};
 use record_store::{RecordEntry, Store, StoreFault};
 use sqlite::Alter;
 use std::alloc::Global;
@@ -27,19 +32,31 @@ pub(crate) fn walk_failure(alloc: Global, fault: WalkFault<StoreFault>) -> Failu
 
 impl<'a> Walk<'a> {
     /// A walk over the records of a choice, from a number on.
-    pub fn from(choice: &'a Choice, number: u32) -> Walk<'a> {
+    pub fn from(choice: &'a Choice, number: u32) -> Walk<'a>
+        ensures choice { result.choice.now ≡ choice.now }
+        ensures begins { result.from ≡ Some number }
+    {
         Walk {
             choice,
             from: Some(number),
         }
     }
 
-    /// The next chosen records, which may be none; `None` at the end. A failure is that of the store.
-    pub fn next_page<S: Alter>(
+    /// The next chosen records, which may be none; `None` at the end. A failure is that of the store, and the walk may go on
+    /// from where it stands.
+    pub fn next_page<R: Repository<Fault = StoreFault>>(
         &mut self,
         rt: &HostRuntime,
-        archive: &mut Store<S>,
-    ) -> Result<Option<Vec<RecordEntry>>, Failure> {
+        archive: &mut R,
+    ) -> Result<Option<Vec<RecordEntry>>, Failure>
+        ensures stands { (a : Archive) → R.stands archive.old a → R.stands archive.new a }
+        ensures falls { R.clean archive.new → R.clean archive.old }
+
+        // The calls answer the pages of a walk: what is chosen, and no other record.
+        ensures page { IfOk result (λ o. R.clean archive.new → (a : Archive) → R.stands archive.old a
+            → IsTurn None (choice_view self.old.choice.now) a self.old.from (page_view o) self.new.from) }
+        ensures same { self.new.choice.now ≡ self.old.choice.now }
+    {
         let Some(from) = self.from else {
             return Ok(None);
         };

@@ -5,19 +5,48 @@ use cli_console::{Failure, Status, judge_day};
 use command_lines::archives::Choice;
 use mail_display::FieldGroup;
 use record_question::QuestionFault;
+use sieve_text::{ScanRefusal, TextRefusal};
 use std::alloc::{AllocError, Global};
+use tool_findings::{finding_in_test, push_words};
 use tool_texts::{Shown, place_of, put, refusal_text};
 
-/// That a test is refused by a number, at its line and column where they are known.
+/// Why a text is not exactly one test.
+fn words_of(refusal: TextRefusal) -> &'static str {
+    match refusal {
+        TextRefusal::Scan(ScanRefusal::NotUtf8) => "the test is not UTF-8",
+        TextRefusal::Scan(ScanRefusal::ScriptTooLong) => {
+            "the test has more than 262,144 octets; write a shorter one"
+        }
+        TextRefusal::Scan(refusal) => refusal_text(refusal.number()).unwrap_or("refused"),
+        TextRefusal::Syntax => {
+            "the test cannot go on like this; look for a missing comma, bracket or quotation mark just before this place, and for a mark behind the test"
+        }
+        TextRefusal::Nesting =>
+            "more than 32 tests stand inside one another here; write fewer levels",
+    }
+}
+
+/// Adds where a test is refused, at an offset in octets, and the number of the refusal.
+fn put_refusal(text: &mut Shown, test: &str, offset: usize, number: u8) -> Result<(), AllocError> {
+    let place = place_of(test.as_bytes(), offset);
+    put!(text; "--where:" value(&place.line) ":" value(&place.column) ": " value(&number) ": ")
+}
+
+/// That a test is refused, by its line and column and the number of the refusal.
 fn refused_test(alloc: Global, test: &str, fault: QuestionFault) -> Result<Shown, AllocError> {
     let mut text = Shown::new(alloc);
-    text.words("--where")?;
-    if let Some(offset) = fault.offset() {
-        let place = place_of(test.as_bytes(), offset);
-        put!(text; ":" value(&place.line) ":" value(&place.column))?;
+    match fault {
+        QuestionFault::NoMemory => return Err(AllocError),
+        QuestionFault::Text(refusal, at) => {
+            put_refusal(&mut text, test, at, refusal.number())?;
+            text.words(words_of(refusal))?;
+        }
+        QuestionFault::Test(fault) => {
+            let finding = finding_in_test(alloc, test.as_bytes(), fault)?;
+            put_refusal(&mut text, test, finding.place, finding.number)?;
+            push_words(&mut text, test.as_bytes(), &finding)?;
+        }
     }
-    let number = fault.number();
-    put!(text; ": " value(&number) ": " words(refusal_text(number).unwrap_or("refused")))?;
     Ok(text)
 }
 

@@ -59,12 +59,18 @@ pub(crate) fn shown(alloc: Global, octets: &[u8]) -> Result<String, AllocError> 
     }
 }
 
-/// The line of a record of a capture, as a session answers it: `record 1 class finance due 2030-11-14`.
-/// The end of the line is not part of it.
-pub fn captured_line(alloc: Global, line: &Line) -> Result<Shown, AllocError> {
+/// A record of a capture in words, as a session answers it: `record 1 class finance due 2030-11-14`.
+pub fn captured_words(alloc: Global, line: &Line) -> Result<Shown, AllocError> {
     let mut text = Shown::new(alloc);
     put!(text; "record " value(&line.number) " class " named(line.path.as_slice()) " due ")?;
     put_due(&mut text, line.due)?;
+    Ok(text)
+}
+
+/// The line of a record of a capture: its words, and the end of the line.
+pub fn captured_line(alloc: Global, line: &Line) -> Result<Shown, AllocError> {
+    let mut text = captured_words(alloc, line)?;
+    text.end_line()?;
     Ok(text)
 }
 

@@ -393,7 +393,7 @@ fn name_asked<'a>(alloc: Global, asked: &ArgMatches<'a>) -> Result<&'a str, NoCo
 fn new_name_asked<'a>(alloc: Global, asked: &ArgMatches<'a>) -> Result<&'a str, NoCommand> {
     let name = name_asked(alloc, asked)?;
     if reads_as_number(name.as_bytes()) {
-        let reason = "a number of a record; did you forget the hold's name?";
+        let reason = "a number or range of records; did you forget the name?";
         return Err(NoCommand::wrong(alloc, name, reason));
     }
     Ok(name)
@@ -480,10 +480,10 @@ fn chosen_asked<'a>(
             choice_asked(alloc, asked)?,
             ChosenTask::Export(target_asked(alloc, asked)?),
         ),
-        "hold" => (
-            held_asked(alloc, asked)?,
-            ChosenTask::Hold(new_name_asked(alloc, asked)?),
-        ),
+        "hold" => {
+            let name = new_name_asked(alloc, asked)?;
+            (held_asked(alloc, asked)?, ChosenTask::Hold(name))
+        }
         "release" => (
             held_asked(alloc, asked)?,
             ChosenTask::Release(name_asked(alloc, asked)?),

@@ -15,25 +15,6 @@ pub enum QuestionFault {
     Test(CheckFault),
 }
 
-impl QuestionFault {
-    /// The number of the refusal.
-    pub fn number(self) -> u8 {
-        match self {
-            QuestionFault::NoMemory => 99,
-            QuestionFault::Text(refusal, _) => refusal.number(),
-            QuestionFault::Test(fault) => fault.number(),
-        }
-    }
-
-    /// The offset in the text, in octets, where one is known.
-    pub fn offset(self) -> Option<usize> {
-        match self {
-            QuestionFault::Text(_, at) => Some(at),
-            QuestionFault::NoMemory | QuestionFault::Test(_) => None,
-        }
-    }
-}
-
 impl From<TextFault> for QuestionFault {
     ghost use Rattle.std.specs.Prelude.{◌≡◌};
     ghost use Rattle.record_question.specs.Faults.{of_text};

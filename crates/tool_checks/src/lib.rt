@@ -1,7 +1,7 @@
 //! Scripts and plans in files, judged without a session: what is wrong with one is written to standard output, a line
 //! each.
 //!
-//! - `refusals`: what is wrong with scripts and plans, as it is found; `words`: what a finding in a script says;
+//! - `refusals`: what is wrong with scripts and plans, as it is found;
 //! - `scripts`: a script with all that it reaches, judged; `told`: what was told before;
 //! - `warnings`: classes, scripts and fields that a good script names and that are not there;
 //! - `reached`: the scripts that a script can reach by its includes;
@@ -22,7 +22,6 @@ mod refusals;
 mod scripts;
 mod told;
 mod warnings;
-mod words;
 
 pub use folders::{OfficerRules, SCRIPT_ENDING, rules_of};
 pub use plans::{NamedPlan, check_plan, read_plan};

@@ -6,12 +6,11 @@ use crate::reached::{Reached, Start};
 use crate::refusals::{Kind, Refusals};
 use crate::told::Told;
 use crate::warnings::warn_of_names;
-use crate::words::push_words;
 use class_plan::Plan;
 use command_lines::tools::Folders;
 use std::alloc::AllocError;
 use tool_console::{Failure, Verdict, paths_in, read_file, read_input};
-use tool_findings::{Finding, Report, judge};
+use tool_findings::{Finding, Report, judge, push_words};
 use tool_texts::{Payload, Shown, place_of, put};
 
 /// A file of up to this number of times the limit of a script is still read, and refused by its number.

@@ -8,6 +8,8 @@
 //! - `spots`: where a script is refused, what about, and how it is repaired there;
 //! - `octets`, `ways` and `mends`: repairs of what is no token, of what breaks the grammar, and of what breaks a rule;
 //! - `subjects`: what a refusal is about; `rules` and `usage`: what a broken rule is about;
+//! - `lone_test`: what is wrong with a test that stands by itself;
+//! - `wording`: what a finding says;
 //! - `words`: the words that a script may use, and the one that was meant, perhaps;
 //! - `fronts`, `names` and `circles`: the commands of a script, what they name, and includes that come back.
 #![tactic(auto)]
@@ -17,6 +19,7 @@ mod findings;
 mod fronts;
 mod halving;
 mod judgement;
+mod lone_test;
 mod mends;
 mod names;
 mod octets;
@@ -27,6 +30,7 @@ mod spots;
 mod subjects;
 mod usage;
 mod ways;
+mod wording;
 mod words;
 
 pub use circles::{Circle, Edge, Includes, Link, includes_of};
@@ -34,6 +38,8 @@ pub use findings::{Finding, Report, judge};
 pub use fronts::{Front, fronts_of};
 pub use halving::Search;
 pub use judgement::{Judgement, judgement_of};
+pub use lone_test::finding_in_test;
 pub use names::{Named, impossible_fields, name_in};
 pub use subjects::Subject;
+pub use wording::push_words;
 pub use words::Guess;

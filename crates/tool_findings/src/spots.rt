@@ -1,7 +1,8 @@
 //! Where a script is refused, what about, and how it is repaired there.
 
-ghost use Rattle.std.specs.Prelude.{◌≡◌};
+ghost use Rattle.std.specs.Prelude.{◌≡◌, IfOk};
 ghost use Rattle.tool_findings.specs.Judgements.{refusal_number};
+ghost use Rattle.tool_findings.specs.LoneTests.{AreTokens};
 
 use crate::findings::Finding;
 use crate::fronts::Front;
@@ -101,7 +102,9 @@ fn is_require(command: &[Token]) -> bool {
 }
 
 /// The tokens of a script; none where it has no sequence of tokens.
-pub(crate) fn tokens_of(alloc: Global, text: &[u8]) -> Result<Vec<Token>, AllocError> {
+pub(crate) fn tokens_of(alloc: Global, text: &[u8]) -> Result<Vec<Token>, AllocError>
+    ensures { IfOk result (λ v. AreTokens text.now v.items) }
+{
     match scan(alloc, text) {
         Ok(tokens) => Ok(tokens),
         Err(ScanFault::NoMemory) => Err(AllocError),

@@ -1,13 +1,18 @@
 //! What a finding in a script says.
 
+use crate::findings::Finding;
+use crate::subjects::Subject;
 use std::alloc::AllocError;
 use std::str;
-use tool_console::text_of;
-use tool_findings::{Finding, Subject};
-use tool_texts::{Shown, put};
+use tool_texts::{Shown, put, refusal_text};
 
 /// The greatest number of octets of a word that are shown.
 const MAX_SHOWN: usize = 60;
+
+/// The text of a refusal's number.
+fn text_of(number: u8) -> &'static str {
+    refusal_text(number).unwrap_or("refused")
+}
 
 /// What is wrong with a word, by the number of the refusal.
 fn fault_of_word(number: u8) -> &'static str {
@@ -128,7 +133,7 @@ fn push_subject(line: &mut Shown, text: &[u8], finding: &Finding) -> Result<(), 
     }
 }
 
-/// Adds what a finding says.
+/// Adds what a finding in a text says.
 pub fn push_words(line: &mut Shown, text: &[u8], finding: &Finding) -> Result<(), AllocError> {
     match finding.subject {
         Subject::Missing(_, what) if what.len() == 1 =>
