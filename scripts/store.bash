@@ -1,7 +1,7 @@
 #!/usr/bin/env bash
 # shellcheck disable=SC2317,SC2015 # count calls its checks by their names, and `|| shows_run` only reports
-# Tests what ./mailfile-store does where no transcript can say it: for a user who may not read or write, on a disk that fails, and where
-# files change while it runs. ./test sources this file after transcripts.bash; run by itself, it plays these tests.
+# Tests what ./mailfile-store does where no transcript can say it: for a user who may not read or write, by a wrong clock, on a disk that
+# fails, and where files change while it runs. ./test sources this file after transcripts.bash; run by itself, it plays these tests.
 
 : "${root:=$(dirname -- "$(dirname -- "$(readlink -f -- "$0")")")}" "${work:=$(mktemp -d)}" "${self:=store}"
 
@@ -134,6 +134,49 @@ fails_in_a_delivery() {
     ((status == 0 && at > 1 && at < 100)) && [[ $is_doubted == yes && $is_kept == yes ]] || shows_run
 }
 
+# ---- a clock that is wrong
+
+# Starts the program by a clock that shows these seconds since 1970, one look after the other.
+run_by() {
+    status=0
+    CLOCK=$1 LD_PRELOAD=$work/clock.so timeout 60 "$(program_of mailfile_store)" "${@:2}" > "$work/said" 2> "$work/error" || status=$?
+}
+
+# Whether it ends with that status and those words by such a clock.
+refuses_by() {
+    run_by "$1" "${@:4}" < "$here/mail/bill.eml"
+    ((status == $2)) && [[ $(< "$work/error") == "mailfile-store: $3" && ! -s $work/said ]] || shows_run
+}
+
+# The last second of 2199, and the first one after it.
+readonly LAST_SECOND=7258118399 AFTER=7258118400
+
+# By a clock after 2199 or before 1970 nothing is captured, and the mail waits (75), also with --at now and for unfiled. What --at names is
+# taken by a clock that is ahead; only a moment after 2199 is a wrong command line (64).
+captures_nothing_outside_the_years() {
+    local -a delivery=(deliver --store "$here/records.db" --rules "$here/rules") intake=(intake --store "$here/records.db" --rules "$here/rules")
+    archive_after maildir "$here" && run list --store "$here/records.db" && cp -- "$work/said" "$work/listed" || return
+    refuses_by $AFTER 75 'the clock is after 2199' "${delivery[@]}" ann &&
+        refuses_by $AFTER 75 'the clock is after 2199' "${delivery[@]}" --at now ann &&
+        refuses_by $AFTER 75 'the clock is after 2199' "${delivery[@]}" --unfiled-on-fault ann &&
+        refuses_by $AFTER 75 'the clock is after 2199' "${intake[@]}" ann "$here/Maildir" &&
+        refuses_by $AFTER 75 'the clock is after 2199' "${intake[@]}" --at now ann "$here/Maildir" &&
+        refuses_by -1 75 'no clock' "${delivery[@]}" ann && refuses_by -1 75 'no clock' "${intake[@]}" ann "$here/Maildir" &&
+        [[ $(mail_in new) -eq 3 ]] && has_its_records &&
+        refuses_by $AFTER 64 '--at: 94: the moment is not one of the years 1970 to 2199, in seconds since 1970' "${delivery[@]}" --at $AFTER ann ||
+        return
+    run_by $AFTER "${delivery[@]}" --at $LAST_SECOND ann < "$here/mail/bill.eml"
+    ((status == 0)) && [[ $(< "$work/said") == 'record 5 class finance due 2206-12-31' ]] || shows_run
+}
+
+# A clock that is set back during an intake, after the first message: the others stay.
+captures_nothing_once_the_clock_is_behind() {
+    archive_after maildir "$here" || return
+    run_by '1893456000 1893456000 1893456000 0' intake --store "$here/records.db" --rules "$here/rules" ann "$here/Maildir"
+    ((status == 75)) && [[ $(< "$work/said") == 'a: record 5 class finance due 2037-01-01' && $(mail_in new) -eq 2 ]] &&
+        [[ $(< "$work/error") == 'mailfile-store: the clock says 1970-01-01, but the store has a record of 2030-01-01; '* ]] || shows_run
+}
+
 # ---- files that change while the program runs
 
 # Starts a subcommand, which waits for five seconds where it makes a call of the system of that kind for a path. Meanwhile a command of
@@ -218,6 +261,10 @@ store() {
         count "a store in a folder that may not be written" needs_its_folder
     fi
     ((EUID > 0)) || count "a log of another user" refuses_a_log_of_another_user
+    if command -v cc > "$work/said" && cc -O1 -shared -fPIC -o "$work/clock.so" scripts/clock.c; then
+        count "a clock after 2199 or before 1970" captures_nothing_outside_the_years
+        count "a clock that is set back during an intake" captures_nothing_once_the_clock_is_behind
+    fi
     if strace -o "$work/error" true > "$work/said" 2>&1; then
         count "a disk that fails in a delivery" fails_in_a_delivery
         count "another store in the place of a copy" leaves_another_store copy --store "$here/records.db" "$here/new.db"
@@ -225,7 +272,7 @@ store() {
         count "a pipe or a link in the place of a message" takes_nothing_in_the_place_of_a_message
         count "a pipe in the place of a script" waits_for_no_pipe_in_the_place_of_a_script
     fi
-    group "mailfile-store without permissions, on a disk that fails, and where files change"
+    group "mailfile-store without permissions, by a wrong clock, on a disk that fails, and where files change"
 }
 
 if [[ ${BASH_SOURCE[0]} == "$0" ]]; then
