@@ -18,6 +18,7 @@ IsTurn q c a from None next = (from ≡ None) × (next ≡ None)
 IsTurn q c a from (Some page) next = IsSome from × IsPageOf q c a from page next
 
 -- A search does so up to its last number: it also gives none where that is passed, and stays where it is.
-abbrev pub IsSearchTurn : Question → Choice → Archive → (last : ℕ) → (from : Option ℕ) → (page : Option (List RecordEntry)) → (next : Option ℕ) → Type 0
+abbrev pub IsSearchTurn : Question → Choice → Archive → (last : ℕ) → (from : Option ℕ) → (page : Option (List RecordEntry)) → (next : Option ℕ)
+    → Type 0
 IsSearchTurn q c a last from None next = IfSome from (λ n. last < n) × (next ≡ from)
 IsSearchTurn q c a last from (Some page) next = IsSome from × IsPageOf q c a from page next

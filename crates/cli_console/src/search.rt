@@ -137,10 +137,11 @@ impl<'s, 'a> Search<'s, 'a> {
         ensures stands { (a : Archive) → R.stands archive.old a → R.stands archive.new a }
         ensures falls { R.clean archive.new → R.clean archive.old }
 
-        // The calls answer the pages of a walk: what meets the choice and the questions, and no other record.
-        ensures page { IfOk result (λ o. R.clean archive.new → (a : Archive) → R.stands archive.old a
-            → IsSearchTurn (question_of self.old.questions.now) (choice_view self.old.choice) a
-            self.old.last self.old.from (page_view o) self.new.from) }
+        // The calls answer the pages of a walk: what meets the choice and the questions, and no
+        // other record.
+        ensures page { IfOk result (λ o. R.clean archive.new → (a : Archive)
+            → R.stands archive.old a → IsSearchTurn (question_of self.old.questions.now)
+            (choice_view self.old.choice) a self.old.last self.old.from (page_view o) self.new.from) }
     {
         let Some(from) = self.from else {
             return Ok(None);

@@ -53,8 +53,9 @@ impl<'a> Walk<'a> {
         ensures falls { R.clean archive.new → R.clean archive.old }
 
         // The calls answer the pages of a walk: what is chosen, and no other record.
-        ensures page { IfOk result (λ o. R.clean archive.new → (a : Archive) → R.stands archive.old a
-            → IsTurn None (choice_view self.old.choice.now) a self.old.from (page_view o) self.new.from) }
+        ensures page { IfOk result (λ o. R.clean archive.new → (a : Archive)
+            → R.stands archive.old a → IsTurn None (choice_view self.old.choice.now) a
+            self.old.from (page_view o) self.new.from) }
         ensures same { self.new.choice.now ≡ self.old.choice.now }
     {
         let Some(from) = self.from else {
