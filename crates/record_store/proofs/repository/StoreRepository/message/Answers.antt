@@ -1,3 +1,4 @@
+use Rattle.std.proofs.Common.{rules}
 use Rattle.record_store.proofs.RepositoryLemmas.{told_stands, told_answers}
 use Rattle.record_store.proofs.repository.StoreRepository.message.Goals as goal
 
