@@ -256,6 +256,9 @@ fn take_timed<A: Records>(
         Ok(mail) => mail,
         Err(error) => return (archive, Err(maildir_failure(rt, job.maildir, error))),
     };
+    if !mail.names.is_empty() {
+        job.log.tell_unused(&job.filing);
+    }
     let since = match time_now(rt) {
         Ok(since) => since,
         Err(failure) => return (archive, Err(failure)),
@@ -315,7 +318,7 @@ fn judge_maildir(rt: &HostRuntime, maildir: &str) -> Result<(), Failure> {
 }
 
 impl<'a> Intake<'a> {
-    /// A Maildir, how its messages are filed, and what is said of them; unused scripts are told of. `Usage` where their moment is named and has not come; `NoInput` where
+    /// A Maildir, how its messages are filed, and what is said of them. `Usage` where their moment is named and has not come; `NoInput` where
     /// there is no Maildir. It may be done later, `TryAgain`, where the clock is not in the years 1970 to 2199, where the
     /// Maildir cannot be looked at, or where rules are at fault and mail is not to go to `unfiled` then.
     pub fn read(
@@ -326,14 +329,10 @@ impl<'a> Intake<'a> {
     ) -> Result<Intake<'a>, Failure> {
         let timing = Timing::new(rt, filing.moment)?;
         judge_maildir(rt, maildir)?;
-        let filing = FilingRules::read(rt, filing)?;
-        if !telling.is_quiet {
-            filing.tell_unused(rt);
-        }
         Ok(Intake {
             maildir,
             timing,
-            filing,
+            filing: FilingRules::read(rt, filing)?,
             log: IntakeLog::new(rt, telling),
         })
     }

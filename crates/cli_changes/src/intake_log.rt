@@ -1,8 +1,9 @@
 //! What an intake says of its messages.
 
 use crate::deliver::{report_capture, tell_fault};
+use crate::rules::FilingRules;
 use crate::time_of_day::time_now;
-use cli_console::{tell, tell_words};
+use cli_console::{tell, tell_words, write_text};
 use command_lines::archives::Telling;
 use desk_commands::Capture;
 use std::alloc::AllocError;
@@ -43,6 +44,7 @@ pub struct IntakeLog<'a> {
 }
 
 impl<'a> IntakeLog<'a> {
+    /// Where an intake says it as it is asked to.
     pub fn new(rt: &'a HostRuntime, telling: Telling) -> IntakeLog<'a> {
         IntakeLog { rt, telling }
     }
@@ -69,7 +71,10 @@ impl<'a> IntakeLog<'a> {
     pub fn name_one<T: Display>(&self, name: &str, reason: &T) {
         match self.stays_text(name, reason) {
             Ok(text) => tell(self.rt, &text),
-            Err(_) => tell_words(self.rt, "a message stays, and there is no memory to name it"),
+            Err(_) => tell_words(
+                self.rt,
+                "a message stays, and there is no memory to name it",
+            ),
         }
     }
 
@@ -102,6 +107,13 @@ impl<'a> IntakeLog<'a> {
         }
     }
 
+    /// Tells of scripts that are not used, unless it is quiet.
+    pub fn tell_unused(&self, filing: &FilingRules<'_>) {
+        if !self.telling.is_quiet {
+            filing.tell_unused(self.rt);
+        }
+    }
+
     /// Shows on a terminal how far the intake is.
     pub fn show_progress(&self, tally: &Tally) {
         if tally.filed % STEP == 0 && !self.telling.is_quiet && self.rt.stderr().is_terminal() {
@@ -125,22 +137,24 @@ impl<'a> IntakeLog<'a> {
         }
     }
 
-    /// What became of all messages, and since when, in one line.
+    /// What became of all messages, and since when, as a line.
     fn summary(&self, tally: &Tally, since: &Shown) -> Result<Shown, AllocError> {
         let mut text = self.line()?;
         put!(text;
             "taken " value(&tally.filed) ", stay " value(&tally.staying()) ", since " text(since))?;
+        text.end_line()?;
         Ok(text)
     }
 
-    /// Tells what became of all messages, and since when, unless it is quiet or there were none.
-    fn tell_summary(&self, tally: &Tally, since: &Shown) {
+    /// Writes what became of all messages, and since when, unless it is quiet or there were none. All is done then, so
+    /// whatever happens to the line is no failure.
+    fn write_summary(&self, tally: &Tally, since: &Shown) {
         let is_of_none = tally.filed == 0 && tally.staying() == 0;
         if self.telling.is_quiet || is_of_none {
             return;
         }
         if let Ok(text) = self.summary(tally, since) {
-            tell(self.rt, &text);
+            let _ = write_text(self.rt, &text);
         }
     }
 
@@ -149,6 +163,6 @@ impl<'a> IntakeLog<'a> {
         if tally.nameless > 0 {
             self.tell_nameless(tally.nameless);
         }
-        self.tell_summary(tally, since);
+        self.write_summary(tally, since);
     }
 }

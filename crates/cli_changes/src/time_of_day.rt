@@ -6,7 +6,9 @@ use tool_texts::{Shown, put};
 
 /// The seconds of a day, of an hour and of a minute.
 const DAY: u64 = 86_400;
+
 const HOUR: u64 = 3_600;
+
 const MINUTE: u64 = 60;
 
 /// Adds a number of two digits.

@@ -61,7 +61,12 @@ impl Folder<'_> {
     }
 
     /// The path of a script of a location.
-    fn path(&self, alloc: Global, name: &[u8], is_global: bool) -> Result<Option<String>, AllocError> {
+    fn path(
+        &self,
+        alloc: Global,
+        name: &[u8],
+        is_global: bool,
+    ) -> Result<Option<String>, AllocError> {
         let folder = if is_global { &self.global } else { &self.own };
         path_in(alloc, folder.as_str(), name)
     }

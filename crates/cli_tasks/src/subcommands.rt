@@ -5,8 +5,9 @@ use crate::copy::{Paths, copy_to};
 use crate::drafts::make;
 use class_plan::Date;
 use cli_changes::{
-    FilingRules, Intake, Timing, change_holds, check_rules, day_of_disposal, deliver_to, dispose_by,
-    read_message, read_plan, replace_plan, report_delivery, take_new, undecoded_in, write_plan,
+    FilingRules, Intake, Timing, change_holds, check_rules, day_of_disposal, deliver_to,
+    dispose_by, read_message, read_plan, replace_plan, report_delivery, take_new, undecoded_in,
+    write_plan,
 };
 use cli_choice::{Change, Questions};
 use cli_console::{Failure, day_or_today};

@@ -9,11 +9,7 @@ use tool_texts::{Shown, put};
 /// Finds that words are domains.
 fn judge_domains(alloc: Global, domains: &[&str]) -> Result<(), Failure> {
     match domains.iter().find(|domain| !is_domain(domain.as_bytes())) {
-        Some(domain) => Err(Failure::at(
-            alloc,
-            *domain,
-            &"not a domain, as records.example.org",
-        )),
+        Some(domain) => Err(Failure::at(alloc, *domain, &"not a domain, as records.example.org")),
         None => Ok(()),
     }
 }
