@@ -76,11 +76,18 @@ fn is_of_domain(octet: u8) -> bool
     octet.is_ascii_alphanumeric() || octet == b'.' || octet == b'-'
 }
 
+/// Whether all octets are of a domain.
+fn are_of_domain(word: &[u8]) -> bool
+    ensures { result ≡ list_all is_domain_octet word.now }
+{
+    word.iter().all(|octet| is_of_domain(*octet))
+}
+
 /// Whether a word is a domain of letters, digits, dots and hyphens (RFC 1123, section 2.1), of which it has one or more.
 pub fn is_domain(word: &[u8]) -> bool
     ensures { result ≡ is_name_of_domain word.now }
 {
-    !word.is_empty() && word.iter().all(|octet| is_of_domain(*octet))
+    !word.is_empty() && are_of_domain(word)
 }
 
 /// The path of a script in a folder, by its name; none where no file can have it.
