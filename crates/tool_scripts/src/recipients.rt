@@ -28,7 +28,8 @@ fn write_officer(rt: &HostRuntime, officer: &str, domains: &[&str]) -> Result<()
 fn left_out(alloc: Global, officer: &str) -> Result<Shown, AllocError> {
     let mut text = Shown::new(alloc);
     put!(text; named(officer.as_bytes())
-        ": left out, since Postfix has recipients of small letters, digits, dots, hyphens, _ and = alone")?;
+        ": left out, since Postfix has recipients of small letters, digits, dots, hyphens, "
+        "_ and = alone")?;
     Ok(text)
 }
 
