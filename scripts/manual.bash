@@ -6,7 +6,7 @@
 
 # The options and subcommands that the help of a program or subcommand lists.
 listed_in_help() {
-    "$@" --help | sed -n -E 's/^ +(-[a-zA-Z], )?(--[a-z-]+|-[a-zA-Z]|[a-z]+)( .*|$)/\2/p' | grep -v -x -E -e 'help|--help|--version'
+    "$@" --help | sed -n -E 's/^ {2,6}(-[a-zA-Z], )?(--[a-z-]+|-[a-zA-Z]|[a-z]+)( .*|$)/\2/p' | grep -v -x -E -e 'help|--help|--version'
 }
 
 # The subcommands of a program.

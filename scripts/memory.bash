@@ -234,9 +234,10 @@ try_delivery() {
     fi
 }
 
-# Takes the Maildir over.
+# Takes the Maildir over. The time at which that began is left out of what it says.
 take_mail() {
     run_keeper "$1" intake ann "$here/Maildir"
+    sed -i 's/^\(taken .*\), since .*/\1/' -- "$here/said"
 }
 
 # Whether each message of the Maildir is in one of its folders, as it was. Sets `moved` to how many are in `cur`.

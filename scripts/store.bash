@@ -225,7 +225,7 @@ takes_nothing_in_the_place_of_a_message() {
     for command in puts_a_pipe puts_a_link; do
         archive_after maildir "$here" && meanwhile openat "$here/Maildir/new/a" "$command" \
             intake --store "$here/records.db" --rules "$here/rules" ann "$here/Maildir" || return
-        ((status == 65)) && [[ $(< "$work/error") == 'mailfile-store: a stays: not a regular file' && $(wc -l < "$work/said") -eq 3 ]] ||
+        ((status == 65)) && [[ $(< "$work/error") == 'mailfile-store: a stays: not a regular file' && $(wc -l < "$work/said") -eq 4 ]] ||
             shows_run || return
     done
 }

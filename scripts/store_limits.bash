@@ -91,7 +91,7 @@ delivers_up_to_the_limit() {
 # Whether an intake captures such a message, and the other one stays.
 takes_over_up_to_the_limit() {
     run intake --store "$here/store" --rules "$1/rules" ann "$1/Maildir"
-    ((status == 65)) && [[ $(< "$work/said") == 'at: record 4 class finance due never' ]] &&
+    ((status == 65)) && [[ $(< "$work/said") == $'at: record 4 class finance due never\ntaken 1, stay 1, since '* ]] &&
         [[ $(wc -l < "$work/error") -eq 1 && $(< "$work/error") == 'mailfile-store: over stays: '* ]] || shows_run || return
     cmp -- "$1/over" "$1/Maildir/new/over" && cmp -- "$1/mail/3" "$1/Maildir/cur/at:2," &&
         over show 4 && cmp -- "$1/mail/3" "$work/said" && over_refuses 65 '5: 80: ' show 5

@@ -31,10 +31,10 @@ fn text_of(fault: RunFault) -> &'static str {
     fault_text(fault.number()).unwrap_or("the run ended with a fault")
 }
 
-/// The fault of a run in words.
-fn fault_words(alloc: Global, fault: RunFault) -> Result<Shown, AllocError> {
+/// The fault of a run in words, after a text.
+fn fault_words(alloc: Global, before: &Shown, fault: RunFault) -> Result<Shown, AllocError> {
     let mut text = Shown::new(alloc);
-    put!(text; "fault " value(&fault.number()) ": " words(text_of(fault)))?;
+    put!(text; text(before) "fault " value(&fault.number()) ": " words(text_of(fault)))?;
     Ok(text)
 }
 
@@ -113,6 +113,15 @@ fn tell_lines(rt: &HostRuntime, before: &Shown, lines: &[Shown]) {
     }
 }
 
+/// Tells of the fault with which the run over a captured message ended, if it did.
+pub fn tell_fault(rt: &HostRuntime, before: &Shown, capture: &Capture) {
+    if let Some(fault) = capture.fault {
+        if let Ok(words) = fault_words(rt.alloc(), before, fault) {
+            tell(rt, &words);
+        }
+    }
+}
+
 /// Reports a capture, with what is told of its undecoded words. It is made, so whatever happens to the report is no
 /// failure.
 pub fn report_capture(rt: &HostRuntime, before: &Shown, capture: &Capture, undecoded: &[Shown]) {
@@ -121,11 +130,7 @@ pub fn report_capture(rt: &HostRuntime, before: &Shown, capture: &Capture, undec
     }
     tell_due(rt, before, capture);
     tell_lines(rt, before, undecoded);
-    if let Some(fault) = capture.fault {
-        if let Ok(words) = fault_words(rt.alloc(), fault) {
-            tell(rt, &words);
-        }
-    }
+    tell_fault(rt, before, capture);
 }
 
 /// The message on standard input. `BadData` with the number of one that is too long; where it cannot be read it may be

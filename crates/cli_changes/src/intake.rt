@@ -1,27 +1,25 @@
 //! `intake`: the new messages of a Maildir.
 
-use crate::deliver::{desk_failure, given_up_words, report_capture, undecoded_in};
+use crate::deliver::{desk_failure, given_up_words, undecoded_in};
+use crate::intake_log::{IntakeLog, Tally};
 use crate::moments::Timing;
 use crate::rules::FilingRules;
 use crate::time_limit::{TimeLimit, too_slow_reason};
-use cli_console::{Failure, Status, tell, tell_words};
+use crate::time_of_day::time_now;
+use cli_console::{Failure, Status};
 use cli_sources::maildir::{
     NewMail, has_cur, is_in_cur, move_to_cur, new_mail, new_path, settle, try_move,
 };
 use cli_sources::payload_of_no_link;
-use command_lines::archives::Filing;
-use desk_commands::{Capture, DeskFault, MAX_MESSAGE_OCTETS, Payload};
+use command_lines::archives::{Filing, Telling};
+use desk_commands::{DeskFault, MAX_MESSAGE_OCTETS, Payload};
 use filing_desk::{Delivery, Desk, deliver};
 use record_archive::Records;
 use record_store::Store;
 use sqlite::Alter;
-use std::alloc::{AllocError, Global};
-use std::fmt::Display;
-use std::io::{self, IsTerminal};
-use tool_texts::{Shown, put};
-
-/// After how many messages progress is shown.
-const STEP: u64 = 100;
+use std::alloc::AllocError;
+use std::io;
+use tool_texts::Shown;
 
 /// What became of a message.
 #[derive(Clone, Copy)]
@@ -38,56 +36,41 @@ enum Taken {
 #[derive(Clone, Copy)]
 struct Run {
     timing: Timing,
-    filed: u64,
-    stay: u64,
-    given_up: u64,
+    tally: Tally,
 }
 
 impl Run {
     fn add(&mut self, taken: Taken) {
+        let tally = &mut self.tally;
         match taken {
-            Taken::Filed => self.filed = self.filed.saturating_add(1),
-            Taken::Stays => self.stay = self.stay.saturating_add(1),
-            Taken::GivenUp => self.given_up = self.given_up.saturating_add(1),
+            Taken::Filed => tally.filed = tally.filed.saturating_add(1),
+            Taken::Stays => tally.stay = tally.stay.saturating_add(1),
+            Taken::GivenUp => tally.given_up = tally.given_up.saturating_add(1),
         }
     }
 }
 
-/// A Maildir, and how its messages are filed.
+/// A Maildir, how its messages are filed, and what is said of them.
 #[derive(Drop)]
 pub struct Intake<'a> {
     maildir: &'a str,
     timing: Timing,
     filing: FilingRules<'a>,
-}
-
-/// What is told of a message that stays.
-fn stays_text<T: Display>(alloc: Global, name: &str, reason: &T) -> Result<Shown, AllocError> {
-    let mut text = Shown::new(alloc);
-    put!(text; named(name.as_bytes()) " stays: " value(reason))?;
-    Ok(text)
-}
-
-/// Names a message that stays, with the reason. Without memory for that, it is only said that one stays.
-fn name_one<T: Display>(rt: &HostRuntime, name: &str, reason: &T) {
-    match stays_text(rt.alloc(), name, reason) {
-        Ok(text) => tell(rt, &text),
-        Err(_) => tell_words(rt, "a message stays, and there is no memory to name it"),
-    }
+    log: IntakeLog<'a>,
 }
 
 /// Names a message that stays for want of memory.
-fn give_up(rt: &HostRuntime, name: &str) -> Taken {
-    name_one(rt, name, &"out of memory");
+fn give_up(log: &IntakeLog<'_>, name: &str) -> Taken {
+    log.name_one(name, &"out of memory");
     Taken::GivenUp
 }
 
 /// Names a message that stays since its file cannot be had.
-fn name_unread(rt: &HostRuntime, name: &str, error: io::Error) -> Taken {
+fn name_unread(log: &IntakeLog<'_>, name: &str, error: io::Error) -> Taken {
     if let io::ErrorKind::OutOfMemory = error.kind() {
-        return give_up(rt, name);
+        return give_up(log, name);
     }
-    name_one(rt, name, &error);
+    log.name_one(name, &error);
     Taken::Stays
 }
 
@@ -102,70 +85,47 @@ fn maildir_failure(rt: &HostRuntime, maildir: &str, error: io::Error) -> Failure
 }
 
 /// Finds that a message can be moved to `cur`. Where it cannot, that is reported.
-fn judge_name(rt: &HostRuntime, maildir: &str, name: &str) -> Result<(), Taken> {
-    match is_in_cur(rt, maildir, name) {
+fn judge_name(rt: &HostRuntime, job: &Intake<'_>, name: &str) -> Result<(), Taken> {
+    match is_in_cur(rt, job.maildir, name) {
         Ok(false) => Ok(()),
         Ok(true) => {
-            name_one(rt, name, &"cur has a message of this name");
+            job.log.name_one(name, &"cur has a message of this name");
             Err(Taken::Stays)
         }
-        Err(error) => Err(name_unread(rt, name, error)),
+        Err(error) => Err(name_unread(&job.log, name, error)),
     }
 }
 
 /// The octets of a message. Where it stays, that is reported.
-fn read_message(rt: &HostRuntime, maildir: &str, name: &str) -> Result<Payload, Taken> {
-    let path = new_path(rt.alloc(), maildir, name).map_err(|_| give_up(rt, name))?;
-    judge_name(rt, maildir, name)?;
+fn read_message(rt: &HostRuntime, job: &Intake<'_>, name: &str) -> Result<Payload, Taken> {
+    let path = new_path(rt.alloc(), job.maildir, name).map_err(|_| give_up(&job.log, name))?;
+    judge_name(rt, job, name)?;
     match payload_of_no_link(rt, path.as_str(), MAX_MESSAGE_OCTETS) {
         Ok(Payload::TooLong) => {
-            name_one(rt, name, &"more than 8,388,608 octets");
+            job.log.name_one(name, &"more than 8,388,608 octets");
             Err(Taken::Stays)
         }
         Ok(message) => Ok(message),
-        Err(error) => Err(name_unread(rt, name, error)),
+        Err(error) => Err(name_unread(&job.log, name, error)),
     }
-}
-
-/// The name of a message before what is said of it.
-fn name_before(alloc: Global, name: &str) -> Result<Shown, AllocError> {
-    let mut text = Shown::new(alloc);
-    put!(text; named(name.as_bytes()) ": ")?;
-    Ok(text)
-}
-
-/// Reports a capture, each line after the name of its message, as far as there is memory for that.
-fn report_named(rt: &HostRuntime, name: &str, capture: &Capture, undecoded: &[Shown]) {
-    if let Ok(before) = name_before(rt.alloc(), name) {
-        report_capture(rt, &before, capture, undecoded);
-    }
-}
-
-/// What is told of a message that is captured and could not be moved.
-fn not_moved(alloc: Global, name: &str, error: &io::Error) -> Result<Shown, AllocError> {
-    let mut text = Shown::new(alloc);
-    put!(text; named(name.as_bytes())
-        " is captured, but still in new, where the next intake would capture it again: "
-        value(error))?;
-    Ok(text)
 }
 
 /// Moves a message that is captured.
-fn file_away(rt: &HostRuntime, maildir: &str, name: &str) -> Result<Taken, Failure> {
-    let Err(error) = move_to_cur(rt, maildir, name) else {
+fn file_away(rt: &HostRuntime, job: &Intake<'_>, name: &str) -> Result<Taken, Failure> {
+    let Err(error) = move_to_cur(rt, job.maildir, name) else {
         return Ok(Taken::Filed);
     };
-    Err(Failure::shown(Status::TryAgain, not_moved(rt.alloc(), name, &error)))
+    Err(Failure::shown(Status::TryAgain, job.log.not_moved(name, &error)))
 }
 
 /// Names a message that is given up, with a reason that was just put into words, if there was memory for them.
-fn name_given_up(rt: &HostRuntime, name: &str, reason: Result<Shown, AllocError>) -> Taken {
+fn name_given_up(log: &IntakeLog<'_>, name: &str, reason: Result<Shown, AllocError>) -> Taken {
     match reason {
         Ok(words) => {
-            name_one(rt, name, &words);
+            log.name_one(name, &words);
             Taken::GivenUp
         }
-        Err(AllocError) => give_up(rt, name),
+        Err(AllocError) => give_up(log, name),
     }
 }
 
@@ -177,7 +137,7 @@ fn take_one<A: Records>(
     run: &mut Run,
     name: &str,
 ) -> Result<Taken, Failure> {
-    let message = match read_message(rt, job.maildir, name) {
+    let message = match read_message(rt, job, name) {
         Ok(message) => message,
         Err(taken) => return Ok(taken),
     };
@@ -188,25 +148,18 @@ fn take_one<A: Records>(
     let mut time = TimeLimit::from_now(rt, filing.limit)?;
     match deliver(desk, officer, moment, message, filing.on_fault, &mut time) {
         Ok(Delivery::Captured(capture)) => {
-            report_named(rt, name, &capture, undecoded.as_slice());
-            file_away(rt, job.maildir, name)
+            job.log.report(name, &capture, undecoded.as_slice());
+            file_away(rt, job, name)
         }
         Ok(Delivery::GivenUp(fault)) => {
-            Ok(name_given_up(rt, name, given_up_words(rt.alloc(), fault)))
+            Ok(name_given_up(&job.log, name, given_up_words(rt.alloc(), fault)))
         }
         Ok(Delivery::OutOfTime) => {
-            Ok(name_given_up(rt, name, too_slow_reason(rt.alloc(), filing.limit)))
+            let reason = too_slow_reason(rt.alloc(), filing.limit);
+            Ok(name_given_up(&job.log, name, reason))
         }
-        Err(DeskFault::NoMemory) => Ok(give_up(rt, name)),
+        Err(DeskFault::NoMemory) => Ok(give_up(&job.log, name)),
         Err(fault) => Err(desk_failure(rt.alloc(), name, fault)),
-    }
-}
-
-/// Shows on a terminal how far the intake is.
-fn show_progress(rt: &HostRuntime, run: &Run) {
-    if run.filed % STEP == 0 && rt.stderr().is_terminal() {
-        let filed = run.filed;
-        let _ = eprint!(rt; "\r{filed} messages");
     }
 }
 
@@ -223,7 +176,7 @@ fn take_with<A: Records>(
         let taken = take_one(rt, desk, job, run, name.as_str())?;
         run.add(taken);
         done = done.saturating_add(1);
-        show_progress(rt, run);
+        job.log.show_progress(&run.tally);
         if let Taken::GivenUp = taken {
             break;
         }
@@ -272,31 +225,12 @@ fn take_all<A: Records>(
     (archive, Ok(()))
 }
 
-/// What is told of messages whose names are no UTF-8.
-fn nameless_text(alloc: Global, count: usize) -> Result<Shown, AllocError> {
-    let mut text = Shown::new(alloc);
-    put!(text; "messages that stay, since their names are no UTF-8: " value(&count))?;
-    Ok(text)
-}
-
-/// Tells how many messages stay, since their names are no UTF-8.
-fn tell_nameless(rt: &HostRuntime, count: usize) {
-    match nameless_text(rt.alloc(), count) {
-        Ok(text) => tell(rt, &text),
-        Err(_) => tell_words(rt, "messages stay whose names are no UTF-8"),
-    }
-}
-
 /// The status of an intake that came to its end.
-fn end(rt: &HostRuntime, run: &Run, nameless: usize) -> Result<(), Failure> {
-    let (stay, given_up) = (run.stay, run.given_up);
-    if nameless > 0 {
-        tell_nameless(rt, nameless);
-    }
-    if given_up > 0 {
+fn end(tally: &Tally) -> Result<(), Failure> {
+    if tally.given_up > 0 {
         return Err(Failure::Reported(Status::TryAgain));
     }
-    if stay > 0 || nameless > 0 {
+    if tally.staying() > 0 {
         return Err(Failure::Reported(Status::BadData));
     }
     Ok(())
@@ -322,18 +256,31 @@ fn take_timed<A: Records>(
         Ok(mail) => mail,
         Err(error) => return (archive, Err(maildir_failure(rt, job.maildir, error))),
     };
+    if !mail.names.is_empty() {
+        job.log.tell_unused(&job.filing);
+    }
+    let since = match time_now(rt) {
+        Ok(since) => since,
+        Err(failure) => return (archive, Err(failure)),
+    };
     let mut run = Run {
         timing,
-        filed: 0,
-        stay: 0,
-        given_up: 0,
+        tally: Tally {
+            filed: 0,
+            stay: 0,
+            given_up: 0,
+            nameless: mail.nameless,
+        },
     };
     let (archive, taken) = take_all(rt, archive, job, mail.names.as_slice(), &mut run);
     let settled = settle(rt, job.maildir);
     let ended = match (taken, settled) {
         (Err(failure), _) => Err(failure),
         (Ok(()), Err(error)) => Err(maildir_failure(rt, job.maildir, error)),
-        (Ok(()), Ok(())) => end(rt, &run, mail.nameless),
+        (Ok(()), Ok(())) => {
+            job.log.close(&run.tally, &since);
+            end(&run.tally)
+        }
     };
     (archive, ended)
 }
@@ -371,13 +318,14 @@ fn judge_maildir(rt: &HostRuntime, maildir: &str) -> Result<(), Failure> {
 }
 
 impl<'a> Intake<'a> {
-    /// A Maildir, and how its messages are filed. `Usage` where their moment is named and has not come; `NoInput` where
+    /// A Maildir, how its messages are filed, and what is said of them. `Usage` where their moment is named and has not come; `NoInput` where
     /// there is no Maildir. It may be done later, `TryAgain`, where the clock is not in the years 1970 to 2199, where the
     /// Maildir cannot be looked at, or where rules are at fault and mail is not to go to `unfiled` then.
     pub fn read(
-        rt: &HostRuntime,
+        rt: &'a HostRuntime,
         maildir: &'a str,
         filing: &Filing<'a>,
+        telling: Telling,
     ) -> Result<Intake<'a>, Failure> {
         let timing = Timing::new(rt, filing.moment)?;
         judge_maildir(rt, maildir)?;
@@ -385,6 +333,7 @@ impl<'a> Intake<'a> {
             maildir,
             timing,
             filing: FilingRules::read(rt, filing)?,
+            log: IntakeLog::new(rt, telling),
         })
     }
 }

@@ -1,9 +1,9 @@
 //! What `mailfile-store` changes in an archive, for each of its subcommands that do.
 //!
 //! - `plan`: the plan, and another one in its place; `plan_file`: a plan that is read from a file;
-//! - `rules`: the rules by which mail is filed;
-//! - `moments`: when mail is captured; `time_limit`: how long the work on a message may take;
-//! - `deliver` and `intake`: one message, and those of a Maildir;
+//! - `rules`: the rules by which mail is filed; `rule_checks`: whether they are good;
+//! - `moments`: when mail is captured; `time_limit`: how long the work on a message may take; `time_of_day`: that of a log;
+//! - `deliver` and `intake`: one message, and those of a Maildir; `intake_log`: what is said of these;
 //! - `holds` and `dispose`: records that must not be destroyed, and the destruction of what is due.
 //!
 //! Each works on a store that is lent to it. What it writes, and what a Maildir or a terminal does, no contract speaks of:
@@ -14,11 +14,14 @@ mod deliver;
 mod dispose;
 mod holds;
 mod intake;
+mod intake_log;
 mod moments;
 mod plan;
 mod plan_file;
+mod rule_checks;
 mod rules;
 mod time_limit;
+mod time_of_day;
 
 pub use deliver::{deliver_to, read_message, report_delivery, undecoded_in};
 pub use dispose::{day_of_disposal, dispose_by};
@@ -27,4 +30,5 @@ pub use intake::{Intake, take_new};
 pub use moments::{MomentFault, Timing, judge_moment};
 pub use plan::{replace_plan, write_plan};
 pub use plan_file::read_plan;
+pub use rule_checks::check_rules;
 pub use rules::FilingRules;

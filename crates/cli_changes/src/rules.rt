@@ -5,6 +5,8 @@ use cli_sources::{Rules, RulesFault, read_rules, set_rules};
 use command_lines::archives::Filing;
 use filing_desk::{Desk, OnFault};
 use record_archive::Records;
+use std::alloc::{AllocError, Global};
+use tool_texts::{Shown, put};
 
 /// How mail is filed.
 #[derive(Drop)]
@@ -32,6 +34,14 @@ fn excuse(rt: &HostRuntime, fault: &RulesFault, on_fault: OnFault) -> Result<(),
     }
 }
 
+/// What is told of a script that an officer's program does not reach.
+fn unused_words(alloc: Global, path: &str, main: &str) -> Result<Shown, AllocError> {
+    let mut text = Shown::new(alloc);
+    put!(text;
+        named(path.as_bytes()) ": warning: " named(main.as_bytes()) " does not reach this script")?;
+    Ok(text)
+}
+
 impl<'a> FilingRules<'a> {
     /// The rules of a folder. Where they cannot be had it may be done later, `TryAgain`; where they are at fault, that is
     /// no failure if mail may go to `unfiled` then.
@@ -55,6 +65,18 @@ impl<'a> FilingRules<'a> {
             limit: asked.limit,
             rules,
         })
+    }
+
+    /// Tells of each script of the officer that the program does not reach.
+    pub fn tell_unused(&self, rt: &HostRuntime) {
+        let Some(rules) = &self.rules else {
+            return;
+        };
+        for path in &rules.unused {
+            if let Ok(words) = unused_words(rt.alloc(), path.as_str(), rules.main.as_str()) {
+                tell(rt, &words);
+            }
+        }
     }
 
     /// Sets the rules at a desk.

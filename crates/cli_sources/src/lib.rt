@@ -2,8 +2,7 @@
 //!
 //! - `payloads`: what a file or a stream has, up to a limit;
 //! - `maildir`: the folders of a Maildir;
-//! - `reading`: the rules of an officer, from a folder of Sieve scripts: `OFFICER/NAME.sieve` is a script of an officer, and
-//!   `global/NAME.sieve` one that every officer's scripts can include. An officer's program is `OFFICER/main.sieve`;
+//! - `reading`: the rules of an officer: the program, and the scripts that it reaches by its includes;
 //! - `setting`: these scripts as the rules of a registry;
 //! - `fault`: why an officer has no rules.
 #![tactic(auto)]

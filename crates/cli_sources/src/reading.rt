@@ -1,18 +1,15 @@
-//! The scripts of an officer, from the folder of all rules.
+//! The scripts of an officer that the officer's program reaches, from the folder of all rules.
 
 use crate::fault::RulesFault;
 use crate::payloads::payload_of_file;
 use desk_commands::{MAX_SCRIPT_OCTETS, Payload};
-use session_words::is_name;
+use rule_folders::{
+    Found, GLOBAL, Included, MAIN, Reached, Script as ReachedScript, Scripts, is_officer, path_in,
+    script_in,
+};
 use sieve_library::MAX_SCRIPTS;
-use std::alloc::Global;
-use std::fs;
-
-/// What the name of a script's file ends with.
-const ENDING: &str = ".sieve";
-
-/// The folder of the scripts that every officer's scripts can include.
-const GLOBAL: &str = "global";
+use std::alloc::{AllocError, Global};
+use std::{fs, io, str};
 
 /// A script of a folder.
 #[derive(Drop)]
@@ -24,92 +21,200 @@ pub struct Script {
     pub text: Payload,
 }
 
-/// The rules of an officer. Of a folder with more scripts than a location may have, they have the first ones up to the one
-/// that is too many.
+/// The rules of an officer: the scripts that the officer's program reaches by its includes. Of more scripts than a
+/// location may have, they have the first ones up to the one that is too many.
 #[derive(Drop)]
 pub struct Rules {
     pub officer: String,
-    /// The officer's own scripts, in the byte order of their names.
+    /// The officer's own scripts that are reached, the program first.
     pub scripts: Vec<Script>,
-    /// The scripts that all officers' scripts can include, in the byte order of their names.
+    /// The scripts for all officers that are reached.
     pub globals: Vec<Script>,
+    /// The path of the program.
+    pub main: String,
+    /// The paths of the officer's own scripts that are not reached, in byte order. They are not read.
+    pub unused: Vec<String>,
 }
 
-/// Whether a word is an officer's name that can be the name of a folder.
-fn is_officer(word: &str) -> bool {
-    is_name(word.as_bytes()) && !word.contains('/') && !word.starts_with('.') && word != GLOBAL
+/// The folder of an officer's rules, from which scripts are read one at a time.
+#[derive(Drop)]
+struct Folder<'a> {
+    rt: &'a HostRuntime,
+    /// The path of the officer's own scripts, and of those for all officers.
+    own: String,
+    global: String,
+    /// How many scripts of each were read.
+    own_count: usize,
+    global_count: usize,
 }
 
-/// The names of the scripts in a folder, in byte order.
-fn script_names(rt: &HostRuntime, folder: &str) -> Result<Vec<String>, RulesFault> {
-    let alloc = rt.alloc();
-    let entries = fs::read_dir(rt, folder).map_err(|error| RulesFault::unreadable(
-        alloc, folder, error,
-    ))?;
-    let mut names = Vec::new(alloc);
-    for entry in entries {
-        let entry = entry.map_err(|error| RulesFault::unreadable(alloc, folder, error))?;
-        if let Some(name) = entry.file_name().strip_suffix(ENDING) {
-            names.push(String::from_str(alloc, name)?)?;
+impl Folder<'_> {
+    /// Takes into account that a script is read; false where its location has more than it may already.
+    fn count(&mut self, is_global: bool) -> bool {
+        let count = if is_global {
+            &mut self.global_count
+        } else {
+            &mut self.own_count
+        };
+        *count = count.saturating_add(1);
+        *count <= MAX_SCRIPTS + 1
+    }
+
+    /// The path of a script of a location.
+    fn path(
+        &self,
+        alloc: Global,
+        name: &[u8],
+        is_global: bool,
+    ) -> Result<Option<String>, AllocError> {
+        let folder = if is_global { &self.global } else { &self.own };
+        path_in(alloc, folder.as_str(), name)
+    }
+}
+
+/// What a payload has as a script.
+fn found_in(payload: Payload) -> Result<Found, RulesFault> {
+    match payload {
+        Payload::Whole(text) => Ok(Found::Text(text)),
+        Payload::TooLong => Ok(Found::TooLong),
+        Payload::NoMemory => Err(RulesFault::NoMemory),
+    }
+}
+
+impl Scripts for Folder<'_> {
+    type Fault = RulesFault;
+
+    fn no_memory(&self) -> RulesFault {
+        RulesFault::NoMemory
+    }
+
+    fn path_of(&self, alloc: Global, included: &Included) -> Result<Option<String>, AllocError> {
+        self.path(alloc, included.name.as_slice(), included.is_global)
+    }
+
+    /// A script that is not there is no fault: the include of it is one, when it runs.
+    fn read(&mut self, path: &str, is_global: bool) -> Result<Found, RulesFault> {
+        match payload_of_file(self.rt, path, MAX_SCRIPT_OCTETS) {
+            Ok(_) if !self.count(is_global) => Ok(Found::Nothing),
+            Ok(payload) => found_in(payload),
+            Err(error) if error.kind() == io::ErrorKind::NotFound => Ok(Found::Nothing),
+            Err(error) => Err(RulesFault::unreadable(self.rt.alloc(), path, error)),
         }
     }
-    names.sort()?;
-    Ok(names)
 }
 
-/// The script of a name in a folder.
-fn read_script(rt: &HostRuntime, folder: &str, name: &str) -> Result<Script, RulesFault> {
-    let alloc = rt.alloc();
-    let path = format!(in alloc; "{folder}/{name}{ENDING}")?;
-    let text = payload_of_file(rt, path.as_str(), MAX_SCRIPT_OCTETS).map_err(
-        |error| RulesFault::unreadable(alloc, path.as_str(), error),
-    )?;
-    Ok(Script {
+/// The officer's program. Where it is not there, the fault names it, or the officer's folder if that is not there.
+fn read_program(folder: &mut Folder<'_>) -> Result<ReachedScript, RulesFault> {
+    let alloc = folder.rt.alloc();
+    let Some(path) = folder.path(alloc, MAIN.as_bytes(), false)? else {
+        return Err(RulesFault::Missing(String::from_str(alloc, MAIN)?));
+    };
+    let text = match folder.read(path.as_str(), false)? {
+        Found::Text(text) => Some(text),
+        Found::TooLong => None,
+        Found::Nothing if fs::exists(folder.rt, folder.own.as_str()).unwrap_or(true) => {
+            return Err(RulesFault::Missing(path));
+        }
+        Found::Nothing => {
+            return Err(RulesFault::Missing(String::from_str(alloc, folder.own.as_str())?));
+        }
+    };
+    Ok(ReachedScript {
         path,
-        name: String::from_str(alloc, name)?,
+        name: Vec::from_slice(alloc, MAIN.as_bytes())?,
+        is_global: false,
         text,
     })
 }
 
-/// The scripts of these names in a folder, up to the one that is too many for a location: with that one they are refused.
-fn read_scripts(
-    rt: &HostRuntime,
-    folder: &str,
-    names: &[String],
-) -> Result<Vec<Script>, RulesFault> {
-    let mut scripts = Vec::new(rt.alloc());
-    for name in names.iter().take(MAX_SCRIPTS + 1) {
-        scripts.push(read_script(rt, folder, name.as_str())?)?;
-    }
-    Ok(scripts)
+/// A script as it was read.
+fn script_of(alloc: Global, script: ReachedScript) -> Result<Script, AllocError> {
+    let name = str::from_utf8(script.name.as_slice()).unwrap_or("");
+    Ok(Script {
+        path: script.path,
+        name: String::from_str(alloc, name)?,
+        text: match script.text {
+            Some(text) => Payload::Whole(text),
+            None => Payload::TooLong,
+        },
+    })
 }
 
-/// The scripts that all officers' scripts can include; none where there is no such folder.
-fn read_globals(rt: &HostRuntime, folder: &str) -> Result<Vec<Script>, RulesFault> {
-    let globals = format!(in rt.alloc(); "{folder}/{GLOBAL}")?;
-    match fs::exists(rt, globals.as_str()) {
-        Ok(false) => Ok(Vec::new(rt.alloc())),
-        _ => {
-            let names = script_names(rt, globals.as_str())?;
-            read_scripts(rt, globals.as_str(), names.as_slice())
+/// Adds the path of a file of the officer's folder to those that are not used, where it is a script that is not reached.
+fn add_unused(
+    folder: &Folder<'_>,
+    reached: &Reached,
+    file: &str,
+    unused: &mut Vec<String>,
+) -> Result<(), AllocError> {
+    let Some(name) = script_in(file) else {
+        return Ok(());
+    };
+    match folder.path(folder.rt.alloc(), name.as_bytes(), false)? {
+        Some(path) if !reached.has(path.as_str()) => Ok(unused.push(path)?),
+        _ => Ok(()),
+    }
+}
+
+/// The paths of the officer's own scripts that are not reached; none where the folder cannot be listed.
+fn unused_in(folder: &Folder<'_>, reached: &Reached) -> Result<Vec<String>, AllocError> {
+    let mut unused = Vec::new(folder.rt.alloc());
+    let Ok(entries) = fs::read_dir(folder.rt, folder.own.as_str()) else {
+        return Ok(unused);
+    };
+    for entry in entries {
+        if let Ok(entry) = entry {
+            add_unused(folder, reached, entry.file_name(), &mut unused)?;
         }
     }
+    unused.sort()?;
+    Ok(unused)
 }
 
-/// The rules of an officer in a folder: its scripts, which have one named `main`, and the global ones.
-pub fn read_rules(rt: &HostRuntime, folder: &str, officer: &str) -> Result<Rules, RulesFault> {
-    let alloc: Global = rt.alloc();
-    if !is_officer(officer) {
-        return Err(RulesFault::bad_officer(alloc, officer));
-    }
-    let own = format!(in alloc; "{folder}/{officer}")?;
-    let names = script_names(rt, own.as_str())?;
-    if !names.iter().any(|name| name.as_str() == "main") {
-        return Err(RulesFault::Missing(format!(in alloc; "{folder}/{officer}/main.sieve")?));
+/// The rules that scripts are, which are reached.
+fn rules_of(
+    alloc: Global,
+    officer: &str,
+    reached: Reached,
+    unused: Vec<String>,
+) -> Result<Rules, AllocError> {
+    let main = String::from_str(alloc, reached.path(0))?;
+    let mut scripts = Vec::new(alloc);
+    let mut globals = Vec::new(alloc);
+    for script in reached.into_scripts() {
+        if script.is_global {
+            globals.push(script_of(alloc, script)?)?;
+        } else {
+            scripts.push(script_of(alloc, script)?)?;
+        }
     }
     Ok(Rules {
         officer: String::from_str(alloc, officer)?,
-        scripts: read_scripts(rt, own.as_str(), names.as_slice())?,
-        globals: read_globals(rt, folder)?,
+        scripts,
+        globals,
+        main,
+        unused,
     })
+}
+
+/// The rules of an officer in a folder: the program `OFFICER/main.sieve`, and the scripts that it reaches by its includes,
+/// of the officer and of `global`. Only these are read, and the names of the officer's other scripts.
+pub fn read_rules(rt: &HostRuntime, folder: &str, officer: &str) -> Result<Rules, RulesFault> {
+    let alloc = rt.alloc();
+    if !is_officer(officer.as_bytes()) {
+        return Err(RulesFault::bad_officer(alloc, officer));
+    }
+    let rules = folder.strip_suffix('/').unwrap_or(folder);
+    let mut folder = Folder {
+        rt,
+        own: format!(in alloc; "{rules}/{officer}")?,
+        global: format!(in alloc; "{rules}/{GLOBAL}")?,
+        own_count: 0,
+        global_count: 0,
+    };
+    let program = read_program(&mut folder)?;
+    let mut reached = Reached::alone(alloc, program)?;
+    let _edges = reached.follow(&mut folder)?;
+    let unused = unused_in(&folder, &reached)?;
+    Ok(rules_of(alloc, officer, reached, unused)?)
 }

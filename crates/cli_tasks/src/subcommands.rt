@@ -5,8 +5,9 @@ use crate::copy::{Paths, copy_to};
 use crate::drafts::make;
 use class_plan::Date;
 use cli_changes::{
-    FilingRules, Intake, Timing, change_holds, day_of_disposal, deliver_to, dispose_by,
-    read_message, read_plan, replace_plan, report_delivery, take_new, undecoded_in, write_plan,
+    FilingRules, Intake, Timing, change_holds, check_rules, day_of_disposal, deliver_to,
+    dispose_by, read_message, read_plan, replace_plan, report_delivery, take_new, undecoded_in,
+    write_plan,
 };
 use cli_choice::{Change, Questions};
 use cli_console::{Failure, day_or_today};
@@ -15,7 +16,8 @@ use cli_readings::{
     write_list, write_message, write_report, write_why,
 };
 use command_lines::archives::{
-    Choice, ChosenTask, Command, CommandLine, Disposal, Filing, TypedNumber, Why,
+    Choice, ChosenTask, Command, CommandLine, Disposal, Filing, RulesChecked, Telling, TypedNumber,
+    Why,
 };
 use desk_commands::Payload;
 use filing_desk::Delivery;
@@ -183,6 +185,23 @@ impl Work for TakeNew<'_> {
     }
 }
 
+/// Judges rules by the plan of a store.
+#[derive(Drop)]
+struct CheckRules<'a>(RulesChecked<'a>);
+
+impl Work for CheckRules<'_> {
+    type Answer = ();
+
+    fn work<S: Alter>(
+        self,
+        rt: &HostRuntime,
+        archive: Store<S>,
+    ) -> (Connection<S>, Result<(), Failure>) {
+        let (archive, judged) = check_rules(rt, archive, self.0);
+        (archive.into_connection(), judged)
+    }
+}
+
 /// Captures the message on standard input. A store that cannot be had, or that may not keep the message, is a reason to
 /// try again, so that a mail server keeps it.
 fn deliver<A: Archives>(
@@ -195,6 +214,7 @@ fn deliver<A: Archives>(
     let message = read_message(rt)?;
     let undecoded = undecoded_in(rt.alloc(), &message);
     let rules = FilingRules::read(rt, filing)?;
+    rules.tell_unused(rt);
     let work = DeliverOne {
         rules,
         timing,
@@ -214,8 +234,9 @@ fn intake<A: Archives>(
     store: &str,
     maildir: &str,
     filing: &Filing<'_>,
+    telling: Telling,
 ) -> Result<(), Failure> {
-    let job = Intake::read(rt, maildir, filing)?;
+    let job = Intake::read(rt, maildir, filing, telling)?;
     lend(rt, archives, store, TakeNew(job))
 }
 
@@ -285,10 +306,15 @@ pub fn execute<A: Archives>(
             lend(rt, archives, store, Task::ReplacePlan { plan, is_agreed })
         }
         Command::Deliver(filing) => deliver(rt, archives, store, &filing),
-        Command::Intake { maildir, filing } => intake(rt, archives, store, maildir, &filing),
+        Command::Intake {
+            maildir,
+            filing,
+            telling,
+        } => intake(rt, archives, store, maildir, &filing, telling),
         Command::Show { record, fields } => show(rt, archives, store, record, fields),
         Command::Copy { new } => copy_to(rt, archives, Paths { store, new }),
         Command::Check => lend(rt, archives, store, Task::Check),
+        Command::CheckRules(asked) => lend(rt, archives, store, CheckRules(asked)),
         Command::Why(asked) => why(rt, archives, store, &asked),
         Command::Dispose(asked) => dispose(rt, archives, store, asked),
         Command::Chosen(choice, task) => on_records(rt, archives, store, choice, &task),

@@ -39,6 +39,7 @@ pub enum Command<'a> {
     Intake {
         maildir: &'a str,
         filing: Filing<'a>,
+        telling: Telling,
     },
     /// Writes the message of a record.
     Show {
@@ -52,6 +53,8 @@ pub enum Command<'a> {
     },
     /// Judges the whole store.
     Check,
+    /// Judges rules by the plan of the store.
+    CheckRules(RulesChecked<'a>),
     Why(Why<'a>),
     Dispose(Disposal),
     /// Does something with the records of a choice.
@@ -97,6 +100,24 @@ pub struct Filing<'a> {
     pub moment: Moment,
     /// How long the work on a message may take, in seconds.
     pub limit: u64,
+}
+
+/// What an intake tells.
+#[derive(Clone, Copy)]
+pub struct Telling {
+    /// Whether nothing is told of what is captured.
+    pub is_quiet: bool,
+    /// Whether each line begins with the time of day.
+    pub has_times: bool,
+}
+
+/// Rules that are judged.
+#[derive(Clone, Copy)]
+pub struct RulesChecked<'a> {
+    /// The path of the folder of rules.
+    pub rules: &'a str,
+    /// The officer whose rules they are; none for all officers of the folder.
+    pub officer: Option<&'a str>,
 }
 
 /// How records are listed.
@@ -419,6 +440,41 @@ fn disposal_asked(alloc: Global, asked: &ArgMatches<'_>) -> Result<Disposal, NoC
     })
 }
 
+/// The Maildir whose new messages are captured, and how.
+fn intake_asked<'a>(alloc: Global, asked: &ArgMatches<'a>) -> Result<Command<'a>, NoCommand> {
+    Ok(Command::Intake {
+        maildir: required(asked, words::MAILDIR)?,
+        filing: filing_asked(alloc, asked)?,
+        telling: Telling {
+            is_quiet: has_flag(asked, words::QUIET),
+            has_times: has_flag(asked, words::TIMES),
+        },
+    })
+}
+
+/// What is judged: the store, or rules. An officer is refused where there are no rules.
+fn check_asked<'a>(alloc: Global, asked: &ArgMatches<'a>) -> Result<Command<'a>, NoCommand> {
+    let officer = value_of(asked, words::OFFICER);
+    match value_of(asked, words::RULES) {
+        Some(rules) => Ok(Command::CheckRules(RulesChecked { rules, officer })),
+        None if officer.is_some() => Err(NoCommand::Wrong(String::from_str(
+            alloc,
+            "an officer needs the folder of --rules",
+        )?)),
+        None => Ok(Command::Check),
+    }
+}
+
+/// Which record it is whose class is asked about, and by which rules.
+fn why_asked<'a>(alloc: Global, asked: &ArgMatches<'a>) -> Result<Why<'a>, NoCommand> {
+    Ok(Why {
+        rules: required(asked, words::RULES)?,
+        formerly: value_of(asked, words::FORMERLY),
+        officer: required(asked, words::OFFICER)?,
+        record: record_asked(alloc, asked)?,
+    })
+}
+
 /// A subcommand that makes an archive or changes what it keeps, where the name is that of one.
 fn change_asked<'a>(
     alloc: Global,
@@ -431,10 +487,7 @@ fn change_asked<'a>(
         },
         "plan" => plan_asked(alloc, asked)?,
         "deliver" => Command::Deliver(filing_asked(alloc, asked)?),
-        "intake" => Command::Intake {
-            maildir: required(asked, words::MAILDIR)?,
-            filing: filing_asked(alloc, asked)?,
-        },
+        "intake" => intake_asked(alloc, asked)?,
         "dispose" => Command::Dispose(disposal_asked(alloc, asked)?),
         _ => return Ok(None),
     }))
@@ -454,13 +507,8 @@ fn reading_asked<'a>(
         "copy" => Command::Copy {
             new: required(asked, words::NEW)?,
         },
-        "check" => Command::Check,
-        "why" => Command::Why(Why {
-            rules: required(asked, words::RULES)?,
-            formerly: value_of(asked, words::FORMERLY),
-            officer: required(asked, words::OFFICER)?,
-            record: record_asked(alloc, asked)?,
-        }),
+        "check" => check_asked(alloc, asked)?,
+        "why" => Command::Why(why_asked(alloc, asked)?),
         _ => return Ok(None),
     }))
 }

@@ -1,6 +1,7 @@
 //! The command lines of the three programs, read into types: what a program is asked to do, or why that is nothing.
 //!
 //! - `table`: subcommands with their words, as data; `reading`: the words that `clap` finds by them;
+//! - `wrapping`: help, at most 80 columns wide;
 //! - `session`, `archives` and `tools`: the command lines of `mailfile`, `mailfile-store` and `mailfile-tool`.
 //!
 //! No other crate calls `clap`, whose values take long to prove.
@@ -11,5 +12,6 @@ mod reading;
 pub mod session;
 mod table;
 pub mod tools;
+mod wrapping;
 
 pub use reading::{NoCommand, words_of_process};

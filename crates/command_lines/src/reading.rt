@@ -1,6 +1,7 @@
 //! Words of a command line, which `clap` reads by a program's table.
 
 use crate::table::{Program, Word, command_of};
+use crate::wrapping::push_wrapped;
 use clap::error::ErrorKind;
 use clap::{ArgMatches, Command, Error};
 use jiff::civil::Date;
@@ -62,8 +63,12 @@ fn report_of(alloc: Global, error: &Error) -> Result<Shown, AllocError> {
     let report = error.to_string(alloc)?;
     let mut text = Shown::new(alloc);
     for line in report.lines() {
-        text.value(&line)?;
-        text.end_line()?;
+        if error.use_stderr() {
+            text.value(&line)?;
+            text.end_line()?;
+        } else {
+            push_wrapped(&mut text, line)?;
+        }
     }
     Ok(text)
 }

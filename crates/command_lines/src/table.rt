@@ -90,11 +90,14 @@ pub struct Program {
     pub shared: &'static [Word],
 }
 
-/// An argument in the form of a word.
+/// An argument in the form of a word. A number with a sign is a value too, so that its own reason refuses it.
 fn formed<'a>(argument: Arg<'a>, word: &Word) -> Arg<'a> {
     match word.form {
-        Form::Place => argument.value_name(word.value),
-        Form::Places => argument.value_name(word.value).num_args(1..),
+        Form::Place => argument.value_name(word.value).allow_negative_numbers(true),
+        Form::Places => argument
+            .value_name(word.value)
+            .allow_negative_numbers(true)
+            .num_args(1..),
         Form::Option => argument.value_name(word.value).long(word.name),
         Form::Letter(letter) => argument.value_name(word.value).short(letter),
         Form::Flag => argument.long(word.name),

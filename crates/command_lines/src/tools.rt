@@ -36,6 +36,13 @@ pub enum Command<'a> {
         image: &'a str,
     },
     Why(Why<'a>),
+    /// Writes the recipients of mail for records.
+    Recipients {
+        /// The folder of all rules.
+        rules: &'a str,
+        /// The domains of the recipients.
+        domains: Vec<&'a str>,
+    },
 }
 
 /// What is explained.
@@ -179,6 +186,24 @@ fn check_asked<'a>(alloc: Global, asked: &ArgMatches<'a>) -> Result<Check<'a>, N
     })
 }
 
+/// The script whose image is written, and where.
+fn compile_asked<'a>(asked: &ArgMatches<'a>) -> Result<Command<'a>, NoCommand> {
+    Ok(Command::Compile {
+        script: required(asked, words::SCRIPT)?,
+        place: place_asked(asked),
+        image: required(asked, words::OUTPUT)?,
+    })
+}
+
+/// The folder of all rules whose officers are recipients, and their domains.
+fn recipients_asked<'a>(alloc: Global, asked: &ArgMatches<'a>) -> Result<Command<'a>, NoCommand> {
+    let domains = values_of(asked, words::DOMAINS).unwrap_or(&[]);
+    Ok(Command::Recipients {
+        rules: required(asked, words::RULES)?,
+        domains: Vec::from_slice(alloc, domains)?,
+    })
+}
+
 /// The day of a capture, where it is given.
 fn day_asked(alloc: Global, asked: &ArgMatches<'_>) -> Result<Option<Date>, NoCommand> {
     let Some(text) = value_of(asked, words::DAY) else {
@@ -247,15 +272,12 @@ pub fn read_command<'a>(rt: &HostRuntime, words: &'a [String]) -> Result<Command
         },
         ("explain", asked) => Command::Explain(explain_asked(asked)),
         ("check", asked) => Command::Check(check_asked(alloc, asked)?),
-        ("compile", asked) => Command::Compile {
-            script: required(asked, words::SCRIPT)?,
-            place: place_asked(asked),
-            image: required(asked, words::OUTPUT)?,
-        },
+        ("compile", asked) => compile_asked(asked)?,
         ("dump", asked) => Command::Dump {
             image: required(asked, words::IMAGE)?,
         },
         ("why", asked) => Command::Why(why_asked(alloc, asked)?),
+        ("recipients", asked) => recipients_asked(alloc, asked)?,
         _ => return Err(NoCommand::Unread),
     })
 }

@@ -8,6 +8,7 @@ use record_files::{Closing, close};
 use record_places::System;
 use sqlite::Unknown;
 use std::alloc::Global;
+use std::fs;
 
 /// The failure of a store that cannot be had.
 fn no_store(alloc: Global, path: &str, cause: NoStore) -> Failure {
@@ -28,6 +29,17 @@ fn not_made(alloc: Global, path: &str, cause: NoStore) -> Failure {
     match cause {
         NoStore::NotThere => Failure::at(alloc, Status::CannotMake, path, &"no such folder"),
         cause => no_store(alloc, path, cause),
+    }
+}
+
+/// What is said of a path at which there is a folder.
+const FOLDER: &str = "a folder; a store is a file, as records.db in it";
+
+/// The failure of a store that cannot be had, or cannot be made, where there is a folder at its path; else this one.
+fn unless_folder(rt: &HostRuntime, path: &str, status: Status, failure: Failure) -> Failure {
+    match fs::metadata(rt, path) {
+        Ok(found) if found.is_dir() => Failure::at(rt.alloc(), status, path, &FOLDER),
+        _ => failure,
     }
 }
 
@@ -57,14 +69,22 @@ impl Archives for FileArchives {
                 let (_files, closing) = close(rt.alloc(), conn);
                 Ok((done, closed_by(closing)))
             }
-            Err(cause) => Err(no_store(rt.alloc(), path, cause)),
+            Err(cause) => {
+                let failure = no_store(rt.alloc(), path, cause);
+                Err(unless_folder(rt, path, Status::NoInput, failure))
+            }
         }
     }
 
     fn create(&self, rt: &HostRuntime, path: &str, plan: Plan) -> Result<String, Failure> {
         let alloc = rt.alloc();
         let mut system = System::new(rt);
-        let draft = draft_for(&system, alloc, path).map_err(|cause| not_made(alloc, path, cause))?;
+        let draft = draft_for(&system, alloc, path).map_err(|cause| unless_folder(
+            rt,
+            path,
+            Status::CannotMake,
+            not_made(alloc, path, cause),
+        ))?;
         match create_archive(&mut system, alloc, draft.as_str(), plan, Unknown) {
             Ok(_files) => Ok(draft),
             Err(cause) => Err(not_made(alloc, path, cause)),

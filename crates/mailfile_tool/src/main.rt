@@ -6,7 +6,7 @@ use command_lines::tools::{Command, Explain, read_command};
 use command_lines::{NoCommand, words_of_process};
 use std::process::ExitCode;
 use tool_console::{Failure, Verdict, explain, frame, tell, tell_number, tell_numbers, tell_words};
-use tool_scripts::{check_files, compile_script, dump_image, tell_why};
+use tool_scripts::{check_files, compile_script, dump_image, tell_why, write_recipients};
 use tool_texts::Shown;
 
 /// The status where a script or an image is refused.
@@ -37,6 +37,7 @@ fn carry_out(rt: &HostRuntime, command: Command<'_>) -> Result<Verdict, Failure>
         } => compile_script(rt, script, place, image),
         Command::Dump { image } => dump_image(rt, image),
         Command::Why(asked) => tell_why(rt, &asked),
+        Command::Recipients { rules, domains } => write_recipients(rt, rules, domains.as_slice()),
     }
 }
 

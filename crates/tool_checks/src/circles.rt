@@ -1,7 +1,7 @@
 //! Warnings of includes that come back to a script that is still running, and of those that lead too deep.
 
-use crate::reached::Reached;
 use crate::told::Told;
+use rule_folders::Reached;
 use std::alloc::{AllocError, Global};
 use tool_console::{Failure, push_place, write_line};
 use tool_findings::{Circle, Edge, Includes, includes_of};

@@ -1,28 +1,11 @@
 //! Where the scripts that can be included are.
 
 use command_lines::tools::Folders;
-use session_words::is_name;
+use rule_folders::{GLOBAL, MAIN, SCRIPT_ENDING, is_officer};
 use std::alloc::{AllocError, Global};
-use std::str;
+use std::fs::{self, DirEntry};
 use tool_console::{Failure, is_there};
 use tool_texts::{Shown, put};
-
-/// What the name of a script's file ends with.
-pub const SCRIPT_ENDING: &str = ".sieve";
-
-/// The folder of the scripts that every officer can include, in a folder of all rules.
-const GLOBAL: &str = "global";
-
-/// The path of a script in a folder, by its name; none where no file can have it.
-pub fn path_in(alloc: Global, folder: &str, name: &[u8]) -> Result<Option<String>, AllocError> {
-    let folder = folder.strip_suffix('/').unwrap_or(folder);
-    match str::from_utf8(name) {
-        Ok(name) if !name.contains('/') => {
-            Ok(Some(format!(in alloc; "{folder}/{name}{SCRIPT_ENDING}")?))
-        }
-        _ => Ok(None),
-    }
-}
 
 /// The rules of an officer in a folder of all rules, as `mailfile-store deliver` takes them.
 #[derive(Drop)]
@@ -44,11 +27,6 @@ impl OfficerRules {
     }
 }
 
-/// Whether a word is an officer's name that can be the name of a folder.
-fn is_officer(word: &str) -> bool {
-    is_name(word.as_bytes()) && !word.contains('/') && !word.starts_with('.') && word != GLOBAL
-}
-
 /// What is said of a word that is no name of an officer, and of a script that is not there.
 fn said_of(alloc: Global, word: &str, reason: &'static str) -> Result<Shown, AllocError> {
     let mut text = Shown::new(alloc);
@@ -62,10 +40,10 @@ fn said_of(alloc: Global, word: &str, reason: &'static str) -> Result<Shown, All
 pub fn rules_of(rt: &HostRuntime, folder: &str, officer: &str) -> Result<OfficerRules, Failure> {
     let alloc = rt.alloc();
     let folder = folder.strip_suffix('/').unwrap_or(folder);
-    if !is_officer(officer) {
+    if !is_officer(officer.as_bytes()) {
         return Err(Failure::of(said_of(alloc, officer, "not a name of an officer")));
     }
-    let main = format!(in alloc; "{folder}/{officer}/main{SCRIPT_ENDING}")?;
+    let main = format!(in alloc; "{folder}/{officer}/{MAIN}{SCRIPT_ENDING}")?;
     if !is_there(rt, main.as_str()) {
         return Err(Failure::of(said_of(alloc, main.as_str(), "not there")));
     }
@@ -79,4 +57,39 @@ pub fn rules_of(rt: &HostRuntime, folder: &str, officer: &str) -> Result<Officer
             None
         },
     })
+}
+
+/// Adds the officer whose folder an entry is, if it is one with a program.
+fn add_officer(
+    rt: &HostRuntime,
+    folder: &str,
+    entry: &DirEntry,
+    officers: &mut Vec<String>,
+) -> Result<(), AllocError> {
+    let name = entry.file_name();
+    if !is_officer(name.as_bytes()) {
+        return Ok(());
+    }
+    let main = format!(in rt.alloc(); "{folder}/{name}/{MAIN}{SCRIPT_ENDING}")?;
+    if is_there(rt, main.as_str()) {
+        officers.push(String::from_str(rt.alloc(), name)?)?;
+    }
+    Ok(())
+}
+
+/// The officers with a program in a folder of all rules, in byte order. A failure where there is none.
+pub fn officers_in(rt: &HostRuntime, folder: &str) -> Result<Vec<String>, Failure> {
+    let alloc = rt.alloc();
+    let entries = fs::read_dir(rt, folder).map_err(|error| Failure::at(alloc, folder, &error))?;
+    let mut officers = Vec::new(alloc);
+    for entry in entries {
+        let entry = entry.map_err(|error| Failure::at(alloc, folder, &error))?;
+        add_officer(rt, folder, &entry, &mut officers)?;
+    }
+    if officers.is_empty() {
+        let reason = "no officer's folder with a script main.sieve is in it";
+        return Err(Failure::at(alloc, folder, &reason));
+    }
+    officers.sort()?;
+    Ok(officers)
 }

@@ -4,7 +4,7 @@
 //! - `refusals`: what is wrong with scripts and plans, as it is found;
 //! - `scripts`: a script with all that it reaches, judged; `told`: what was told before;
 //! - `warnings`: classes, scripts and fields that a good script names and that are not there;
-//! - `reached`: the scripts that a script can reach by its includes;
+//! - `reached`: the scripts that a script can reach by its includes, in files;
 //! - `circles`: warnings of includes that come back to a script that is still running, or lead too deep;
 //! - `folders`: where the scripts that can be included are;
 //! - `plans`: a plan, with all that is wrong with it.
@@ -23,11 +23,9 @@ mod scripts;
 mod told;
 mod warnings;
 
-pub use folders::{OfficerRules, SCRIPT_ENDING, rules_of};
+pub use folders::{OfficerRules, officers_in, rules_of};
 pub use plans::{NamedPlan, check_plan, read_plan};
-pub use reached::Start;
+pub use reached::{Start, reached_from, read_script_text};
 pub use refusals::{Kind, Refusal, Refusals};
-pub use scripts::{
-    Surroundings, check_officer, check_script, judge_script, reaches, read_script_text,
-};
+pub use scripts::{Surroundings, check_officer, check_script, judge_script};
 pub use told::Told;

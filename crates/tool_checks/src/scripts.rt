@@ -1,23 +1,17 @@
 //! A script in a file, judged.
 
 use crate::circles::warn_of_includes;
-use crate::folders::SCRIPT_ENDING;
-use crate::reached::{Reached, Start};
+use crate::reached::{Start, reached_from, read_script_text};
 use crate::refusals::{Kind, Refusals};
 use crate::told::Told;
 use crate::warnings::warn_of_names;
 use class_plan::Plan;
 use command_lines::tools::Folders;
+use rule_folders::{Reached, SCRIPT_ENDING};
 use std::alloc::AllocError;
-use tool_console::{Failure, Verdict, paths_in, read_file, read_input};
+use tool_console::{Failure, Verdict, paths_in};
 use tool_findings::{Finding, Report, judge, push_words};
-use tool_texts::{Payload, Shown, place_of, put};
-
-/// A file of up to this number of times the limit of a script is still read, and refused by its number.
-const LONGER: u64 = 64;
-
-/// The name of standard input on the command line.
-const STANDARD_INPUT: &str = "-";
+use tool_texts::{Shown, place_of, put};
 
 /// What is said where more may be found than is told.
 const MORE: &str = "more is not looked for before these are mended";
@@ -75,25 +69,6 @@ pub fn judge_script(
     }
 }
 
-/// The octets of a script's file, or of standard input where the path is `-`.
-pub fn read_script_text(rt: &HostRuntime, path: &str) -> Result<Vec<u8>, Failure> {
-    let limit = Payload::Script.limit().saturating_mul(LONGER);
-    if path == STANDARD_INPUT {
-        read_input(rt, limit)
-    } else {
-        read_file(rt, path, limit)
-    }
-}
-
-/// Whether the program of an officer, or another script that is known by a name, reaches the script at a path by its
-/// includes.
-pub fn reaches(rt: &HostRuntime, start: &Start<'_>, path: &str) -> Result<bool, Failure> {
-    let text = read_script_text(rt, start.path)?;
-    let mut reached = Reached::alone(rt.alloc(), start.path, text)?;
-    let _edges = reached.follow(rt, start)?;
-    Ok(reached.has(path))
-}
-
 /// Judges a script that is reached, and what it names, unless it was judged before; and writes what is found.
 fn judge_reached(
     rt: &HostRuntime,
@@ -125,7 +100,7 @@ fn judge_all(
     told: &mut Told,
 ) -> Result<Verdict, Failure> {
     let mut verdict = Verdict::Good;
-    for script in 0..reached.count() {
+    for script in 0..reached.scripts().len() {
         if let Verdict::Refused = judge_reached(rt, start, reached, script, around, told)? {
             verdict = Verdict::Refused;
         }
@@ -140,9 +115,7 @@ fn check_reached(
     around: &Surroundings<'_>,
     told: &mut Told,
 ) -> Result<(Verdict, Reached), Failure> {
-    let text = read_script_text(rt, start.path)?;
-    let mut reached = Reached::alone(rt.alloc(), start.path, text)?;
-    let edges = reached.follow(rt, start)?;
+    let (reached, edges) = reached_from(rt, start)?;
     let verdict = judge_all(rt, start, &reached, around, told)?;
     warn_of_includes(rt, &reached, edges.as_slice(), told)?;
     Ok((verdict, reached))

@@ -1,11 +1,12 @@
 //! What goes wrong when a good script runs: classes that are not there, scripts that are not there, and fields that no
 //! message can have.
 
-use crate::reached::{Start, tokens_of};
+use crate::reached::Start;
 use crate::refusals::{Kind, Refusals};
 use crate::scripts::Surroundings;
 use crate::told::Told;
 use class_plan::Plan;
+use rule_folders::tokens_of;
 use sieve_syntax::Token;
 use std::alloc::{AllocError, Global};
 use std::str;

@@ -10,7 +10,8 @@
 //! - `runs`: why a message is filed where it is, for `why`;
 //! - `refused`: what is refused, as JSON;
 //! - `steps`: the fields that a message was read as, and the steps of a run over it;
-//! - `classes`: the classes of a run, with what filed the message in each.
+//! - `classes`: the classes of a run, with what filed the message in each;
+//! - `recipients`: the officers of a folder of rules as recipients of mail, for `recipients`.
 //!
 //! What becomes of a message is found by `tool_inquiry`, and an image is made by `filing_gen`; their contracts say what
 //! these are. What is read and written here, no contract speaks of: tests of the program show it. It is written to
@@ -23,6 +24,7 @@ mod dumps;
 mod images;
 mod places;
 mod questions;
+mod recipients;
 mod refused;
 mod runs;
 mod scripts;
@@ -31,4 +33,5 @@ mod steps;
 pub use checks::check_files;
 pub use dumps::dump_image;
 pub use images::compile_script;
+pub use recipients::write_recipients;
 pub use runs::tell_why;

@@ -1,10 +1,11 @@
 //! Scripts of files, and of folders of scripts that can be included.
 
 use command_lines::tools::{Folders, Place};
+use rule_folders::{SCRIPT_ENDING, Script};
 use sieve_meaning::Location;
 use std::alloc::{AllocError, Global};
 use tool_checks::{
-    OfficerRules, Refusals, SCRIPT_ENDING, Start, judge_script, reaches, read_script_text, rules_of,
+    OfficerRules, Refusals, Start, judge_script, reached_from, read_script_text, rules_of,
 };
 use tool_console::{Failure, Verdict, paths_in, tell};
 use tool_inquiry::{InquiryFault, ScriptFile, script_name, script_of};
@@ -54,6 +55,19 @@ impl<'a> Source<'a> {
     }
 }
 
+/// The script of a text in a file; none where it is refused, which is added to what is found.
+fn script_with(
+    refusals: &mut Refusals,
+    path: &str,
+    location: Location,
+    text: Vec<u8>,
+) -> Result<Option<ScriptFile>, AllocError> {
+    match judge_script(refusals, path, &text)? {
+        Verdict::Good => script_of(refusals.allocator(), path, location, text),
+        Verdict::Refused => Ok(None),
+    }
+}
+
 /// The script of a file; none where it is refused, which is added to what is found.
 pub fn read_script(
     rt: &HostRuntime,
@@ -62,10 +76,7 @@ pub fn read_script(
     location: Location,
 ) -> Result<Option<ScriptFile>, Failure> {
     let text = read_script_text(rt, path)?;
-    match judge_script(refusals, path, &text)? {
-        Verdict::Good => Ok(script_of(rt.alloc(), path, location, text)?),
-        Verdict::Refused => Ok(None),
-    }
+    Ok(script_with(refusals, path, location, text)?)
 }
 
 /// What is said of a script that is refused and left out.
@@ -93,7 +104,9 @@ fn add_script(
         scripts.push(script)?;
         return Ok(true);
     }
-    if reaches(rt, &main.start(), path)? {
+    let start = main.start();
+    let (reached, _edges) = reached_from(rt, &start)?;
+    if reached.has(path) {
         refusals.append(own)?;
         return Ok(false);
     }
@@ -121,9 +134,48 @@ fn add_folder(
     Ok(true)
 }
 
+/// Adds a script that is reached; false where it is refused, which is added to what is found.
+fn add_reached(
+    refusals: &mut Refusals,
+    script: Script,
+    scripts: &mut Vec<ScriptFile>,
+) -> Result<bool, AllocError> {
+    let location = if script.is_global {
+        Location::Global
+    } else {
+        Location::Personal
+    };
+    let text = script.text.unwrap_or(Vec::new(refusals.allocator()));
+    match script_with(refusals, script.path.as_str(), location, text)? {
+        Some(script) => {
+            scripts.push(script)?;
+            Ok(true)
+        }
+        None => Ok(false),
+    }
+}
+
+/// The scripts that an officer's program reaches, itself first; none where one is refused, which is added to what is
+/// found.
+fn read_reached(
+    rt: &HostRuntime,
+    refusals: &mut Refusals,
+    main: &Source<'_>,
+) -> Result<Option<Vec<ScriptFile>>, Failure> {
+    let start = main.start();
+    let (reached, _edges) = reached_from(rt, &start)?;
+    let mut scripts = Vec::new(rt.alloc());
+    for script in reached.into_scripts() {
+        if !add_reached(refusals, script, &mut scripts)? {
+            return Ok(None);
+        }
+    }
+    Ok(Some(scripts))
+}
+
 /// The scripts of the folders of a main script, the officer's own first; none where one is refused that the main script
 /// reaches, which is added to what is found.
-pub fn read_folders(
+fn read_all(
     rt: &HostRuntime,
     refusals: &mut Refusals,
     main: &Source<'_>,
@@ -136,6 +188,19 @@ pub fn read_folders(
         return Ok(None);
     }
     Ok(Some(scripts))
+}
+
+/// The scripts that a main script may include: those of its folders, or of an officer's rules those that the program
+/// reaches. None where one is refused that the main script reaches, which is added to what is found.
+pub fn read_folders(
+    rt: &HostRuntime,
+    refusals: &mut Refusals,
+    main: &Source<'_>,
+) -> Result<Option<Vec<ScriptFile>>, Failure> {
+    match main {
+        Source::Officer(_) => read_reached(rt, refusals, main),
+        Source::Path(_, _) => read_all(rt, refusals, main),
+    }
 }
 
 /// What an inquiry has given; none where a location has no room for a script, which is added to what is found with the

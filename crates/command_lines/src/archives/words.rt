@@ -126,6 +126,18 @@ const DELIVER: Subcommand = Subcommand {
     has_shared: false,
 };
 
+pub const QUIET: Word = Word {
+    name: "quiet",
+    help: Some("Tells nothing of what is captured, only of messages that stay and of faults"),
+    ..FLAG
+};
+
+pub const TIMES: Word = Word {
+    name: "times",
+    help: Some("Begins each line with the time of day in UTC, as for a log"),
+    ..FLAG
+};
+
 pub const MAILDIR: Word = Word {
     name: "maildir",
     value: "MAILDIR",
@@ -136,7 +148,17 @@ const INTAKE: Subcommand = Subcommand {
     name: "intake",
     about: "Captures each message in MAILDIR/new, and moves it to MAILDIR/cur once its records are in the file",
     example: "Example: mailfile-store intake --store records.db --rules rules ann Maildir",
-    words: &[STORE, AT, LIMIT, RULES, UNFILED_ON_FAULT, OFFICER, MAILDIR],
+    words: &[
+        STORE,
+        AT,
+        LIMIT,
+        RULES,
+        UNFILED_ON_FAULT,
+        QUIET,
+        TIMES,
+        OFFICER,
+        MAILDIR,
+    ],
     has_shared: false,
 };
 
@@ -260,7 +282,7 @@ pub const JSON: Word = Word {
 const LIST: Subcommand = Subcommand {
     name: "list",
     about: "Prints a line for each record: number, class, day, due date or never, holds, and whether it is destroyed",
-    example: "Example: mailfile-store list --store records.db --sender müller --since 2026-03-01",
+    example: "Example: mailfile-store list --store records.db --sender müller --live",
     words: &[
         STORE,
         FROM,
@@ -327,9 +349,23 @@ const COPY: Subcommand = Subcommand {
 
 const CHECK: Subcommand = Subcommand {
     name: "check",
-    about: "Checks a whole store, and prints its totals",
+    about: "Checks a whole store, and prints its totals; with --rules checks rules instead, and prints nothing for good ones, else FILE:LINE:COLUMN: NUMBER: TEXT for each fault, with status 65",
     example: "Example: mailfile-store check --store records.db",
-    words: &[STORE],
+    words: &[
+        STORE,
+        Word {
+            is_required: false,
+            help: Some(
+                "Checks the rules of this folder, as deliver reads them, by the plan of the store",
+            ),
+            ..RULES
+        },
+        Word {
+            is_required: false,
+            help: Some("The officer whose rules are checked; all officers if none is given"),
+            ..OFFICER
+        },
+    ],
     has_shared: false,
 };
 
@@ -369,7 +405,7 @@ pub const NAME: Word = Word {
 const HOLD: Subcommand = Subcommand {
     name: "hold",
     about: "Keeps records from destruction by a hold of that name",
-    example: "Example: mailfile-store hold --store records.db --class finance --until 2026-06-30 audit",
+    example: "Example: mailfile-store hold --store records.db --until 2026-06-30 audit",
     words: &[STORE, NAME, NUMBERS],
     has_shared: true,
 };

@@ -90,6 +90,7 @@ pub const FILES: Word = Word {
     name: "files",
     form: Form::Places,
     value: "FILE",
+    help: Some("Scripts, and plans by the ending .toml; - is standard input, a script"),
     ..PLACE
 };
 
@@ -106,7 +107,7 @@ pub const PRESENT_PLAN: Word = Word {
 const CHECK: Subcommand = Subcommand {
     name: "check",
     about: "Checks scripts, and plans by the ending .toml: prints nothing for good ones, else FILE:LINE:COLUMN: NUMBER: TEXT for each fault, with status 1",
-    example: "Example: mailfile-tool check --plan plan.toml --rules rules ann; or mailfile-tool check plan.toml scripts/*.sieve, where - is standard input, a script",
+    example: "Example: mailfile-tool check --plan plan.toml --rules rules ann",
     words: &[FILES, PRESENT_PLAN, RULES, PERSONAL, GLOBAL],
     has_shared: false,
 };
@@ -187,10 +188,34 @@ const WHY: Subcommand = Subcommand {
     has_shared: false,
 };
 
+/// The domains of recipients.
+pub const DOMAINS: Word = Word {
+    name: "domains",
+    form: Form::Places,
+    value: "DOMAIN",
+    help: Some("A domain of their addresses, as records.example.org"),
+    ..PLACE
+};
+
+const RECIPIENTS: Subcommand = Subcommand {
+    name: "recipients",
+    about: "Writes the officers of a folder of rules as a map of recipients for Postfix, so that it refuses mail to others at the door",
+    example: "Example: mailfile-tool recipients --rules rules records.example.org",
+    words: &[
+        Word {
+            is_required: true,
+            help: Some("The folder of all rules: an officer is a folder with a script main.sieve"),
+            ..RULES
+        },
+        DOMAINS,
+    ],
+    has_shared: false,
+};
+
 /// The whole command line, with all subcommands.
 pub const PROGRAM: Program = Program {
     name: "mailfile-tool",
     about: "Tools for mailfile: sessions without counting octets, texts for numbers, script checks, images as text, and why a message is filed",
-    subcommands: &[FRAME, EXPLAIN, CHECK, COMPILE, DUMP, WHY],
+    subcommands: &[FRAME, EXPLAIN, CHECK, COMPILE, DUMP, WHY, RECIPIENTS],
     shared: &[],
 };

@@ -1,0 +1,168 @@
+//! What an intake says of its messages.
+
+use crate::deliver::{report_capture, tell_fault};
+use crate::rules::FilingRules;
+use crate::time_of_day::time_now;
+use cli_console::{tell, tell_words, write_text};
+use command_lines::archives::Telling;
+use desk_commands::Capture;
+use std::alloc::AllocError;
+use std::fmt::Display;
+use std::io::{self, IsTerminal};
+use tool_texts::{Shown, put};
+
+/// After how many messages progress is shown.
+const STEP: u64 = 100;
+
+/// What became of the messages of an intake.
+#[derive(Clone, Copy)]
+pub struct Tally {
+    /// How many are captured, and moved.
+    pub filed: u64,
+    /// How many stay, for reasons of their own.
+    pub stay: u64,
+    /// How many stay, since their runs ended with a fault or took too long, or there was no memory for them.
+    pub given_up: u64,
+    /// How many stay, since their names are no UTF-8.
+    pub nameless: usize,
+}
+
+impl Tally {
+    /// How many messages stay.
+    pub fn staying(&self) -> u64 {
+        self.stay
+            .saturating_add(self.given_up)
+            .saturating_add(self.nameless as u64)
+    }
+}
+
+/// Where an intake says what becomes of its messages.
+#[derive(Clone, Copy)]
+pub struct IntakeLog<'a> {
+    rt: &'a HostRuntime,
+    telling: Telling,
+}
+
+impl<'a> IntakeLog<'a> {
+    /// Where an intake says it as it is asked to.
+    pub fn new(rt: &'a HostRuntime, telling: Telling) -> IntakeLog<'a> {
+        IntakeLog { rt, telling }
+    }
+
+    /// What a line begins with: the time of day, where that is asked for and there is a clock.
+    fn line(&self) -> Result<Shown, AllocError> {
+        let mut text = Shown::new(self.rt.alloc());
+        if self.telling.has_times {
+            if let Ok(time) = time_now(self.rt) {
+                put!(text; text(&time) " ")?;
+            }
+        }
+        Ok(text)
+    }
+
+    /// What is told of a message that stays.
+    fn stays_text<T: Display>(&self, name: &str, reason: &T) -> Result<Shown, AllocError> {
+        let mut text = self.line()?;
+        put!(text; named(name.as_bytes()) " stays: " value(reason))?;
+        Ok(text)
+    }
+
+    /// Names a message that stays, with the reason. Without memory for that, it is only said that one stays.
+    pub fn name_one<T: Display>(&self, name: &str, reason: &T) {
+        match self.stays_text(name, reason) {
+            Ok(text) => tell(self.rt, &text),
+            Err(_) => tell_words(
+                self.rt,
+                "a message stays, and there is no memory to name it",
+            ),
+        }
+    }
+
+    /// What is told of a message that is captured and could not be moved.
+    pub fn not_moved(&self, name: &str, error: &io::Error) -> Result<Shown, AllocError> {
+        let mut text = self.line()?;
+        put!(text; named(name.as_bytes())
+            " is captured, but still in new, where the next intake would capture it again: "
+            value(error))?;
+        Ok(text)
+    }
+
+    /// The name of a message before what is said of it.
+    fn name_before(&self, name: &str) -> Result<Shown, AllocError> {
+        let mut text = self.line()?;
+        put!(text; named(name.as_bytes()) ": ")?;
+        Ok(text)
+    }
+
+    /// Reports a capture, each line after the name of its message, as far as there is memory for that. A quiet intake tells
+    /// of a fault alone.
+    pub fn report(&self, name: &str, capture: &Capture, undecoded: &[Shown]) {
+        let Ok(before) = self.name_before(name) else {
+            return;
+        };
+        if self.telling.is_quiet {
+            tell_fault(self.rt, &before, capture);
+        } else {
+            report_capture(self.rt, &before, capture, undecoded);
+        }
+    }
+
+    /// Tells of scripts that are not used, unless it is quiet.
+    pub fn tell_unused(&self, filing: &FilingRules<'_>) {
+        if !self.telling.is_quiet {
+            filing.tell_unused(self.rt);
+        }
+    }
+
+    /// Shows on a terminal how far the intake is.
+    pub fn show_progress(&self, tally: &Tally) {
+        if tally.filed % STEP == 0 && !self.telling.is_quiet && self.rt.stderr().is_terminal() {
+            let filed = tally.filed;
+            let _ = eprint!(self.rt; "\r{filed} messages");
+        }
+    }
+
+    /// What is told of messages whose names are no UTF-8.
+    fn nameless_text(&self, count: usize) -> Result<Shown, AllocError> {
+        let mut text = self.line()?;
+        put!(text; "messages that stay, since their names are no UTF-8: " value(&count))?;
+        Ok(text)
+    }
+
+    /// Tells how many messages stay, since their names are no UTF-8.
+    fn tell_nameless(&self, count: usize) {
+        match self.nameless_text(count) {
+            Ok(text) => tell(self.rt, &text),
+            Err(_) => tell_words(self.rt, "messages stay whose names are no UTF-8"),
+        }
+    }
+
+    /// What became of all messages, and since when, as a line.
+    fn summary(&self, tally: &Tally, since: &Shown) -> Result<Shown, AllocError> {
+        let mut text = self.line()?;
+        put!(text;
+            "taken " value(&tally.filed) ", stay " value(&tally.staying()) ", since " text(since))?;
+        text.end_line()?;
+        Ok(text)
+    }
+
+    /// Writes what became of all messages, and since when, unless it is quiet or there were none. All is done then, so
+    /// whatever happens to the line is no failure.
+    fn write_summary(&self, tally: &Tally, since: &Shown) {
+        let is_of_none = tally.filed == 0 && tally.staying() == 0;
+        if self.telling.is_quiet || is_of_none {
+            return;
+        }
+        if let Ok(text) = self.summary(tally, since) {
+            let _ = write_text(self.rt, &text);
+        }
+    }
+
+    /// Tells what is left to tell of messages at the end of an intake that began at a time of day.
+    pub fn close(&self, tally: &Tally, since: &Shown) {
+        if tally.nameless > 0 {
+            self.tell_nameless(tally.nameless);
+        }
+        self.write_summary(tally, since);
+    }
+}

@@ -1,0 +1,138 @@
+//! `check` of rules: whether `deliver` would take them, by the plan of the store.
+
+use crate::rules::FilingRules;
+use cli_console::{Failure, Status, write_text};
+use command_lines::archives::{Filing, Moment, RulesChecked};
+use record_archive::Records;
+use record_store::Store;
+use sqlite::Alter;
+use tool_checks::{Surroundings, Told, check_officer, officers_in, rules_of};
+use tool_console::{Failure as ToolFailure, Verdict};
+use tool_texts::Shown;
+
+/// The failure of a check of scripts: a file that cannot be read is no input.
+fn failure_of(failure: ToolFailure) -> Failure {
+    match failure {
+        ToolFailure::Closed => Failure::Closed,
+        ToolFailure::NoMemory => Failure::NoMemory,
+        ToolFailure::Message(text) => Failure::Told(Status::NoInput, text),
+    }
+}
+
+/// Judges the scripts of an officer by the plan of a store. What is wrong with them is written.
+fn check_scripts<S: Alter>(
+    rt: &HostRuntime,
+    archive: &Store<S>,
+    rules: &str,
+    officer: &str,
+    told: &mut Told,
+) -> Result<Verdict, Failure> {
+    let rules = rules_of(rt, rules, officer).map_err(|failure| failure_of(failure))?;
+    let around = Surroundings {
+        plan: Some(archive.plan()),
+        folders: rules.folders(),
+    };
+    check_officer(rt, rules.main.as_str(), &around, told).map_err(|failure| failure_of(failure))
+}
+
+/// Writes why rules are not taken, as a line.
+fn write_refusal(rt: &HostRuntime, words: &Shown) -> Result<Verdict, Failure> {
+    let mut line = Shown::new(rt.alloc());
+    line.text(words)?;
+    line.end_line()?;
+    write_text(rt, &line)?;
+    Ok(Verdict::Refused)
+}
+
+/// Whether a desk takes the rules of an officer, as for a delivery. What it refuses is written.
+fn try_rules<A: Records>(
+    rt: &HostRuntime,
+    archive: A,
+    rules: &str,
+    officer: &str,
+) -> (A, Result<Verdict, Failure>) {
+    let filing = Filing {
+        rules,
+        officer,
+        unfiled_on_fault: false,
+        moment: Moment::Now,
+        limit: 1,
+    };
+    let filing = match FilingRules::read(rt, &filing) {
+        Ok(filing) => filing,
+        Err(Failure::Told(_, words)) => return (archive, write_refusal(rt, &words)),
+        Err(failure) => return (archive, Err(failure)),
+    };
+    match filing.desk(rt, archive) {
+        Ok(desk) => (desk.into_store(), Ok(Verdict::Good)),
+        Err((archive, Failure::Told(_, words))) => (archive, write_refusal(rt, &words)),
+        Err((archive, failure)) => (archive, Err(failure)),
+    }
+}
+
+/// Judges the rules of an officer.
+fn check_one<S: Alter>(
+    rt: &HostRuntime,
+    archive: Store<S>,
+    rules: &str,
+    officer: &str,
+    told: &mut Told,
+) -> (Store<S>, Result<Verdict, Failure>) {
+    match check_scripts(rt, &archive, rules, officer, told) {
+        Ok(Verdict::Good) => try_rules(rt, archive, rules, officer),
+        judged => (archive, judged),
+    }
+}
+
+/// Judges the rules of officers, one after the other.
+fn check_each<S: Alter>(
+    rt: &HostRuntime,
+    archive: Store<S>,
+    rules: &str,
+    officers: &[String],
+) -> (Store<S>, Result<Verdict, Failure>) {
+    let mut archive = archive;
+    let mut told = Told::new(rt.alloc());
+    let mut verdict = Verdict::Good;
+    for officer in officers {
+        let (back, judged) = check_one(rt, archive, rules, officer.as_str(), &mut told);
+        archive = back;
+        match judged {
+            Ok(Verdict::Good) => {}
+            Ok(Verdict::Refused) => verdict = Verdict::Refused,
+            Err(failure) => return (archive, Err(failure)),
+        }
+    }
+    (archive, Ok(verdict))
+}
+
+/// The officers whose rules are judged.
+fn officers_of(rt: &HostRuntime, asked: RulesChecked<'_>) -> Result<Vec<String>, Failure> {
+    let Some(officer) = asked.officer else {
+        return officers_in(rt, asked.rules).map_err(|failure| failure_of(failure));
+    };
+    let mut officers = Vec::new(rt.alloc());
+    officers.push(String::from_str(rt.alloc(), officer)?)?;
+    Ok(officers)
+}
+
+/// Judges rules by the plan of a store, as `deliver` would read them, and gives the store back as it is. What is wrong is
+/// written to standard output, in the words of `mailfile-tool check`. `BadData` where rules are refused; `NoInput` where
+/// they are not there.
+pub fn check_rules<S: Alter>(
+    rt: &HostRuntime,
+    archive: Store<S>,
+    asked: RulesChecked<'_>,
+) -> (Store<S>, Result<(), Failure>) {
+    let officers = match officers_of(rt, asked) {
+        Ok(officers) => officers,
+        Err(failure) => return (archive, Err(failure)),
+    };
+    let (archive, judged) = check_each(rt, archive, asked.rules, officers.as_slice());
+    let done = match judged {
+        Ok(Verdict::Good) => Ok(()),
+        Ok(Verdict::Refused) => Err(Failure::Reported(Status::BadData)),
+        Err(failure) => Err(failure),
+    };
+    (archive, done)
+}

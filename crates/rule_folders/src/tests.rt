@@ -1,0 +1,60 @@
+use super::*;
+use std::alloc::{AllocError, Global};
+
+/// Scripts by their paths: `main` includes `a`, `a` includes a global `b` and `main`, and nothing includes `c`.
+#[derive(Clone, Copy)]
+struct Few {
+    alloc: Global,
+}
+
+impl Scripts for Few {
+    type Fault = AllocError;
+
+    fn no_memory(&self) -> AllocError {
+        AllocError
+    }
+
+    fn path_of(&self, alloc: Global, included: &Included) -> Result<Option<String>, AllocError> {
+        let folder = if included.is_global { "global" } else { "ann" };
+        path_in(alloc, folder, included.name.as_slice())
+    }
+
+    fn read(&mut self, path: &str, _is_global: bool) -> Result<Found, AllocError> {
+        Ok(match path {
+            "ann/a.sieve" => Found::Text(Vec::from_slice(
+                self.alloc,
+                b"if true { include :global \"b\"; } include \"main\"; include \"d\"; include \".c\";",
+            )?),
+            "ann/.c.sieve" | "ann/c.sieve" => Found::TooLong,
+            "global/b.sieve" => Found::TooLong,
+            _ => Found::Nothing,
+        })
+    }
+}
+
+#[test]
+fn reaches_by_includes(rt: HostRuntime) -> Result<(), AllocError> {
+    let alloc = rt.alloc();
+    let program = Script {
+        path: String::from_str(alloc, "ann/main.sieve")?,
+        name: Vec::from_slice(alloc, b"main")?,
+        is_global: false,
+        text: Some(Vec::from_slice(alloc, b"require \"include\"; include :once \"a\";")?),
+    };
+    let mut reached = Reached::alone(alloc, program)?;
+    let edges = reached.follow(&mut Few { alloc })?;
+    assert_eq!(rt; reached.scripts().len(), 3);
+    assert_eq!(rt; reached.path(2), "global/b.sieve");
+    assert!(rt; !reached.has("ann/c.sieve"));
+    assert_eq!(rt; edges.as_slice()[1].len(), 2);
+    Ok(())
+}
+
+#[test]
+fn names_of_recipients(rt: HostRuntime) {
+    assert!(rt; is_recipient(b"ann.smith"));
+    assert!(rt; !is_recipient(b"Ann"));
+    assert!(rt; !is_recipient(b"ann+tax"));
+    assert!(rt; !is_recipient(b"-ann"));
+    assert!(rt; !is_recipient(b"global"));
+}
