@@ -2,6 +2,7 @@
 
 ghost use Rattle.std.specs.Prelude.{◌≡◌, Some, None, IfOk};
 ghost use Rattle.record_archive.specs.Archive.{Archive};
+ghost use Rattle.record_choice.specs.Reads.{OnlyReads};
 ghost use Rattle.record_choice.specs.Views.{choice_view};
 ghost use Rattle.cli_console.specs.Turns.{IsTurn, page_view};
 
@@ -49,8 +50,7 @@ impl<'a> Walk<'a> {
         rt: &HostRuntime,
         archive: &mut R,
     ) -> Result<Option<Vec<RecordEntry>>, Failure>
-        ensures stands { (a : Archive) → R.stands archive.old a → R.stands archive.new a }
-        ensures falls { R.clean archive.new → R.clean archive.old }
+        ensures reads { OnlyReads R.clean R.stands archive.old archive.new }
 
         // The calls answer the pages of a walk: what is chosen, and no other record.
         ensures page { IfOk result (λ o. R.clean archive.new → (a : Archive)

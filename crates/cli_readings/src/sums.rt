@@ -7,6 +7,7 @@ use record_choice::Choice;
 use record_store::{RecordEntry, Store};
 use sha2::{Digest, Sha256};
 use sqlite::Alter;
+use std::collections::BTreeSet;
 
 /// What is counted and summed of an archive.
 #[derive(Drop)]
@@ -15,8 +16,8 @@ struct Summing {
     records: u64,
     messages: u64,
     octets: u64,
-    /// The message that was added last.
-    message: u32,
+    /// The messages that were added.
+    added: BTreeSet<u32>,
 }
 
 /// How much an archive keeps, and a sum over all of it. Archives with the same sum are the same.
@@ -59,18 +60,17 @@ impl Summing {
         }
     }
 
-    /// Adds the message of a live record, unless it was that of the one before.
+    /// Adds the message of a live record, unless that of a record before was the same.
     fn add_message<S: Alter>(
         &mut self,
         rt: &HostRuntime,
         archive: &mut Store<S>,
         entry: &RecordEntry,
     ) -> Result<(), Failure> {
-        if entry.destroyed || (self.messages > 0 && self.message == entry.message) {
+        if entry.destroyed || !self.added.insert(entry.message)? {
             return Ok(());
         }
         let octets = message_of(rt, archive, entry)?;
-        self.message = entry.message;
         self.messages = self.messages.saturating_add(1);
         self.octets = self.octets.saturating_add(octets.len() as u64);
         self.add_octets(octets.as_slice());
@@ -105,7 +105,7 @@ pub fn summary_of<S: Alter>(rt: &HostRuntime, archive: &mut Store<S>) -> Result<
         records: 0,
         messages: 0,
         octets: 0,
-        message: 0,
+        added: BTreeSet::new(rt.alloc()),
     };
     let plan = plan_text(rt.alloc(), archive.plan())?;
     summing.add_octets(plan.as_bytes());

@@ -30,10 +30,17 @@ pub struct Kept<'a> {
     pub headers: &'a Headers,
 }
 
+/// The signs that begin a formula in a spreadsheet, also in the full-width forms of East Asian ones.
+const FORMULA_SIGNS: [&str; 8] = [
+    "=", "+", "-", "@", "\u{ff1d}", "\u{ff0b}", "\u{ff0d}", "\u{ff20}",
+];
+
 /// Whether a spreadsheet could take a cell for a formula, or drop its beginning.
 fn is_formula(field: &[u8]) -> bool {
-    field.first().is_some_and(|first| matches!(*first, b'=' | b'+' | b'-' | b'@')
-        || first.is_ascii_control())
+    FORMULA_SIGNS
+        .iter()
+        .any(|sign| field.starts_with(sign.as_bytes()))
+        || field.first().is_some_and(|first| first.is_ascii_control())
 }
 
 /// A field as a cell that spreadsheets show as text: an apostrophe comes before what they could take for a formula.

@@ -90,15 +90,39 @@ fn tell_report(rt: &HostRuntime, error: &Error) -> NoCommand {
     }
 }
 
-/// Reads words by a command, and prints what `clap` reports where they are none of its.
+/// Words as they are shown. A hidden character is shown by its number, so that no word has a line end.
+fn shown_words(alloc: Global, words: &[String]) -> Result<Vec<String>, AllocError> {
+    let mut shown = Vec::with_capacity(alloc, words.len())?;
+    for word in words {
+        let mut text = Shown::new(alloc);
+        text.value(word)?;
+        shown.push(text.into_string())?;
+    }
+    Ok(shown)
+}
+
+/// Prints what `clap` reports of words that are none of a command's. It is asked again with the words as they are shown,
+/// since a line end in a word would begin a line of its report.
+fn tell_refusal(rt: &HostRuntime, command: Command<'_>, words: &[String]) -> NoCommand {
+    let Ok(shown) = shown_words(rt.alloc(), words) else {
+        return NoCommand::NoMemory;
+    };
+    match command.try_get_matches_from(shown.as_slice()) {
+        Ok(_) => NoCommand::Unread,
+        Err(error) => tell_report(rt, &error),
+    }
+}
+
+/// Reads words by a command, and prints what `clap` reports where they are none of its. The other command is the same.
 pub(crate) fn read_by<'a>(
     rt: &HostRuntime,
     command: Command<'a>,
+    again: Command<'_>,
     words: &'a [String],
 ) -> Result<ArgMatches<'a>, NoCommand> {
     command
         .try_get_matches_from(words)
-        .map_err(|error| tell_report(rt, &error))
+        .map_err(|_| tell_refusal(rt, again, words))
 }
 
 /// Reads words by the table of a program, and prints what `clap` reports where they are none of its.
@@ -107,7 +131,13 @@ pub(crate) fn read_words<'a>(
     program: &Program,
     words: &'a [String],
 ) -> Result<ArgMatches<'a>, NoCommand> {
-    read_by(rt, command_of(rt.alloc(), program)?, words)
+    let alloc = rt.alloc();
+    read_by(
+        rt,
+        command_of(alloc, program)?,
+        command_of(alloc, program)?,
+        words,
+    )
 }
 
 /// The value of a word that is given, if it is.

@@ -35,10 +35,11 @@ fn command<'a>(alloc: Global) -> Result<Command<'a>, AllocError> {
 
 /// Reads the command line of the process. Help, and why a word is refused, are printed.
 pub fn read_command_line(rt: &HostRuntime) -> Result<CommandLine, NoCommand> {
+    let alloc = rt.alloc();
     let words = words_of_process(rt)?;
-    let matches = read_by(rt, command(rt.alloc())?, words.as_slice())?;
+    let matches = read_by(rt, command(alloc)?, command(alloc)?, words.as_slice())?;
     let store = match value_of(&matches, STORE) {
-        Some(path) => Some(String::from_str(rt.alloc(), path)?),
+        Some(path) => Some(String::from_str(alloc, path)?),
         None => None,
     };
     Ok(CommandLine { store })

@@ -87,7 +87,14 @@ impl Archives for FileArchives {
         ))?;
         match create_archive(&mut system, alloc, draft.as_str(), plan, Unknown) {
             Ok(_files) => Ok(draft),
-            Err(cause) => Err(not_made(alloc, path, cause)),
+            Err(cause) => {
+                // What is in the way of the draft lies beside its path, and not beside that of the store.
+                let place = match cause {
+                    NoStore::StrayLog | NoStore::There => draft.as_str(),
+                    _ => path,
+                };
+                Err(not_made(alloc, place, cause))
+            }
         }
     }
 
