@@ -1,5 +1,5 @@
 -- The store after a capture.
-use Rattle.std.proofs.Common.{◌≡◌, ◌<◌, ◌≤◌, ◌+◌, ◌-◌, ◌^◌, ℕ, Bool, true, false, ◌&&◌, List, [], ◌∷◌, length, Result, Ok, refl}
+use Rattle.std.proofs.Common.{◌≡◌, ◌<◌, ◌≤◌, ◌+◌, ◌-◌, ◌^◌, ℕ, Bool, true, false, ◌&&◌, List, [], ◌∷◌, length, Ok, refl}
 use Rattle.std.proofs.Common.{sym, ap, subst, subst₂, ◌∙◌, arith, IsTrue, true≢false}
 use Rattle.std.specs.List.{AllByRecursion, list_all}
 use Rattle.std.proofs.lemmas.List.Elements.{All-from_recursion}
@@ -21,7 +21,6 @@ use Rattle.record_adoption.specs.Counts.{count_at, only_at}
 use Rattle.record_adoption.specs.Keeping.{StoresArchive}
 use Rattle.record_store.specs.Companions.{IsReady, KeepsBoth, LeavesBoth, LeavesBothWhere}
 use Rattle.record_store.specs.Stores.{StandsFor, Becomes}
-use Rattle.record_archive.specs.declared.fault.ArchiveRefusal.{ArchiveRefusal}
 use Rattle.record_store.specs.declared.store.Store.{Store}
 use Rattle.record_store.proofs.CommandLemmas.{stands_both, brought_both, leaves_both}
 use Rattle.record_store.proofs.CaptureLemmas.{captured_is_archive, past_captured, stores_captured, count_captured, next_after, lines_are}

@@ -1,4 +1,4 @@
-use Rattle.std.proofs.Common.{arith, ap, ◌≡◌, ◌∙◌, length, map}
+use Rattle.std.proofs.Common.{arith, ap, ◌≡◌, length, map}
 use Rattle.class_plan.specs.Calendar.{number_of_day}
 use Rattle.record_archive.specs.Archive as archive
 use Rattle.record_archive.specs.Archive.{Archive, capture_lines}

@@ -3,9 +3,9 @@ use Rattle.jiff.specs.Words.{epoch_day}
 use Rattle.record_tables.specs.CodeRows.{record_of}
 use Rattle.record_archive.specs.Archive as archive
 use Rattle.record_archive.specs.Archive.{Archive}
-use Rattle.record_store.specs.Companions.{ChangesReady, LeavesBoth}
+use Rattle.record_store.specs.Companions.{LeavesBoth}
 use Rattle.record_store.specs.Destruction.{IsUnheld}
-use Rattle.record_store.proofs.AllowedLemmas.{obeys_allowed, brought_allowed, leaves_allowed}
+use Rattle.record_store.proofs.AllowedLemmas.{brought_allowed, leaves_allowed}
 use Rattle.record_store.proofs.store.Store.destroy_with.Given.{Over}
 use Rattle.record_store.proofs.store.Store.destroy_with.Goals.{After-remove_record}
 use Rattle.record_store.proofs.store.Store.destroy_with.Goals as goal

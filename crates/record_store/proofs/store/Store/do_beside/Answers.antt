@@ -1,4 +1,4 @@
-use Rattle.std.proofs.Common.{true, refl, sym, ap, ◌∙◌, true≢false}
+use Rattle.std.proofs.Common.{refl, sym, ap, ◌∙◌, true≢false}
 use Rattle.sqlite.specs.Held.{state}
 use Rattle.sqlite.proofs.StateLemmas.{survives_weaker}
 use Rattle.record_tables.specs.Changes.{Always}
