@@ -1,5 +1,5 @@
 -- The store after a capture.
-use Rattle.std.proofs.Common.{◌≡◌, ◌<◌, ◌≤◌, ◌+◌, ◌-◌, ◌^◌, ℕ, Bool, true, false, ◌&&◌, List, [], ◌∷◌, length, Result, Ok, refl}
+use Rattle.std.proofs.Common.{◌≡◌, ◌<◌, ◌≤◌, ◌+◌, ◌-◌, ◌^◌, ℕ, Bool, true, false, ◌&&◌, List, [], ◌∷◌, length, Ok, refl}
 use Rattle.std.proofs.Common.{sym, ap, subst, subst₂, ◌∙◌, arith, IsTrue, true≢false}
 use Rattle.std.specs.List.{AllByRecursion, list_all}
 use Rattle.std.proofs.lemmas.List.Elements.{All-from_recursion}
@@ -11,16 +11,18 @@ use Rattle.sqlite.specs.State.{HasCleanDisk, IsLive, Survives}
 use Rattle.sqlite.specs.Held.{Held, state}
 use Rattle.sqlite.proofs.StateLemmas.{survives_weaker}
 use Rattle.record_tables.specs.Rows.{Due}
-use Rattle.record_tables.specs.Changes.{Turns}
+use Rattle.record_tables.specs.Changes.{Turns, TurnsAlone}
+use Rattle.record_tables.specs.Companions.{MakesBoth}
+use Rattle.record_tables.specs.Steps.{CommitsWhole}
 use Rattle.record_archive.specs.Archive.{Archive, Line, next_number, records_of, after_capture, capture_lines, capture}
 use Rattle.record_archive.specs.Archive.{has_room, AreClasses, IsArchive}
 use Rattle.record_store.specs.Captures.{with_captured, ArePast, lines_of, dues_of_lines}
 use Rattle.record_adoption.specs.Counts.{count_at, only_at}
 use Rattle.record_adoption.specs.Keeping.{StoresArchive}
-use Rattle.record_store.specs.Stores.{StandsFor, Becomes, Leaves, LeavesMade, TreesKeep}
-use Rattle.record_archive.specs.declared.fault.ArchiveRefusal.{ArchiveRefusal}
+use Rattle.record_store.specs.Companions.{IsReady, KeepsBoth, LeavesBoth, LeavesBothWhere}
+use Rattle.record_store.specs.Stores.{StandsFor, Becomes}
 use Rattle.record_store.specs.declared.store.Store.{Store}
-use Rattle.record_store.proofs.CommandLemmas.{stands_turned, leaves_turned}
+use Rattle.record_store.proofs.CommandLemmas.{stands_both, brought_both, leaves_both}
 use Rattle.record_store.proofs.CaptureLemmas.{captured_is_archive, past_captured, stores_captured, count_captured, next_after, lines_are}
 
 both : (a b : Bool) → (a && b) ≡ true → (a ≡ true) × (b ≡ true)
@@ -63,6 +65,12 @@ module _ {S : Type 0} (g : Ghosts S) (old : Store S) (a : Archive) (s : StandsFo
       subst (λ l. Captures was db body day (next_number a) ps l) by_plan (subst (λ k.
       Captures was db body day k ps ds) numbered turns)
 
+-- a capture and its companion
+abbrev CapturesBoth : (Database → Type 0) → (Database → Database → Type 0) → List ℕ → ℕ → ℕ → List (List ℕ) → List Due
+    → Database → Database → Type 0
+CapturesBoth Needs Brings body day n ps ds was db = MakesBoth (λ was db. TurnsAlone was db (ArePast n ds)
+    (with_captured (record { number = n; body = body }) (records_of n n day ps) ds)) Needs Brings was db
+
 pub keeps_captured : {S : Type 0} (g : Ghosts S) (old : Store S) (a : Archive) → StandsFor g old a
     → (body : List ℕ) (day n : ℕ) (ps : List (List ℕ)) (ds : List Due) → Given old day n ps ds
     → (was db : Database) → StoresArchive was a → Captures was db body day n ps ds → StoresArchive db (after_capture a body day ps)
@@ -87,38 +95,50 @@ past_allowed g old a s body day n (q ∷ qs) ds given was kept =
     subst₂ P (sym (numbered g old a s day n (q ∷ qs) ds given)) (sym (by_plan g old a s day n (q ∷ qs) ds given))
     (past_captured a body day q qs s.archive was kept)
 
-pub stands_captured : {S : Type 0} (g : Ghosts S) (old new : Store S) (a : Archive) → StandsFor g old a
+pub stands_captured : {S : Type 0} (g : Ghosts S) (Needs : Database → Type 0) (Brings : Database → Database → Type 0) (old new : Store S)
+    (a : Archive) → StandsFor g old a → IsReady g Needs old
     → (body : List ℕ) (day n : ℕ) (ps : List (List ℕ)) (ds : List Due) → Given old day n ps ds
     → new.conn.in_transaction ≡ false → new.plan ≡ old.plan → new.next ≡ n + length ps
     → ((m : ℕ) → count_at new.held m ≡ count_at old.held m) → ((m : ℕ) → count_at new.others m ≡ count_at old.others m + only_at n (length ps - 1) m)
     → (HasCleanDisk (state g new.conn) → HasCleanDisk (state g old.conn))
     → (HasCleanDisk (state g new.conn) → IsTrue (state g new.conn).is_open → IsTrue (state g old.conn).is_open)
-    → (HasCleanDisk (state g new.conn) → Captures (state g old.conn).now (state g new.conn).now body day n ps ds)
+    → (HasCleanDisk (state g new.conn) → CapturesBoth Needs Brings body day n ps ds (state g old.conn).now (state g new.conn).now)
     → StandsFor g new (after_capture a body day ps)
-stands_captured g old new a s body day n [] ds given idle plan next held others falls opened turns = absurd (omega (arith, given.some))
-stands_captured g old new a s body day n (q ∷ qs) ds given idle plan next held others falls opened turns =
+stands_captured g Needs Brings old new a s ready body day n [] ds given idle plan next held others falls opened turns =
+    absurd (omega (arith, given.some))
+stands_captured g Needs Brings old new a s ready body day n (q ∷ qs) ds given idle plan next held others falls opened turns =
     let same = numbered g old a s day n (q ∷ qs) ds given in
     let further : length (q ∷ qs) - 1 ≡ length qs = omega arith in
-    stands_turned g old new a (after_capture a body day (q ∷ qs)) (ArePast n ds)
-    (with_captured (record { number = n; body = body }) (records_of n n day (q ∷ qs)) ds) s
+    stands_both g old a (after_capture a body day (q ∷ qs)) (ArePast n ds)
+    (with_captured (record { number = n; body = body }) (records_of n n day (q ∷ qs)) ds) Needs Brings s ready new
     (archive_captured g old a s body day n (q ∷ qs) ds given) idle (plan ∙ s.plan)
     (next ∙ ap (λ k. k + length (q ∷ qs)) same ∙ sym (next_after a body day q qs))
     (λ m. held m ∙ s.held m)
     (λ m. others m ∙ (λ i. s.others m i + only_at (same i) (further i) m) ∙ sym (count_captured a body day q qs s.archive m))
     falls opened turns (λ was db kept turn. keeps_captured g old a s body day n (q ∷ qs) ds given was db kept turn)
 
-abbrev Holds : Archive → List ℕ → ℕ → List (List ℕ) → Type 0
-Holds a body day ps = ◌≡◌ {A = Result Archive ArchiveRefusal} (Ok (after_capture a body day ps)) (Ok (after_capture a body day ps))
-
-pub leaves_captured : {S : Type 0} (g : Ghosts S) (old : Store S) (new : Held S) (a : Archive) → StandsFor g old a
+pub brought_captured : {S : Type 0} (g : Ghosts S) (Needs : Database → Type 0) (Brings : Database → Database → Type 0) (old : Store S)
+    (new : Held S) (a : Archive) (s : StandsFor g old a) → IsReady g Needs old
     → (body : List ℕ) (day n : ℕ) (ps : List (List ℕ)) (ds : List Due) → Given old day n ps ds
-    → IsLive (state g old.conn) → Survives (state g old.conn) (state g new) (λ (trees : Trees). (db : Database)
-    × Captures (state g old.conn).now db body day n ps ds × (trees ≡ db.trees))
+    → (HasCleanDisk (state g new) → HasCleanDisk (state g old.conn))
+    → (HasCleanDisk (state g new) → IsTrue (state g new).is_open → IsTrue (state g old.conn).is_open)
+    → (HasCleanDisk (state g new) → IsTrue (state g new).is_open)
+    → (HasCleanDisk (state g new) → CapturesBoth Needs Brings body day n ps ds (state g old.conn).now (state g new).now)
+    → HasCleanDisk (state g new) → IsTrue (state g old.conn).is_open × Brings (state g old.conn).now (state g new).now
+brought_captured g Needs Brings old new a s ready body day n ps ds given falls opened is_open made =
+    brought_both g old a a (ArePast n ds) (with_captured (record { number = n; body = body }) (records_of n n day ps) ds) Needs Brings s ready new
+    (λ was kept. past_allowed g old a s body day n ps ds given was kept) falls opened is_open made
+
+pub leaves_captured : {S : Type 0} (g : Ghosts S) (Needs : Database → Type 0) (Brings : Database → Database → Type 0) (old : Store S)
+    (new : Held S) (a : Archive) → StandsFor g old a → IsReady g Needs old
+    → (body : List ℕ) (day n : ℕ) (ps : List (List ℕ)) (ds : List Due) → Given old day n ps ds
+    → IsLive (state g old.conn) → CommitsWhole g old.conn new (CapturesBoth Needs Brings body day n ps ds)
     → Survives (state g old.conn) (state g new)
-    (λ (trees : Trees). IsTrue (state g old.conn).is_open → Holds a body day ps → TreesKeep trees (after_capture a body day ps))
-leaves_captured g old new a s body day n ps ds given live made =
-    leaves_turned g old new a (after_capture a body day ps) (Holds a body day ps) (ArePast n ds)
-    (with_captured (record { number = n; body = body }) (records_of n n day ps) ds) s
+    (λ (trees : Trees). IsTrue (state g old.conn).is_open → Unit {0}
+    → KeepsBoth Brings (state g old.conn).now trees (after_capture a body day ps))
+leaves_captured g Needs Brings old new a s ready body day n ps ds given live made =
+    leaves_both g old a (after_capture a body day ps) (ArePast n ds)
+    (with_captured (record { number = n; body = body }) (records_of n n day ps) ds) Needs Brings s ready new Unit
     (λ legal. archive_captured g old a s body day n ps ds given)
     (λ was kept legal. past_allowed g old a s body day n ps ds given was kept)
     (λ was db kept legal turn. keeps_captured g old a s body day n ps ds given was db kept turn) live made
@@ -150,13 +170,15 @@ pub obeys_nowhere : {S : Type 0} (g : Ghosts S) (new : Store S) (a : Archive) (b
 obeys_nowhere g new a body day [] lines none is s = (s, is)
 obeys_nowhere g new a body day (q ∷ qs) lines none is s = absurd (omega (arith, none))
 
-pub leaves_command : {S : Type 0} (g : Ghosts S) (old new : Store S) (body : List ℕ) (day : ℕ) (ps : List (List ℕ)) → old.next + length ps ≤ 2 ^ 32
-    → LeavesMade g old new (λ a. Ok (after_capture a body day ps)) (λ a. after_capture a body day ps) → Leaves g old new (λ a. capture a body day ps)
-leaves_command g old new body day ps room made a s is_open =
+pub leaves_command : {S : Type 0} (g : Ghosts S) (Needs : Database → Type 0) (Brings : Database → Database → Type 0) (old new : Store S)
+    (body : List ℕ) (day : ℕ) (ps : List (List ℕ)) → old.next + length ps ≤ 2 ^ 32
+    → LeavesBothWhere g Needs Brings old new (λ a. Unit {0}) (λ a. after_capture a body day ps)
+    → LeavesBoth g Needs Brings old new (λ a. capture a body day ps)
+leaves_command g Needs Brings old new body day ps room made a s ready is_open =
     survives_weaker (state g old.conn) (state g new.conn) _ _
     (λ clean trees left. (
       after_capture a body day ps,
       is_captured a body day ps (has_its_room a ps (omega (arith, room, s.next))),
-      left is_open refl,
+      left is_open tt,
     ))
-    (made a s)
+    (made a s ready)

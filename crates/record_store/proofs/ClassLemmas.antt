@@ -28,7 +28,7 @@ use Rattle.record_tables.specs.Reads.{class_entry}
 use Rattle.record_rows.specs.Rules.{rule_at, own_rules, with_own, entry_of_row}
 use Rattle.record_store.specs.Revisions.{with_plan, IsClassAdded}
 use Rattle.record_adoption.specs.Keeping.{StoresArchive, has_due, due_row, due_rows}
-use Rattle.record_store.specs.Stores.{Leaves, LeavesMade}
+use Rattle.record_store.specs.Companions.{LeavesBoth, LeavesBothWhere}
 use Rattle.record_store.specs.declared.store.Store.{Store}
 use Rattle.record_store.proofs.HoldLemmas.{same_name}
 
@@ -200,8 +200,9 @@ module _ (a : Archive) (p q : Listing) (path : List ℕ) (same : p ≡ a.plan) (
   pub same_dues : IsArchive a → All (λ (r : Record). due_on q r.path r.day ≡ due_on p r.path r.day) a.records
   same_dues is = λ i d low. due_of_each _ (is.records i d low)
 
-pub leaves_added : {S : Type 0} (g : Ghosts S) (old new : Store S) (path : List ℕ) (q : Listing) → addition old.plan path ≡ Ok q
-    → LeavesMade g old new (λ a. Ok (with_plan a q)) (λ a. with_plan a q) → Leaves g old new (λ a. add_class a path)
-leaves_added g old new path q made left a s is_open =
+pub leaves_added : {S : Type 0} (g : Ghosts S) (Needs : Database → Type 0) (Brings : Database → Database → Type 0) (old new : Store S)
+    (path : List ℕ) (q : Listing) → addition old.plan path ≡ Ok q
+    → LeavesBothWhere g Needs Brings old new (λ a. Unit {0}) (λ a. with_plan a q) → LeavesBoth g Needs Brings old new (λ a. add_class a path)
+leaves_added g Needs Brings old new path q made left a s ready is_open =
     survives_weaker (state g old.conn) (state g new.conn) _ _ (λ clean trees it.
-    (with_plan a q, is_added a old.plan q path s.plan made, it is_open refl)) (left a s)
+    (with_plan a q, is_added a old.plan q path s.plan made, it is_open tt)) (left a s ready)

@@ -12,8 +12,10 @@ use Rattle.sqlite.specs.declared.error.Error.TheVariants.{SqliteFailure}
 use Rattle.sqlite.specs.declared.error.ErrorCode.TheVariants.{OutOfMemory}
 use Rattle.sqlite.proofs.StateLemmas.{survives_then, survives_weaker}
 use Rattle.record_tables.specs.Rows.{Tables}
-use Rattle.record_tables.specs.Changes.{Turns}
-use Rattle.record_tables.specs.Steps.{CommitsNothing}
+use Rattle.record_tables.specs.Changes.{Always, Turns, TurnsAlone}
+use Rattle.record_tables.specs.Companions.{MakesBoth}
+use Rattle.record_tables.specs.Steps.{CommitsNothing, CommitsWhole}
+use Rattle.record_tables.proofs.CompanionLemmas.{turns_both}
 use Rattle.record_reads.specs.Lookups.{Looks}
 use Rattle.record_archive.specs.Archive.{Archive, IsArchive, next_number}
 use Rattle.record_adoption.specs.Counts.{count_at}
@@ -21,7 +23,8 @@ use Rattle.record_store.specs.Faults.{StoreFault, fault_of}
 use Rattle.record_archive.specs.Faults.{WhereRefused, is_trouble}
 use Rattle.class_plan.specs.Plans.{Listing}
 use Rattle.record_adoption.specs.Keeping.{StoresArchive, live_count, hold_count}
-use Rattle.record_store.specs.Stores.{StandsFor, Obeys, Leaves, LeavesAll, LeavesMade, TreesKeep}
+use Rattle.record_store.specs.Stores.{StandsFor, StaysStill, Obeys, Leaves, LeavesAll}
+use Rattle.record_store.specs.Companions.{IsReady, KeepsBoth}
 use Rattle.record_archive.specs.declared.fault.ArchiveRefusal.{ArchiveRefusal}
 use Rattle.record_store.specs.declared.store.Store.{Store}
 
@@ -57,18 +60,6 @@ stands_planned g old p a same s = record {
   archive = s.archive;
   rows = s.rows;
 }
-
--- what a crash leaves of the command
-pub leaves_done : {S : Type 0} (g : Ghosts S) (old mid new : Store S) (command : Archive → Result Archive ArchiveRefusal) (change : Archive → Archive)
-    → ((a : Archive) → StandsFor g old a → StandsFor g mid a × (HasCleanDisk (state g mid.conn) → command a ≡ Ok (change a)))
-    → LeavesAll g old mid → (HasCleanDisk (state g mid.conn) → IsTrue (state g mid.conn).is_open)
-    → LeavesMade g mid new command change → Leaves g old new command
-leaves_done g old mid new command change judged looked opened made a s is_open =
-    let j = judged a s in
-    let two = made a j.0 in
-    let back : HasCleanDisk (state g new.conn) → HasCleanDisk (state g mid.conn) = λ clean. omega (arith, two.clean, clean) in
-    survives_then (state g old.conn) (state g mid.conn) (state g new.conn) _ _ _ (λ _ db none. absurd (none is_open))
-    (λ clean trees left. let e = j.1 (back clean) in (change a, e, left (opened (back clean)) e)) (looked a s) two
 
 -- the command is refused by its judge
 pub leaves_refused : {S : Type 0} (g : Ghosts S) (old new : Store S) (command : Archive → Result Archive ArchiveRefusal)
@@ -112,32 +103,96 @@ stands_looked g old new a s looks plan next held others = record {
       subst (λ db. StoresArchive db a) (sym it.1) (s.rows (looks.falls clean) it.0);
 }
 
+pub still_looked : {S : Type 0} (g : Ghosts S) (old : Store S) (new : Held S) → Looks g old.conn new → (a : Archive)
+    → StandsFor g old a → HasCleanDisk (state g new) → IsTrue (state g new).is_open
+    → IsTrue (state g old.conn).is_open × ((state g new).now ≡ (state g old.conn).now)
+still_looked g old new looks a s clean is_open =
+    looks.still s.idle (λ was. (s.rows (looks.falls clean) was).stored.schema) clean is_open
+
+-- two looks
+pub still_then : {S : Type 0} (g : Ghosts S) (old mid new : Store S) → ((a : Archive) → StandsFor g old a → StandsFor g mid a)
+    → (HasCleanDisk (state g new.conn) → HasCleanDisk (state g mid.conn)) → StaysStill g old mid → StaysStill g mid new
+    → StaysStill g old new
+still_then g old mid new stands falls one two = λ (a : Archive) s clean is_open.
+    let last = two a (stands a s) clean is_open in
+    let first = one a s (falls clean) last.0 in
+    (first.0, last.1 ∙ first.1)
+
 pub leaves_looked : {S : Type 0} (g : Ghosts S) (old new : Store S) (a : Archive) → StandsFor g old a → Looks g old.conn new.conn
     → Survives (state g old.conn) (state g new.conn) (λ _. IsTrue (state g old.conn).is_open → ⊥)
 leaves_looked g old new a s looks = survives_weaker (state g old.conn) (state g new.conn) _ _ (λ clean db none is_open.
     none (s.rows (looks.falls clean) is_open).stored.schema) looks.survives
 
--- ---- a transaction
+-- ---- a transaction of a change and its companion
 
--- the store after a transaction that succeeded
-pub stands_turned : {S : Type 0} (g : Ghosts S) (old new : Store S) (a b : Archive) (Allows : Tables
-    → Type 0) (change : Tables → Tables) → StandsFor g old a → IsArchive b
-    → new.conn.in_transaction ≡ false → new.plan ≡ b.plan → new.next ≡ next_number b
-    → ((n : ℕ) → count_at new.held n ≡ hold_count b n) → ((m : ℕ) → count_at new.others m ≡ live_count b m - 1)
-    → (HasCleanDisk (state g new.conn) → HasCleanDisk (state g old.conn))
-    → (HasCleanDisk (state g new.conn) → IsTrue (state g new.conn).is_open → IsTrue (state g old.conn).is_open)
-    → (HasCleanDisk (state g new.conn) → Turns (state g old.conn).now (state g new.conn).now Allows change)
-    → ((was db : Database) → StoresArchive was a → Turns was db Allows change → StoresArchive db b)
-    → StandsFor g new b
-stands_turned g old new a b Allows change s archive idle plan next held others falls opened turns stores = record {
-  idle = idle;
-  plan = plan;
-  next = next;
-  held = held;
-  others = others;
-  archive = archive;
-  rows = λ clean is_open. stores (state g old.conn).now (state g new.conn).now (s.rows (falls clean) (opened clean is_open)) (turns clean);
-}
+module _ {S : Type 0} (g : Ghosts S) (old : Store S) (a b : Archive) (Allows : Tables → Type 0) (change : Tables → Tables)
+    (Needs : Database → Type 0) (Brings : Database → Database → Type 0) (s : StandsFor g old a) (ready : IsReady g Needs old) where
+  abbrev pub Both : Database → Database → Type 0
+  Both was db = MakesBoth (λ was db. TurnsAlone was db Allows change) Needs Brings was db
+
+  -- the store after a transaction that succeeded
+  pub stands_both : (new : Store S) → IsArchive b
+      → new.conn.in_transaction ≡ false → new.plan ≡ b.plan → new.next ≡ next_number b
+      → ((n : ℕ) → count_at new.held n ≡ hold_count b n) → ((m : ℕ) → count_at new.others m ≡ live_count b m - 1)
+      → (HasCleanDisk (state g new.conn) → HasCleanDisk (state g old.conn))
+      → (HasCleanDisk (state g new.conn) → IsTrue (state g new.conn).is_open → IsTrue (state g old.conn).is_open)
+      → (HasCleanDisk (state g new.conn) → Both (state g old.conn).now (state g new.conn).now)
+      → ((was db : Database) → StoresArchive was a → Turns was db Allows change → StoresArchive db b)
+      → StandsFor g new b
+  stands_both new archive idle plan next held others falls opened made stores = record {
+    idle = idle;
+    plan = plan;
+    next = next;
+    held = held;
+    others = others;
+    archive = archive;
+    rows = λ clean is_open.
+        stores (state g old.conn).now (state g new.conn).now (s.rows (falls clean) (opened clean is_open))
+        ((turns_both _ _ Allows change Needs Brings (made clean)).turns (ready (falls clean) (opened clean is_open)));
+  }
+
+  -- what the companion brings is brought about
+  pub brought_both : (new : Held S) → ((was : Database) → (kept : StoresArchive was a) → Allows kept.tables)
+      → (HasCleanDisk (state g new) → HasCleanDisk (state g old.conn))
+      → (HasCleanDisk (state g new) → IsTrue (state g new).is_open → IsTrue (state g old.conn).is_open)
+      → (HasCleanDisk (state g new) → IsTrue (state g new).is_open)
+      → (HasCleanDisk (state g new) → Both (state g old.conn).now (state g new).now)
+      → HasCleanDisk (state g new) → IsTrue (state g old.conn).is_open × Brings (state g old.conn).now (state g new).now
+  brought_both new allows falls opened is_open made clean =
+      let was = opened clean (is_open clean) in
+      let kept = s.rows (falls clean) was in (
+        was,
+        (turns_both _ _ Allows change Needs Brings (made clean)).brought (ready (falls clean) was) kept.tables kept.stored kept.keyed
+            (allows (state g old.conn).now kept),
+      )
+
+  -- what a crash leaves of a transaction
+  pub leaves_both : (new : Held S) (Legal : Type 0) → (Legal → IsArchive b)
+      → ((was : Database) → (kept : StoresArchive was a) → Legal → Allows kept.tables)
+      → ((was db : Database) → StoresArchive was a → Legal → Turns was db Allows change → StoresArchive db b)
+      → IsLive (state g old.conn) → CommitsWhole g old.conn new Both
+      → Survives (state g old.conn) (state g new)
+      (λ (trees : Trees). IsTrue (state g old.conn).is_open → Legal → KeepsBoth Brings (state g old.conn).now trees b)
+  leaves_both new Legal archive allows stores live made =
+      survives_weaker (state g old.conn) (state g new) _ _
+      (λ clean trees left is_open legal.
+      let was = (state g old.conn).now in
+      let back : HasCleanDisk (state g old.conn) = omega (arith, made.clean, clean) in
+      let kept = s.rows back is_open in
+      let both = turns_both was left.0 Allows change Needs Brings left.1 in
+      let turns = both.turns (ready back is_open) in
+      let allowed = allows was kept legal in
+      record {
+        kept = record {
+          db = left.0;
+          same = left.2;
+          sound = turns.sound (live is_open).0 kept.tables kept.stored kept.keyed allowed;
+          stored = stores was left.0 kept legal turns;
+          archive = archive legal;
+        };
+        brought = both.brought (ready back is_open) kept.tables kept.stored kept.keyed allowed;
+      })
+      made
 
 -- the store after a transaction that was refused
 pub stands_refused : {S : Type 0} (g : Ghosts S) (old new : Store S) (a : Archive) → StandsFor g old a
@@ -156,24 +211,8 @@ stands_refused g old new a s idle plan next held others falls opened same = reco
   rows = λ clean is_open. subst (λ db. StoresArchive db a) (sym (same clean is_open)) (s.rows (falls clean) (opened clean is_open));
 }
 
--- what a crash leaves of a transaction
-pub leaves_turned : {S : Type 0} (g : Ghosts S) (old : Store S) (new : Held S) (a b : Archive) (Legal : Type 0)
-    (Allows : Tables → Type 0) (change : Tables → Tables) → StandsFor g old a → (Legal → IsArchive b)
-    → ((was : Database) → (kept : StoresArchive was a) → Legal → Allows kept.tables)
-    → ((was db : Database) → StoresArchive was a → Legal → Turns was db Allows change → StoresArchive db b)
-    → IsLive (state g old.conn) → Survives (state g old.conn) (state g new) (λ (trees : Trees). (db : Database)
-    × Turns (state g old.conn).now db Allows change × (trees ≡ db.trees))
-    → Survives (state g old.conn) (state g new) (λ (trees : Trees). IsTrue (state g old.conn).is_open → Legal → TreesKeep trees b)
-leaves_turned g old new a b Legal Allows change s archive allows stores live made =
-    survives_weaker (state g old.conn) (state g new) _ _
-    (λ clean trees left is_open legal.
-    let was = (state g old.conn).now in
-    let kept = s.rows (omega (arith, made.clean, clean)) is_open in
-    record {
-      db = left.0;
-      same = left.2;
-      sound = left.1.sound (live is_open).0 kept.tables kept.stored kept.keyed (allows was kept legal);
-      stored = stores was left.0 kept legal left.1;
-      archive = archive legal;
-    })
-    made
+-- tables that turn into themselves store what they stored
+pub stores_same : (a : Archive) (was db : Database) → StoresArchive was a → Turns was db Always (λ t. t) → StoresArchive db a
+stores_same a was db s turns =
+    let made = turns.stored s.tables s.stored s.keyed tt in
+    record { tables = s.tables; stored = made.0; keyed = made.1; keeps = s.keeps; dues = s.dues }

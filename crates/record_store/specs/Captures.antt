@@ -9,9 +9,10 @@ use Rattle.class_plan.specs.Plans.{Listing}
 use Rattle.class_plan.specs.Calendar.{due_on}
 use Rattle.record_archive.specs.Archive.{Message, Record, Line, records_of, capture, capture_lines}
 use Rattle.record_tables.specs.Rows.{Tables, Due}
-use Rattle.record_tables.specs.Changes.{Turns, IsPastMessages, IsPastRecords, AreAscending, new_message}
+use Rattle.record_tables.specs.Changes.{TurnsAlone, IsPastMessages, IsPastRecords, AreAscending, new_message}
 use Rattle.record_tables.specs.Steps.{PutsOnOk}
 use Rattle.record_archive.specs.Lines.{line_view}
+use Rattle.record_store.specs.Companions.{ObeysReady}
 use Rattle.record_store.specs.Stores.{Obeys}
 use Rattle.record_store.specs.Faults.{StoreFault}
 use Rattle.record_store.specs.declared.store.Store.{Store}
@@ -56,9 +57,9 @@ HasDueDay l = IfSome l.due (λ d. IsBetween (pos 0) (pos 2932896) (epoch_day d))
 abbrev pub with_capture : (first : ℕ) → (body : List ℕ) → (day : ℕ) → (paths : List (List ℕ)) → List Due → Tables → Tables
 with_capture first body day paths ds = with_captured (new_message first body) (records_of first first day paths) ds
 
--- the whole transaction of a capture
+-- the change of a capture, which leaves tables of other names alone
 abbrev pub IsCaptured : (first : ℕ) → (body : List ℕ) → (day : ℕ) → (paths : List (List ℕ)) → List Due → (old new : Database) → Type 0
-IsCaptured first body day paths ds old new = Turns old new (ArePast first ds) (with_capture first body day paths ds)
+IsCaptured first body day paths ds old new = TurnsAlone old new (ArePast first ds) (with_capture first body day paths ds)
 
 -- the same in a transaction that continues, where the call succeeds
 abbrev pub PutsCapture : {S T E : Type 0} → Ghosts S → (old new : Held S) → Result T E → (first : ℕ) → (body : List ℕ) → (day : ℕ) →
@@ -69,4 +70,10 @@ PutsCapture g old new result first body day paths ds = PutsOnOk g old new result
 abbrev pub ObeysCapture : {S : Type 0} → Ghosts S → (old new : Store S) → Result (Vec code.Line Global) StoreFault →
     (body : List ℕ) → (day : ℕ) → (paths : List (List ℕ)) → Type 0
 ObeysCapture g old new result body day paths = Obeys g old new result (λ a. capture a body day paths)
+    (λ a lines. map line_view lines.items ≡ capture_lines a day paths)
+
+-- the same beside a companion, where there is what it needs
+abbrev pub ObeysCaptureReady : {S : Type 0} → Ghosts S → (Database → Type 0) → (old new : Store S) →
+    Result (Vec code.Line Global) StoreFault → (body : List ℕ) → (day : ℕ) → (paths : List (List ℕ)) → Type 0
+ObeysCaptureReady g Needs old new result body day paths = ObeysReady g Needs old new result (λ a. capture a body day paths)
     (λ a lines. map line_view lines.items ≡ capture_lines a day paths)

@@ -5,7 +5,7 @@ use Rattle.class_plan.specs.Calendar.{due_on}
 use Rattle.class_plan.specs.Plans.{Listing, schedule_at}
 use Rattle.record_archive.specs.Archive.{Record, Archive, record_at, is_held, is_by_any, destroys, destroy_by, without}
 use Rattle.record_tables.specs.Rows.{Tables}
-use Rattle.record_tables.specs.Changes.{Turns, Always, with_destruction as with_mark, without_due, without_message}
+use Rattle.record_tables.specs.Changes.{Turns, TurnsAlone, Always, with_destruction as with_mark, without_due, without_message}
 use Rattle.record_archive.specs.declared.fault.ArchiveRefusal.{ArchiveRefusal}
 use Rattle.record_archive.specs.declared.fault.ArchiveRefusal.TheVariants as fault
 
@@ -37,3 +37,7 @@ with_destruction n last t = without_body last (with_mark n (without_due n t))
 
 abbrev pub IsDestruction : ℕ → Option ℕ → Database → Database → Type 0
 IsDestruction n last old new = Turns old new Always (with_destruction n last)
+
+-- the same, and tables of other names keep their rows
+abbrev pub IsDestructionAlone : ℕ → Option ℕ → Database → Database → Type 0
+IsDestructionAlone n last old new = TurnsAlone old new Always (with_destruction n last)

@@ -6,3 +6,4 @@ pub mod Dues
 pub mod Destruction
 pub mod Revisions
 pub mod Entries
+pub mod Companions

@@ -6,7 +6,7 @@ use Rattle.class_plan.specs.Plans.{Listing, keeps}
 use Rattle.class_plan.specs.declared.faults.PlanFault.TheVariants.{PathDropped}
 use Rattle.record_archive.specs.Archive.{Record, Archive}
 use Rattle.record_tables.specs.Rows.{Due}
-use Rattle.record_tables.specs.Changes.{Turns, Always, with_class}
+use Rattle.record_tables.specs.Changes.{Turns, TurnsAlone, Always, with_class}
 use Rattle.record_adoption.specs.Keeping.{dues_in}
 use Rattle.record_archive.specs.declared.fault.ArchiveRefusal.{ArchiveRefusal}
 use Rattle.record_archive.specs.declared.fault.ArchiveRefusal.TheVariants.{Plan}
@@ -31,3 +31,7 @@ HasSameDue old new r = due_on new r.path r.day ≡ due_on old r.path r.day
 -- an open class without a schedule of its own is added
 abbrev pub IsClassAdded : List ℕ → Database → Database → Type 0
 IsClassAdded path old new = Turns old new Always (with_class path true None)
+
+-- the same, and tables of other names keep their rows
+abbrev pub IsClassAddedAlone : List ℕ → Database → Database → Type 0
+IsClassAddedAlone path old new = TurnsAlone old new Always (with_class path true None)

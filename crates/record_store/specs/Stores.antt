@@ -58,6 +58,11 @@ Tells g old new (Ok x) Answers Refuses = (a : Archive) → StandsFor g old a →
 Tells g old new (Err f) Answers Refuses = (a : Archive) → StandsFor g old a → StandsFor g new a ×
     (HasCleanDisk (state g new.conn) → WhereRefused (Refuses a) f)
 
+-- a call reads: while the connection is open, it was open before, and the database is as it was
+abbrev pub StaysStill : {S : Type 0} → Ghosts S → (old new : Store S) → Type 0
+StaysStill g old new = (a : Archive) → StandsFor g old a → HasCleanDisk (state g new.conn) → IsTrue (state g new.conn).is_open →
+    IsTrue (state g old.conn).is_open × ((state g new.conn).now ≡ (state g old.conn).now)
+
 -- While the disk is clean, a call on a store that represents an archive is refused by the command, by sqlite or for no
 -- memory, and never by the store itself.
 abbrev pub IsNeverOwn : {S X : Type 0} → Ghosts S → (old new : Store S) → Result X StoreFault → Type 0
@@ -115,47 +120,20 @@ abbrev pub LeavesAll : {S : Type 0} → Ghosts S → (old new : Store S) → Typ
 LeavesAll g old new = (a : Archive) → StandsFor g old a →
     Survives (state g old.conn) (state g new.conn) (λ _. IsTrue (state g old.conn).is_open → ⊥)
 
--- what a crash may leave while a change is made on an open connection: what a crash might have left before it, or the
--- changed archive, where the change is allowed by a condition
-abbrev pub LeavesAllowed : {S : Type 0} → Ghosts S → (old new : Store S) → (Archive → Type 0) → (Archive → Archive) →
-    Type 0
-LeavesAllowed g old new Allowed change = (a : Archive) → StandsFor g old a →
-    Survives (state g old.conn) (state g new.conn)
-    (λ (trees : Trees). IsTrue (state g old.conn).is_open → Allowed a → TreesKeep trees (change a))
-
--- the same for a change that is allowed where the archive's command makes it
-abbrev pub LeavesMade : {S : Type 0} → Ghosts S → (old new : Store S) → (Archive → Result Archive ArchiveRefusal) →
-    (Archive → Archive) → Type 0
-LeavesMade g old new command change = LeavesAllowed g old new (λ a. command a ≡ Ok (change a)) change
-
 -- a disk that is clean after the call was clean before it
 abbrev pub Falls : {S : Type 0} → Ghosts S → (old new : Store S) → Type 0
 Falls g old new = HasCleanDisk (state g new.conn) → HasCleanDisk (state g old.conn)
 
--- the store represents what this change makes of the archive
-abbrev pub ChangesBy : {S : Type 0} → Ghosts S → (old new : Store S) → (Archive → Archive) → Type 0
-ChangesBy g old new change = (a : Archive) → StandsFor g old a → StandsFor g new (change a)
-
--- the same for a change that is allowed by a condition
+-- the store represents what a change makes of the archive, where a condition allows it
 abbrev pub ChangesWhere : {S : Type 0} → Ghosts S → (old new : Store S) → (Archive → Type 0) → (Archive → Archive) →
     Type 0
 ChangesWhere g old new Allowed change = (a : Archive) → StandsFor g old a → Allowed a → StandsFor g new (change a)
-
--- the same for a change that the archive's command makes
-abbrev pub ChangesByCommand : {S : Type 0} → Ghosts S → (old new : Store S) → (Archive → Result Archive ArchiveRefusal) →
-    (Archive → Archive) → Type 0
-ChangesByCommand g old new command change = ChangesWhere g old new (λ a. command a ≡ Ok (change a)) change
 
 -- A call reads whether the archive's command makes this change. Where it does not, the refusal is the command's.
 abbrev pub TellsOutcome : {S X : Type 0} → Ghosts S → (old new : Store S) → Result X StoreFault →
     (Archive → Result Archive ArchiveRefusal) → (Archive → Archive) → Type 0
 TellsOutcome g old new result command change =
     Tells g old new result (λ a _. command a ≡ Ok (change a)) (λ a f. command a ≡ Err f)
-
--- what a crash may leave while the archive is changed on an open connection: what a crash might have left before it,
--- or the changed archive
-abbrev pub LeavesChange : {S : Type 0} → Ghosts S → (old new : Store S) → (Archive → Archive) → Type 0
-LeavesChange g old new change = LeavesMade g old new (λ a. Ok (change a)) change
 
 -- where the call succeeds, the connection is open
 abbrev pub IsOpenOnOk : {S X : Type 0} → Ghosts S → (new : Store S) → Result X StoreFault → Type 0

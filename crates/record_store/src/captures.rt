@@ -8,10 +8,11 @@ ghost use Rattle.class_plan.specs.Calendar.{number_of_day, due_on};
 ghost use Rattle.record_tables.specs.CodeRows.{due_of};
 ghost use Rattle.record_archive.specs.Archive as archive;
 ghost use Rattle.record_archive.specs.Archive.{Archive, AreClasses};
-ghost use Rattle.record_store.specs.Captures.{HasDueDay, lines_of, dues_of_lines, due_before, ObeysCapture};
+ghost use Rattle.record_store.specs.Captures.{HasDueDay, lines_of, dues_of_lines, due_before, ObeysCapture, ObeysCaptureReady};
+ghost use Rattle.record_store.specs.Companions.{Brought, FailsStill, LeavesBoth, ChangesReady, BringsWhere, LeavesBothWhere};
 ghost use Rattle.record_archive.specs.Lines.{line_view};
 ghost use Rattle.record_archive.specs.Faults.{is_trouble};
-ghost use Rattle.record_store.specs.Stores.{StandsFor, Leaves, ChangesBy, LeavesChange, Behaves};
+ghost use Rattle.record_store.specs.Stores.{StandsFor, Leaves, Behaves};
 
 use crate::changes::Capture;
 use crate::fault::{BUSY, StoreFault, fault_of};
@@ -20,6 +21,7 @@ use class_paths::Paths;
 use class_plan::{Date, day_number};
 use record_adoption::number_of;
 use record_archive::{ArchiveRefusal, Line};
+use record_tables::companions::{Accompanied, Alone, Companion};
 use record_tables::rows::DueRow;
 use record_tables::transact::transact;
 use sqlite::Alter;
@@ -93,13 +95,14 @@ impl<S: Alter> Store<S> {
     }
 
     /// Stores a message and its records, for which there are numbers left.
-    fn place_capture(
+    fn place_capture<D: Companion + Drop>(
         &mut self,
         first: u32,
         body: &[u8],
         day: u32,
         paths: &Paths,
         dues: &[DueRow],
+        companion: D,
     ) -> Result<(), StoreFault>
         requires some { 0 < length paths.now }
         requires room { first + length paths.now ≤ 2 ^ 32 }
@@ -108,13 +111,18 @@ impl<S: Alter> Store<S> {
         requires day { day ≤ 84005 }
         requires dues { map due_of dues.now ≡
             dues_of_lines (lines_of self.old.plan first day paths.now) }
-        ensures ok { OnOk result (ChangesBy S.Store self.old self.new
-            (λ a. archive.after_capture a body.now day paths.now)) }
+        ensures ok { OnOk result (ChangesReady S.Store (D.needs companion) self.old self.new
+            (λ a. Unit {0}) (λ a. archive.after_capture a body.now day paths.now)) }
         ensures err { OnErr result
             ((a : Archive) → StandsFor S.Store self.old a → StandsFor S.Store self.new a) }
         ensures trouble { IfErr result (λ f. is_trouble f ≡ true) }
+        ensures brought { OnOk result
+            (BringsWhere S.Store (D.needs companion) (D.brings companion) self.old self.new
+            (λ a. Unit {0})) }
+        ensures still { FailsStill S.Store self.old self.new result }
         ensures behaves { Behaves S.Store self.old self.new result }
-        ensures crash { LeavesChange S.Store self.old self.new
+        ensures crash { LeavesBothWhere S.Store (D.needs companion) (D.brings companion)
+            self.old self.new (λ a. Unit {0})
             (λ a. archive.after_capture a body.now day paths.now) }
     {
         if !self.conn.is_autocommit() {
@@ -131,7 +139,7 @@ impl<S: Alter> Store<S> {
             paths,
             dues,
         };
-        match transact(&mut self.conn, change) {
+        match transact(&mut self.conn, Accompanied { change, companion }) {
             Ok(()) => {
                 self.next += count;
                 Ok(())
@@ -169,6 +177,29 @@ impl<S: Alter> Store<S> {
             self.ensure_open()?;
             return Ok(Vec::new(self.alloc));
         }
+        self.capture_with(body, day, paths, Alone)
+    }
+
+    /// The same beside a companion, in one transaction. The caller gives a path at least.
+    pub fn capture_with<D: Companion + Drop>(
+        &mut self,
+        body: &[u8],
+        day: Date,
+        paths: &Paths,
+        companion: D,
+    ) -> Result<Vec<Line>, StoreFault>
+        requires some { 0 < length paths.now }
+        requires day { IsCaptureDay day }
+        requires paths { AreClasses self.old.plan paths.now }
+        ensures obeys { ObeysCaptureReady S.Store (D.needs companion) self.old self.new result
+            body.now (number_of_day day) paths.now }
+        ensures brought { Brought S.Store (D.needs companion) (D.brings companion)
+            self.old self.new result }
+        ensures still { FailsStill S.Store self.old self.new result }
+        ensures behaves { Behaves S.Store self.old self.new result }
+        ensures crash { LeavesBoth S.Store (D.needs companion) (D.brings companion)
+            self.old self.new (λ a. archive.capture a body.now (number_of_day day) paths.now) }
+    {
         let count = paths.as_slice().len() as u64;
         if self.next > NUMBERS || count > NUMBERS - self.next {
             return Err(StoreFault::Refused(ArchiveRefusal::Full));
@@ -176,7 +207,8 @@ impl<S: Alter> Store<S> {
         let first = self.next as u32;
         let lines = self.new_lines(first, day, paths)?;
         let dues = due_rows(self.alloc, lines.as_slice())?;
-        self.place_capture(first, body, capture_number(day), paths, dues.as_slice())?;
+        let number = capture_number(day);
+        self.place_capture(first, body, number, paths, dues.as_slice(), companion)?;
         Ok(lines)
     }
 }

@@ -1,7 +1,7 @@
 //! What commands change in the tables, each in one transaction.
 
 ghost use Rattle.std.specs.Prelude.{◌+◌, ◌≤◌, ◌^◌, length, map};
-ghost use Rattle.record_tables.specs.Changes.{Turns, Always, IsPastRecords, with_hold, without_hold};
+ghost use Rattle.record_tables.specs.Changes.{TurnsAlone, Always, IsPastRecords, with_hold, without_hold};
 ghost use Rattle.record_tables.specs.CodeRows.{due_of};
 ghost use Rattle.record_archive.specs.Archive.{records_of};
 ghost use Rattle.record_store.specs.Captures.{AreAfter, with_records, with_more_dues, IsCaptured};
@@ -23,7 +23,7 @@ pub(crate) struct Holding<'a> {
 impl Change for Holding<'_> {
     ghost may_be_made = { λ c db. Unit {0} };
 
-    ghost makes = { λ c old new. Turns old new Always (with_hold c.name.now c.number) };
+    ghost makes = { λ c old new. TurnsAlone old new Always (with_hold c.name.now c.number) };
 
     fn make<S: Alter>(self, tx: &mut Transaction<'_, S>) -> Result<(), Error> {
         insert_hold(tx, self.name, self.number)?;
@@ -41,7 +41,7 @@ pub(crate) struct Release<'a> {
 impl Change for Release<'_> {
     ghost may_be_made = { λ c db. Unit {0} };
 
-    ghost makes = { λ c old new. Turns old new Always (without_hold c.name.now c.number) };
+    ghost makes = { λ c old new. TurnsAlone old new Always (without_hold c.name.now c.number) };
 
     fn make<S: Alter>(self, tx: &mut Transaction<'_, S>) -> Result<(), Error> {
         delete_hold(tx, self.name, self.number)?;

@@ -6,7 +6,8 @@ ghost use Rattle.class_plan.specs.Changes.{addition};
 ghost use Rattle.class_plan.specs.Plans.{IsPlan};
 ghost use Rattle.record_archive.specs.Archive as archive;
 ghost use Rattle.record_archive.specs.Archive.{Archive};
-ghost use Rattle.record_store.specs.Revisions.{IsClassAdded, HasSameDue};
+ghost use Rattle.record_store.specs.Companions.{ObeysReady, Brought, FailsStill, LeavesBoth};
+ghost use Rattle.record_store.specs.Revisions.{IsClassAddedAlone, HasSameDue};
 ghost use Rattle.record_archive.specs.Faults.{WhereRefused, is_trouble};
 ghost use Rattle.record_archive.specs.Calls.{Quietly};
 ghost use Rattle.record_store.specs.Faults.{is_own};
@@ -16,6 +17,7 @@ use crate::fault::{BUSY, StoreFault, fault_of};
 use crate::store::Store;
 use class_plan::{Plan, PlanFault};
 use record_archive::ArchiveRefusal;
+use record_tables::companions::{Accompanied, Alone, Companion};
 use record_tables::transact::{Change, transact};
 use record_tables::writes::insert_class;
 use sqlite::{Alter, Error, Transaction};
@@ -29,7 +31,7 @@ struct Addition<'a> {
 impl Change for Addition<'_> {
     ghost may_be_made = { λ c db. Unit {0} };
 
-    ghost makes = { λ c. IsClassAdded c.path.now };
+    ghost makes = { λ c. IsClassAddedAlone c.path.now };
 
     fn make<S: Alter>(self, tx: &mut Transaction<'_, S>) -> Result<(), Error> {
         insert_class(tx, self.path, true, None)?;
@@ -73,11 +75,33 @@ impl<S: Alter> Store<S> {
         ensures behaves { Behaves S.Store self.old self.new result }
         ensures crash { Leaves S.Store self.old self.new (λ a. archive.add_class a path.now) }
     {
+        self.add_class_with(path, Alone)
+    }
+
+    /// The same beside a companion, in one transaction.
+    pub fn add_class_with<D: Companion + Drop>(
+        &mut self,
+        path: &[u8],
+        companion: D,
+    ) -> Result<(), StoreFault>
+        ensures obeys { ObeysReady S.Store (D.needs companion) self.old self.new result
+            (λ a. archive.add_class a path.now) Quietly }
+        ensures dues { OnOk result
+            ((a : Archive) → StandsFor S.Store self.old a →
+            All (HasSameDue self.old.plan self.new.plan) a.records) }
+        ensures brought { Brought S.Store (D.needs companion) (D.brings companion)
+            self.old self.new result }
+        ensures still { FailsStill S.Store self.old self.new result }
+        ensures behaves { Behaves S.Store self.old self.new result }
+        ensures crash { LeavesBoth S.Store (D.needs companion) (D.brings companion)
+            self.old self.new (λ a. archive.add_class a path.now) }
+    {
         if !self.conn.is_autocommit() {
             return Err(BUSY);
         }
         plan_class(&mut self.plan, path)?;
-        match transact(&mut self.conn, Addition { path }) {
+        let change = Addition { path };
+        match transact(&mut self.conn, Accompanied { change, companion }) {
             Ok(()) => Ok(()),
             Err(error) => {
                 self.plan.remove(path);

@@ -8,10 +8,11 @@ ghost use Rattle.record_tables.specs.CodeRows.{record_of};
 ghost use Rattle.record_archive.specs.Archive as archive;
 ghost use Rattle.record_archive.specs.Archive.{Archive};
 ghost use Rattle.record_adoption.specs.Counts.{count_at};
-ghost use Rattle.record_store.specs.Destruction.{IsUnheld, IsDestruction, against_destruction, without_body, IsDestroyable};
+ghost use Rattle.record_store.specs.Companions.{ObeysRowsReady, Brought, FailsStill, LeavesBoth, ChangesReady, BringsWhere, LeavesBothWhere};
+ghost use Rattle.record_store.specs.Destruction.{IsUnheld, IsDestructionAlone, against_destruction, without_body, IsDestroyable};
 ghost use Rattle.record_archive.specs.Faults.{WhereRefused, is_trouble};
 ghost use Rattle.record_archive.specs.Calls.{Quietly};
-ghost use Rattle.record_store.specs.Stores.{StandsFor, ObeysRows, Tells, Leaves, LeavesAll, LeavesAllowed, ChangesWhere, Behaves};
+ghost use Rattle.record_store.specs.Stores.{StandsFor, StaysStill, ObeysRows, Tells, Leaves, LeavesAll, Behaves};
 
 use crate::dues::number_from_1970;
 use crate::fault::{BUSY, LOST, StoreFault, fault_of};
@@ -20,6 +21,7 @@ use class_plan::{Date, Plan};
 use record_adoption::{LAST_CAPTURE_DAY, due_day_of};
 use record_archive::ArchiveRefusal;
 use record_choice::destroys;
+use record_tables::companions::{Accompanied, Alone, Companion};
 use record_tables::rows::RecordRow;
 use record_tables::transact::{Change, transact};
 use record_tables::writes::{delete_due, delete_message, set_destroyed};
@@ -45,7 +47,7 @@ struct Destruction {
 impl Change for Destruction {
     ghost may_be_made = { λ c db. Unit {0} };
 
-    ghost makes = { λ c. IsDestruction c.number c.last };
+    ghost makes = { λ c. IsDestructionAlone c.number c.last };
 
     fn make<S: Alter>(self, tx: &mut Transaction<'_, S>) -> Result<(), Error> {
         delete_due(tx, self.number)?;
@@ -91,6 +93,7 @@ impl<S: Alter> Store<S> {
         ensures tells { Tells S.Store self.old self.new result
             (λ a r. IsDestroyable number day a (record_of r))
             (λ a f. archive.destroy_by a number day (archive.record_at a number) ≡ Err f) }
+        ensures still { StaysStill S.Store self.old self.new }
         ensures behaves { Behaves S.Store self.old self.new result }
         ensures crash { LeavesAll S.Store self.old self.new }
     {
@@ -120,23 +123,33 @@ impl<S: Alter> Store<S> {
     }
 
     /// Destroys a live record that no hold keeps.
-    fn remove_record(&mut self, number: u32, row: &RecordRow) -> Result<(), StoreFault>
-        ensures ok { OnOk result (ChangesWhere S.Store self.old self.new
+    fn remove_record<D: Companion + Drop>(
+        &mut self,
+        number: u32,
+        row: &RecordRow,
+        companion: D,
+    ) -> Result<(), StoreFault>
+        ensures ok { OnOk result (ChangesReady S.Store (D.needs companion) self.old self.new
             (λ a. IsUnheld a number (record_of row.now))
             (λ a. archive.without a (record_of row.now))) }
         ensures err { OnErr result
             ((a : Archive) → StandsFor S.Store self.old a → StandsFor S.Store self.new a) }
         ensures trouble { IfErr result (λ f. is_trouble f ≡ true) }
+        ensures brought { OnOk result
+            (BringsWhere S.Store (D.needs companion) (D.brings companion) self.old self.new
+            (λ a. IsUnheld a number (record_of row.now))) }
+        ensures still { FailsStill S.Store self.old self.new result }
         ensures behaves { Behaves S.Store self.old self.new result }
-        ensures crash { LeavesAllowed S.Store self.old self.new
-            (λ a. IsUnheld a number (record_of row.now))
+        ensures crash { LeavesBothWhere S.Store (D.needs companion) (D.brings companion)
+            self.old self.new (λ a. IsUnheld a number (record_of row.now))
             (λ a. archive.without a (record_of row.now)) }
     {
         if !self.conn.is_autocommit() {
             return Err(BUSY);
         }
         let last = self.last_body(row.message);
-        match transact(&mut self.conn, Destruction { number, last }) {
+        let change = Destruction { number, last };
+        match transact(&mut self.conn, Accompanied { change, companion }) {
             Ok(()) => {
                 self.others.take(row.message, 1);
                 Ok(())
@@ -164,8 +177,27 @@ impl<S: Alter> Store<S> {
         ensures crash { Leaves S.Store self.old self.new
             (λ a. archive.destroy_on a number (epoch_day day)) }
     {
+        self.destroy_with(number, day, Alone)
+    }
+
+    /// The same beside a companion, in one transaction.
+    pub fn destroy_with<D: Companion + Drop>(
+        &mut self,
+        number: u32,
+        day: Date,
+        companion: D,
+    ) -> Result<(), StoreFault>
+        ensures obeys { ObeysRowsReady S.Store (D.needs companion) self.old self.new result
+            (λ a. archive.destroy_on a number (epoch_day day)) Quietly }
+        ensures brought { Brought S.Store (D.needs companion) (D.brings companion)
+            self.old self.new result }
+        ensures still { FailsStill S.Store self.old self.new result }
+        ensures behaves { Behaves S.Store self.old self.new result }
+        ensures crash { LeavesBoth S.Store (D.needs companion) (D.brings companion)
+            self.old self.new (λ a. archive.destroy_on a number (epoch_day day)) }
+    {
         let record = self.judge_destruction(number, number_from_1970(day))?;
-        self.remove_record(number, &record)?;
+        self.remove_record(number, &record, companion)?;
         Ok(())
     }
 }

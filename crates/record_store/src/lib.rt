@@ -2,6 +2,7 @@
 #![tactic(auto)]
 
 mod adopt;
+mod beside;
 mod captures;
 mod changes;
 mod classes;

@@ -10,7 +10,7 @@ ghost use Rattle.record_archive.specs.Archive.{Archive, empty_archive};
 ghost use Rattle.record_adoption.specs.Adoption.{FindsNothing, LeavesArchive};
 ghost use Rattle.record_archive.specs.Faults.{is_trouble};
 ghost use Rattle.record_store.specs.Faults.{is_own};
-ghost use Rattle.record_store.specs.Stores.{StandsFor, Tells, LeavesAll, LeavesNow, Falls, IsOpenOnOk, LacksRecord, Behaves};
+ghost use Rattle.record_store.specs.Stores.{StandsFor, StaysStill, Tells, LeavesAll, LeavesNow, Falls, IsOpenOnOk, LacksRecord, Behaves};
 ghost use Rattle.record_tables.specs.Steps.{CommitsNothing, IsUntouched};
 
 use crate::fault::{StoreFault, fault_of, lost_or};
@@ -112,6 +112,7 @@ impl<S: Alter> Store<S> {
     pub(crate) fn record_at(&mut self, number: u32) -> Result<RecordRow, StoreFault>
         ensures tells { Tells S.Store self.old self.new result
             (λ a r. archive.record_at a number ≡ Some (record_of r)) (LacksRecord number) }
+        ensures still { StaysStill S.Store self.old self.new }
         ensures behaves { Behaves S.Store self.old self.new result }
         ensures crash { LeavesAll S.Store self.old self.new }
     {
@@ -126,6 +127,7 @@ impl<S: Alter> Store<S> {
     pub(crate) fn has_hold(&mut self, name: &[u8], number: u32) -> Result<bool, StoreFault>
         ensures tells { Tells S.Store self.old self.new result (λ a b. b ≡
             archive.is_held_by a name.now number) (λ a f. ⊥) }
+        ensures still { StaysStill S.Store self.old self.new }
         ensures behaves { Behaves S.Store self.old self.new result }
         ensures crash { LeavesAll S.Store self.old self.new }
     {
@@ -141,6 +143,14 @@ impl<S: Alter> Store<S> {
         ensures stands { (a : Archive) → StandsFor S.Store self.now a → result.now ≡ a.plan }
     {
         &self.plan
+    }
+
+    /// The number that the next record gets: at most 4,294,967,296, which none has.
+    pub fn next_number(&self) -> u64
+        ensures value { result ≡ self.now.next }
+        ensures stands { (a : Archive) → StandsFor S.Store self.now a → result ≡ archive.next_number a }
+    {
+        self.next
     }
 
     /// Ends the store and returns its connection.

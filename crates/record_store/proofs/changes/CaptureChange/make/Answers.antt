@@ -1,6 +1,6 @@
 use Rattle.std.proofs.Common.{arith, ◌∙◌}
 use Rattle.sqlite.specs.Held.{state}
-use Rattle.record_tables.proofs.Loops.{turned}
+use Rattle.record_tables.proofs.Loops.{turned_alone}
 use Rattle.record_store.proofs.CaptureLemmas.{puts_capture}
 use Rattle.record_store.proofs.changes.CaptureChange.make.Goals as goal
 
@@ -17,7 +17,7 @@ returns-clause-ok g c clean inside =
     )) inside in
     let two = c.in_ok-insert_records.ensures.ok (omega (arith, c.insert_due_days.ensures.frame.survives.clean)) (one.mode ∙ inside) in
     let three = c.in_ok-insert_due_days.ensures.ok clean (two.mode ∙ one.mode ∙ inside) in
-    turned first last _ _ (puts_capture first second third last c.args.self.first _ _ _ one two three)
+    turned_alone first last _ _ (puts_capture first second third last c.args.self.first _ _ _ one two three)
 
 pub returns-clause-goes_on : goal.returns-clause-goes_on
 returns-clause-goes_on g c clean inside =

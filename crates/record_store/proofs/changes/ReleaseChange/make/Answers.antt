@@ -1,9 +1,9 @@
 use Rattle.sqlite.specs.Held.{state}
 use Rattle.record_tables.specs.Changes.{Always}
-use Rattle.record_tables.proofs.Loops.{turned}
+use Rattle.record_tables.proofs.Loops.{turned_alone}
 use Rattle.record_store.proofs.changes.ReleaseChange.make.Goals as goal
 
 pub returns-clause-ok : goal.returns-clause-ok
 returns-clause-ok g c clean inside =
-    turned (state g.S.Store c.args.tx.now.conn.now) (state g.S.Store c.delete_hold.new.tx.conn.now) Always _
+    turned_alone (state g.S.Store c.args.tx.now.conn.now) (state g.S.Store c.delete_hold.new.tx.conn.now) Always _
     (c.in_ok-delete_hold.ensures.ok clean inside)

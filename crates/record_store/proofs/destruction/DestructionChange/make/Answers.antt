@@ -2,7 +2,7 @@ use Rattle.std.proofs.Common.{Ok}
 use Rattle.sqlite.specs.declared.error.Error.{Error}
 use Rattle.record_tables.specs.Steps.{Writes}
 use Rattle.record_tables.specs.Changes.{Always, with_destruction, without_due}
-use Rattle.record_tables.proofs.Loops.{puts_then, turned, writes_next}
+use Rattle.record_tables.proofs.Loops.{puts_then, turned_alone, writes_next}
 use Rattle.record_store.specs.Destruction.{without_body}
 use Rattle.record_store.proofs.destruction.DestructionChange.make.Given.{Over}
 use Rattle.record_store.proofs.destruction.DestructionChange.make.Goals.{In_ok-delete_body}
@@ -18,7 +18,7 @@ all g c =
     (puts_then _ _ _ Always Always _ (without_body c.args.self.last) (λ t h. tt))
 
 pub returns-clause-ok : goal.returns-clause-ok
-returns-clause-ok g c clean inside = turned _ _ Always _ ((all g (goal.at.returns-clause-ok g c).In_ok-delete_body).ok clean inside)
+returns-clause-ok g c clean inside = turned_alone _ _ Always _ ((all g (goal.at.returns-clause-ok g c).In_ok-delete_body).ok clean inside)
 
 pub returns-clause-goes_on : goal.returns-clause-goes_on
 returns-clause-goes_on g c clean inside =

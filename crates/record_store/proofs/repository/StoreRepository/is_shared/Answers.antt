@@ -1,7 +1,6 @@
-use Rattle.std.proofs.Common.{◌≡◌, ◌∙◌, ◌-◌, ap, sym, nat_lt}
+use Rattle.std.proofs.Common.{◌∙◌, ap, sym, nat_lt}
 use Rattle.record_archive.specs.Archive.{Archive, Record}
 use Rattle.record_adoption.specs.Counts.{count_at}
-use Rattle.record_adoption.specs.Keeping.{live_count}
 use Rattle.record_store.proofs.DestroyLemmas.{shared_counted}
 use Rattle.record_store.proofs.repository.StoreRepository.is_shared.Goals as goal
 

@@ -3,38 +3,49 @@ use Rattle.record_tables.specs.Changes as tables
 use Rattle.record_tables.specs.Changes.{Always}
 use Rattle.record_archive.specs.Archive as archive
 use Rattle.record_archive.specs.Archive.{Archive}
-use Rattle.record_store.proofs.CommandLemmas.{fell, stands_turned, leaves_turned}
+use Rattle.record_store.specs.Companions.{LeavesBothWhere}
+use Rattle.record_store.proofs.CommandLemmas.{fell, stands_both, brought_both, leaves_both}
 use Rattle.record_store.proofs.HoldLemmas.{released_is_archive, stores_released, count_released, is_there}
 use Rattle.record_store.proofs.Causes.{behaves_busy}
+use Rattle.record_store.proofs.store.Store.end_hold.Given.{Over}
+use Rattle.record_store.proofs.store.Store.end_hold.Goals.{After-transact}
 use Rattle.record_store.proofs.store.Store.end_hold.Goals as goal
 
 pub returns-in-Ok-clause-ok : goal.returns-in-Ok-clause-ok
-returns-in-Ok-clause-ok g c = λ (a : Archive) s e.
+returns-in-Ok-clause-ok g c = λ ready (a : Archive) s e.
     let name = c.args.name.now in
     let n = c.args.number in
-    stands_turned g.S.Store c.args.self.now _ a (archive.without_hold a name n) Always (tables.without_hold name n) s
+    stands_both g.S.Store c.args.self.now a (archive.without_hold a name n) Always (tables.without_hold name n) (g.D.Companion.needs c.args.companion) (g.D.Companion.brings c.args.companion) s ready _
     (released_is_archive a name n s.archive) c.transact.ensures.idle s.plan s.next
     (λ m. let sum = count_released name n m a.holds s.archive.once (is_there a name n e) in
     omega (arith, c.take.ensures m, s.held m, sum)) s.others (fell g.S.Store c.args.self.now.conn c.transact.new.conn _ c.transact.ensures.crash)
     c.transact.ensures.was_open c.in-Ok.ensures.ok (stores_released name n a)
 
-pub returns-in-Ok-clause-crash : goal.returns-in-Ok-clause-crash
-returns-in-Ok-clause-crash g c = λ (a : Archive) s.
+pub returns-in-Ok-clause-brought : goal.returns-in-Ok-clause-brought
+returns-in-Ok-clause-brought g c = λ (a : Archive) s ready e.
     let name = c.args.name.now in
     let n = c.args.number in
-    leaves_turned g.S.Store c.args.self.now c.transact.new.conn a (archive.without_hold a name n)
-    (archive.release a name n ≡ Ok (archive.without_hold a name n)) Always (tables.without_hold name n) s
-    (λ legal. released_is_archive a name n s.archive) (λ was kept legal. tt)
-    (λ was db kept legal turns. stores_released name n a was db kept turns) c.transact.ensures.live c.transact.ensures.crash
+    brought_both g.S.Store c.args.self.now a (archive.without_hold a name n) Always (tables.without_hold name n) (g.D.Companion.needs c.args.companion) (g.D.Companion.brings c.args.companion) s ready c.transact.new.conn
+    (λ was kept. tt) (fell g.S.Store c.args.self.now.conn c.transact.new.conn _ c.transact.ensures.crash)
+    c.transact.ensures.was_open c.in-Ok.ensures.open c.in-Ok.ensures.ok
+
+left : (g : Over) (c : After-transact g) → LeavesBothWhere g.S.Store (g.D.Companion.needs c.args.companion) (g.D.Companion.brings c.args.companion)
+    c.args.self.now (record c.args.self.now { conn = c.transact.new.conn })
+    (λ a. archive.release a c.args.name.now c.args.number ≡ Ok (archive.without_hold a c.args.name.now c.args.number))
+    (λ a. archive.without_hold a c.args.name.now c.args.number)
+left g c = λ (a : Archive) s ready.
+    let name = c.args.name.now in
+    let n = c.args.number in
+    leaves_both g.S.Store c.args.self.now a (archive.without_hold a name n) Always (tables.without_hold name n) (g.D.Companion.needs c.args.companion) (g.D.Companion.brings c.args.companion) s ready c.transact.new.conn
+    (archive.release a name n ≡ Ok (archive.without_hold a name n)) (λ legal. released_is_archive a name n s.archive)
+    (λ was kept legal. tt) (λ was db kept legal turns. stores_released name n a was db kept turns) c.transact.ensures.live
+    c.transact.ensures.crash
+
+pub returns-in-Ok-clause-crash : goal.returns-in-Ok-clause-crash
+returns-in-Ok-clause-crash g c = left g (goal.at.returns-in-Ok-clause-crash g c).After-transact
 
 pub returns-in-Err-clause-crash : goal.returns-in-Err-clause-crash
-returns-in-Err-clause-crash g c = λ (a : Archive) s.
-    let name = c.args.name.now in
-    let n = c.args.number in
-    leaves_turned g.S.Store c.args.self.now c.transact.new.conn a (archive.without_hold a name n)
-    (archive.release a name n ≡ Ok (archive.without_hold a name n)) Always (tables.without_hold name n) s
-    (λ legal. released_is_archive a name n s.archive) (λ was kept legal. tt)
-    (λ was db kept legal turns. stores_released name n a was db kept turns) c.transact.ensures.live c.transact.ensures.crash
+returns-in-Err-clause-crash g c = left g (goal.at.returns-in-Err-clause-crash g c).After-transact
 
 pub returns-then-not-is_autocommit-clause-behaves : goal.returns-then-not-is_autocommit-clause-behaves
 returns-then-not-is_autocommit-clause-behaves g c =

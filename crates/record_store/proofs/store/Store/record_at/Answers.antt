@@ -2,7 +2,7 @@ use Rattle.std.proofs.Common.{find, option_map, ap, sym, refl, ◌∙◌, Err, r
 use Rattle.record_tables.specs.CodeRows.{record_of}
 use Rattle.record_archive.specs.Archive.{Archive, has_number}
 use Rattle.record_store.proofs.Causes.{not_own-lost_or, fits_kept}
-use Rattle.record_store.proofs.CommandLemmas.{stands_looked}
+use Rattle.record_store.proofs.CommandLemmas.{stands_looked, still_looked}
 use Rattle.record_store.proofs.store.Store.record_at.Goals as goal
 
 pub returns-in-Ok-Some-clause-tells : goal.returns-in-Ok-Some-clause-tells
@@ -33,3 +33,12 @@ returns-in-Err-clause-behaves g c = record {
       c.in-Err.ensures.none clean (ap Err e) kept.tables kept.stored kept.keyed (fits_kept a _ kept s.archive));
   «open» = search rules;
 }
+
+pub returns-in-Ok-Some-clause-still : goal.returns-in-Ok-Some-clause-still
+returns-in-Ok-Some-clause-still g c = still_looked g.S.Store c.args.self.now c.record_by_number.new.conn c.record_by_number.ensures.looks
+
+pub returns-in-Ok-None-clause-still : goal.returns-in-Ok-None-clause-still
+returns-in-Ok-None-clause-still g c = still_looked g.S.Store c.args.self.now c.record_by_number.new.conn c.record_by_number.ensures.looks
+
+pub returns-in-Err-clause-still : goal.returns-in-Err-clause-still
+returns-in-Err-clause-still g c = still_looked g.S.Store c.args.self.now c.record_by_number.new.conn c.record_by_number.ensures.looks
