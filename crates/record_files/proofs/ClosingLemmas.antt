@@ -1,7 +1,6 @@
 -- What the files hold of the last commit once its connection is given up.
-use Rattle.std.proofs.Common.{◌≡◌, ◌<◌, ◌≤◌, ℕ, [], length, false, IsTrue, refl, sym, ap, subst, ◌∙◌, arith}
+use Rattle.std.proofs.Common.{◌≡◌, ◌<◌, ◌≤◌, ℕ, [], IsTrue, refl, sym, ap, subst, arith}
 use Rattle.std.proofs.Math.Logic.{∥∥₁_elim, ∥∥₁_map}
-use Rattle.sqlite_disk.specs.Disk.{MoreFaults}
 use Rattle.sqlite_disk.specs.declared.Files.{Files}
 use Rattle.sqlite_disk.specs.declared.Disk.{Ghosts}
 use Rattle.sqlite_wal.specs.PageSize.{IsPageSize, size_in_file}
@@ -15,7 +14,7 @@ use Rattle.sqlite_pool.proofs.ResealLemmas.{adopts_of}
 use Rattle.sqlite_pool.proofs.StateLemmas.{size_is_allowed}
 use Rattle.sqlite_trees.specs.Tree.{Trees}
 use Rattle.sqlite_store.specs.declared.store.FileStore.{FileStore}
-use Rattle.sqlite_store.specs.FileStore.{faults, files as stored_files, state, view, reading, recovers, schema_in}
+use Rattle.sqlite_store.specs.FileStore.{faults, state, view, reading, recovers, schema_in}
 use Rattle.sqlite_store.specs.Laws.{settled_at}
 use Rattle.sqlite_store.specs.Listing.{IsOurs}
 use Rattle.sqlite.specs.Recovery.{Image}
@@ -23,8 +22,8 @@ use Rattle.sqlite.specs.Effect.{Database}
 use Rattle.sqlite.specs.State.{IsLive}
 use Rattle.sqlite.specs.Held.{Held, AreDatabases}
 use Rattle.sqlite.specs.Files.{HoldsDatabase, faults_of, file_state}
-use Rattle.record_files.specs.Closing.{HasCause, HaveCounted, HaveFailed, HoldsBy, HoldsLeft, HoldsNow, IsLeftOpen, IsShut}
-use Rattle.record_files.specs.Copying.{AreReadable, HasHindrance, IsTooLong}
+use Rattle.record_files.specs.Closing.{HasCause, HoldsBy, HoldsLeft, HoldsNow, IsShut}
+use Rattle.record_files.specs.Copying.{AreReadable, HasHindrance}
 use Rattle.record_files.specs.declared.closing.Closing.{Closing}
 use Rattle.record_files.specs.declared.closing.Closing.TheVariants.{Copied, Logged, Shut}
 use Rattle.record_files.specs.declared.closing.Hindrance.TheVariants.{NoMemory, TooLong, Fault}

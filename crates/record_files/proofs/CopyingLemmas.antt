@@ -8,7 +8,7 @@ use Rattle.sqlite_wal.specs.declared.error.Error.{Error}
 use Rattle.sqlite_wal.specs.declared.error.Error.TheVariants.{Io, OutOfMemory, Closed, NoSuchPage, Full, Corrupt, Exists}
 use Rattle.sqlite_wal.specs.declared.log.Log.{Log}
 use Rattle.sqlite_wal.specs.declared.page_size.PageSize.{PageSize}
-use Rattle.sqlite_wal.specs.PageSize.{bytes_of, size_in_file, Names, IsPageSize}
+use Rattle.sqlite_wal.specs.PageSize.{bytes_of, size_in_file, Names}
 use Rattle.sqlite_wal.specs.Format.{be32}
 use Rattle.sqlite_wal.specs.Recovery.{Image, IsIgnored, IsUnreadable, Recovers, pages_after}
 use Rattle.sqlite_wal.specs.Files.{IsHuge, RefusesToRecover}

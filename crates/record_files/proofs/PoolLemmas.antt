@@ -1,5 +1,5 @@
 -- What a pool says of its two files.
-use Rattle.std.proofs.Common.{◌≡◌, ◌<◌, ◌≤◌, ℕ, ◌+◌, zero, suc, List, length, IsTrue, refl, arith, length-set}
+use Rattle.std.proofs.Common.{◌≡◌, ℕ, ◌+◌, zero, suc, List, length, IsTrue, refl, arith, length-set}
 use Rattle.sqlite_disk.specs.declared.Disk.{Ghosts}
 use Rattle.sqlite_wal.specs.Recovery.{IsCommitted}
 use Rattle.sqlite_wal.specs.Index.{gate_of, key_of}

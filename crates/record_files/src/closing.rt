@@ -56,10 +56,7 @@ impl Closing {
 /// Where the copy fails, the two files together keep what the connection had (`Logged`), also over a crash. Of a store that
 /// a fault had shut before, nothing is copied (`Shut`), and the files keep one of the databases that a crash at that moment
 /// may leave.
-pub fn close<D: Disk + Drop>(
-    alloc: Global,
-    conn: Connection<FileStore<D>>,
-) -> (Files<D>, Closing)
+pub fn close<D: Disk + Drop>(alloc: Global, conn: Connection<FileStore<D>>) -> (Files<D>, Closing)
     ensures clean { AreClean D.Disk result.0.log result.0.db → HasCleanDisk (file_state conn) }
     ensures holds { AreClean D.Disk result.0.log result.0.db → conn.in_transaction ≡ false
         → (image : Image) → outcomes D.Disk result.0.log result.0.db image

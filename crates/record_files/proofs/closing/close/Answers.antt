@@ -1,4 +1,4 @@
-use Rattle.std.proofs.Common.{◌≡◌, ◌+◌, false, not, IsTrue, sym, ap, subst, ◌∙◌, refl, inl, inr, arith}
+use Rattle.std.proofs.Common.{◌+◌, not, IsTrue, sym, ap, subst, ◌∙◌, refl, inl, inr, arith}
 use Rattle.std.proofs.lemmas.Bool.{false≢true}
 use Rattle.sqlite_wal.specs.Reads.{AreClean}
 use Rattle.sqlite_wal.specs.Files.{outcomes}
@@ -9,7 +9,7 @@ use Rattle.sqlite_trees.proofs.Doubt.{no_doubt}
 use Rattle.sqlite_store.specs.FileStore.{files, state, view}
 use Rattle.sqlite_store.specs.Laws.{not_broken}
 use Rattle.sqlite.specs.Recovery.{Image}
-use Rattle.sqlite.specs.Files.{HoldsDatabase, file_state, faults_of, image_of}
+use Rattle.sqlite.specs.Files.{HoldsDatabase, file_state, image_of}
 use Rattle.sqlite.proofs.Theorems.{copied}
 use Rattle.record_files.specs.Closing.{HoldsNow}
 use Rattle.record_files.specs.Copying.{AreReadable, HasNoFrame, without_log}

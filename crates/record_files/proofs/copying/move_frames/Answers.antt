@@ -24,6 +24,6 @@ returns-clause-alone g c =
     let on : IsTrue (state last).is_open = open_from (state last) ready clean in
     let found = c.in_ok-recover.ensures.found (kept.stays.clean clean) in
     let sized = subst (λ (n : ℕ). Recovers n (without_log left) (state last).committed) (kept.stays.size ∙ c.recover.ensures.size)
-        (recovers_alone last on empty left may) in
+    (recovers_alone last on empty left may) in
     RecoversAs-from (state first).page_size (image first) (without_log left) (state mid).committed found
     (subst (λ (p : Pages). Recovers (state first).page_size (without_log left) p) (kept.committed on) sized))
