@@ -1,3 +1,4 @@
+mod DayLemmas
 mod MarkRows
 mod ReplayLemmas
 mod Rows

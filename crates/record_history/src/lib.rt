@@ -5,10 +5,19 @@
 //! make of an archive, and `Laws` that each command of the archive with its event keeps the history true.
 #![tactic(auto)]
 
+mod dates;
+mod deeds;
+mod events;
 mod laws;
+mod lines;
 mod marks;
+mod seals;
 #[cfg(test)]
 mod tests;
+mod texts;
 
+pub use events::{Deed, Event, Filing, Listing, Seal};
 pub use laws::commands_are_told;
+pub use lines::{LAST_DAY, LAST_MOMENT, event_line};
 pub use marks::next_mark;
+pub use seals::seal_of;
