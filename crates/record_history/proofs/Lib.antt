@@ -1,4 +1,6 @@
 mod DayLemmas
 mod MarkRows
+mod RealDays
 mod ReplayLemmas
+mod RowLemmas
 mod Rows

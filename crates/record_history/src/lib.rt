@@ -6,18 +6,26 @@
 #![tactic(auto)]
 
 mod dates;
+mod days;
+mod deed_readers;
 mod deeds;
 mod events;
+mod faults;
 mod laws;
 mod lines;
 mod marks;
+mod readers;
+mod reading;
 mod seals;
 #[cfg(test)]
 mod tests;
 mod texts;
+mod words;
 
 pub use events::{Deed, Event, Filing, Listing, Seal};
+pub use faults::LineFault;
 pub use laws::commands_are_told;
 pub use lines::{LAST_DAY, LAST_MOMENT, event_line};
 pub use marks::next_mark;
+pub use reading::read_line;
 pub use seals::seal_of;
