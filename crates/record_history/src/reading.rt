@@ -80,6 +80,7 @@ fn event_at(alloc: Global, line: &[u8]) -> Result<(u64, Event<'_>), LineFault>
 /// where the octets are no line.
 pub fn read_line(alloc: Global, line: &[u8]) -> Result<(u64, Event<'_>), LineFault>
     ensures found { IfOk result (λ x. line.now ≡ line_of x.0 (event_view x.1)) }
+    ensures spelled { IfOk result (λ x. IsSpelled (event_view x.1)) }
 {
     let (number, event) = event_at(alloc, line)?;
     let again = event_line(alloc, number, &event)?;
