@@ -1,3 +1,6 @@
+mod DayLemmas
 mod MarkRows
+mod RealDays
 mod ReplayLemmas
+mod RowLemmas
 mod Rows
