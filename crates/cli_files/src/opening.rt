@@ -104,10 +104,7 @@ pub fn open_store<F: FileSystem, S: Start>(
 /// its log could be copied, and otherwise the two files together. A fault that shut the store before is reported (`Shut`);
 /// the files then hold one of the databases that a crash at that moment may leave. It is reported of an open store only where
 /// the disk fails.
-pub fn close_store<D: Disk + Drop>(
-    alloc: Global,
-    store: Store<FileStore<D>>,
-) -> (Files<D>, Closing)
+pub fn close_store<D: Disk + Drop>(alloc: Global, store: Store<FileStore<D>>) -> (Files<D>, Closing)
     ensures clean { AreClean D.Disk result.0.log result.0.db
         → HasCleanDisk (file_state store.conn) }
     ensures keeps { AreClean D.Disk result.0.log result.0.db → (a : Archive)
