@@ -141,7 +141,8 @@ impl<'s, 'a> Search<'s, 'a> {
         // other record.
         ensures page { IfOk result (λ o. R.clean archive.new → (a : Archive)
             → R.stands archive.old a → IsSearchTurn (question_of self.old.questions.now)
-            (choice_view self.old.choice) a self.old.last self.old.from (page_view o) self.new.from) }
+            (choice_view self.old.choice) a self.old.last self.old.from (page_view o)
+            self.new.from) }
     {
         let Some(from) = self.from else {
             return Ok(None);

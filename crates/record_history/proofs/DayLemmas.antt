@@ -56,5 +56,6 @@ unfolding civil_of moment_text
 moment_digits m c text written is =
     let minutes : m % 86400 % 3600 ≡ m % 3600 = omega arith in
     let seconds : m % 86400 % 60 ≡ m % 60 = omega arith in
-    (λ i. written i ++ (codes "T" ++ two_digits (m % 86400 / 3600) ++ codes ":" ++ two_digits (minutes i / 60) ++ codes ":" ++ two_digits (seconds i) ++ codes "Z"))
+    (λ i. written i ++ (codes "T" ++ two_digits (m % 86400 / 3600) ++ codes ":" ++ two_digits (minutes i / 60) ++ codes ":" ++ two_digits (seconds
+    i) ++ codes "Z"))
     ∙ ap (λ x. at_text x m) (sym is)

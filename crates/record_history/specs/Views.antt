@@ -21,7 +21,8 @@ abbrev pub listing_view : listings.Listing → Listing
 listing_view l = record { root = l.root; rows = map answer_row l.classes.items }
 
 abbrev pub deed_view : deeds.Deed → Deed
-deed_view (Captured first seal day filing paths) = plain.Captured first (seal_view seal) day (option_map filing_view filing) (map (λ p. p.now) paths.items)
+deed_view (Captured first seal day filing paths) = plain.Captured first (seal_view seal) day (option_map filing_view filing) (map (λ p. p.now)
+    paths.items)
 deed_view (Held name n) = plain.Held name.now n
 deed_view (Released name n) = plain.Released name.now n
 deed_view (Destroyed n day schedule) = plain.Destroyed n day schedule
@@ -29,7 +30,13 @@ deed_view (ClassAdded path) = plain.ClassAdded path.now
 deed_view (PlanReplaced p) = plain.PlanReplaced (listing_view p)
 deed_view (FoundPlan p) = plain.FoundPlan (listing_view p)
 deed_view (FoundMessage n seal) = plain.FoundMessage n (seal_view seal)
-deed_view (FoundRecord n message path day destroyed) = plain.FoundRecord (record { number = n; message = message; path = path.now; day = day; destroyed = destroyed })
+deed_view (FoundRecord n message path day destroyed) = plain.FoundRecord (record {
+  number = n;
+  message = message;
+  path = path.now;
+  day = day;
+  destroyed = destroyed;
+})
 deed_view (FoundHold name n) = plain.FoundHold name.now n
 
 abbrev pub event_view : events.Event → Event

@@ -174,7 +174,13 @@ fn record_text(
 ) -> Result<Vec<u8>, AllocError>
     requires { IsDay day }
     ensures { IfOk result (λ v. v.items ≡ codes "found record " ++
-        record_text_of (record { number = number; message = message; path = path.now; day = day; destroyed = destroyed })) }
+        record_text_of (record {
+          number = number;
+          message = message;
+          path = path.now;
+          day = day;
+          destroyed = destroyed;
+        })) }
 {
     let number = number.to_string(alloc)?;
     let message = message.to_string(alloc)?;

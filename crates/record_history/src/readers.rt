@@ -143,7 +143,8 @@ fn rows_of<'a>(alloc: Global, parts: &[&'a [u8]]) -> Result<Vec<Class<'a>>, Line
 /// The plan of the parts of its text between semicolons.
 #[tactic(auto, unfolding(crate::specs::Reading::plan_from))]
 pub(crate) fn plan_of<'a>(alloc: Global, parts: &[&'a [u8]]) -> Result<Listing<'a>, LineFault>
-    ensures plan { Gives (λ l. listing_view l) result (plan_from_parts (map (λ p. p.now) parts.now)) }
+    ensures plan { Gives (λ l. listing_view l) result
+        (plan_from_parts (map (λ p. p.now) parts.now)) }
     ensures range { IfOk result (λ l. HasSchedules (listing_view l)) }
 {
     match parts {

@@ -58,7 +58,8 @@ returns-clause-cause g c honest size are = elim c.match-move_frames.branch [
       let told = w.closing-is ∙ ap Logged w.hindrance_of.ensures in
       let readable = subst (λ i. ¬ IsUnreadable (state first).page_size i) (sym (seen_same g c honest))
       (subst (λ (n : ℕ). ¬ IsUnreadable n (image_of g.D.Disk c.args.files)) (sym (sized g c honest size are)) are.readable) in
-      let huge = λ (full : w.in-Err-move_frames.error ≡ Full). subst (λ p. IsHuge (state first).page_size (seen_image g.D.Disk p.0 p.1)) (sym c.into_files.ensures)
+      let huge = λ (full : w.in-Err-move_frames.error ≡ Full). subst (λ p. IsHuge (state first).page_size (seen_image g.D.Disk p.0 p.1)) (sym
+      c.into_files.ensures)
       (w.in-Err-move_frames.ensures.long (sure g c honest) (ap Err full)) in
       subst (HasHindrance g.D.Disk c.args.files c.into_files.result) (sym told)
       (hindered g.D.Disk c.args.files c.into_files.result (state first).faults (state last).faults (state first).page_size (log_image first)

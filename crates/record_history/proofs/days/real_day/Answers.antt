@@ -9,7 +9,8 @@ returns-then-year-lt1970-clause-day c = elim c.then-year-lt1970.branch [
   | then-year-lt1970-via-then-year-lt1970 w ↦ year_low c.args.year c.args.month c.args.day w.if-year-lt1970.true
   | then-year-lt1970-via-else-year-lt1970+then-year-gt9999 w ↦ year_high c.args.year c.args.month c.args.day w.if-year-gt9999.true
   | then-year-lt1970-via-else-year-lt1970+else-year-gt9999+then-month-gt12 w ↦ month_high c.args.year c.args.month c.args.day w.if-month-gt12.true
-  | then-year-lt1970-via-else-year-lt1970+else-year-gt9999+else-month-gt12+then-day-gt31 w ↦ day_high c.args.year c.args.month c.args.day w.if-day-gt31.true
+  | then-year-lt1970-via-else-year-lt1970+else-year-gt9999+else-month-gt12+then-day-gt31 w ↦ day_high c.args.year c.args.month c.args.day
+      w.if-day-gt31.true
 ]
 
 pub overflow_cast-result : goal.overflow_cast-result

@@ -3,7 +3,11 @@ use Rattle.record_store.proofs.RepositoryLemmas.{told_stands, told_answers}
 use Rattle.record_store.proofs.repository.StoreRepository.due.Goals as goal
 
 pub returns-clause-reads : goal.returns-clause-reads
-returns-clause-reads g c = record { stands = told_stands g.S.Store c.args.self.now c.due.new.self _ _ c.due.result c.due.ensures.tells; falls = search rules }
+returns-clause-reads g c = record {
+  stands = told_stands g.S.Store c.args.self.now c.due.new.self _ _ c.due.result c.due.ensures.tells;
+  falls =
+      search rules;
+}
 
 pub returns-clause-told : goal.returns-clause-told
 returns-clause-told g c = told_answers g.S.Store c.args.self.now c.due.new.self _ _ c.due.result c.due.ensures.tells
