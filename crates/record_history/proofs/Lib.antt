@@ -1,4 +1,11 @@
+mod Counted
+mod DayAgain
+mod Again
 mod DayLemmas
+mod DeedsAgain
+mod LinesAgain
+mod FieldsAgain
+mod PlansAgain
 mod MarkRows
 mod RealDays
 mod ReplayLemmas

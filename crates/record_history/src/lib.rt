@@ -3,7 +3,7 @@
 //!
 //! In `specs/`, `Events` says what an event is, `Lines` how it is written, `Spelled` which events have a line, `Chain` how
 //! lines are marked, `Replay` what events make of an archive, and `Laws` that each command of the archive with its event
-//! keeps the history true. `Reading` follows the code that reads a line, and `Views` leads from its types to the definitions.
+//! keeps the history true. `Readable` and `OneReading` say which events have a line of their own. `Reading` follows the code that reads a line, and `Views` leads from its types to the definitions.
 #![tactic(auto)]
 
 mod dates;
@@ -25,7 +25,7 @@ mod words;
 
 pub use events::{Deed, Event, Filing, Listing, Seal};
 pub use faults::LineFault;
-pub use laws::commands_are_told;
+pub use laws::{commands_are_told, lines_have_one_reading};
 pub use lines::{LAST_DAY, LAST_MOMENT, event_line};
 pub use marks::next_mark;
 pub use reading::read_line;

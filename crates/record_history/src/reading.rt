@@ -2,6 +2,7 @@
 
 ghost use Rattle.std.specs.Prelude.{◌≡◌, IfOk};
 ghost use Rattle.record_history.specs.Lines.{line_of};
+ghost use Rattle.record_history.specs.OneReading.{ReadsEach};
 ghost use Rattle.record_history.specs.Reading.{Gives, ending_at as ending_at_of, event_at as event_at_of, notes_at as notes_at_of, reason_at as reason_at_of};
 ghost use Rattle.record_history.specs.Spelled.{IsSpelled};
 ghost use Rattle.record_history.specs.Views.{event_view};
@@ -80,6 +81,7 @@ fn event_at(alloc: Global, line: &[u8]) -> Result<(u64, Event<'_>), LineFault>
 /// where the octets are no line.
 pub fn read_line(alloc: Global, line: &[u8]) -> Result<(u64, Event<'_>), LineFault>
     ensures found { IfOk result (λ x. line.now ≡ line_of x.0 (event_view x.1)) }
+    ensures only { ReadsEach (λ x. (x.0, event_view x.1)) line.now result }
     ensures spelled { IfOk result (λ x. IsSpelled (event_view x.1)) }
 {
     let (number, event) = event_at(alloc, line)?;
