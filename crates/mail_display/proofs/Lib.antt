@@ -3,4 +3,5 @@ mod QuotedLemmas
 mod QuestionLemmas
 mod UnfoldingLemmas
 mod UndecodedLemmas
+mod ComparingLemmas
 mod Rows

@@ -4,6 +4,7 @@ pub mod Decoding
 pub mod Readable
 pub mod Display
 pub mod Folding
+pub mod Comparing
 pub mod Groups
 pub mod Fields
 pub mod Question

@@ -8,10 +8,10 @@ use Rattle.mail_display.specs.declared.groups.FieldGroup.{FieldGroup}
 use Rattle.mail_display.specs.declared.groups.FieldGroup.TheVariants.{Sender, Recipient, Subject}
 use Rattle.mail_display.specs.declared.question.Seen.{Seen}
 use Rattle.mail_display.specs.Display.{display_text, display_unread}
-use Rattle.mail_display.specs.Folding.{folded}
+use Rattle.mail_display.specs.Comparing.{comparable}
 use Rattle.mail_display.specs.Groups.{group_of}
 
--- the folded texts of a question
+-- the texts of a question, as they are compared
 pub record Asked : Type 0 where
   pub sender : Option (List ℕ)
   pub recipient : Option (List ℕ)
@@ -23,9 +23,9 @@ key_of q Sender = q.sender
 key_of q Recipient = q.recipient
 key_of q Subject = q.subject
 
--- the folded text of a body contains the key
+-- the text of a body, as it is compared, contains the key
 abbrev pub has_key : List ℕ → List ℕ → Bool
-has_key key body = contains Octet key (folded (display_text body))
+has_key key body = contains Octet key (comparable (display_text body))
 
 -- what a field of a group adds: the group, if the field has the group's text, and how much could not be read
 abbrev pub finding_by : FieldGroup → Option (List ℕ) → List ℕ → Option FieldGroup × ℕ

@@ -2,11 +2,11 @@
 
 ghost use Rattle.std.specs.Prelude.{◌≡◌, ◌+◌, ◌≤◌, ◌||◌, [], length, IfOk, IfErr, MatchOption, None, false, option_map, string_bytes};
 ghost use Rattle.mail_head.specs.Fields.{fields_of};
-ghost use Rattle.mail_display.specs.Folding.{folded};
-ghost use Rattle.mail_display.specs.Asking.{folded_text, is_empty_text, asked_of, first_empty, IsFaultOf, IsFaultIn};
+ghost use Rattle.mail_display.specs.Comparing.{is_blank, comparable};
+ghost use Rattle.mail_display.specs.Asking.{compared_text, is_blank_text, asked_of, first_blank, IsFaultOf, IsFaultIn};
 ghost use Rattle.mail_display.specs.Question.{key_of, finding, with_group, is_unasked, is_all, unasked, unread_in, asks};
 
-use crate::folding::fold;
+use crate::comparing::{comparable, is_blank};
 use crate::groups::{FieldGroup, group_of};
 use crate::showing::display;
 use mail_head::{Field, first_field};
@@ -15,10 +15,11 @@ use std::alloc::{AllocError, Global};
 use std::marker::Model;
 use thiserror::Error;
 
-/// Why a text is no question. Each message would have it.
+/// Why a text is no question. What is empty stands in each field, and a space in most of them.
 #[derive(Debug, Drop, Error)]
 pub enum FieldQuestionFault {
-    #[error("the text is empty")]
+    /// A text is empty or has nothing but white space.
+    #[error("the text is empty or blank")]
     Empty(FieldGroup),
     #[error("out of memory")]
     NoMemory(#[from] AllocError),
@@ -27,7 +28,7 @@ pub enum FieldQuestionFault {
 /// A question on a message's fields: texts that its senders, its recipients and its subjects are to have.
 #[derive(Drop)]
 pub struct FieldQuestion {
-    // Each text is folded.
+    // Each text is as it is compared.
     sender: Option<String>,
     recipient: Option<String>,
     subject: Option<String>,
@@ -110,23 +111,23 @@ fn is_unasked(text: &Option<String>) -> bool
     }
 }
 
-/// A text as it is compared, if there is one. An empty one is refused.
-fn folded_text(
+/// A text as it is compared, if there is one. One that is empty or has nothing but white space is refused.
+fn compared_text(
     alloc: Global,
     group: FieldGroup,
     text: Option<&str>,
 ) -> Result<Option<String>, FieldQuestionFault>
-    ensures ok { IfOk result (λ key. option_map string_bytes key ≡ folded_text text.entry) }
-    ensures some { IfOk result (λ key. is_empty_text text.entry ≡ false) }
+    ensures ok { IfOk result (λ key. option_map string_bytes key ≡ compared_text text.entry) }
+    ensures some { IfOk result (λ key. is_blank_text text.entry ≡ false) }
     ensures err { IfErr result (λ e. IsFaultOf group text.entry e) }
 {
     let Some(text) = text else {
         return Ok(None);
     };
-    if text.is_empty() {
+    if is_blank(text) {
         return Err(FieldQuestionFault::Empty(group));
     }
-    match fold(alloc, text) {
+    match comparable(alloc, text) {
         Ok(key) => Ok(Some(key)),
         Err(error) => Err(FieldQuestionFault::NoMemory(error)),
     }
@@ -134,8 +135,8 @@ fn folded_text(
 
 impl FieldQuestion {
     /// The question whether each given text stands in one of the fields of its group. A message without the field
-    /// lacks the text, and a question without texts finds each message. The errors: the first text that is empty, and
-    /// out of memory.
+    /// lacks the text, and a question without texts finds each message. The errors: the first text that is empty or
+    /// has nothing but white space, and out of memory.
     pub fn new(
         alloc: Global,
         sender: Option<&str>,
@@ -144,14 +145,14 @@ impl FieldQuestion {
     ) -> Result<FieldQuestion, FieldQuestionFault>
         ensures ok { IfOk result (λ q. q ≡ asked_of sender.entry recipient.entry subject.entry) }
         ensures some { IfOk result (λ q.
-            first_empty sender.entry recipient.entry subject.entry ≡ None) }
+            first_blank sender.entry recipient.entry subject.entry ≡ None) }
         ensures err { IfErr result (λ e.
-            IsFaultIn (first_empty sender.entry recipient.entry subject.entry) e) }
+            IsFaultIn (first_blank sender.entry recipient.entry subject.entry) e) }
     {
         Ok(FieldQuestion {
-            sender: folded_text(alloc, FieldGroup::Sender, sender)?,
-            recipient: folded_text(alloc, FieldGroup::Recipient, recipient)?,
-            subject: folded_text(alloc, FieldGroup::Subject, subject)?,
+            sender: compared_text(alloc, FieldGroup::Sender, sender)?,
+            recipient: compared_text(alloc, FieldGroup::Recipient, recipient)?,
+            subject: compared_text(alloc, FieldGroup::Subject, subject)?,
         })
     }
 
@@ -197,7 +198,7 @@ impl FieldQuestion {
             });
         };
         let shown = display(alloc, field.raw())?;
-        let text = fold(alloc, shown.text.as_str())?;
+        let text = comparable(alloc, shown.text.as_str())?;
         let has_key = contains(key.as_bytes(), text.as_bytes(), Comparator::Octet);
         Ok(Finding {
             group: if has_key { Some(group) } else { None },
@@ -206,9 +207,10 @@ impl FieldQuestion {
     }
 
     /// Whether each text of the question stands in one of the message's fields of its group, and how much of these
-    /// fields could not be read. Texts are compared as people read them (`display`), without case, and with composed
-    /// and decomposed letters alike (The Unicode Standard, section 3.13, D145). Other fields and the message's body are
-    /// not looked at. The one error is out of memory.
+    /// fields could not be read. Texts are compared as people read them (`display`), without case, with composed and
+    /// decomposed letters alike (The Unicode Standard, section 3.13, D145), and with each run of white space as one space,
+    /// so that it does not matter where and how a field is folded (RFC 5322, section 2.2.3). Other fields and the message's
+    /// body are not looked at. The one error is out of memory.
     pub fn judge(&self, alloc: Global, message: &[u8]) -> Result<Found, AllocError>
         ensures found { IfOk result (λ f. f.is_found ≡ asks self.now message.now) }
         ensures unread { IfOk result (λ f. f.unread ≡ unread_in self.now message.now) }

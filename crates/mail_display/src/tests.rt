@@ -123,15 +123,58 @@ fn answers_questions(rt: HostRuntime) -> Result<(), FieldQuestionFault> {
     Ok(())
 }
 
+/// The first subject is that of RFC 5322, section 2.2.3, folded with a tab.
 #[test]
-fn refuses_empty_texts(rt: HostRuntime) {
-    let question = FieldQuestion::new(rt.alloc(), Some("a"), Some(""), None);
-    assert!(rt;
-        matches!(
-            question,
-            Err(FieldQuestionFault::Empty(FieldGroup::Recipient))
-        )
-    );
+fn takes_white_space_as_one_space(rt: HostRuntime) -> Result<(), FieldQuestionFault> {
+    let alloc = rt.alloc();
+    let subjects: [(&[u8], &str, bool); 8] = [
+        (
+            b"Subject: This\r\n\tis a test\r\n\r\n",
+            "this is a test",
+            true,
+        ),
+        (
+            b"Subject: This\r\n is a test\r\n\r\n",
+            "this\tis  a test",
+            true,
+        ),
+        (
+            b"Subject: This\r\n \t is  a test\r\n\r\n",
+            "This is a test",
+            true,
+        ),
+        (
+            b"Subject: =?utf-8?q?This=C2=A0is?= a test\r\n\r\n",
+            "this is a test",
+            true,
+        ),
+        (b"Subject: This is a test\r\n\r\n", "is\u{A0}a", true),
+        (b"Subject: This\r\n\tis a test\r\n\r\n", "thisis", false),
+        (b"Subject: Thisis a test\r\n\r\n", "this is", false),
+        (b"Subject: This is a test\r\n\r\n", "test ", false),
+    ];
+    for (message, subject, answer) in subjects {
+        let question = FieldQuestion::new(alloc, None, None, Some(subject))?;
+        assert_eq!(rt;
+            question.judge(alloc, message)?.is_found,
+            answer,
+            "{subject}"
+        );
+    }
+    Ok(())
+}
+
+#[test]
+fn refuses_blank_texts(rt: HostRuntime) {
+    for text in ["", " ", "\t \r\n", "\u{A0}"] {
+        let question = FieldQuestion::new(rt.alloc(), Some("a"), Some(text), None);
+        assert!(rt;
+            matches!(
+                question,
+                Err(FieldQuestionFault::Empty(FieldGroup::Recipient))
+            )
+        );
+    }
 }
 
 #[test]
