@@ -8,6 +8,8 @@ mod answers;
 #[cfg(test)]
 mod archives;
 #[cfg(test)]
+mod histories;
+#[cfg(test)]
 mod no_archives;
 #[cfg(test)]
 mod stages;

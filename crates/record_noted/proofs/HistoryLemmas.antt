@@ -1,0 +1,204 @@
+-- A store beside which a history is kept.
+use Rattle.std.proofs.Common.{◌≡◌, ◌≤◌, ◌+◌, ℕ, List, [], ◌∷◌, ◌++◌, length, Ok, Err, Result, true, refl, sym, ap, subst, ◌∙◌, arith, IsTrue}
+use Rattle.std.specs.Prelude.{string_bytes}
+use Rattle.std.specs.Result.{IsErr, IsErrAnd}
+use Rattle.std.proofs.lemmas.Bool.{false≢true}
+use Rattle.sqlite.specs.Store.{Ghosts}
+use Rattle.sqlite.specs.Effect.{Database}
+use Rattle.sqlite.specs.State.{HasCleanDisk}
+use Rattle.sqlite.specs.Held.{state}
+use Rattle.sqlite.proofs.StateLemmas.{survives_weaker}
+use Rattle.record_tables.specs.Events.{new_event, StoresEvents, IsPastEvents, KeepsEvents, NotesEvent}
+use Rattle.record_history.specs.Chain.{mark_after, chain, chain_from}
+use Rattle.record_history.specs.Events.{Event, Deed}
+use Rattle.record_history.specs.Lines.{line_of}
+use Rattle.record_history.specs.Laws.{Told, TellsInLines}
+use Rattle.record_archive.specs.Archive.{Archive}
+use Rattle.record_archive.specs.Calls.{Makes}
+use Rattle.record_archive.specs.Faults.{WhereRefused, is_trouble}
+use Rattle.record_archive.specs.declared.fault.ArchiveRefusal.{ArchiveRefusal}
+use Rattle.record_store.specs.Faults.{StoreFault}
+use Rattle.record_store.specs.Stores as store
+use Rattle.record_store.specs.Stores.{StandsFor, ObeysRows, TreesKeep}
+use Rattle.record_store.specs.Companions.{IsReady, Brought, FailsStill, LeavesBoth}
+use Rattle.record_store.specs.declared.store.Store.{Store}
+use Rattle.record_noted.specs.Histories.{rows_from, rows_of, StandsWith, StandsTold, Becomes, Obeys, Leaves, DoesTold, IsTold}
+use Rattle.record_noted.specs.declared.store.NotedStore.{NotedStore}
+
+-- ---- one line more
+
+length_more : (ls : List (List ℕ)) (l : List ℕ) → length (ls ++ l ∷ []) ≡ length ls + 1
+length_more [] l = omega arith
+length_more (x ∷ ls) l = omega (arith, length_more ls l)
+
+chain_more : (mark : List ℕ) (ls : List (List ℕ)) (l : List ℕ) → chain_from mark (ls ++ l ∷ []) ≡ mark_after (chain_from mark ls) l
+chain_more mark [] l = refl
+chain_more mark (x ∷ ls) l = chain_more (mark_after mark x) ls l
+
+rows_more : (n : ℕ) (mark : List ℕ) (ls : List (List ℕ)) (l : List ℕ) (k : ℕ) → k ≡ n + length ls
+    → rows_from n mark (ls ++ l ∷ []) ≡ rows_from n mark ls ++ new_event k l (mark_after (chain_from mark ls) l) ∷ []
+rows_more n mark [] l k is = let same : n ≡ k = omega (arith, is) in ap (λ m. new_event m l (mark_after mark l) ∷ []) same
+rows_more n mark (x ∷ ls) l k is =
+    ap (λ rows. new_event n x (mark_after mark x) ∷ rows) (rows_more (n + 1) (mark_after mark x) ls l k (omega (arith, is)))
+
+rows_past : (n : ℕ) (mark : List ℕ) (ls : List (List ℕ)) (k : ℕ) → n + length ls ≤ k → IsPastEvents k (rows_from n mark ls)
+rows_past n mark [] k low = tt
+rows_past n mark (x ∷ ls) k low = (omega (arith, low), rows_past (n + 1) (mark_after mark x) ls k (omega (arith, low)))
+
+-- ---- a call that notes its line
+
+module _ {S : Type 0} (g : Ghosts S) (old : NotedStore S) (line mark : List ℕ) (marked : mark ≡ mark_after (string_bytes old.mark) line) where
+  abbrev Notes : Database → Database → Type 0
+  Notes = NotesEvent (new_event old.next line mark)
+
+  -- the history is one line longer in the tables
+  lines_noted : (a : Archive) (ls : List (List ℕ)) → StandsWith g old a ls → (was db : Database) → Notes was db
+      → StoresEvents was (rows_of ls) → StoresEvents db (rows_of (ls ++ line ∷ []))
+  lines_noted a ls r was db notes events =
+      let past : IsPastEvents old.next (rows_of ls) = rows_past 1 [] ls old.next (omega (arith, r.next)) in
+      let same : mark ≡ mark_after (chain ls) line = marked ∙ ap (λ m. mark_after m line) r.mark in
+      let rows : rows_of ls ++ new_event old.next line mark ∷ [] ≡ rows_of (ls ++ line ∷ []) =
+      ap (λ m. rows_of ls ++ new_event old.next line m ∷ []) same
+      ∙ sym (rows_more 1 [] ls line old.next (omega (arith, r.next))) in
+      subst (StoresEvents db) rows (notes (rows_of ls) events past)
+
+  ready : (a : Archive) (ls : List (List ℕ)) → StandsWith g old a ls → IsReady g KeepsEvents old.store
+  ready a ls r clean is_open = (r.lines clean is_open).stands
+
+  stands_noted : (new : NotedStore S) (a b : Archive) (ls : List (List ℕ)) → StandsWith g old a ls → StandsFor g new.store b
+      → (HasCleanDisk (state g new.store.conn) → HasCleanDisk (state g old.store.conn))
+      → (HasCleanDisk (state g new.store.conn) → IsTrue (state g old.store.conn).is_open
+      × Notes (state g old.store.conn).now (state g new.store.conn).now)
+      → new.next ≡ old.next + 1 → string_bytes new.mark ≡ mark → StandsWith g new b (ls ++ line ∷ [])
+  stands_noted new a b ls r stands falls brought number ends = record {
+    stands = stands;
+    next = omega (arith, number, length_more ls line, r.next);
+    mark = ends ∙ marked ∙ ap (λ m. mark_after m line) r.mark ∙ sym (chain_more [] ls line);
+    lines = λ clean is_open.
+        let it = brought clean in
+        lines_noted a ls r (state g old.store.conn).now (state g new.store.conn).now it.1 (r.lines (falls clean) it.0);
+  }
+
+  pub obeys_noted : {X : Type 0} (new : NotedStore S) (x : X) (command : Archive → Result Archive ArchiveRefusal)
+      (Answers : Archive → X → Type 0)
+      → (IsReady g KeepsEvents old.store → ObeysRows g old.store new.store (Ok x) command Answers)
+      → Brought {X = X} g KeepsEvents Notes old.store new.store (Ok x)
+      → (HasCleanDisk (state g new.store.conn) → HasCleanDisk (state g old.store.conn))
+      → new.next ≡ old.next + 1 → string_bytes new.mark ≡ mark → Obeys g old new (Ok x) command Answers line
+  obeys_noted new x command Answers obeys brought falls number ends clean a ls r =
+      let done = obeys (ready a ls r) clean a r.stands in
+      (go (command a) done.0, done.1)
+    where
+      go : (o : Result Archive ArchiveRefusal) → store.Becomes g new.store o → Becomes g old new o (ls ++ line ∷ [])
+      go (Ok b) stands = stands_noted new a b ls r stands falls (λ clean. brought a r.stands (ready a ls r) clean) number ends
+      go (Err f) none = none
+
+  pub leaves_noted : (new : NotedStore S) (command : Archive → Result Archive ArchiveRefusal)
+      → LeavesBoth g KeepsEvents Notes old.store new.store command → Leaves g old new command line
+  leaves_noted new command left a ls r is_open =
+      let made = left a r.stands (ready a ls r) is_open in
+      survives_weaker (state g old.store.conn) (state g new.store.conn) _ _
+      (λ clean trees it.
+      let back : HasCleanDisk (state g old.store.conn) = omega (arith, made.clean, clean) in (
+        it.0,
+        it.1,
+        record {
+          kept = it.2.kept;
+          lines = lines_noted a ls r (state g old.store.conn).now it.2.kept.db it.2.brought (r.lines back is_open);
+        },
+      ))
+      made
+
+-- ---- a call that is refused
+
+-- the store after a refusal
+pub stands_still : {S : Type 0} (g : Ghosts S) (old new : NotedStore S) (a : Archive) (ls : List (List ℕ)) → StandsWith g old a ls
+    → StandsFor g new.store a → new.next ≡ old.next → new.mark ≡ old.mark
+    → (HasCleanDisk (state g new.store.conn) → HasCleanDisk (state g old.store.conn))
+    → (HasCleanDisk (state g new.store.conn) → IsTrue (state g new.store.conn).is_open
+    → IsTrue (state g old.store.conn).is_open × ((state g new.store.conn).now ≡ (state g old.store.conn).now))
+    → StandsWith g new a ls
+stands_still g old new a ls r stands number mark falls still = record {
+  stands = stands;
+  next = number ∙ r.next;
+  mark = ap string_bytes mark ∙ r.mark;
+  lines = λ clean is_open.
+      let it = still clean is_open in
+      subst (λ db. StoresEvents db (rows_of ls)) (sym it.1) (r.lines (falls clean) it.0);
+}
+
+-- trouble is no refusal of the archive
+no_refusal : (f : StoreFault) (Holds : ArchiveRefusal → Type 0) → is_trouble f ≡ true → WhereRefused Holds f
+no_refusal f Holds trouble r is = absurd (let e = ap is_trouble is in let t = trouble in cc)
+
+-- what `?` passes on
+passed_on : {S X : Type 0} (g : Ghosts S) (old new : NotedStore S) (result : Result X StoreFault) (f : StoreFault)
+    (command : Archive → Result Archive ArchiveRefusal) (Answers : Archive → X → Type 0) (line : List ℕ) → IsErr result
+    → IsErrAnd result (λ x. x ≡ f)
+    → ((a : Archive) (ls : List (List ℕ)) → StandsWith g old a ls → StandsWith g new a ls
+    × (HasCleanDisk (state g new.store.conn) → WhereRefused (λ r. command a ≡ Err r) f)) → Obeys g old new result command Answers line
+passed_on {X = X} g old new (Err e) f command Answers line is same h =
+    let P : StoreFault → Type 0 = λ x. let r : Result X StoreFault = Err x in Obeys g old new r command Answers line in subst P (sym same) h
+passed_on g old new (Ok x) f command Answers line is same h = absurd (false≢true is)
+
+-- the store refuses, or the archive
+pub refused_noted : {S X : Type 0} (g : Ghosts S) (old new : NotedStore S) (result : Result X StoreFault) (f : StoreFault)
+    (command : Archive → Result Archive ArchiveRefusal) (Answers : Archive → X → Type 0) (line : List ℕ) → IsErr result
+    → IsErrAnd result (λ x. x ≡ f)
+    → ((a : Archive) → StandsFor g old.store a → StandsFor g new.store a
+    × (HasCleanDisk (state g new.store.conn) → WhereRefused (λ r. command a ≡ Err r) f))
+    → FailsStill {X = X} g old.store new.store (Err f)
+    → (HasCleanDisk (state g new.store.conn) → HasCleanDisk (state g old.store.conn)) → new.next ≡ old.next → new.mark ≡ old.mark
+    → Obeys g old new result command Answers line
+refused_noted g old new result f command Answers line is same obeys still falls number mark =
+    passed_on g old new result f command Answers line is same (λ a ls r.
+    let done = obeys a r.stands in
+    (stands_still g old new a ls r done.0 number mark falls (λ clean is_open. still a r.stands clean is_open), done.1))
+
+-- there is no mark for the line
+pub unmarked : {S X : Type 0} (g : Ghosts S) (old : NotedStore S) (result : Result X StoreFault) (f : StoreFault)
+    (command : Archive → Result Archive ArchiveRefusal) (Answers : Archive → X → Type 0) (line : List ℕ) → IsErr result
+    → IsErrAnd result (λ x. x ≡ f) → is_trouble f ≡ true → Obeys g old old result command Answers line
+unmarked g old result f command Answers line is same trouble =
+    passed_on g old old result f command Answers line is same (λ a ls r. (r, λ clean. no_refusal f _ trouble))
+
+-- ---- a history that explains the archive
+
+pub told : {S X : Type 0} (g : Ghosts S) (old new : NotedStore S) (result : Result X StoreFault)
+    (command : Archive → Result Archive ArchiveRefusal) (Answers : Archive → X → Type 0) (line : List ℕ) (deed : Archive → Deed) (e : Event)
+    → line ≡ line_of old.next e → ((a : Archive) → StandsFor g old.store a → e.deed ≡ deed a) → TellsInLines deed command
+    → Obeys g old new result command Answers line → Leaves g old new command line → IsTold g old new result command
+told {S} {X} g old new result command Answers line deed e is same tells obeys left = record {
+  does = does result obeys;
+  crash = λ (a : Archive) s is_open.
+      survives_weaker (state g old.store.conn) (state g new.store.conn) _ _ (λ clean trees it. (
+        it.0,
+        it.1,
+        (s.0 ++ line ∷ [], it.2, one_more a it.0 s.0 s.1 s.2 it.1),
+      )) (left a s.0 s.1 is_open);
+}
+  where
+    one_more : (a b : Archive) (ls : List (List ℕ)) → StandsWith g old a ls → Told a ls → command a ≡ Ok b → Told b (ls ++ line ∷ [])
+    one_more a b ls r was made =
+        subst (λ l. Told b (ls ++ l ∷ [])) (sym (is ∙ ap (λ n. line_of n e) r.next)) (tells e a b ls was made (same a r.stands))
+
+    step : (a : Archive) (ls : List (List ℕ)) → StandsWith g old a ls → Told a ls → (o : Result Archive ArchiveRefusal) → command a ≡ o
+        → Becomes g old new o (ls ++ line ∷ []) → Makes (StandsTold g new) o
+    step a ls r was (Ok b) made stands = (ls ++ line ∷ [], stands, one_more a b ls r was made)
+    step a ls r was (Err f) made none = none
+
+    does : (r : Result X StoreFault) → Obeys g old new r command Answers line → DoesTold g old new r command
+    does (Ok x) obeys = λ clean (a : Archive) s. step a s.0 s.1 s.2 (command a) refl (obeys clean a s.0 s.1).0
+    does (Err f) obeys = λ (a : Archive) s. let kept = obeys a s.0 s.1 in ((s.0, kept.0, s.2), kept.1)
+
+-- ---- a history begins
+
+pub stands_begun : {S : Type 0} (g : Ghosts S) (old : Store S) (new : NotedStore S) (a : Archive) → StandsFor g old a → StandsFor g new.store a
+    → (HasCleanDisk (state g new.store.conn) → IsTrue (state g old.conn).is_open × StoresEvents (state g new.store.conn).now [])
+    → new.next ≡ 1 → string_bytes new.mark ≡ [] → StandsWith g new a []
+stands_begun g old new a was stands begun number mark = record {
+  stands = stands;
+  next = number;
+  mark = mark;
+  lines = λ clean is_open. (begun clean).1;
+}

@@ -1,0 +1,11 @@
+//! A store of records, and beside it the history of its archive: each change and the line that tells of it are one
+//! transaction.
+#![tactic(auto)]
+
+mod captures;
+mod destruction;
+mod holds;
+mod plans;
+mod store;
+
+pub use store::NotedStore;

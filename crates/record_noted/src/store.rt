@@ -1,0 +1,99 @@
+//! The store with its history, and the history's beginning.
+
+ghost use Rattle.std.specs.Prelude.{◌≡◌, ◌<◌, ℕ, List, [], true, IfOk, IfErr, OnOk, string_bytes};
+ghost use Rattle.record_history.specs.Chain.{mark_after};
+ghost use Rattle.record_archive.specs.Archive.{Archive, empty_archive};
+ghost use Rattle.record_archive.specs.Faults.{is_trouble};
+ghost use Rattle.record_store.specs.Stores.{StandsFor};
+ghost use Rattle.record_noted.specs.Histories.{StandsWith, StandsTold};
+
+use record_history::{commands_are_told, next_mark};
+use record_store::{Cause, Store, StoreFault};
+use record_tables::events::Beginning;
+use sqlite::{Alter, Error, ErrorCode};
+use std::alloc::Global;
+
+/// A store, and the end of its history.
+#[derive(Drop)]
+pub struct NotedStore<S: Alter> {
+    pub(crate) alloc: Global,
+    pub(crate) store: Store<S>,
+    /// The number of the next event.
+    pub(crate) next: u32,
+    /// The mark of the last event; empty where there is none.
+    pub(crate) mark: String,
+}
+
+impl<S: Alter> NotedStore<S> {
+    /// Begins the history of a store, without an event: the table of events is created.
+    ///
+    /// Refused with 89 (`sqlite`), as where there is a table `event`, or with 99 (no memory). A refusal returns the
+    /// store, which stands for the archive that it stood for.
+    pub fn begin(
+        alloc: Global,
+        mut store: Store<S>,
+    ) -> Result<NotedStore<S>, (StoreFault, Store<S>)>
+        ensures ok { IfOk result (λ s. (a : Archive) → StandsFor S.Store store a →
+            StandsWith S.Store s a []) }
+        ensures told { IfOk result (λ s. StandsFor S.Store store empty_archive →
+            StandsTold S.Store s empty_archive) }
+        ensures err { IfErr result (λ e. (a : Archive) → StandsFor S.Store store a →
+            StandsFor S.Store e.1 a) }
+    {
+        commands_are_told();
+        match store.do_beside(Beginning) {
+            Ok(()) => Ok(NotedStore {
+                alloc,
+                store,
+                next: 1,
+                mark: String::new(alloc),
+            }),
+            Err(fault) => Err((fault, store)),
+        }
+    }
+
+    /// The number of the next event, which its line begins with.
+    pub fn next(&self) -> u32
+        ensures { result ≡ self.now.next }
+    {
+        self.next
+    }
+
+    /// The mark of the last event: 64 hexadecimal digits, or none where there is no event.
+    pub fn mark(&self) -> &str
+        ensures { result.now ≡ string_bytes self.now.mark }
+    {
+        self.mark.as_str()
+    }
+
+    /// The mark of the next event, which has this line. Refused with 89 after 4,294,967,294 events (`NoRowid`), or with
+    /// 99 (no memory).
+    pub(crate) fn mark_of(&self, line: &[u8]) -> Result<String, StoreFault>
+        ensures mark { IfOk result (λ m. string_bytes m ≡
+            mark_after (string_bytes self.now.mark) line.now) }
+        ensures room { OnOk result (self.now.next < 4294967295) }
+        ensures trouble { IfErr result (λ f. is_trouble f ≡ true) }
+    {
+        if self.next == u32::MAX {
+            let full = Error::SqliteFailure(ErrorCode::NoRowid);
+            return Err(StoreFault::Database(Cause::Sqlite(full)));
+        }
+        let mark = next_mark(self.alloc, self.mark.as_bytes(), line)?;
+        Ok(mark)
+    }
+
+    /// The store, to look at.
+    pub fn store(&self) -> &Store<S>
+        ensures { result.now ≡ self.now.store }
+    {
+        &self.store
+    }
+
+    /// Ends the history that is kept beside the connection, and returns the store.
+    pub fn into_store(self) -> Store<S>
+        ensures { result ≡ self.store }
+    {
+        let NotedStore { store, .. } = self;
+        store
+    }
+}
