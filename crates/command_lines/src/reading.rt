@@ -91,7 +91,7 @@ fn tell_report(rt: &HostRuntime, error: &Error) -> NoCommand {
 }
 
 /// Words as they are shown. A hidden character is shown by its number, so that no word has a line end.
-fn shown_words(alloc: Global, words: &[String]) -> Result<Vec<String>, AllocError> {
+pub(crate) fn shown_words(alloc: Global, words: &[String]) -> Result<Vec<String>, AllocError> {
     let mut shown = Vec::with_capacity(alloc, words.len())?;
     for word in words {
         let mut text = Shown::new(alloc);
@@ -101,28 +101,30 @@ fn shown_words(alloc: Global, words: &[String]) -> Result<Vec<String>, AllocErro
     Ok(shown)
 }
 
-/// Prints what `clap` reports of words that are none of a command's. It is asked again with the words as they are shown,
-/// since a line end in a word would begin a line of its report.
-fn tell_refusal(rt: &HostRuntime, command: Command<'_>, words: &[String]) -> NoCommand {
-    let Ok(shown) = shown_words(rt.alloc(), words) else {
-        return NoCommand::NoMemory;
-    };
-    match command.try_get_matches_from(shown.as_slice()) {
+/// Words, and the command that reads them.
+pub(crate) struct Line<'a> {
+    pub command: Command<'a>,
+    pub words: &'a [String],
+}
+
+/// Prints what `clap` reports of words as they are shown, which are none of a command's.
+fn tell_refusal(rt: &HostRuntime, shown: Line<'_>) -> NoCommand {
+    match shown.command.try_get_matches_from(shown.words) {
         Ok(_) => NoCommand::Unread,
         Err(error) => tell_report(rt, &error),
     }
 }
 
-/// Reads words by a command, and prints what `clap` reports where they are none of its. The other command is the same.
+/// Reads a line, and prints what `clap` reports where its words are none of the command's. That is told of the words as they
+/// are shown, since a line end in a word would begin a line of the report.
 pub(crate) fn read_by<'a>(
     rt: &HostRuntime,
-    command: Command<'a>,
-    again: Command<'_>,
-    words: &'a [String],
+    line: Line<'a>,
+    shown: Line<'_>,
 ) -> Result<ArgMatches<'a>, NoCommand> {
-    command
-        .try_get_matches_from(words)
-        .map_err(|_| tell_refusal(rt, again, words))
+    line.command
+        .try_get_matches_from(line.words)
+        .map_err(|_| tell_refusal(rt, shown))
 }
 
 /// Reads words by the table of a program, and prints what `clap` reports where they are none of its.
@@ -132,12 +134,16 @@ pub(crate) fn read_words<'a>(
     words: &'a [String],
 ) -> Result<ArgMatches<'a>, NoCommand> {
     let alloc = rt.alloc();
-    read_by(
-        rt,
-        command_of(alloc, program)?,
-        command_of(alloc, program)?,
+    let shown = shown_words(alloc, words)?;
+    let line = Line {
+        command: command_of(alloc, program)?,
         words,
-    )
+    };
+    let told = Line {
+        command: command_of(alloc, program)?,
+        words: shown.as_slice(),
+    };
+    read_by(rt, line, told)
 }
 
 /// The value of a word that is given, if it is.

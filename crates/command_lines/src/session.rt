@@ -1,6 +1,6 @@
 //! The command line of `mailfile`, the program of sessions.
 
-use crate::reading::{NoCommand, read_by, value_of, words_of_process};
+use crate::reading::{Line, NoCommand, read_by, shown_words, value_of, words_of_process};
 use crate::table::{OPTION, Word, argument_of, bare_command};
 use clap::Command;
 use std::alloc::{AllocError, Global};
@@ -37,7 +37,16 @@ fn command<'a>(alloc: Global) -> Result<Command<'a>, AllocError> {
 pub fn read_command_line(rt: &HostRuntime) -> Result<CommandLine, NoCommand> {
     let alloc = rt.alloc();
     let words = words_of_process(rt)?;
-    let matches = read_by(rt, command(alloc)?, command(alloc)?, words.as_slice())?;
+    let shown = shown_words(alloc, words.as_slice())?;
+    let line = Line {
+        command: command(alloc)?,
+        words: words.as_slice(),
+    };
+    let told = Line {
+        command: command(alloc)?,
+        words: shown.as_slice(),
+    };
+    let matches = read_by(rt, line, told)?;
     let store = match value_of(&matches, STORE) {
         Some(path) => Some(String::from_str(alloc, path)?),
         None => None,
