@@ -102,6 +102,7 @@ pub(crate) fn shown_words(alloc: Global, words: &[String]) -> Result<Vec<String>
 }
 
 /// Words, and the command that reads them.
+#[derive(Drop)]
 pub(crate) struct Line<'a> {
     pub command: Command<'a>,
     pub words: &'a [String],
