@@ -1,11 +1,13 @@
 -- A day number has a date that the calendar has, and that date has the number.
-use Rattle.std.proofs.Common.{◌≡◌, ℕ, zero, suc, ◌+◌, ◌-◌, ◌≤◌, ◌<◌, nat_lt, true, false, Bool, refl, sym, ap, subst, ◌∙◌, arith, pos, inl, inr, ◌+ℤ◌, unsigned_abs}
+use Rattle.std.proofs.Common.{◌≡◌, ℕ, zero, suc, ◌+◌, ◌-◌, ◌≤◌, ◌<◌, nat_lt, true, false, Bool, refl, sym, ap, subst, ◌∙◌, arith, pos, inl, inr}
+use Rattle.std.proofs.Common.{◌+ℤ◌, unsigned_abs}
 use Rattle.std.proofs.lemmas.Bool.{cases_Bool}
 use Rattle.std.proofs.lemmas.Bool.Decides.{nat_tests}
 use Rattle.jiff.specs.Words.{days_in_month, days_in_year}
 use Rattle.jiff_core.specs.Calendar.{day_count, days_from_civil, IsYear}
 use Rattle.jiff_core.proofs.SignedLemmas.{signed_arith}
-use Rattle.jiff_core.proofs.CalendarLemmas.{day_count-epoch, days_from_civil-day_count, day_count-day, day_count-next_month, day_count-next_year, day_count-last_of_year, day_count-end}
+use Rattle.jiff_core.proofs.CalendarLemmas.{day_count-epoch, days_from_civil-day_count, day_count-day, day_count-next_month, day_count-next_year}
+use Rattle.jiff_core.proofs.CalendarLemmas.{day_count-last_of_year, day_count-end}
 use Rattle.class_plan.specs.Calendar.{Civil, civil, in_year, from_year, number_of}
 use Rattle.record_history.specs.Civil.{civil_of}
 
@@ -57,7 +59,13 @@ of_year y n c top h = record { year = (omega (arith, h.year), omega (arith, h.ye
 
 later_year : (y r n dim : ℕ) (c : Civil) → day_count (pos (y + 1)) 1 1 ≡ day_count (pos y) 1 1 + dim → r + dim ≡ n
     → IsAfterYear (y + 1) r c → IsAfterYear y n c
-later_year y r n dim c next left h = record { year = (let low = h.year.0 in omega arith, h.year.1); month = h.month; day = h.day; count = h.count ∙ omega arith }
+later_year y r n dim c next left h = record {
+  year = (let low = h.year.0 in omega arith, h.year.1);
+  month = h.month;
+  day = h.day;
+  count = h.count ∙
+      omega arith;
+}
 
 is_year : (y : ℕ) → 1970 ≤ y → y ≤ 9999 → IsYear (pos y)
 is_year y low high = (omega (arith, signed_arith), omega (arith, signed_arith))

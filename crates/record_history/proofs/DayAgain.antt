@@ -32,7 +32,8 @@ dig n h = omega arith
 
 civil_read : (c : Civil) → c.year < 10000 → c.month < 100 → c.day < 100 → civil_at (civil_text c) ≡ c
 civil_read c y m d =
-    let year : ((48 + c.year / 100 / 10 - 48) * 10 + (48 + c.year / 100 % 10 - 48)) * 100 + ((48 + c.year % 100 / 10 - 48) * 10 + (48 + c.year % 100 % 10 - 48)) ≡ c.year =
+    let year : ((48 + c.year / 100 / 10 - 48) * 10 + (48 + c.year / 100 % 10 - 48)) * 100 + ((48 + c.year % 100 / 10 - 48) * 10 + (48 + c.year % 100
+    % 10 - 48)) ≡ c.year =
     omega (arith, dig (c.year / 100) (omega arith), dig (c.year % 100) (omega arith)) in
     λ i. record { year = year i; month = dig c.month m i; day = dig c.day d i }
 

@@ -1,5 +1,6 @@
 -- The dates of day numbers.
-use Rattle.std.proofs.Common.{◌≡◌, ℕ, arith, ℤ, pos, ◌≤ℤ◌, ◌<ℤ◌, FitsSigned, w8, w16, refl, negsuc, unsigned_abs, sym, ap, ◌∙◌, ◌/◌, ◌%◌, ◌++◌, List, codes}
+use Rattle.std.proofs.Common.{◌≡◌, ℕ, arith, ℤ, pos, ◌≤ℤ◌, ◌<ℤ◌, FitsSigned, w8, w16, refl, negsuc, unsigned_abs, sym, ap, ◌∙◌, ◌/◌, ◌%◌, ◌++◌}
+use Rattle.std.proofs.Common.{List, codes}
 use Rattle.std.proofs.lemmas.Int.{by_lt_z}
 use Rattle.class_plan.specs.Calendar.{Civil}
 use Rattle.class_plan.proofs.CalendarLemmas.{civil_is}

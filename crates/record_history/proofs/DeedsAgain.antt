@@ -6,10 +6,12 @@ use Rattle.record_archive.specs.Archive.{Record}
 use Rattle.class_plan.specs.Texts.{text_of}
 use Rattle.class_plan.specs.Plans.{Listing}
 use Rattle.record_history.specs.Events.{Event, Deed, Seal, Filing}
-use Rattle.record_history.specs.Events.{Captured, Held, Released, Destroyed, ClassAdded, PlanReplaced, FoundPlan, FoundMessage, FoundRecord, FoundHold}
+use Rattle.record_history.specs.Events.{Captured, Held, Released, Destroyed, ClassAdded, PlanReplaced, FoundPlan, FoundMessage, FoundRecord}
+use Rattle.record_history.specs.Events.{FoundHold}
 use Rattle.record_history.specs.Lines.{day_text, deed_text, filing_text, paths_text, plan_text, record_text, seal_text, state_word}
 use Rattle.record_history.specs.Readable.{IsName, IsReadableDeed, IsListing}
-use Rattle.record_history.specs.Reading.{added_at, captured_at, deed_at, destroyed_at, found_at, from, hold_deed, message_at, paths_of, plan_change_at, plan_deed, record_at, stripped, until, greatest_record}
+use Rattle.record_history.specs.Reading.{added_at, captured_at, deed_at, destroyed_at, found_at, from, hold_deed, message_at, paths_of}
+use Rattle.record_history.specs.Reading.{plan_change_at, plan_deed, record_at, stripped, until, greatest_record}
 use Rattle.record_history.proofs.Again.{IsAfter, from_word, number_again, stripped_again, until_word}
 use Rattle.record_history.proofs.FieldsAgain.{day_again, filing_again, hold_again, path_plain, paths_again, paths_plain, seal_again}
 use Rattle.record_history.proofs.PlansAgain.{place_again, plan_again, schedule_again}
@@ -68,7 +70,11 @@ is_found_hold x = refl
 
 added_again : (path t : List ℕ) → IsReadableDeed (ClassAdded path) → IsAfter 32 t → added_at (path ++ t) ≡ Some (ClassAdded path, t)
 unfolding added_at
-added_again path t h e = rw (until_word 32 path t (path_plain 32 path (omega arith) h) e, from_word 32 path t (path_plain 32 path (omega arith) h) e) refl
+added_again path t h e = rw (
+  until_word 32 path t (path_plain 32 path (omega arith) h) e,
+  from_word 32 path t (path_plain 32 path (omega arith) h)
+      e,
+) refl
 
 message_again : (n : ℕ) (s : Seal) (t : List ℕ) → IsReadableDeed (FoundMessage n s) → IsAfter 32 t
     → message_at (decimal n ++ (codes " " ++ (seal_text s ++ t))) ≡ Some (FoundMessage n s, t)
@@ -86,11 +92,16 @@ regroup6 a b c d f g t = simp append_assoc
 regroup8 : (a b c d f g k l t : List ℕ) → a ++ b ++ c ++ d ++ f ++ g ++ k ++ l ++ t ≡ a ++ (b ++ (c ++ (d ++ (f ++ (g ++ (k ++ (l ++ t)))))))
 regroup8 a b c d f g k l t = simp append_assoc
 
-regroup9 : (a b c d f g k l m t : List ℕ) → a ++ b ++ c ++ d ++ f ++ g ++ k ++ l ++ m ++ t ≡ a ++ (b ++ (c ++ (d ++ (f ++ (g ++ (k ++ (l ++ (m ++ t))))))))
+regroup9 : (a b c d f g k l m t : List ℕ) → a ++ b ++ c ++ d ++ f ++ g ++ k ++ l ++ m ++ t ≡ a ++ (b ++ (c ++ (d ++ (f ++ (g ++ (k ++ (l ++ (m ++
+    t))))))))
 regroup9 a b c d f g k l m t = simp append_assoc
 
 destroyed_again : (n day : ℕ) (s : Schedule) (t : List ℕ) → IsReadableDeed (Destroyed n day s)
-    → destroyed_at (decimal n ++ (codes " as due by " ++ (day_text day ++ (codes " (" ++ (text_of s ++ (codes ")" ++ t)))))) ≡ Some (Destroyed n day s, t)
+    → destroyed_at (decimal n ++ (codes " as due by " ++ (day_text day ++ (codes " (" ++ (text_of s ++ (codes ")" ++ t)))))) ≡ Some (
+      Destroyed n day
+          s,
+      t,
+    )
 unfolding destroyed_at
 destroyed_again n day s t h =
     let last = codes " (" ++ (text_of s ++ (codes ")" ++ t)) in
@@ -160,7 +171,8 @@ deed_again (Destroyed n day s) t h e =
     ∙ ap destroyed_at (regroup6 (decimal n) (codes " as due by ") (day_text day) (codes " (") (text_of s) (codes ")") t)
     ∙ destroyed_again n day s t h
 deed_again (Captured first seal day filing paths) t h e =
-    is_captured (decimal first ++ codes " on " ++ day_text day ++ codes " message " ++ seal_text seal ++ filing_text filing ++ codes " in " ++ paths_text paths ++ t)
+    is_captured (decimal first ++ codes " on " ++ day_text day ++ codes " message " ++ seal_text seal ++ filing_text filing ++ codes " in " ++
+    paths_text paths ++ t)
     ∙ ap captured_at (regroup8 (decimal first) (codes " on ") (day_text day) (codes " message ") (seal_text seal) (filing_text filing) (codes " in ")
     (paths_text paths) t)
     ∙ captured_again first seal day filing paths t h e

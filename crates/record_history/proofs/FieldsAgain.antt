@@ -1,5 +1,6 @@
 -- What deeds are made of is read again.
-use Rattle.std.proofs.Common.{◌≡◌, ℕ, ◌+◌, ◌<◌, ◌≤◌, ◌==◌, ◌^◌, Bool, true, false, not, ◌&&◌, ◌||◌, List, [], ◌∷◌, ◌++◌, length, codes, Option, Some, None}
+use Rattle.std.proofs.Common.{◌≡◌, ℕ, ◌+◌, ◌<◌, ◌≤◌, ◌==◌, ◌^◌, Bool, true, false, not, ◌&&◌, ◌||◌, List, [], ◌∷◌, ◌++◌, length, codes, Option}
+use Rattle.std.proofs.Common.{Some, None}
 use Rattle.std.proofs.Common.{refl, ap, sym, ◌∙◌, arith, inl, inr, append_assoc}
 use Rattle.std.specs.Prelude.{IfSome, flat_map, nat_le}
 use Rattle.std.specs.Fmt.{decimal}
@@ -21,7 +22,8 @@ use Rattle.class_plan.proofs.Printed.{text-reads}
 use Rattle.record_history.specs.Events.{Seal, Filing}
 use Rattle.record_history.specs.Lines.{day_text, filing_text, paths_text, seal_text, state_word, with_comma}
 use Rattle.record_history.specs.Readable.{IsName, IsPathText, IsSum, IsSeal, IsFiling, is_hex_digit, is_path_octet}
-use Rattle.record_history.specs.Reading.{day_at, filing_at, filing_from, from, hold_at, parts_at, paths_of, place_at, schedule_at, seal_at, state_of, stripped, until, greatest_record}
+use Rattle.record_history.specs.Reading.{day_at, filing_at, filing_from, from, hold_at, parts_at, paths_of, place_at, schedule_at, seal_at}
+use Rattle.record_history.specs.Reading.{state_of, stripped, until, greatest_record}
 use Rattle.record_history.proofs.Again.{HasNone, IsAfter, from_word, none_in, none_in_number, number_again, stripped_again, until_word}
 use Rattle.record_history.proofs.DayAgain.{day_plain, day_word}
 

@@ -1,5 +1,6 @@
 -- Schedules, records and plans are read again.
-use Rattle.std.proofs.Common.{◌≡◌, ℕ, ◌+◌, ◌<◌, ◌≤◌, ◌==◌, ◌^◌, ◌⊎◌, Bool, true, false, not, ◌&&◌, List, [], ◌∷◌, ◌++◌, map, take, length, codes, Option, Some, None}
+use Rattle.std.proofs.Common.{◌≡◌, ℕ, ◌+◌, ◌<◌, ◌≤◌, ◌==◌, ◌^◌, ◌⊎◌, Bool, true, false, not, ◌&&◌, List, [], ◌∷◌, ◌++◌, map, take, length, codes}
+use Rattle.std.proofs.Common.{Option, Some, None}
 use Rattle.std.proofs.Common.{refl, ap, sym, ◌∙◌, arith, inl, inr, append_assoc}
 use Rattle.std.specs.Prelude.{flat_map, nat_eq, if◌then◌else◌}
 use Rattle.std.specs.Char.{is_ascii_digit}
@@ -19,7 +20,8 @@ use Rattle.class_plan.specs.Texts.{text_of, unit_word, action_word, year_end_tex
 use Rattle.class_plan.proofs.Printed.{text-reads}
 use Rattle.record_history.specs.Lines.{class_text, closed_word, day_text, plan_text, schedule_words, state_word}
 use Rattle.record_history.specs.Readable.{IsPathText, IsRow, IsListing, is_path_octet}
-use Rattle.record_history.specs.Reading.{day_at, from, own_at, parts_at, place_at, plan_at, plan_from, row_of, rows_of, schedule_at, state_of, stripped, until}
+use Rattle.record_history.specs.Reading.{day_at, from, own_at, parts_at, place_at, plan_at, plan_from, row_of, rows_of, schedule_at, state_of}
+use Rattle.record_history.specs.Reading.{stripped, until}
 use Rattle.record_history.proofs.Again.{HasNone, IsAfter, digits_of, from_word, none_in, none_in_number, stripped_again, until_word}
 use Rattle.record_history.proofs.FieldsAgain.{action_plain, both, day_again, joined_plain, parts_none, parts_word, path_plain, unit_plain}
 
@@ -135,7 +137,11 @@ abbrev part_text : Row → List ℕ
 part_text r = codes " " ++ closed_word r.is_open ++ r.path ++ schedule_words r.schedule
 
 row_again : (path : List ℕ) (is_open : Bool) (own : Option Schedule) → IsPathText path → IsInRangeIfAny own
-    → row_of (part_text (record { path = path; is_open = is_open; schedule = own })) ≡ Some (record { path = path; is_open = is_open; schedule = own })
+    → row_of (part_text (record { path = path; is_open = is_open; schedule = own })) ≡ Some (record {
+      path = path;
+      is_open = is_open;
+      schedule = own;
+    })
 unfolding row_of
 row_again path true own h range =
     let plain = path_plain 44 path (omega arith) h in
@@ -179,7 +185,8 @@ part_plain r h =
     let closed = closed_plain r.is_open in
     let own = own_plain r.schedule h.range in
     let front = closed_word r.is_open in (
-      joined_plain 41 (front ++ r.path) (schedule_words r.schedule) (joined_plain 41 front r.path closed.0 (path_plain 41 r.path (omega arith) h.path)) own.0,
+      joined_plain 41 (front ++ r.path) (schedule_words r.schedule) (joined_plain 41 front r.path closed.0 (path_plain 41 r.path (omega arith)
+          h.path)) own.0,
       joined_plain 59 (front ++ r.path) (schedule_words r.schedule) (joined_plain 59 front r.path closed.1
           (none_in is_path_octet 59 path_octet_below r.path h.path.1)) own.1,
     )

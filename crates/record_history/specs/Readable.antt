@@ -48,7 +48,8 @@ pub record IsListing (p : Listing) : Type 0 where
   pub rows : AllByRecursion IsRow p.rows
 
 abbrev pub IsReadableDeed : Deed → Type 0
-IsReadableDeed (Captured first seal day filing paths) = IsNumber first × IsSeal seal × IsDay day × IfSome filing IsFiling × AllByRecursion IsPathText paths
+IsReadableDeed (Captured first seal day filing paths) = IsNumber first × IsSeal seal × IsDay day × IfSome filing IsFiling × AllByRecursion
+    IsPathText paths
 IsReadableDeed (Held name n) = IsName name × IsNumber n
 IsReadableDeed (Released name n) = IsName name × IsNumber n
 IsReadableDeed (Destroyed n day schedule) = IsNumber n × IsDay day × IsInRange schedule

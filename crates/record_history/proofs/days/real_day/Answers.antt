@@ -2,7 +2,9 @@ use Rattle.std.proofs.Common.{◌∙◌, sym, ap, arith, Some}
 use Rattle.std.specs.Prelude.{unsigned_abs}
 use Rattle.record_history.proofs.RealDays.{made, made_none, made_year, year_low, year_high, month_high, day_high, told_day, small_day}
 use Rattle.record_history.proofs.days.real_day.Goals as goal
-use Rattle.record_history.proofs.days.real_day.Goals.{then-year-lt1970-via-then-year-lt1970, then-year-lt1970-via-else-year-lt1970+then-year-gt9999, then-year-lt1970-via-else-year-lt1970+else-year-gt9999+then-month-gt12, then-year-lt1970-via-else-year-lt1970+else-year-gt9999+else-month-gt12+then-day-gt31}
+use Rattle.record_history.proofs.days.real_day.Goals.{then-year-lt1970-via-then-year-lt1970, then-year-lt1970-via-else-year-lt1970+then-year-gt9999}
+use Rattle.record_history.proofs.days.real_day.Goals.{then-year-lt1970-via-else-year-lt1970+else-year-gt9999+then-month-gt12}
+use Rattle.record_history.proofs.days.real_day.Goals.{then-year-lt1970-via-else-year-lt1970+else-year-gt9999+else-month-gt12+then-day-gt31}
 
 pub returns-then-year-lt1970-clause-day : goal.returns-then-year-lt1970-clause-day
 returns-then-year-lt1970-clause-day c = elim c.then-year-lt1970.branch [
