@@ -31,7 +31,8 @@ impl<S: Alter> NotedStore<S> {
         requires day { IsCaptureDay day }
         requires paths { AreClasses self.old.store.plan paths.now }
         ensures obeys { Obeys S.Store self.old self.new result
-            (λ a. archive.capture a body.now (number_of_day day) paths.now) (λ a lines. map line_view lines.items ≡
+            (λ a. archive.capture a body.now (number_of_day day) paths.now)
+            (λ a lines. map line_view lines.items ≡
             archive.capture_lines a (number_of_day day) paths.now) line.now }
         ensures crash { Leaves S.Store self.old self.new
             (λ a. archive.capture a body.now (number_of_day day) paths.now) line.now }
@@ -65,14 +66,16 @@ impl<S: Alter> NotedStore<S> {
         requires day { IsCaptureDay day }
         requires paths { AreClasses self.old.store.plan paths.now }
         ensures obeys { Obeys S.Store self.old self.new result
-            (λ a. archive.capture a body.now (number_of_day day) paths.now) (λ a lines. map line_view lines.items ≡
+            (λ a. archive.capture a body.now (number_of_day day) paths.now)
+            (λ a lines. map line_view lines.items ≡
             archive.capture_lines a (number_of_day day) paths.now) line.now }
         ensures crash { Leaves S.Store self.old self.new
             (λ a. archive.capture a body.now (number_of_day day) paths.now) line.now }
         ensures told { (e : Event) (filing : Option Filing)
             → IsLineOf self.old line.now (Captured self.old.store.next (seal body.now)
             (number_of_day day) filing paths.now) e
-            → IsTold S.Store self.old self.new result (λ a. archive.capture a body.now (number_of_day day) paths.now) }
+            → IsTold S.Store self.old self.new result
+            (λ a. archive.capture a body.now (number_of_day day) paths.now) }
     {
         commands_are_told();
         self.note_capture(line, body, day, paths)

@@ -45,7 +45,8 @@ impl<S: Alter> NotedStore<S> {
             (λ a. archive.destroy_on a number (epoch_day day)) line.now }
         ensures told { (e : Event) (on : ℕ) (schedule : Schedule) → epoch_day day ≡ pos on
             → IsLineOf self.old line.now (Destroyed number on schedule) e
-            → IsTold S.Store self.old self.new result (λ a. archive.destroy_on a number (epoch_day day)) }
+            → IsTold S.Store self.old self.new result
+            (λ a. archive.destroy_on a number (epoch_day day)) }
     {
         commands_are_told();
         self.note_destroy(line, number, day)

@@ -137,7 +137,8 @@ impl<S: Alter> Store<S> {
         ensures trouble { IfErr result (λ f. is_trouble f ≡ true) }
         ensures brought { OnOk result
             (BringsWhere S.Store (D.needs companion) (D.brings companion) self.old self.new
-            (λ a. archive.release a name.now number ≡ Ok (archive.without_hold a name.now number))) }
+            (λ a. archive.release a name.now number ≡
+            Ok (archive.without_hold a name.now number))) }
         ensures still { FailsStill S.Store self.old self.new result }
         ensures behaves { Behaves S.Store self.old self.new result }
         ensures crash { LeavesBothWhere S.Store (D.needs companion) (D.brings companion)

@@ -148,7 +148,8 @@ impl<S: Alter> Store<S> {
     /// The number that the next record gets: at most 4,294,967,296, which none has.
     pub fn next_number(&self) -> u64
         ensures value { result ≡ self.now.next }
-        ensures stands { (a : Archive) → StandsFor S.Store self.now a → result ≡ archive.next_number a }
+        ensures stands { (a : Archive) → StandsFor S.Store self.now a →
+            result ≡ archive.next_number a }
     {
         self.next
     }

@@ -11,14 +11,16 @@ use Rattle.record_noted.proofs.store.NotedStore.note_destroy.Goals as goal
 pub returns-clause-obeys : goal.returns-clause-obeys
 returns-clause-obeys g c =
     obeys_noted g.S.Store c.args.self.now c.args.line.now c.as_bytes.result.now (c.as_bytes.ensures.value ∙ c.in_ok-mark.ensures.mark) _ (tt {0})
-    (λ a. archive.destroy_on a c.args.number (epoch_day c.args.day)) Quietly c.in_ok-destroy_with.ensures.obeys c.in_ok-destroy_with.ensures.brought c.destroy_with.ensures.behaves.falls refl
+    (λ a. archive.destroy_on a c.args.number (epoch_day c.args.day)) Quietly c.in_ok-destroy_with.ensures.obeys
+    c.in_ok-destroy_with.ensures.brought c.destroy_with.ensures.behaves.falls refl
     (sym c.as_bytes.ensures.value)
 
 left : (g : Over) (c : After-destroy_with g) → Leaves g.S.Store c.args.self.now (record c.args.self.now { store = c.destroy_with.new.self })
     (λ a. archive.destroy_on a c.args.number (epoch_day c.args.day)) c.args.line.now
 left g c =
     leaves_noted g.S.Store c.args.self.now c.args.line.now c.as_bytes.result.now (c.as_bytes.ensures.value ∙ c.in_ok-mark.ensures.mark)
-    (record c.args.self.now { store = c.destroy_with.new.self }) (λ a. archive.destroy_on a c.args.number (epoch_day c.args.day)) c.destroy_with.ensures.crash
+    (record c.args.self.now { store = c.destroy_with.new.self }) (λ a. archive.destroy_on a c.args.number (epoch_day c.args.day))
+    c.destroy_with.ensures.crash
 
 pub returns-clause-crash : goal.returns-clause-crash
 returns-clause-crash g c = left g (goal.at.returns-clause-crash g c).After-destroy_with
@@ -29,10 +31,12 @@ returns-in_err-destroy_with-clause-crash g c = left g (goal.at.returns-in_err-de
 pub returns-in_err-destroy_with-clause-obeys : goal.returns-in_err-destroy_with-clause-obeys
 returns-in_err-destroy_with-clause-obeys g c =
     refused_noted g.S.Store c.args.self.now (record c.args.self.now { store = c.destroy_with.new.self }) _ c.in_err-destroy_with.field-0.0
-    (λ a. archive.destroy_on a c.args.number (epoch_day c.args.day)) Quietly c.args.line.now c.from_residual-in_err-destroy_with.ensures.0 c.from_residual-in_err-destroy_with.ensures.1
+    (λ a. archive.destroy_on a c.args.number (epoch_day c.args.day)) Quietly c.args.line.now c.from_residual-in_err-destroy_with.ensures.0
+    c.from_residual-in_err-destroy_with.ensures.1
     c.in_err-destroy_with.ensures.obeys c.in_err-destroy_with.ensures.still c.destroy_with.ensures.behaves.falls refl refl
 
 pub returns-in_err-mark-clause-obeys : goal.returns-in_err-mark-clause-obeys
 returns-in_err-mark-clause-obeys g c =
-    unmarked g.S.Store c.args.self.now _ c.in_err-mark.field-0.0 (λ a. archive.destroy_on a c.args.number (epoch_day c.args.day)) Quietly c.args.line.now
+    unmarked g.S.Store c.args.self.now _ c.in_err-mark.field-0.0 (λ a. archive.destroy_on a c.args.number (epoch_day c.args.day)) Quietly
+    c.args.line.now
     c.from_residual.ensures.0 c.from_residual.ensures.1 c.in_err-mark.ensures.trouble

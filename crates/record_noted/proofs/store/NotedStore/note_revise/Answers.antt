@@ -10,7 +10,8 @@ use Rattle.record_noted.proofs.store.NotedStore.note_revise.Goals as goal
 pub returns-clause-obeys : goal.returns-clause-obeys
 returns-clause-obeys g c =
     obeys_noted g.S.Store c.args.self.now c.args.line.now c.as_bytes.result.now (c.as_bytes.ensures.value ∙ c.in_ok-mark.ensures.mark) _ (tt {0})
-    (λ a. archive.revise a c.args.plan) Quietly c.in_ok-revise_with.ensures.obeys c.in_ok-revise_with.ensures.brought c.revise_with.ensures.behaves.falls refl
+    (λ a. archive.revise a c.args.plan) Quietly c.in_ok-revise_with.ensures.obeys c.in_ok-revise_with.ensures.brought
+    c.revise_with.ensures.behaves.falls refl
     (sym c.as_bytes.ensures.value)
 
 left : (g : Over) (c : After-revise_with g) → Leaves g.S.Store c.args.self.now (record c.args.self.now { store = c.revise_with.new.self })
@@ -28,7 +29,8 @@ returns-in_err-revise_with-clause-crash g c = left g (goal.at.returns-in_err-rev
 pub returns-in_err-revise_with-clause-obeys : goal.returns-in_err-revise_with-clause-obeys
 returns-in_err-revise_with-clause-obeys g c =
     refused_noted g.S.Store c.args.self.now (record c.args.self.now { store = c.revise_with.new.self }) _ c.in_err-revise_with.field-0.0
-    (λ a. archive.revise a c.args.plan) Quietly c.args.line.now c.from_residual-in_err-revise_with.ensures.0 c.from_residual-in_err-revise_with.ensures.1
+    (λ a. archive.revise a c.args.plan) Quietly c.args.line.now c.from_residual-in_err-revise_with.ensures.0
+    c.from_residual-in_err-revise_with.ensures.1
     c.in_err-revise_with.ensures.obeys c.in_err-revise_with.ensures.still c.revise_with.ensures.behaves.falls refl refl
 
 pub returns-in_err-mark-clause-obeys : goal.returns-in_err-mark-clause-obeys

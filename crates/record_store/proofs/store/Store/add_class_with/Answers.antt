@@ -11,7 +11,8 @@ use Rattle.record_archive.specs.Faults.{is_trouble}
 use Rattle.record_store.specs.Companions.{LeavesBoth}
 use Rattle.record_store.specs.Stores.{Becomes}
 use Rattle.record_store.proofs.AllowedLemmas.{ready_refused}
-use Rattle.record_store.proofs.CommandLemmas.{fell, is_trouble-fault_of, obeys_refused, stands_planned, stands_both, brought_both, stands_refused, leaves_both}
+use Rattle.record_store.proofs.CommandLemmas.{fell, is_trouble-fault_of, obeys_refused, stands_planned, stands_both, brought_both, stands_refused}
+use Rattle.record_store.proofs.CommandLemmas.{leaves_both}
 use Rattle.record_store.proofs.ClassLemmas.{is_added, added_archive, keeps_added, same_dues, leaves_added}
 use Rattle.record_store.proofs.Causes.{behaves_busy}
 use Rattle.record_store.proofs.store.Store.add_class_with.Given.{Over}
@@ -30,7 +31,8 @@ returns-in-Ok-clause-obeys g c = λ ready (a : Archive) s.
     let path = c.args.path.now in
     let made = c.in_ok-plan_class.ensures.ok in (
       subst (Becomes g.S.Store _) (sym (is_added a p q path s.plan made))
-          (stands_both g.S.Store c.args.self.now a (with_plan a q) Always (with_class path true None) (g.D.Companion.needs c.args.companion) (g.D.Companion.brings c.args.companion) s ready _
+          (stands_both g.S.Store c.args.self.now a (with_plan a q) Always (with_class path true None) (g.D.Companion.needs c.args.companion)
+          (g.D.Companion.brings c.args.companion) s ready _
           (added_archive a p q path s.plan made s.archive c.in_ok-plan_class.ensures.plans.1)
           c.transact.ensures.idle refl s.next s.held s.others (fell g.S.Store c.args.self.now.conn c.transact.new.conn _ c.transact.ensures.crash)
           c.transact.ensures.was_open c.in-Ok.ensures.ok
@@ -45,7 +47,8 @@ returns-in-Ok-clause-dues g c = λ (a : Archive) s.
 
 pub returns-in-Ok-clause-brought : goal.returns-in-Ok-clause-brought
 returns-in-Ok-clause-brought g c = λ (a : Archive) s ready.
-    brought_both g.S.Store c.args.self.now a a Always (with_class c.args.path.now true None) (g.D.Companion.needs c.args.companion) (g.D.Companion.brings c.args.companion) s ready c.transact.new.conn
+    brought_both g.S.Store c.args.self.now a a Always (with_class c.args.path.now true None) (g.D.Companion.needs c.args.companion)
+    (g.D.Companion.brings c.args.companion) s ready c.transact.new.conn
     (λ was kept. tt) (fell g.S.Store c.args.self.now.conn c.transact.new.conn _ c.transact.ensures.crash)
     c.transact.ensures.was_open c.in-Ok.ensures.open c.in-Ok.ensures.ok
 
@@ -56,9 +59,11 @@ left g c =
     let q = c.plan_class.new.plan in
     let path = c.args.path.now in
     let made = c.in_ok-plan_class.ensures.ok in
-    leaves_added g.S.Store (g.D.Companion.needs c.args.companion) (g.D.Companion.brings c.args.companion) c.args.self.now (record c.args.self.now { conn = c.transact.new.conn }) path q made
+    leaves_added g.S.Store (g.D.Companion.needs c.args.companion) (g.D.Companion.brings c.args.companion) c.args.self.now (record
+    c.args.self.now { conn = c.transact.new.conn }) path q made
     (λ (a : Archive) s ready.
-    leaves_both g.S.Store c.args.self.now a (with_plan a q) Always (with_class path true None) (g.D.Companion.needs c.args.companion) (g.D.Companion.brings c.args.companion) s ready c.transact.new.conn Unit
+    leaves_both g.S.Store c.args.self.now a (with_plan a q) Always (with_class path true None) (g.D.Companion.needs c.args.companion)
+    (g.D.Companion.brings c.args.companion) s ready c.transact.new.conn Unit
     (λ legal. added_archive a p q path s.plan made s.archive c.in_ok-plan_class.ensures.plans.1) (λ was kept legal. tt)
     (λ was db kept legal turns. keeps_added a p q path s.plan made s.archive was db kept turns) c.transact.ensures.live c.transact.ensures.crash)
 

@@ -30,7 +30,8 @@ left : (g : Over) (c : After-place_capture g) → LeavesBoth g.S.Store (g.D.Comp
 left g c =
     let ps = c.args.paths.now in
     let long : length c.as_slice.result.now ≡ length ps = ap length c.as_slice.ensures in
-    leaves_command g.S.Store (g.D.Companion.needs c.args.companion) (g.D.Companion.brings c.args.companion) c.args.self.now c.place_capture.new.self c.args.body.now (number_of_day c.args.day) ps (omega (arith, long))
+    leaves_command g.S.Store (g.D.Companion.needs c.args.companion) (g.D.Companion.brings c.args.companion) c.args.self.now
+    c.place_capture.new.self c.args.body.now (number_of_day c.args.day) ps (omega (arith, long))
     (subst (λ k. LeavesBothWhere g.S.Store (g.D.Companion.needs c.args.companion) (g.D.Companion.brings c.args.companion)
     c.args.self.now c.place_capture.new.self (λ a. Unit {0}) (λ a. after_capture a c.args.body.now k ps))
     c.capture_number-number.ensures.number c.place_capture.ensures.crash)

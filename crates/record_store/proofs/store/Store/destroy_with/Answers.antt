@@ -17,7 +17,8 @@ left g c =
     let r = record_of c.in_ok-record.record in
     subst (λ k. LeavesBoth g.S.Store (g.D.Companion.needs c.args.companion) (g.D.Companion.brings c.args.companion)
     c.args.self.now c.remove_record.new.self (λ (a : Archive). archive.destroy_by a n k (archive.record_at a n))) c.number_from_1970.ensures
-    (leaves_allowed g.S.Store (g.D.Companion.needs c.args.companion) (g.D.Companion.brings c.args.companion) c.args.self.now c.judge_destruction.new.self c.remove_record.new.self (λ (a : Archive).
+    (leaves_allowed g.S.Store (g.D.Companion.needs c.args.companion) (g.D.Companion.brings c.args.companion) c.args.self.now
+    c.judge_destruction.new.self c.remove_record.new.self (λ (a : Archive).
     archive.destroy_by a n c.number_from_1970.result (archive.record_at a n)) (λ (a : Archive).
     IsUnheld a n r) (λ (a : Archive). archive.without a r)
     c.in_ok-record.ensures.tells c.judge_destruction.ensures.still c.judge_destruction.ensures.behaves.falls
@@ -27,7 +28,8 @@ pub returns-clause-brought : goal.returns-clause-brought
 returns-clause-brought g c =
     let n = c.args.number in
     let r = record_of c.in_ok-record.record in
-    brought_allowed g.S.Store (g.D.Companion.needs c.args.companion) (g.D.Companion.brings c.args.companion) c.args.self.now c.judge_destruction.new.self c.remove_record.new.self (λ (a : Archive).
+    brought_allowed g.S.Store (g.D.Companion.needs c.args.companion) (g.D.Companion.brings c.args.companion) c.args.self.now
+    c.judge_destruction.new.self c.remove_record.new.self (λ (a : Archive).
     archive.destroy_by a n c.number_from_1970.result (archive.record_at a n)) (λ (a : Archive).
     IsUnheld a n r) (λ (a : Archive). archive.without a r)
     c.in_ok-record.ensures.tells c.judge_destruction.ensures.still c.judge_destruction.ensures.behaves.falls

@@ -14,7 +14,8 @@ use Rattle.record_store.proofs.store.Store.do_beside.Goals as goal
 
 pub returns-in-Ok-clause-obeys : goal.returns-in-Ok-clause-obeys
 returns-in-Ok-clause-obeys g c = λ ready (a : Archive) s. (
-  stands_both g.S.Store c.args.self.now a a Always (λ t. t) (g.D.Companion.needs c.args.companion) (g.D.Companion.brings c.args.companion) s ready _ s.archive c.transact.ensures.idle s.plan s.next s.held s.others
+  stands_both g.S.Store c.args.self.now a a Always (λ t. t) (g.D.Companion.needs c.args.companion) (g.D.Companion.brings
+      c.args.companion) s ready _ s.archive c.transact.ensures.idle s.plan s.next s.held s.others
       (fell g.S.Store c.args.self.now.conn c.transact.new.conn _ c.transact.ensures.crash)
       c.transact.ensures.was_open c.in-Ok.ensures.ok (stores_same a),
   tt,
@@ -22,7 +23,8 @@ returns-in-Ok-clause-obeys g c = λ ready (a : Archive) s. (
 
 pub returns-in-Ok-clause-brought : goal.returns-in-Ok-clause-brought
 returns-in-Ok-clause-brought g c = λ (a : Archive) s ready.
-    brought_both g.S.Store c.args.self.now a a Always (λ t. t) (g.D.Companion.needs c.args.companion) (g.D.Companion.brings c.args.companion) s ready c.transact.new.conn
+    brought_both g.S.Store c.args.self.now a a Always (λ t. t) (g.D.Companion.needs c.args.companion) (g.D.Companion.brings
+    c.args.companion) s ready c.transact.new.conn
     (λ was kept. tt) (fell g.S.Store c.args.self.now.conn c.transact.new.conn _ c.transact.ensures.crash)
     c.transact.ensures.was_open c.in-Ok.ensures.open c.in-Ok.ensures.ok
 
@@ -31,7 +33,8 @@ left : (g : Over) (c : After-transact g) → LeavesBoth g.S.Store (g.D.Companion
 left g c = λ (a : Archive) s ready is_open.
     survives_weaker (state g.S.Store c.args.self.now.conn) (state g.S.Store c.transact.new.conn) _ _
     (λ clean trees it. (a, refl, it is_open tt))
-    (leaves_both g.S.Store c.args.self.now a a Always (λ t. t) (g.D.Companion.needs c.args.companion) (g.D.Companion.brings c.args.companion) s ready c.transact.new.conn Unit
+    (leaves_both g.S.Store c.args.self.now a a Always (λ t. t) (g.D.Companion.needs c.args.companion) (g.D.Companion.brings
+    c.args.companion) s ready c.transact.new.conn Unit
     (λ legal. s.archive) (λ was kept legal. tt) (λ was db kept legal turns. stores_same a was db kept turns)
     c.transact.ensures.live c.transact.ensures.crash)
 

@@ -15,7 +15,8 @@ pub returns-in-Ok-clause-ok : goal.returns-in-Ok-clause-ok
 returns-in-Ok-clause-ok g c = λ ready (a : Archive) s e.
     let name = c.args.name.now in
     let n = c.args.number in
-    stands_both g.S.Store c.args.self.now a (archive.without_hold a name n) Always (tables.without_hold name n) (g.D.Companion.needs c.args.companion) (g.D.Companion.brings c.args.companion) s ready _
+    stands_both g.S.Store c.args.self.now a (archive.without_hold a name n) Always (tables.without_hold name n) (g.D.Companion.needs
+    c.args.companion) (g.D.Companion.brings c.args.companion) s ready _
     (released_is_archive a name n s.archive) c.transact.ensures.idle s.plan s.next
     (λ m. let sum = count_released name n m a.holds s.archive.once (is_there a name n e) in
     omega (arith, c.take.ensures m, s.held m, sum)) s.others (fell g.S.Store c.args.self.now.conn c.transact.new.conn _ c.transact.ensures.crash)
@@ -25,7 +26,8 @@ pub returns-in-Ok-clause-brought : goal.returns-in-Ok-clause-brought
 returns-in-Ok-clause-brought g c = λ (a : Archive) s ready e.
     let name = c.args.name.now in
     let n = c.args.number in
-    brought_both g.S.Store c.args.self.now a (archive.without_hold a name n) Always (tables.without_hold name n) (g.D.Companion.needs c.args.companion) (g.D.Companion.brings c.args.companion) s ready c.transact.new.conn
+    brought_both g.S.Store c.args.self.now a (archive.without_hold a name n) Always (tables.without_hold name n) (g.D.Companion.needs
+    c.args.companion) (g.D.Companion.brings c.args.companion) s ready c.transact.new.conn
     (λ was kept. tt) (fell g.S.Store c.args.self.now.conn c.transact.new.conn _ c.transact.ensures.crash)
     c.transact.ensures.was_open c.in-Ok.ensures.open c.in-Ok.ensures.ok
 
@@ -36,7 +38,8 @@ left : (g : Over) (c : After-transact g) → LeavesBothWhere g.S.Store (g.D.Comp
 left g c = λ (a : Archive) s ready.
     let name = c.args.name.now in
     let n = c.args.number in
-    leaves_both g.S.Store c.args.self.now a (archive.without_hold a name n) Always (tables.without_hold name n) (g.D.Companion.needs c.args.companion) (g.D.Companion.brings c.args.companion) s ready c.transact.new.conn
+    leaves_both g.S.Store c.args.self.now a (archive.without_hold a name n) Always (tables.without_hold name n) (g.D.Companion.needs
+    c.args.companion) (g.D.Companion.brings c.args.companion) s ready c.transact.new.conn
     (archive.release a name n ≡ Ok (archive.without_hold a name n)) (λ legal. released_is_archive a name n s.archive)
     (λ was kept legal. tt) (λ was db kept legal turns. stores_released name n a was db kept turns) c.transact.ensures.live
     c.transact.ensures.crash

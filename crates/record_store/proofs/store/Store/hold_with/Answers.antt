@@ -20,21 +20,24 @@ judged g c = λ (a : Archive) s. let t = c.in_ok-judge_hold.ensures.tells a s in
 left : (g : Over) (c : After-place_hold g) → LeavesBoth g.S.Store (g.D.Companion.needs c.args.companion) (g.D.Companion.brings c.args.companion)
     c.args.self.now c.place_hold.new.self (λ a. archive.hold a c.args.name.now c.args.number)
 left g c =
-    leaves_allowed g.S.Store (g.D.Companion.needs c.args.companion) (g.D.Companion.brings c.args.companion) c.args.self.now c.judge_hold.new.self c.place_hold.new.self (λ a. archive.hold a c.args.name.now c.args.number)
+    leaves_allowed g.S.Store (g.D.Companion.needs c.args.companion) (g.D.Companion.brings c.args.companion) c.args.self.now c.judge_hold.new.self
+    c.place_hold.new.self (λ a. archive.hold a c.args.name.now c.args.number)
     (Is g c) (λ a. archive.with_hold a c.args.name.now c.args.number) (judged g c) c.judge_hold.ensures.still
     c.judge_hold.ensures.behaves.falls c.judge_hold.ensures.crash c.in_ok-judge_hold.ensures.behaves.open c.place_hold.ensures.crash
 
 pub returns-clause-obeys : goal.returns-clause-obeys
 returns-clause-obeys g c =
     let at = (goal.at.returns-clause-obeys g c).After-place_hold in
-    obeys_allowed g.S.Store (g.D.Companion.needs c.args.companion) (g.D.Companion.brings c.args.companion) c.args.self.now c.judge_hold.new.self c.place_hold.new.self
+    obeys_allowed g.S.Store (g.D.Companion.needs c.args.companion) (g.D.Companion.brings c.args.companion) c.args.self.now c.judge_hold.new.self
+    c.place_hold.new.self
     (λ a. archive.hold a c.args.name.now c.args.number) (Is g at) (λ a. archive.with_hold a c.args.name.now c.args.number) (judged g at)
     c.judge_hold.ensures.still c.judge_hold.ensures.behaves.falls c.in_ok-place_hold.ensures.ok c.place_hold.ensures.behaves.falls
 
 pub returns-clause-brought : goal.returns-clause-brought
 returns-clause-brought g c =
     let at = (goal.at.returns-clause-brought g c).After-place_hold in
-    brought_allowed g.S.Store (g.D.Companion.needs c.args.companion) (g.D.Companion.brings c.args.companion) c.args.self.now c.judge_hold.new.self c.place_hold.new.self
+    brought_allowed g.S.Store (g.D.Companion.needs c.args.companion) (g.D.Companion.brings c.args.companion) c.args.self.now c.judge_hold.new.self
+    c.place_hold.new.self
     (λ a. archive.hold a c.args.name.now c.args.number) (Is g at) (λ a. archive.with_hold a c.args.name.now c.args.number) (judged g at)
     c.judge_hold.ensures.still c.judge_hold.ensures.behaves.falls c.in_ok-place_hold.ensures.brought c.place_hold.ensures.behaves.falls
     c.in_ok-judge_hold.ensures.behaves.open

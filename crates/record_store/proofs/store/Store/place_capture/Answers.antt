@@ -25,13 +25,15 @@ left : (g : Over) (c : After-transact g) → LeavesBothWhere g.S.Store (g.D.Comp
     c.args.self.now (record c.args.self.now { conn = c.transact.new.conn })
     (λ a. Unit {0}) (λ a. after_capture a c.args.body.now c.args.day c.args.paths.now)
 left g c = λ (a : Archive) s ready.
-    leaves_captured g.S.Store (g.D.Companion.needs c.args.companion) (g.D.Companion.brings c.args.companion) c.args.self.now c.transact.new.conn a s ready c.args.body.now c.args.day c.args.first
+    leaves_captured g.S.Store (g.D.Companion.needs c.args.companion) (g.D.Companion.brings c.args.companion) c.args.self.now
+    c.transact.new.conn a s ready c.args.body.now c.args.day c.args.first
     c.args.paths.now (map due_of c.args.dues.now) (given g c) c.transact.ensures.live c.transact.ensures.crash
 
 pub returns-in-Ok-transact-clause-ok : goal.returns-in-Ok-transact-clause-ok
 returns-in-Ok-transact-clause-ok g c = λ ready (a : Archive) s e.
     let long : length c.as_slice.result.now ≡ length c.args.paths.now = ap length c.as_slice.ensures in
-    stands_captured g.S.Store (g.D.Companion.needs c.args.companion) (g.D.Companion.brings c.args.companion) c.args.self.now _ a s ready c.args.body.now c.args.day c.args.first c.args.paths.now
+    stands_captured g.S.Store (g.D.Companion.needs c.args.companion) (g.D.Companion.brings c.args.companion) c.args.self.now _ a s ready
+    c.args.body.now c.args.day c.args.first c.args.paths.now
     (map due_of c.args.dues.now) (given g (goal.at.returns-in-Ok-transact-clause-ok g c).After-transact)
     c.transact.ensures.idle refl (ap (λ k. k + length c.as_slice.result.now) (sym c.requires.first)
     ∙ ap (λ k. c.args.first + k) long) (λ m. refl)
@@ -42,7 +44,8 @@ returns-in-Ok-transact-clause-ok g c = λ ready (a : Archive) s e.
 
 pub returns-in-Ok-transact-clause-brought : goal.returns-in-Ok-transact-clause-brought
 returns-in-Ok-transact-clause-brought g c = λ (a : Archive) s ready e.
-    brought_captured g.S.Store (g.D.Companion.needs c.args.companion) (g.D.Companion.brings c.args.companion) c.args.self.now c.transact.new.conn a s ready c.args.body.now c.args.day c.args.first c.args.paths.now
+    brought_captured g.S.Store (g.D.Companion.needs c.args.companion) (g.D.Companion.brings c.args.companion) c.args.self.now
+    c.transact.new.conn a s ready c.args.body.now c.args.day c.args.first c.args.paths.now
     (map due_of c.args.dues.now) (given g (goal.at.returns-in-Ok-transact-clause-brought g c).After-transact)
     (fell g.S.Store c.args.self.now.conn c.transact.new.conn _ c.transact.ensures.crash)
     c.transact.ensures.was_open c.in-Ok-transact.ensures.open c.in-Ok-transact.ensures.ok

@@ -16,7 +16,8 @@ pub returns-in-Ok-transact-clause-ok : goal.returns-in-Ok-transact-clause-ok
 returns-in-Ok-transact-clause-ok g c = λ ready (a : Archive) s e.
     let name = c.args.name.now in
     let n = c.args.number in
-    stands_both g.S.Store c.args.self.now a (archive.with_hold a name n) Always (tables.with_hold name n) (g.D.Companion.needs c.args.companion) (g.D.Companion.brings c.args.companion) s ready _
+    stands_both g.S.Store c.args.self.now a (archive.with_hold a name n) Always (tables.with_hold name n) (g.D.Companion.needs c.args.companion)
+    (g.D.Companion.brings c.args.companion) s ready _
     (held_is_archive a name n s.archive e) c.transact.ensures.idle s.plan s.next
     (λ m. c.in-Ok.ensures.ok m ∙ ap (λ k. k + only_at n 1 m) (s.held m)
     ∙ sym (count_held a name n m)) s.others (fell g.S.Store c.args.self.now.conn c.transact.new.conn _ c.transact.ensures.crash)
@@ -26,7 +27,8 @@ pub returns-in-Ok-transact-clause-brought : goal.returns-in-Ok-transact-clause-b
 returns-in-Ok-transact-clause-brought g c = λ (a : Archive) s ready e.
     let name = c.args.name.now in
     let n = c.args.number in
-    brought_both g.S.Store c.args.self.now a (archive.with_hold a name n) Always (tables.with_hold name n) (g.D.Companion.needs c.args.companion) (g.D.Companion.brings c.args.companion) s ready c.transact.new.conn
+    brought_both g.S.Store c.args.self.now a (archive.with_hold a name n) Always (tables.with_hold name n) (g.D.Companion.needs c.args.companion)
+    (g.D.Companion.brings c.args.companion) s ready c.transact.new.conn
     (λ was kept. tt) (fell g.S.Store c.args.self.now.conn c.transact.new.conn _ c.transact.ensures.crash)
     c.transact.ensures.was_open c.in-Ok-transact.ensures.open c.in-Ok-transact.ensures.ok
 
@@ -37,7 +39,8 @@ left : (g : Over) (c : After-transact g) → LeavesBothWhere g.S.Store (g.D.Comp
 left g c = λ (a : Archive) s ready.
     let name = c.args.name.now in
     let n = c.args.number in
-    leaves_both g.S.Store c.args.self.now a (archive.with_hold a name n) Always (tables.with_hold name n) (g.D.Companion.needs c.args.companion) (g.D.Companion.brings c.args.companion) s ready c.transact.new.conn
+    leaves_both g.S.Store c.args.self.now a (archive.with_hold a name n) Always (tables.with_hold name n) (g.D.Companion.needs c.args.companion)
+    (g.D.Companion.brings c.args.companion) s ready c.transact.new.conn
     (archive.hold a name n ≡ Ok (archive.with_hold a name n)) (held_is_archive a name n s.archive)
     (λ was kept legal. tt) (λ was db kept legal turns. stores_held name n a was db kept turns) c.transact.ensures.live
     c.transact.ensures.crash

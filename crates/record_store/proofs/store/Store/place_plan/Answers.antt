@@ -28,7 +28,8 @@ left g c = λ (a : Archive) s ready.
     let ds = map due_of c.args.dues.now in
     let rs = map rule_of c.as_slice-rules.result.now in
     let cs = map class_entry_of c.as_slice-classes.result.now in
-    leaves_both g.S.Store c.args.self.now a (with_plan a p) Always (tables.with_plan rs cs ds) (g.D.Companion.needs c.args.companion) (g.D.Companion.brings c.args.companion) s ready c.replace_plan_with.new.conn
+    leaves_both g.S.Store c.args.self.now a (with_plan a p) Always (tables.with_plan rs cs ds) (g.D.Companion.needs c.args.companion)
+    (g.D.Companion.brings c.args.companion) s ready c.replace_plan_with.new.conn
     (IsRevision a p ds)
     (λ is. let plan : IsPlan p = search rules in revised_is_archive a p s.archive plan is.kept) (λ was kept is. tt)
     (λ was db kept is turns. stores_revised a p rs cs ds (rules_are g c) (classes_are g c) is.dues was db kept turns)
@@ -42,7 +43,8 @@ returns-in-Ok-clause-ok g c = λ ready (a : Archive) s is.
     let cs = map class_entry_of c.as_slice-classes.result.now in
     let after = (goal.at.returns-in-Ok-clause-ok g c).After-replace_plan_with in
     let plan : IsPlan p = search rules in
-    stands_both g.S.Store c.args.self.now a (with_plan a p) Always (tables.with_plan rs cs ds) (g.D.Companion.needs c.args.companion) (g.D.Companion.brings c.args.companion) s ready _
+    stands_both g.S.Store c.args.self.now a (with_plan a p) Always (tables.with_plan rs cs ds) (g.D.Companion.needs c.args.companion)
+    (g.D.Companion.brings c.args.companion) s ready _
     (revised_is_archive a p s.archive plan is.kept) c.replace_plan_with.ensures.idle refl s.next s.held s.others
     (fell g.S.Store c.args.self.now.conn c.replace_plan_with.new.conn _ c.replace_plan_with.ensures.crash)
     c.replace_plan_with.ensures.was_open c.in-Ok.ensures.ok
@@ -52,7 +54,8 @@ pub returns-in-Ok-clause-brought : goal.returns-in-Ok-clause-brought
 returns-in-Ok-clause-brought g c = λ (a : Archive) s ready is.
     let rs = map rule_of c.as_slice-rules.result.now in
     let cs = map class_entry_of c.as_slice-classes.result.now in
-    brought_both g.S.Store c.args.self.now a a Always (tables.with_plan rs cs (map due_of c.args.dues.now)) (g.D.Companion.needs c.args.companion) (g.D.Companion.brings c.args.companion) s ready
+    brought_both g.S.Store c.args.self.now a a Always (tables.with_plan rs cs (map due_of c.args.dues.now)) (g.D.Companion.needs c.args.companion)
+    (g.D.Companion.brings c.args.companion) s ready
     c.replace_plan_with.new.conn (λ was kept. tt)
     (fell g.S.Store c.args.self.now.conn c.replace_plan_with.new.conn _ c.replace_plan_with.ensures.crash)
     c.replace_plan_with.ensures.was_open c.in-Ok.ensures.open c.in-Ok.ensures.ok

@@ -20,21 +20,24 @@ judged g c = λ (a : Archive) s. let t = c.in_ok-judge_release.ensures.tells a s
 left : (g : Over) (c : After-end_hold g) → LeavesBoth g.S.Store (g.D.Companion.needs c.args.companion) (g.D.Companion.brings c.args.companion)
     c.args.self.now c.end_hold.new.self (λ a. archive.release a c.args.name.now c.args.number)
 left g c =
-    leaves_allowed g.S.Store (g.D.Companion.needs c.args.companion) (g.D.Companion.brings c.args.companion) c.args.self.now c.judge_release.new.self c.end_hold.new.self (λ a. archive.release a c.args.name.now c.args.number)
+    leaves_allowed g.S.Store (g.D.Companion.needs c.args.companion) (g.D.Companion.brings c.args.companion) c.args.self.now
+    c.judge_release.new.self c.end_hold.new.self (λ a. archive.release a c.args.name.now c.args.number)
     (Is g c) (λ a. archive.without_hold a c.args.name.now c.args.number) (judged g c) c.judge_release.ensures.still
     c.judge_release.ensures.behaves.falls c.judge_release.ensures.crash c.in_ok-judge_release.ensures.behaves.open c.end_hold.ensures.crash
 
 pub returns-clause-obeys : goal.returns-clause-obeys
 returns-clause-obeys g c =
     let at = (goal.at.returns-clause-obeys g c).After-end_hold in
-    obeys_allowed g.S.Store (g.D.Companion.needs c.args.companion) (g.D.Companion.brings c.args.companion) c.args.self.now c.judge_release.new.self c.end_hold.new.self
+    obeys_allowed g.S.Store (g.D.Companion.needs c.args.companion) (g.D.Companion.brings c.args.companion) c.args.self.now
+    c.judge_release.new.self c.end_hold.new.self
     (λ a. archive.release a c.args.name.now c.args.number) (Is g at) (λ a. archive.without_hold a c.args.name.now c.args.number) (judged g at)
     c.judge_release.ensures.still c.judge_release.ensures.behaves.falls c.in_ok-end_hold.ensures.ok c.end_hold.ensures.behaves.falls
 
 pub returns-clause-brought : goal.returns-clause-brought
 returns-clause-brought g c =
     let at = (goal.at.returns-clause-brought g c).After-end_hold in
-    brought_allowed g.S.Store (g.D.Companion.needs c.args.companion) (g.D.Companion.brings c.args.companion) c.args.self.now c.judge_release.new.self c.end_hold.new.self
+    brought_allowed g.S.Store (g.D.Companion.needs c.args.companion) (g.D.Companion.brings c.args.companion) c.args.self.now
+    c.judge_release.new.self c.end_hold.new.self
     (λ a. archive.release a c.args.name.now c.args.number) (Is g at) (λ a. archive.without_hold a c.args.name.now c.args.number) (judged g at)
     c.judge_release.ensures.still c.judge_release.ensures.behaves.falls c.in_ok-end_hold.ensures.brought c.end_hold.ensures.behaves.falls
     c.in_ok-judge_release.ensures.behaves.open

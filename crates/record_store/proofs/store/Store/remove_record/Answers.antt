@@ -17,7 +17,8 @@ returns-in-Ok-clause-ok g c = λ ready (a : Archive) s free.
     let n = c.args.number in
     let r = record_of c.args.row.now in
     let last = c.last_body-last.result in
-    stands_both g.S.Store c.args.self.now a (archive.without a r) Always (with_destruction n last) (g.D.Companion.needs c.args.companion) (g.D.Companion.brings c.args.companion) s ready _
+    stands_both g.S.Store c.args.self.now a (archive.without a r) Always (with_destruction n last) (g.D.Companion.needs c.args.companion)
+    (g.D.Companion.brings c.args.companion) s ready _
     (destroyed_archive a n r s.archive free) c.transact.ensures.idle s.plan (s.next ∙ sym (next_destroyed a r))
     s.held (λ m. let sum = count_destroyed a r s.archive (free_itself a n r free) m in
     omega (arith, c.take.ensures m, s.others m, sum)) (fell g.S.Store c.args.self.now.conn c.transact.new.conn _ c.transact.ensures.crash)
@@ -26,7 +27,8 @@ returns-in-Ok-clause-ok g c = λ ready (a : Archive) s free.
 
 pub returns-in-Ok-clause-brought : goal.returns-in-Ok-clause-brought
 returns-in-Ok-clause-brought g c = λ (a : Archive) s ready free.
-    brought_both g.S.Store c.args.self.now a a Always (with_destruction c.args.number c.last_body-last.result) (g.D.Companion.needs c.args.companion) (g.D.Companion.brings c.args.companion) s ready c.transact.new.conn
+    brought_both g.S.Store c.args.self.now a a Always (with_destruction c.args.number c.last_body-last.result) (g.D.Companion.needs
+    c.args.companion) (g.D.Companion.brings c.args.companion) s ready c.transact.new.conn
     (λ was kept. tt) (fell g.S.Store c.args.self.now.conn c.transact.new.conn _ c.transact.ensures.crash)
     c.transact.ensures.was_open c.in-Ok.ensures.open c.in-Ok.ensures.ok
 
@@ -37,7 +39,8 @@ left g c = λ (a : Archive) s ready.
     let n = c.args.number in
     let r = record_of c.args.row.now in
     let last = c.last_body-last.result in
-    leaves_both g.S.Store c.args.self.now a (archive.without a r) Always (with_destruction n last) (g.D.Companion.needs c.args.companion) (g.D.Companion.brings c.args.companion) s ready c.transact.new.conn
+    leaves_both g.S.Store c.args.self.now a (archive.without a r) Always (with_destruction n last) (g.D.Companion.needs c.args.companion)
+    (g.D.Companion.brings c.args.companion) s ready c.transact.new.conn
     (IsUnheld a n r) (destroyed_archive a n r s.archive) (λ was kept free. tt) (λ was db kept free turns.
     keeps_destroyed g.S.Store c.args.self.now a s n r last free c.last_body-last.ensures was db kept turns)
     c.transact.ensures.live c.transact.ensures.crash

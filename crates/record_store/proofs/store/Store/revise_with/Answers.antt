@@ -29,7 +29,8 @@ judged g c =
 left : (g : Over) (c : After-place_plan g) → LeavesBoth g.S.Store (g.D.Companion.needs c.args.companion) (g.D.Companion.brings c.args.companion)
     c.args.self.now c.place_plan.new.self (λ a. archive.revise a c.args.plan)
 left g c = λ (a : Archive) s.
-    leaves_allowed g.S.Store (g.D.Companion.needs c.args.companion) (g.D.Companion.brings c.args.companion) c.args.self.now c.all_records.new.self c.place_plan.new.self (λ (b : Archive). archive.revise b c.args.plan)
+    leaves_allowed g.S.Store (g.D.Companion.needs c.args.companion) (g.D.Companion.brings c.args.companion) c.args.self.now c.all_records.new.self
+    c.place_plan.new.self (λ (b : Archive). archive.revise b c.args.plan)
     (λ (b : Archive). IsRevision b c.in_ok-kept.kept (map due_of c.as_slice-2.result.now)) (λ (b : Archive). with_plan b c.in_ok-kept.kept)
     (judged g c) c.all_records.ensures.still c.all_records.ensures.falls c.all_records.ensures.crash (c.in_ok-rows.ensures.open a s)
     c.place_plan.ensures.crash a s
@@ -37,7 +38,8 @@ left g c = λ (a : Archive) s.
 pub returns-clause-obeys : goal.returns-clause-obeys
 returns-clause-obeys g c =
     let at = (goal.at.returns-clause-obeys g c).After-place_plan in
-    obeys_allowed g.S.Store (g.D.Companion.needs c.args.companion) (g.D.Companion.brings c.args.companion) c.args.self.now c.all_records.new.self c.place_plan.new.self
+    obeys_allowed g.S.Store (g.D.Companion.needs c.args.companion) (g.D.Companion.brings c.args.companion) c.args.self.now c.all_records.new.self
+    c.place_plan.new.self
     (λ (a : Archive). archive.revise a c.args.plan) (λ (a : Archive). IsRevision a c.in_ok-kept.kept (map due_of c.as_slice-2.result.now))
     (λ (a : Archive). with_plan a c.in_ok-kept.kept) (judged g at) c.all_records.ensures.still c.all_records.ensures.falls
     c.in_ok-place_plan.ensures.ok c.place_plan.ensures.behaves.falls
@@ -45,7 +47,8 @@ returns-clause-obeys g c =
 pub returns-clause-brought : goal.returns-clause-brought
 returns-clause-brought g c = λ (a : Archive) s.
     let at = (goal.at.returns-clause-brought g c).After-place_plan in
-    brought_allowed g.S.Store (g.D.Companion.needs c.args.companion) (g.D.Companion.brings c.args.companion) c.args.self.now c.all_records.new.self c.place_plan.new.self
+    brought_allowed g.S.Store (g.D.Companion.needs c.args.companion) (g.D.Companion.brings c.args.companion) c.args.self.now
+    c.all_records.new.self c.place_plan.new.self
     (λ (a : Archive). archive.revise a c.args.plan) (λ (a : Archive). IsRevision a c.in_ok-kept.kept (map due_of c.as_slice-2.result.now))
     (λ (a : Archive). with_plan a c.in_ok-kept.kept) (judged g at) c.all_records.ensures.still c.all_records.ensures.falls
     c.in_ok-place_plan.ensures.brought c.place_plan.ensures.behaves.falls (c.in_ok-rows.ensures.open a s) a s
