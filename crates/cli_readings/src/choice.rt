@@ -58,7 +58,7 @@ fn empty_text(alloc: Global, group: FieldGroup) -> Result<Shown, AllocError> {
         FieldGroup::Recipient => "--recipient",
         FieldGroup::Subject => "--subject",
     })?;
-    text.words(": the text is empty, so that any field would have it")?;
+    text.words(": the text is empty or only white space, which any field would have")?;
     Ok(text)
 }
 
