@@ -16,7 +16,7 @@ use std::alloc::{AllocError, Global};
 pub enum QuestionsFault {
     /// The test is none, or none that a rule may have.
     Test(QuestionFault),
-    /// The text for fields of this group is empty, so that each field would have it.
+    /// The text for fields of this group is empty or blank, so that each field would have it.
     EmptyText(FieldGroup),
     /// No memory.
     NoMemory,
@@ -86,7 +86,7 @@ fn read_fields(alloc: Global, typed: &Choice<'_>) -> Result<Option<FieldQuestion
 
 impl Questions {
     /// What is typed of messages: the test of a rule, and texts in fields. Refused are a test that no rule may have, and an
-    /// empty text.
+    /// empty or blank text.
     pub fn read(alloc: Global, typed: &Choice<'_>) -> Result<Questions, QuestionsFault>
         ensures test { IfOk result (λ q. IsTestTyped typed.now.test q.test) }
         ensures fields { IfOk result (λ q. q.fields ≡ fields_typed typed.now) }
