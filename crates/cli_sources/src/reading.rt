@@ -129,11 +129,17 @@ fn read_program(folder: &mut Folder<'_>) -> Result<ReachedScript, RulesFault> {
 
 /// A script as it was read.
 fn script_of(alloc: Global, script: ReachedScript) -> Result<Script, AllocError> {
-    let name = str::from_utf8(script.name.as_slice()).unwrap_or("");
+    let ReachedScript {
+        path,
+        name,
+        text,
+        ..
+    } = script;
+    let name = str::from_utf8(name.as_slice()).unwrap_or("");
     Ok(Script {
-        path: script.path,
+        path,
         name: String::from_str(alloc, name)?,
-        text: match script.text {
+        text: match text {
             Some(text) => Payload::Whole(text),
             None => Payload::TooLong,
         },
