@@ -45,11 +45,11 @@ fn write_refusal(rt: &HostRuntime, words: &Shown) -> Result<Verdict, Failure> {
 }
 
 /// Whether a desk takes the rules of an officer, as for a delivery. What it refuses is written.
-fn try_rules<A: Records>(
+fn try_rules<'a, A: Records>(
     rt: &HostRuntime,
     archive: A,
-    rules: &str,
-    officer: &str,
+    rules: &'a str,
+    officer: &'a str,
 ) -> (A, Result<Verdict, Failure>) {
     let filing = Filing {
         rules,
