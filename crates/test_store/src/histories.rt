@@ -8,6 +8,7 @@ use sqlite::Connection;
 use std::test::Fail;
 
 const FIRST: &[u8] = b"1 2031-01-01T09:30:00Z ann held audit 1 : order 12/3";
+
 const SECOND: &[u8] = b"2 2031-01-01T09:31:00Z bob held case 1";
 
 #[test]
@@ -20,7 +21,10 @@ fn histories(rt: HostRuntime) -> Result<(), Fail> {
     let Ok(mut store) = Store::create(alloc, conn) else {
         return Err(Fail::from("not created"));
     };
-    assert_eq!(rt; answer(alloc, &mut store, Call::Capture("one"))?.as_str(), "1 never; ");
+    assert_eq!(rt;
+        answer(alloc, &mut store, Call::Capture("one"))?.as_str(),
+        "1 never; "
+    );
     let Ok(mut noted) = NotedStore::begin(alloc, store) else {
         return Err(Fail::from("no history"));
     };
@@ -29,7 +33,10 @@ fn histories(rt: HostRuntime) -> Result<(), Fail> {
     assert!(rt; noted.hold(SECOND, b"audit", 2).is_err());
     assert!(rt; noted.hold(SECOND, b"case", 1).is_ok());
     let mut store = noted.into_store();
-    assert_eq!(rt; answer(alloc, &mut store, Call::Hold("case", 1))?.as_str(), "refused 86");
+    assert_eq!(rt;
+        answer(alloc, &mut store, Call::Hold("case", 1))?.as_str(),
+        "refused 86"
+    );
     let mut conn = store.into_connection();
     execute(
         &mut conn,
