@@ -44,6 +44,14 @@ fn write_refusal(rt: &HostRuntime, words: &Shown) -> Result<Verdict, Failure> {
     Ok(Verdict::Refused)
 }
 
+/// Writes why rules are not taken, where that is the failure.
+fn refused_by(rt: &HostRuntime, failure: Failure) -> Result<Verdict, Failure> {
+    match failure {
+        Failure::Told(_, words) => write_refusal(rt, &words),
+        failure => Err(failure),
+    }
+}
+
 /// Whether a desk takes the rules of an officer, as for a delivery. What it refuses is written.
 fn try_rules<'a, A: Records>(
     rt: &HostRuntime,
@@ -60,13 +68,11 @@ fn try_rules<'a, A: Records>(
     };
     let filing = match FilingRules::read(rt, &filing) {
         Ok(filing) => filing,
-        Err(Failure::Told(_, words)) => return (archive, write_refusal(rt, &words)),
-        Err(failure) => return (archive, Err(failure)),
+        Err(failure) => return (archive, refused_by(rt, failure)),
     };
     match filing.desk(rt, archive) {
         Ok(desk) => (desk.into_store(), Ok(Verdict::Good)),
-        Err((archive, Failure::Told(_, words))) => (archive, write_refusal(rt, &words)),
-        Err((archive, failure)) => (archive, Err(failure)),
+        Err((archive, failure)) => (archive, refused_by(rt, failure)),
     }
 }
 
