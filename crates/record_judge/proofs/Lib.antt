@@ -1,0 +1,4 @@
+pub mod SealedLemmas
+pub mod DeedLemmas
+pub mod FindingLemmas
+pub mod JudgeLemmas

@@ -1,0 +1,3 @@
+pub mod Sealed
+pub mod Judging
+pub mod Findings

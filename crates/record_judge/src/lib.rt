@@ -1,0 +1,22 @@
+//! The judge of a history: it does the events again, one by one, to an archive with the seal of each message in its place, and
+//! says whether they explain what is stored.
+//!
+//! In `specs/`, `Sealed` says which archive a sealed one is and what a deed makes of it, and `Judging` what the judge has seen.
+#![tactic(auto)]
+
+mod captures;
+mod deeds;
+mod destruction;
+mod faults;
+mod findings;
+mod judge;
+mod listings;
+mod replays;
+mod sealed;
+#[cfg(test)]
+mod tests;
+
+pub use faults::Misdeed;
+pub use findings::findings_restate;
+pub use judge::{Flaw, Judge, judged_is_told};
+pub use sealed::{NamedHold, SealedArchive, SealedMessage, SealedRecord};
