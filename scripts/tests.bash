@@ -346,7 +346,7 @@ has_no_namesakes() {
     local parts
     read -r -a parts < <(sed -n 's/^ *for part in \(.*\); do$/\1/p' "$1")
     ((${#parts[@]} > 1)) && parts+=(build programs trials) &&
-        [[ -z $(cd -- scripts && grep -o -h -E '^[a-z_0-9]+\(\)' "${parts[@]/%/.bash}" | sort | uniq -d | tee /dev/stderr) ]]
+        [[ -z $(cd -- scripts && grep -o -h -E '^[a-z_0-9]+\(\)' "${parts[@]/%/.bash}" | sort | uniq -d | tee -a /dev/stderr) ]]
 }
 
 # ---- all of these
