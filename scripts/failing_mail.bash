@@ -70,7 +70,7 @@ records_destination_recipient_limit = 1
 crowd_destination_recipient_limit = 1
 transport_maps = inline:{crowd.example=crowd:, door.example=records:}
 relay_domains = crowd.example door.example
-relay_recipient_maps = texthash:$SERVER/officers, inline:{@crowd.example=crowd}
+relay_recipient_maps = hash:$SERVER/officers, inline:{@crowd.example=crowd}
 recipient_delimiter = +
 virtual_mailbox_domains = maildir.example
 virtual_mailbox_base = $SERVER
@@ -110,11 +110,7 @@ END
 
 # The officers of the folder of rules, as recipients that Postfix is to take at the door.
 write_officers() {
-    local script officer
-    for script in "$SERVER/rules/"*/main.sieve; do
-        officer=${script%/main.sieve} && officer=${officer##*/}
-        [[ $officer == global ]] || echo "$officer@door.example $officer/"
-    done
+    "$tools" recipients --rules "$SERVER/rules" door.example > "$SERVER/officers" && with_postfix postmap "hash:$SERVER/officers"
 }
 
 # Starts the server, and sets `port`.
@@ -122,7 +118,8 @@ start_postfix() {
     mkdir -p -- "$SERVER/etc" "$SERVER/queue" "$SERVER/data" && chmod 755 "$work" "$SERVER" && chown postfix "$SERVER/data" &&
         cp -- "$runs" "$SERVER/mailfile-store" && cp -- "$program" "$SERVER/mailfile" && chmod 755 "$SERVER/mailfile"* || return
     find_port
-    lay_rules && write_main > "$SERVER/etc/main.cf" && write_master > "$SERVER/etc/master.cf" && with_postfix postfix start > "$work/said" 2>&1 && return
+    lay_rules && write_main > "$SERVER/etc/main.cf" && write_master > "$SERVER/etc/master.cf" && write_officers > "$work/said" 2>&1 &&
+        with_postfix postfix start > "$work/said" 2>&1 && return
     cat -- "$work/said"
     return 1
 }
@@ -136,11 +133,11 @@ archive() {
     as_other "$SERVER/mailfile-store" "$1" --store "$SERVER/store/records" "${@:2}"
 }
 
-# The rules and the plan, and the map of the officers.
+# The rules and the plan.
 lay_rules() {
     mkdir -p -- "$SERVER/rules/"{ann,bob,global} || return
     echo 'keep;' | tee "$SERVER/rules/"{ann,bob,global}/main.sieve > "$work/said"
-    echo 'root = "7 years destroy"' > "$SERVER/plan.toml" && write_officers > "$SERVER/officers"
+    echo 'root = "7 years destroy"' > "$SERVER/plan.toml"
 }
 
 # A new store, and a Maildir, for the user for whom Postfix delivers. Nothing is sent yet.
@@ -419,15 +416,17 @@ gives_back_what_is_too_long() {
 
 # Sends mail through Postfix, which is installed where that was asked for.
 mail_through_postfix() {
-    local runs port
+    local runs tools port
     if ! has_postfix "${1-}"; then
         echo "no mail was sent: that takes the rights of root and Postfix, which ./test failing mail installs"
         return
     fi
     ensure_program mailfile
     ensure_program mailfile_store
+    ensure_program mailfile_tool
     program=$(program_of mailfile)
     runs=$(program_of mailfile_store)
+    tools=$(program_of mailfile_tool)
     start_postfix || give_up "Postfix does not start"
     count "$MAILS mails, by a pipe" takes_each_by_a_pipe
     count "$CROWD mails, by deliveries at once" takes_each_of_a_crowd
