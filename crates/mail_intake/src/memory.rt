@@ -1,6 +1,6 @@
 //! What was told of messages that stay.
 
-ghost use Rattle.std.specs.Prelude.{◌≡◌, ◌++◌, IfOk, IfSome, OnOk, map};
+ghost use Rattle.std.specs.Prelude.{◌≡◌, ◌++◌, [], IfOk, IfSome, OnOk, map};
 ghost use Rattle.std.specs.List.{flat_map, list_any};
 ghost use Rattle.mail_intake.specs.Telling.{entry, field, is_of, is_to_be_told, memory_view, spelling, told_view};
 
@@ -104,7 +104,9 @@ fn parsed(alloc: Global, octets: &[u8]) -> Result<Option<Memory>, AllocError> {
 
 impl Memory {
     /// That nothing was told.
-    pub fn none(alloc: Global) -> Memory {
+    pub fn none(alloc: Global) -> Memory
+        ensures { (memory_view result).told ≡ [] }
+    {
         Memory {
             day: 0,
             told: Vec::new(alloc),
