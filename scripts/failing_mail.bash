@@ -242,7 +242,7 @@ has_each_once() {
     local records=$1 name
     rm -rf -- "$SERVER/out"
     [[ $(find "$SENT" -type f | wc -l) -eq $records && $(archive list | wc -l) -eq $records ]] && mkdir -- "$SERVER/out" &&
-        chown 65534 "$SERVER/out" && archive export "$SERVER/out" || return
+        chown 65534 "$SERVER/out" && archive export "$SERVER/out" > "$work/exported" || return
     for name in "$SERVER/out"/*.eml; do
         sed -n '/^Message-Id:/,$p' "$name" > "$work/mail" && name=$(sed -n 's/^Message-Id: <\(.*\)@sender.example>$/\1/p' "$work/mail") &&
             cmp -- "$work/mail" "$SENT/$name" && echo "$name"

@@ -94,7 +94,7 @@ is_between() {
 
 # The sums of the messages in the archive, by their numbers.
 sums_there() {
-    mkdir -- "$work/out" && give "$work/out" && on_store export "$work/out" && (cd -- "$work/out" && sha256sum --quiet -c SHA256SUMS) &&
+    mkdir -- "$work/out" && give "$work/out" && on_store export "$work/out" > "$work/exported" && (cd -- "$work/out" && sha256sum --quiet -c SHA256SUMS) &&
         cut -d ' ' -f 1 "$work/out/SHA256SUMS"
 }
 

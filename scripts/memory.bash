@@ -282,7 +282,7 @@ has_taken_all() {
     has_all_mail && ((moved == 3)) && [[ $(find "$here/Maildir" -type f | wc -l) -eq 3 ]] || return
     is_as_noted "$1" store && (($1 > 0)) && return
     rm -rf -- "$here/out"
-    "$keeper" export --store "$here/store" "$here/out" && cut -d , -f 2,7,8 "$here/out/manifest.csv" > "$here/all" || return
+    "$keeper" export --store "$here/store" "$here/out" > "$here/exported" && cut -d , -f 2,7,8 "$here/out/manifest.csv" > "$here/all" || return
     uniq "$here/all" > "$here/mail" && has_mail_as_noted "$1" && (($(wc -l < "$here/all") == 6 + ${#twice})) &&
         [[ $(uniq -d "$here/all") == "${twice:+$(sed -n "$((3 + twice))p" "$noted/mail")}" ]]
 }

@@ -177,6 +177,21 @@ captures_nothing_once_the_clock_is_behind() {
         [[ $(< "$work/error") == 'mailfile-store: the clock says 1970-01-01, but the store has a record of 2030-01-01; '* ]] || shows_run
 }
 
+# Whether an intake at a moment of the clock ends by 65, and says this of what stays.
+names_what_stays() {
+    run_by "$1" intake --store "$here/records.db" --rules "$here/rules" ann "$here/Maildir"
+    ((status == 65)) && [[ $(< "$work/error") == "$2" ]] || shows_run
+}
+
+# What stays is named once a day, by the clock, and again for another cause.
+names_what_stays_once_a_day() {
+    local folder='mailfile-store: a stays: not a regular file' taken='mailfile-store: a stays: cur has a message of this name'
+    archive_after maildir "$here" && rm -- "$here/Maildir/new/"* && mkdir "$here/Maildir/new/a" || return
+    names_what_stays 1893456000 "$folder" && names_what_stays 1893542399 '' && names_what_stays 1893542400 "$folder" &&
+        touch "$here/Maildir/cur/a:2," && names_what_stays 1893542401 "$taken" && names_what_stays 1893542402 '' &&
+        rm -- "$here/Maildir/cur/a:2," && names_what_stays 1893542403 "$folder"
+}
+
 # ---- files that change while the program runs
 
 # Starts a subcommand, which waits for five seconds where it makes a call of the system of that kind for a path. Meanwhile a command of
@@ -264,6 +279,7 @@ store() {
     if command -v cc > "$work/said" && cc -O1 -shared -fPIC -o "$work/clock.so" scripts/clock.c; then
         count "a clock after 2199 or before 1970" captures_nothing_outside_the_years
         count "a clock that is set back during an intake" captures_nothing_once_the_clock_is_behind
+        count "what stays, on one day and on the next" names_what_stays_once_a_day
     fi
     if strace -o "$work/error" true > "$work/said" 2>&1; then
         count "a disk that fails in a delivery" fails_in_a_delivery

@@ -3,7 +3,7 @@ use Rattle.std.proofs.Common.{◌≡◌, ℕ, List, [], ◌∷◌, map, codes, O
 use Rattle.session_words.specs.Words.{digits_up_to, number_up_to}
 use Rattle.choice_words.specs.declared.numbers.TypedNumbers.{TypedNumbers}
 use Rattle.choice_words.specs.declared.numbers.TypedNumbers.TheVariants.{One, Range}
-use Rattle.choice_words.specs.Numbers.{numbers_typed}
+use Rattle.choice_words.specs.Numbers.{numbers_typed, reversed_typed}
 
 -- each word, and the numbers that it is
 abbrev rows : List (List ℕ × Option TypedNumbers)
@@ -29,3 +29,20 @@ rows =
 numbers_are : map (λ r. numbers_typed r.0) rows ≡ map (λ r. r.1) rows
 unfolding digits_up_to number_up_to
 numbers_are = refl
+
+-- each word, and the range that it is backwards
+abbrev reversed_rows : List (List ℕ × Option TypedNumbers)
+reversed_rows =
+    (codes "9-5", Some (Range 5 9)) ∷
+    (codes "7-7", Some (Range 7 7)) ∷
+    (codes "5-9", None) ∷
+    (codes "5-0", None) ∷
+    (codes "9", None) ∷
+    (codes "-5", None) ∷
+    (codes "9-5-1", None) ∷
+    (codes "b-a", None) ∷
+    []
+
+reversed_are : map (λ r. reversed_typed r.0) reversed_rows ≡ map (λ r. r.1) reversed_rows
+unfolding digits_up_to number_up_to
+reversed_are = refl

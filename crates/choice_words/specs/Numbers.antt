@@ -28,6 +28,15 @@ abbrev pub numbers_round : Option ℕ → List ℕ → Option TypedNumbers
 numbers_round None word = option_map One (record_number word)
 numbers_round (Some i) word = range_typed (record_number (take i word)) (record_number (drop (i + 1) word))
 
+-- what stands after the first hyphen, if there is one, and before it
+abbrev pub reversed_round : Option ℕ → List ℕ → Option TypedNumbers
+reversed_round None word = None
+reversed_round (Some i) word = range_typed (record_number (drop (i + 1) word)) (record_number (take i word))
+
+-- the range that a word is once its two numbers have changed places
+abbrev pub reversed_typed : List ℕ → Option TypedNumbers
+reversed_typed word = reversed_round (position is_hyphen word) word
+
 -- THE NUMBERS THAT A WORD IS: one number, or a range
 abbrev pub numbers_typed : List ℕ → Option TypedNumbers
 numbers_typed word = numbers_round (position is_hyphen word) word

@@ -2,7 +2,7 @@
 
 ghost use Rattle.std.specs.Prelude.{◌≡◌, is_some};
 ghost use Rattle.std.specs.List.{position};
-ghost use Rattle.choice_words.specs.Numbers.{is_hyphen, record_number, numbers_typed, range_typed};
+ghost use Rattle.choice_words.specs.Numbers.{is_hyphen, record_number, numbers_typed, range_typed, reversed_typed};
 
 use session_words::read_number;
 
@@ -64,6 +64,17 @@ pub fn read_numbers(word: &[u8]) -> Option<TypedNumbers>
             read_record_number(&word[at + 1..]),
         ),
     }
+}
+
+/// The range that a word is once its two numbers have changed places: 5 to 9 for `9-5`. None where that is no range.
+pub fn reversed_range(word: &[u8]) -> Option<TypedNumbers>
+    ensures { result ≡ reversed_typed word.now }
+{
+    let at = first_hyphen(word)?;
+    range_of(
+        read_record_number(&word[at + 1..]),
+        read_record_number(&word[..at]),
+    )
 }
 
 /// Whether a word is numbers of records, and so more likely one of these than a name.

@@ -1,19 +1,20 @@
 //! `deliver`: one message from standard input.
 
+use crate::fault_words::{fault_words, given_up_words};
 use crate::moments::{Timing, date_of_clock};
 use crate::rules::FilingRules;
 use crate::time_limit::{TimeLimit, too_slow_words};
 use cli_console::{Failure, Status, is_by, tell, write_text};
+use cli_history::StoreLedger;
 use cli_sources::read_payload;
 use cli_texts::{captured_line, captured_words, undecoded_lines};
 use desk_commands::{Capture, DeskFault, MAX_MESSAGE_OCTETS, Payload};
 use filing_desk::{Delivery, Desk, deliver};
 use record_archive::{Line, Records};
-use record_store::Store;
 use sieve_meaning::RunFault;
 use sqlite::Alter;
 use std::alloc::{AllocError, Global};
-use tool_texts::{Shown, fault_text, put};
+use tool_texts::{Shown, put};
 
 /// The failure of a call of the desk.
 pub fn desk_failure(alloc: Global, name: &str, fault: DeskFault) -> Failure {
@@ -24,32 +25,6 @@ pub fn desk_failure(alloc: Global, name: &str, fault: DeskFault) -> Failure {
         _ => Status::TryAgain,
     };
     Failure::numbered(alloc, status, name, fault.refusal().number)
-}
-
-/// The text of a run's fault.
-fn text_of(fault: RunFault) -> &'static str {
-    fault_text(fault.number()).unwrap_or("the run ended with a fault")
-}
-
-/// The fault of a run in words, after a text.
-fn fault_words(alloc: Global, before: &Shown, fault: RunFault) -> Result<Shown, AllocError> {
-    let mut text = Shown::new(alloc);
-    put!(text; text(before) "fault " value(&fault.number()) ": " words(text_of(fault)))?;
-    Ok(text)
-}
-
-/// The beginning of a text, up to its first comma or semicolon.
-fn beginning(text: &'static str) -> &'static str {
-    let text = text.split_once(", ").map_or(text, |(first, _)| first);
-    text.split_once("; ").map_or(text, |(first, _)| first)
-}
-
-/// The fault of a run in words, where its message was given up.
-pub fn given_up_words(alloc: Global, fault: RunFault) -> Result<Shown, AllocError> {
-    let words = beginning(text_of(fault));
-    let mut text = Shown::new(alloc);
-    put!(text; "fault " value(&fault.number()) ": " words(words) "; the message is not captured")?;
-    Ok(text)
 }
 
 /// The record lines of a capture, each after a text; or that the message was discarded.
@@ -104,33 +79,44 @@ fn joined(alloc: Global, before: &Shown, after: &Shown) -> Result<Shown, AllocEr
     Ok(text)
 }
 
+/// Tells a line, after a text.
+fn tell_line(rt: &HostRuntime, before: &Shown, line: &Shown) {
+    if let Ok(text) = joined(rt.alloc(), before, line) {
+        tell(rt, &text);
+    }
+}
+
 /// Tells lines, each after a text.
 fn tell_lines(rt: &HostRuntime, before: &Shown, lines: &[Shown]) {
     for line in lines {
-        if let Ok(text) = joined(rt.alloc(), before, line) {
-            tell(rt, &text);
-        }
+        tell_line(rt, before, line);
     }
 }
 
-/// Tells of the fault with which the run over a captured message ended, if it did.
-pub fn tell_fault(rt: &HostRuntime, before: &Shown, capture: &Capture) {
+/// Tells of the fault with which the run over a captured message ended, if it did, and where, if that is known.
+pub fn tell_fault(rt: &HostRuntime, before: &Shown, capture: &Capture, place: Option<&Shown>) {
     if let Some(fault) = capture.fault {
-        if let Ok(words) = fault_words(rt.alloc(), before, fault) {
-            tell(rt, &words);
+        if let Ok(words) = fault_words(rt.alloc(), fault, place) {
+            tell_line(rt, before, &words);
         }
     }
 }
 
-/// Reports a capture, with what is told of its undecoded words. It is made, so whatever happens to the report is no
-/// failure.
-pub fn report_capture(rt: &HostRuntime, before: &Shown, capture: &Capture, undecoded: &[Shown]) {
+/// Reports a capture, with what is told of its undecoded words, and where its run ended in a fault, if it did and that is
+/// known. It is made, so whatever happens to the report is no failure.
+pub fn report_capture(
+    rt: &HostRuntime,
+    before: &Shown,
+    capture: &Capture,
+    undecoded: &[Shown],
+    place: Option<&Shown>,
+) {
     if let Ok(text) = record_lines(rt.alloc(), before, capture) {
         let _ = write_text(rt, &text);
     }
     tell_due(rt, before, capture);
     tell_lines(rt, before, undecoded);
-    tell_fault(rt, before, capture);
+    tell_fault(rt, before, capture, place);
 }
 
 /// The message on standard input. `BadData` with the number of one that is too long; where it cannot be read it may be
@@ -142,6 +128,30 @@ pub fn read_message(rt: &HostRuntime) -> Result<Payload, Failure> {
     match message {
         Payload::TooLong => Err(desk_failure(rt.alloc(), "the message", DeskFault::MessageTooLong)),
         message => Ok(message),
+    }
+}
+
+/// What became of a message, and where its run ended in a fault, if it did and that is known.
+#[derive(Drop)]
+pub struct Delivered {
+    outcome: Delivery,
+    place: Option<Shown>,
+}
+
+/// The fault with which the run over a message ended, if it did.
+fn fault_in(outcome: &Delivery) -> Option<RunFault> {
+    match outcome {
+        Delivery::Captured(capture) => capture.fault,
+        Delivery::GivenUp(fault) => Some(*fault),
+        Delivery::OutOfTime => None,
+    }
+}
+
+/// The octets of a message once more, if there is memory for them.
+fn copy_of(message: &Payload) -> Option<Vec<u8>> {
+    match message {
+        Payload::Whole(octets) => octets.clone().ok(),
+        Payload::TooLong | Payload::NoMemory => None,
     }
 }
 
@@ -176,19 +186,31 @@ fn deliver_at<A: Records>(
     filing: &FilingRules<'_>,
     moment: u64,
     message: Payload,
-) -> (A, Result<Delivery, Failure>) {
+) -> (A, Result<Delivered, Failure>) {
+    let octets = copy_of(&message);
     let mut desk = match filing.desk(rt, archive) {
         Ok(desk) => desk,
         Err((archive, failure)) => return (archive, Err(failure)),
     };
     let done = deliver_in_time(rt, &mut desk, filing, moment, message);
-    (desk.into_store(), done)
+    let archive = desk.into_store();
+    let outcome = match done {
+        Ok(outcome) => outcome,
+        Err(failure) => return (archive, Err(failure)),
+    };
+    let place = match (fault_in(&outcome), octets) {
+        (Some(fault), Some(octets)) => {
+            filing.place_of_fault(rt.alloc(), archive.plan(), fault, octets.as_slice())
+        }
+        _ => None,
+    };
+    (archive, Ok(Delivered { outcome, place }))
 }
 
 /// The moment of a delivery to a store.
 fn moment_at<S: Alter>(
     rt: &HostRuntime,
-    archive: &mut Store<S>,
+    archive: &mut StoreLedger<'_, S>,
     timing: Timing,
 ) -> Result<u64, Failure> {
     let mut timing = timing;
@@ -198,13 +220,13 @@ fn moment_at<S: Alter>(
 
 /// Delivers a message to a store by rules, and gives the store back. Where the clock is before the days of the store it
 /// may be done later, `TryAgain`, unless the moment is named.
-pub fn deliver_to<S: Alter>(
+pub fn deliver_to<'a, S: Alter>(
     rt: &HostRuntime,
-    archive: Store<S>,
+    archive: StoreLedger<'a, S>,
     filing: &FilingRules<'_>,
     timing: Timing,
     message: Payload,
-) -> (Store<S>, Result<Delivery, Failure>) {
+) -> (StoreLedger<'a, S>, Result<Delivered, Failure>) {
     let mut archive = archive;
     match moment_at(rt, &mut archive, timing) {
         Ok(moment) => deliver_at(rt, archive, filing, moment, message),
@@ -212,22 +234,23 @@ pub fn deliver_to<S: Alter>(
     }
 }
 
-/// Writes the records of a delivery to standard output, and tells of its undecoded words. Where its message was given up,
-/// also since it took longer than `limit` seconds, that is a failure.
+/// Writes the records of a delivery to standard output, and tells of its undecoded words and of a fault. Where its message
+/// was given up, also since it took longer than `limit` seconds, that is a failure.
 pub fn report_delivery(
     rt: &HostRuntime,
-    delivered: &Delivery,
+    delivered: &Delivered,
     limit: u64,
     undecoded: &[Shown],
 ) -> Result<(), Failure> {
-    match delivered {
+    let place = delivered.place.as_ref();
+    match &delivered.outcome {
         Delivery::Captured(capture) => {
-            report_capture(rt, &Shown::new(rt.alloc()), capture, undecoded);
+            report_capture(rt, &Shown::new(rt.alloc()), capture, undecoded, place);
             Ok(())
         }
         Delivery::GivenUp(fault) => Err(Failure::shown(
             Status::TryAgain,
-            given_up_words(rt.alloc(), *fault),
+            given_up_words(rt.alloc(), *fault, place),
         )),
         Delivery::OutOfTime => Err(Failure::shown(
             Status::TryAgain,

@@ -1,16 +1,19 @@
 //! `hold` and `release`: records that must not be destroyed.
 
 use cli_choice::{Change, Questions, is_meant};
-use cli_console::{Failure, Search, Status, tell, write_text};
+use cli_console::{Failure, Search, Status, Walk, tell, write_text};
+use cli_history::StoreLedger;
 use command_lines::archives::Choice;
-use record_store::{RecordEntry, Store, StoreFault};
+use record_archive::Records;
+use record_choice::Holder;
+use record_store::{RecordEntry, StoreFault};
 use sqlite::Alter;
 use std::alloc::{AllocError, Global};
 use tool_texts::{Shown, put};
 
 /// Changes the hold of a name on a record.
 fn change_one<S: Alter>(
-    archive: &mut Store<S>,
+    archive: &mut StoreLedger<'_, S>,
     change: Change,
     name: &[u8],
     number: u32,
@@ -50,7 +53,7 @@ fn write_change(rt: &HostRuntime, change: Change, name: &str, number: u32) {
 /// of the store is the end.
 fn change_on<S: Alter>(
     rt: &HostRuntime,
-    archive: &mut Store<S>,
+    archive: &mut StoreLedger<'_, S>,
     change: Change,
     name: &str,
     number: u32,
@@ -69,47 +72,106 @@ fn change_on<S: Alter>(
     }
 }
 
-/// Changes the hold of a name on those records of a page that are meant. Answers whether the archive did it on each.
+/// What became of the records that are meant.
+#[derive(Clone, Copy)]
+struct Changed {
+    /// Whether there is one at all.
+    is_any: bool,
+    /// Whether the archive did it on each.
+    is_done: bool,
+}
+
+/// Changes the hold of a name on those records of a page that are meant, and adds what becomes of them.
 fn change_page<S: Alter>(
     rt: &HostRuntime,
-    archive: &mut Store<S>,
+    archive: &mut StoreLedger<'_, S>,
     change: Change,
     name: &str,
     choice: &Choice<'_>,
     page: &[RecordEntry],
-) -> Result<bool, Failure> {
+    changed: &mut Changed,
+) -> Result<(), Failure> {
     let typed = choice.numbers.as_slice();
-    let mut is_done = true;
     for entry in page {
         if is_meant(change, name.as_bytes(), typed, entry) {
-            is_done = change_on(rt, archive, change, name, entry.number)? && is_done;
+            changed.is_any = true;
+            changed.is_done = change_on(rt, archive, change, name, entry.number)?
+                && changed.is_done;
         }
     }
-    Ok(is_done)
+    Ok(())
+}
+
+/// Whether a record has a hold of a name.
+fn is_held_by<S: Alter>(
+    rt: &HostRuntime,
+    archive: &mut StoreLedger<'_, S>,
+    name: &str,
+) -> Result<bool, Failure> {
+    let mut held = record_choice::Choice::live();
+    held.held = Some(Holder::Named(Vec::from_slice(rt.alloc(), name.as_bytes())?));
+    let mut walk = Walk::from(&held, 1);
+    for _ in 0..u64::MAX {
+        let Some(page) = walk.next_page(rt, archive)? else {
+            break;
+        };
+        if !page.is_empty() {
+            return Ok(true);
+        }
+    }
+    Ok(false)
+}
+
+/// The name of a hold, and what is said of it.
+fn said_of(alloc: Global, name: &str, words: &'static str) -> Result<Shown, AllocError> {
+    let mut text = Shown::new(alloc);
+    put!(text; named(name.as_bytes()) ": " words(words))?;
+    Ok(text)
+}
+
+/// Tells that no hold ended. `BadData` where no record of the archive has a hold of that name.
+fn end_of_none<S: Alter>(
+    rt: &HostRuntime,
+    archive: &mut StoreLedger<'_, S>,
+    name: &str,
+) -> Result<(), Failure> {
+    let alloc = rt.alloc();
+    if is_held_by(rt, archive, name)? {
+        let words = "none of these records has this hold; list --held shows the holds";
+        tell(rt, &said_of(alloc, name, words)?);
+        return Ok(());
+    }
+    let words = "no record has a hold of this name; list --held shows the holds";
+    Err(Failure::shown(Status::BadData, said_of(alloc, name, words)))
 }
 
 /// Changes the hold of a name on the records that are found. Those that are typed by themselves, and that are not found or
-/// that the archive refuses, are told, and are a failure in the end. `BadData` where the class is none of the plan.
+/// that the archive refuses, are told, and are a failure in the end. So is the end of a hold that no record has; where it is
+/// none of the records that are found that has it, this is told. `BadData` where the class is none of the plan.
 pub fn change_holds<S: Alter>(
     rt: &HostRuntime,
-    archive: &mut Store<S>,
+    archive: &mut StoreLedger<'_, S>,
     change: Change,
     name: &str,
     choice: &Choice<'_>,
     questions: &Questions,
 ) -> Result<(), Failure> {
     let mut search = Search::new(rt, archive, choice, questions)?;
-    let mut is_done = true;
+    let mut changed = Changed {
+        is_any: false,
+        is_done: true,
+    };
     for _ in 0..u64::MAX {
         let Some(page) = search.next_page(rt, archive)? else {
             break;
         };
-        is_done = change_page(rt, archive, change, name, choice, page.as_slice())? && is_done;
+        let page = page.as_slice();
+        change_page(rt, archive, change, name, choice, page, &mut changed)?;
     }
     search.end(rt, archive)?;
-    if is_done {
-        Ok(())
-    } else {
-        Err(Failure::Reported(Status::BadData))
+    match change {
+        Change::End if !changed.is_any => end_of_none(rt, archive, name),
+        _ if changed.is_done => Ok(()),
+        _ => Err(Failure::Reported(Status::BadData)),
     }
 }

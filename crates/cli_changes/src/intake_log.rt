@@ -6,35 +6,13 @@ use crate::time_of_day::time_now;
 use cli_console::{tell, tell_words, write_text};
 use command_lines::archives::Telling;
 use desk_commands::Capture;
+use mail_intake::Tally;
 use std::alloc::AllocError;
-use std::fmt::Display;
 use std::io::{self, IsTerminal};
 use tool_texts::{Shown, put};
 
 /// After how many messages progress is shown.
 const STEP: u64 = 100;
-
-/// What became of the messages of an intake.
-#[derive(Clone, Copy)]
-pub struct Tally {
-    /// How many are captured, and moved.
-    pub filed: u64,
-    /// How many stay, for reasons of their own.
-    pub stay: u64,
-    /// How many stay, since their runs ended with a fault or took too long, or there was no memory for them.
-    pub given_up: u64,
-    /// How many stay, since their names are no UTF-8.
-    pub nameless: usize,
-}
-
-impl Tally {
-    /// How many messages stay.
-    pub fn staying(&self) -> u64 {
-        self.stay
-            .saturating_add(self.given_up)
-            .saturating_add(self.nameless as u64)
-    }
-}
 
 /// Where an intake says what becomes of its messages.
 #[derive(Clone, Copy)]
@@ -61,20 +39,41 @@ impl<'a> IntakeLog<'a> {
     }
 
     /// What is told of a message that stays.
-    fn stays_text<T: Display>(&self, name: &str, reason: &T) -> Result<Shown, AllocError> {
+    fn stays_text(&self, name: &str, reason: &str) -> Result<Shown, AllocError> {
         let mut text = self.line()?;
-        put!(text; named(name.as_bytes()) " stays: " value(reason))?;
+        put!(text; named(name.as_bytes()) " stays: " value(&reason))?;
         Ok(text)
     }
 
     /// Names a message that stays, with the reason. Without memory for that, it is only said that one stays.
-    pub fn name_one<T: Display>(&self, name: &str, reason: &T) {
+    pub fn name_one(&self, name: &str, reason: &str) {
         match self.stays_text(name, reason) {
             Ok(text) => tell(self.rt, &text),
             Err(_) => tell_words(
                 self.rt,
                 "a message stays, and there is no memory to name it",
             ),
+        }
+    }
+
+    /// What is told of a file of a Maildir in which it cannot be remembered what was told.
+    fn forgotten_text(
+        &self,
+        maildir: &str,
+        name: &str,
+        error: &io::Error,
+    ) -> Result<Shown, AllocError> {
+        let path = format!(in self.rt.alloc(); "{maildir}/{name}")?;
+        let mut text = self.line()?;
+        put!(text;
+            named(path.as_bytes()) ": " value(error) "; what stays may be told again on this day")?;
+        Ok(text)
+    }
+
+    /// Tells that it cannot be remembered in a file of a Maildir what was told.
+    pub fn tell_forgotten(&self, maildir: &str, name: &str, error: &io::Error) {
+        if let Ok(text) = self.forgotten_text(maildir, name, error) {
+            tell(self.rt, &text);
         }
     }
 
@@ -94,16 +93,22 @@ impl<'a> IntakeLog<'a> {
         Ok(text)
     }
 
-    /// Reports a capture, each line after the name of its message, as far as there is memory for that. A quiet intake tells
-    /// of a fault alone.
-    pub fn report(&self, name: &str, capture: &Capture, undecoded: &[Shown]) {
+    /// Reports a capture, each line after the name of its message, as far as there is memory for that, and where its run
+    /// ended in a fault, if it did and that is known. A quiet intake tells of a fault alone.
+    pub fn report(
+        &self,
+        name: &str,
+        capture: &Capture,
+        undecoded: &[Shown],
+        place: Option<&Shown>,
+    ) {
         let Ok(before) = self.name_before(name) else {
             return;
         };
         if self.telling.is_quiet {
-            tell_fault(self.rt, &before, capture);
+            tell_fault(self.rt, &before, capture, place);
         } else {
-            report_capture(self.rt, &before, capture, undecoded);
+            report_capture(self.rt, &before, capture, undecoded, place);
         }
     }
 
@@ -114,11 +119,10 @@ impl<'a> IntakeLog<'a> {
         }
     }
 
-    /// Shows on a terminal how far the intake is.
-    pub fn show_progress(&self, tally: &Tally) {
-        if tally.filed % STEP == 0 && !self.telling.is_quiet && self.rt.stderr().is_terminal() {
-            let filed = tally.filed;
-            let _ = eprint!(self.rt; "\r{filed} messages");
+    /// Shows on a terminal how many messages are taken.
+    pub fn show_progress(&self, taken: u64) {
+        if taken % STEP == 0 && !self.telling.is_quiet && self.rt.stderr().is_terminal() {
+            let _ = eprint!(self.rt; "\r{taken} messages");
         }
     }
 
@@ -130,7 +134,7 @@ impl<'a> IntakeLog<'a> {
     }
 
     /// Tells how many messages stay, since their names are no UTF-8.
-    fn tell_nameless(&self, count: usize) {
+    pub fn tell_nameless(&self, count: usize) {
         match self.nameless_text(count) {
             Ok(text) => tell(self.rt, &text),
             Err(_) => tell_words(self.rt, "messages stay whose names are no UTF-8"),
@@ -138,31 +142,24 @@ impl<'a> IntakeLog<'a> {
     }
 
     /// What became of all messages, and since when, as a line.
-    fn summary(&self, tally: &Tally, since: &Shown) -> Result<Shown, AllocError> {
+    fn summary(&self, tally: &Tally, nameless: usize, since: &Shown) -> Result<Shown, AllocError> {
         let mut text = self.line()?;
         put!(text;
-            "taken " value(&tally.filed) ", stay " value(&tally.staying()) ", since " text(since))?;
+            "taken " value(&tally.taken) ", stay " value(&tally.staying(nameless))
+            ", since " text(since))?;
         text.end_line()?;
         Ok(text)
     }
 
     /// Writes what became of all messages, and since when, unless it is quiet or there were none. All is done then, so
     /// whatever happens to the line is no failure.
-    fn write_summary(&self, tally: &Tally, since: &Shown) {
-        let is_of_none = tally.filed == 0 && tally.staying() == 0;
+    pub fn write_summary(&self, tally: &Tally, nameless: usize, since: &Shown) {
+        let is_of_none = tally.taken == 0 && tally.staying(nameless) == 0;
         if self.telling.is_quiet || is_of_none {
             return;
         }
-        if let Ok(text) = self.summary(tally, since) {
+        if let Ok(text) = self.summary(tally, nameless, since) {
             let _ = write_text(self.rt, &text);
         }
-    }
-
-    /// Tells what is left to tell of messages at the end of an intake that began at a time of day.
-    pub fn close(&self, tally: &Tally, since: &Shown) {
-        if tally.nameless > 0 {
-            self.tell_nameless(tally.nameless);
-        }
-        self.write_summary(tally, since);
     }
 }

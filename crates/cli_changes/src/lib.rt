@@ -1,9 +1,12 @@
 //! What `mailfile-store` changes in an archive, for each of its subcommands that do.
 //!
 //! - `plan`: the plan, and another one in its place; `plan_file`: a plan that is read from a file;
-//! - `rules`: the rules by which mail is filed; `rule_checks`: whether they are good;
+//! - `rules`: the rules by which mail is filed; `rules_sum`: what stands for them in a history;
+//!   `rule_checks`: whether they are good;
+//! - `fault_words`: where the run of rules over a message ended in a fault, in words;
 //! - `moments`: when mail is captured; `time_limit`: how long the work on a message may take; `time_of_day`: that of a log;
-//! - `deliver` and `intake`: one message, and those of a Maildir; `intake_log`: what is said of these;
+//! - `deliver` and `intake`: one message, and those of a Maildir; `intake_room`: the files, the desk and the log of an intake,
+//!   as the calls of `mail_intake`; `intake_log`: what is said of its messages; `intake_memory`: what was said on a day;
 //! - `holds` and `dispose`: records that must not be destroyed, and the destruction of what is due.
 //!
 //! Each works on a store that is lent to it. What it writes, and what a Maildir or a terminal does, no contract speaks of:
@@ -12,18 +15,22 @@
 
 mod deliver;
 mod dispose;
+mod fault_words;
 mod holds;
 mod intake;
 mod intake_log;
+mod intake_memory;
+mod intake_room;
 mod moments;
 mod plan;
 mod plan_file;
 mod rule_checks;
 mod rules;
+mod rules_sum;
 mod time_limit;
 mod time_of_day;
 
-pub use deliver::{deliver_to, read_message, report_delivery, undecoded_in};
+pub use deliver::{Delivered, deliver_to, read_message, report_delivery, undecoded_in};
 pub use dispose::{day_of_disposal, dispose_by};
 pub use holds::change_holds;
 pub use intake::{Intake, take_new};

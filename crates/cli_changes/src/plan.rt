@@ -3,11 +3,14 @@
 use crate::plan_file::read_plan;
 use class_plan::{Date, Plan, day_number};
 use cli_console::{Failure, Status, Walk, agrees, is_by, today, write_data, write_text};
+use cli_history::StoreLedger;
 use cli_texts::{due_by, plan_of_text, plan_text};
+use record_archive::Records;
 use record_choice::{Choice, destroys};
-use record_store::{RecordEntry, Store};
+use record_store::RecordEntry;
 use sqlite::Alter;
 use std::alloc::{AllocError, Global};
+use tool_plans::dropped_paths;
 use tool_texts::{Shown, put};
 
 /// How many live records are due today by a plan.
@@ -64,7 +67,7 @@ impl Changes {
 /// What a new plan changes in an archive.
 fn changes_by<S: Alter>(
     rt: &HostRuntime,
-    archive: &mut Store<S>,
+    archive: &mut StoreLedger<'_, S>,
     plan: &Plan,
 ) -> Result<Changes, Failure> {
     let today = today(rt)?;
@@ -84,7 +87,7 @@ fn changes_by<S: Alter>(
             break;
         };
         for entry in page.iter() {
-            changes.add(entry, archive.plan(), plan, today);
+            changes.add(entry, archive.plan_kept(), plan, today);
         }
     }
     Ok(changes)
@@ -104,15 +107,66 @@ fn changes_lines(alloc: Global, changes: &Changes) -> Result<Shown, AllocError> 
     Ok(text)
 }
 
-/// Replaces the plan of an archive by that of a file, once it was printed what that changes, and someone agrees. `Usage`
-/// where nobody does.
+/// The greatest number of classes that are named where a plan leaves them out.
+const MAX_NAMED: usize = 20;
+
+/// Adds the classes that a plan leaves out, the first of them by name.
+fn put_dropped(text: &mut Shown, dropped: &[&[u8]]) -> Result<(), AllocError> {
+    for path in dropped.iter().take(MAX_NAMED) {
+        put!(text; " " quoted(*path))?;
+    }
+    match dropped.len().saturating_sub(MAX_NAMED) {
+        0 => Ok(()),
+        more => put!(text; " and " value(&more) " more"),
+    }
+}
+
+/// That a plan leaves out classes of the present one. Where that is one class, and one is new, both are named: the class was
+/// more likely to get another path.
+fn dropped_text(
+    alloc: Global,
+    path: &str,
+    dropped: &[&[u8]],
+    new: &[&[u8]],
+) -> Result<Shown, AllocError> {
+    let mut text = Shown::new(alloc);
+    put!(text; named(path.as_bytes()) ": 57: the new plan leaves out")?;
+    put_dropped(&mut text, dropped)?;
+    match (dropped, new) {
+        ([_], [added]) =>
+            put!(text; ", and has " quoted(*added) ", which is new; a class keeps its path, so list it too")?,
+        ([_], _) => text.words("; list it")?,
+        _ => text.words("; list them")?,
+    }
+    text.words(match dropped {
+        [_] => ", and close it by open = false if nothing is to be filed there",
+        _ => ", and close by open = false those in which nothing is to be filed",
+    })?;
+    Ok(text)
+}
+
+/// Finds that a plan of a file has each class of the present one. `BadData` where it leaves one out.
+fn judge_classes(rt: &HostRuntime, present: &Plan, new: &Plan, path: &str) -> Result<(), Failure> {
+    let alloc = rt.alloc();
+    let dropped = dropped_paths(alloc, present, new)?;
+    if dropped.is_empty() {
+        return Ok(());
+    }
+    let added = dropped_paths(alloc, new, present)?;
+    let text = dropped_text(alloc, path, dropped.as_slice(), added.as_slice());
+    Err(Failure::shown(Status::BadData, text))
+}
+
+/// Replaces the plan of an archive by that of a file, once it was printed what that changes, and someone agrees. `BadData`
+/// where the new plan leaves out a class of the present one, before anything is printed; `Usage` where nobody agrees.
 pub fn replace_plan<S: Alter>(
     rt: &HostRuntime,
-    archive: &mut Store<S>,
+    archive: &mut StoreLedger<'_, S>,
     path: &str,
     is_agreed: bool,
 ) -> Result<(), Failure> {
     let plan = read_plan(rt, path)?;
+    judge_classes(rt, archive.plan(), &plan, path)?;
     let changes = changes_by(rt, archive, &plan)?;
     write_text(rt, &changes_lines(rt.alloc(), &changes)?)?;
     if !is_agreed && !agrees(rt, "replace the plan?") {

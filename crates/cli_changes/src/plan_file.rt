@@ -1,22 +1,22 @@
 //! A plan that is read from a file.
 
 use class_plan::{Plan, PlanFault};
-use cli_console::{Failure, Status};
+use cli_console::{Failure, Status, refusal_words};
 use cli_sources::payload_of_file;
 use desk_commands::{MAX_PLAN_OCTETS, Payload};
 use std::alloc::{AllocError, Global};
 use std::io::ErrorKind;
-use tool_texts::{Shown, put, refusal_text};
+use tool_texts::{Shown, put};
 
 /// The number of a plan's text that is too long.
 const TOO_LONG: u8 = 58;
 
 /// What is said of a plan that is refused by a number.
-fn refusal_words(alloc: Global, path: &str, number: u8) -> Result<Shown, AllocError> {
+fn refused_words(alloc: Global, path: &str, number: u8) -> Result<Shown, AllocError> {
     let mut text = Shown::new(alloc);
     put!(text;
         named(path.as_bytes()) ": " value(&number)
-        ": " words(refusal_text(number).unwrap_or("refused"))
+        ": " words(refusal_words(number))
         "; mailfile-tool check " named(path.as_bytes()) " says where"
     )?;
     Ok(text)
@@ -24,7 +24,7 @@ fn refusal_words(alloc: Global, path: &str, number: u8) -> Result<Shown, AllocEr
 
 /// The failure of a plan that is refused by a number.
 fn plan_refused(rt: &HostRuntime, path: &str, number: u8) -> Failure {
-    Failure::shown(Status::BadData, refusal_words(rt.alloc(), path, number))
+    Failure::shown(Status::BadData, refused_words(rt.alloc(), path, number))
 }
 
 /// The text of a plan's file.

@@ -6,7 +6,7 @@ use command_lines::archives::{Filing, Moment, RulesChecked};
 use record_archive::Records;
 use record_store::Store;
 use sqlite::Alter;
-use tool_checks::{Surroundings, Told, check_officer, officers_in, rules_of};
+use tool_checks::{Surroundings, Told, check_officer, officers_in, rules_of, warn_of_globals};
 use tool_console::{Failure as ToolFailure, Verdict};
 use tool_texts::Shown;
 
@@ -96,12 +96,12 @@ fn check_each<S: Alter>(
     archive: Store<S>,
     rules: &str,
     officers: &[String],
+    told: &mut Told,
 ) -> (Store<S>, Result<Verdict, Failure>) {
     let mut archive = archive;
-    let mut told = Told::new(rt.alloc());
     let mut verdict = Verdict::Good;
     for officer in officers {
-        let (back, judged) = check_one(rt, archive, rules, officer.as_str(), &mut told);
+        let (back, judged) = check_one(rt, archive, rules, officer.as_str(), told);
         archive = back;
         match judged {
             Ok(Verdict::Good) => {}
@@ -110,6 +110,21 @@ fn check_each<S: Alter>(
         }
     }
     (archive, Ok(verdict))
+}
+
+/// The end of a check of rules with a verdict. Scripts for all officers that are refused, and that none reaches, are warned
+/// of.
+fn end_check(
+    rt: &HostRuntime,
+    rules: &str,
+    verdict: Verdict,
+    told: &mut Told,
+) -> Result<(), Failure> {
+    warn_of_globals(rt, rules, told).map_err(|failure| failure_of(failure))?;
+    match verdict {
+        Verdict::Good => Ok(()),
+        Verdict::Refused => Err(Failure::Reported(Status::BadData)),
+    }
 }
 
 /// The officers whose rules are judged.
@@ -134,10 +149,10 @@ pub fn check_rules<S: Alter>(
         Ok(officers) => officers,
         Err(failure) => return (archive, Err(failure)),
     };
-    let (archive, judged) = check_each(rt, archive, asked.rules, officers.as_slice());
+    let mut told = Told::new(rt.alloc());
+    let (archive, judged) = check_each(rt, archive, asked.rules, officers.as_slice(), &mut told);
     let done = match judged {
-        Ok(Verdict::Good) => Ok(()),
-        Ok(Verdict::Refused) => Err(Failure::Reported(Status::BadData)),
+        Ok(verdict) => end_check(rt, asked.rules, verdict, &mut told),
         Err(failure) => Err(failure),
     };
     (archive, done)

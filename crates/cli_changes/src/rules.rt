@@ -1,10 +1,14 @@
 //! The rules by which mail is filed, and what is done where they are at fault.
 
+use crate::fault_words::place_of_fault;
+use crate::rules_sum::sum_of_rules;
+use class_plan::Plan;
 use cli_console::{Failure, Status, tell};
 use cli_sources::{Rules, RulesFault, read_rules, set_rules};
 use command_lines::archives::Filing;
 use filing_desk::{Desk, OnFault};
 use record_archive::Records;
+use sieve_meaning::RunFault;
 use std::alloc::{AllocError, Global};
 use tool_texts::{Shown, put};
 
@@ -67,6 +71,14 @@ impl<'a> FilingRules<'a> {
         })
     }
 
+    /// The sum of the rules, in hexadecimal digits; none where they are at fault.
+    pub fn sum(&self, alloc: Global) -> Result<Option<String>, AllocError> {
+        match &self.rules {
+            Some(rules) => Ok(Some(sum_of_rules(alloc, rules)?)),
+            None => Ok(None),
+        }
+    }
+
     /// Tells of each script of the officer that the program does not reach.
     pub fn tell_unused(&self, rt: &HostRuntime) {
         let Some(rules) = &self.rules else {
@@ -77,6 +89,19 @@ impl<'a> FilingRules<'a> {
                 tell(rt, &words);
             }
         }
+    }
+
+    /// Where the run of these rules over a message ended in a fault, by the open classes of a plan: the script, the line and
+    /// the column, with the class or the script that is named there. None where that is not known, as for want of memory.
+    pub fn place_of_fault(
+        &self,
+        alloc: Global,
+        plan: &Plan,
+        fault: RunFault,
+        message: &[u8],
+    ) -> Option<Shown> {
+        let rules = self.rules.as_ref()?;
+        place_of_fault(alloc, rules, plan, fault, message).unwrap_or(None)
     }
 
     /// Sets the rules at a desk.

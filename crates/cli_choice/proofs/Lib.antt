@@ -1,2 +1,3 @@
 pub mod Parting
 mod Rows
+pub mod Texts

@@ -2,3 +2,4 @@ pub mod Typed
 pub mod Questions
 pub mod Holds
 pub mod Disposals
+pub mod Headers

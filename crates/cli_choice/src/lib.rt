@@ -17,5 +17,5 @@ mod typed;
 pub use disposals::{Meant, meant_of};
 pub use holds::{Change, is_meant};
 pub use questions::{Answer, Questions, QuestionsFault};
-pub use search::{FoundPage, search_page};
+pub use search::{Beside, FoundPage, search_page};
 pub use typed::{bounds_of, choice_of, is_single, not_found, numbers_of};

@@ -78,9 +78,14 @@ fn text_at_thing<T: Display>(alloc: Global, thing: &str, reason: &T) -> Result<S
     Ok(text)
 }
 
+/// What is said of the number of a refusal.
+pub fn refusal_words(number: u8) -> &'static str {
+    refusal_text(number).unwrap_or("refused")
+}
+
 /// Something as it is called, and the number of a refusal with its text.
 fn refusal_at(alloc: Global, thing: &str, number: u8) -> Result<Shown, AllocError> {
-    let words = refusal_text(number).unwrap_or("refused");
+    let words = refusal_words(number);
     let mut text = Shown::new(alloc);
     put!(text; value(&thing) ": " value(&number) ": " words(words))?;
     Ok(text)

@@ -16,7 +16,7 @@ mod search;
 mod walk;
 
 pub use clock::{day_or_today, is_by, judge_day, now, today};
-pub use failure::{Failure, Status};
+pub use failure::{Failure, Status, refusal_words};
 pub use output::{agrees, tell, tell_words, write_data, write_text};
-pub use search::Search;
+pub use search::{Found, Search};
 pub use walk::{Walk, message_of};

@@ -1,26 +1,38 @@
 //! A search for the records that a command is about. Which these are, `cli_choice` decides.
 
-ghost use Rattle.std.specs.Prelude.{IfOk};
+ghost use Rattle.std.specs.Prelude.{◌≡◌, ◌≤◌, [], map, option_map, IfOk, IfSome, if◌then◌else◌};
 ghost use Rattle.record_archive.specs.Archive.{Archive};
+ghost use Rattle.record_choice.specs.Entries.{entry_view};
 ghost use Rattle.record_choice.specs.Reads.{OnlyReads};
 ghost use Rattle.record_choice.specs.Views.{choice_view};
-ghost use Rattle.cli_choice.specs.Questions.{question_of};
+ghost use Rattle.cli_choice.specs.Questions.{asks_nothing, question_of};
+ghost use Rattle.cli_choice.specs.Headers.{texts_view, texts_found};
 ghost use Rattle.cli_console.specs.Turns.{IsSearchTurn, page_view};
 
 use crate::failure::{Failure, Status};
 use crate::output::tell;
 use crate::walk::{PAGE, walk_failure};
-use choice_words::Choice;
+use choice_words::{Choice, TypedNumbers, add_number};
 use class_plan::Plan;
-use cli_choice::{Questions, bounds_of, choice_of, is_single, not_found, search_page};
+use cli_choice::{
+    Beside, FoundPage, Questions, bounds_of, choice_of, is_single, not_found, search_page,
+};
+use cli_texts::Headers;
 use record_choice::{RecordEntry, Repository};
-use record_store::{Store, StoreFault};
-use sqlite::Alter;
+use record_store::StoreFault;
 use std::alloc::{AllocError, Global};
 use tool_texts::{Shown, put};
 
-/// How many records are named whose fields could not be read in full.
-const MAX_NAMED: usize = 20;
+/// How many records a search looks at in a step where the headers of their messages are kept.
+const HEADERS_PAGE: usize = 250;
+
+/// Records that are found, in the order of their numbers.
+#[derive(Drop)]
+pub struct Found {
+    pub entries: Vec<RecordEntry>,
+    /// What the header of the message of each says, in the same order; none where no message was read.
+    pub headers: Vec<Headers>,
+}
 
 /// A search for the records of a choice, by number.
 #[derive(Drop)]
@@ -34,10 +46,8 @@ pub struct Search<'s, 'a> {
     last: u32,
     /// The numbers that were found, of those that are typed by themselves.
     found: Vec<u32>,
-    /// The first records that may have been found, had all their fields been read.
-    unread: Vec<u32>,
-    /// How many more of them there are.
-    more: u64,
+    /// The records that may have been found, had all their fields been read, as words of a command line.
+    unread: Vec<TypedNumbers>,
 }
 
 /// Finds that a class is one of the plan.
@@ -50,24 +60,37 @@ fn judge_class(alloc: Global, class: Option<&str>, plan: &Plan) -> Result<(), Fa
     }
 }
 
-/// That a record was not found, though it may be one of those that are looked for.
-fn unread_line(alloc: Global, number: u32) -> Result<Shown, AllocError> {
-    let mut line = Shown::new(alloc);
-    put!(line; "record " value(&number) ": not found, but a field of it that was looked at cannot be read in full")?;
-    Ok(line)
+/// Adds numbers of records as they are typed, after a blank.
+fn put_numbers(line: &mut Shown, numbers: TypedNumbers) -> Result<(), AllocError> {
+    match numbers {
+        TypedNumbers::One(number) => put!(line; " " value(&number)),
+        TypedNumbers::Range { first, last } => put!(line; " " value(&first) "-" value(&last)),
+    }
 }
 
-/// That so many more such records are not named.
-fn more_line(alloc: Global, more: u64) -> Result<Shown, AllocError> {
+/// That records were not found, though they may be some of those that are looked for. Their numbers can be typed as they
+/// stand there.
+fn unread_line(alloc: Global, unread: &[TypedNumbers]) -> Result<Shown, AllocError> {
     let mut line = Shown::new(alloc);
-    put!(line; "and " value(&more) " more")?;
+    match unread {
+        [TypedNumbers::One(number)] =>
+            put!(line; "record " value(number) ": not found, but a field of it")?,
+        _ => {
+            line.words("records")?;
+            for numbers in unread {
+                put_numbers(&mut line, *numbers)?;
+            }
+            line.words(": not found, but a field of each")?;
+        }
+    }
+    line.words(" that was looked at cannot be read in full")?;
     Ok(line)
 }
 
 /// Why the record of a number that is typed by itself was not found.
-fn miss_line<S: Alter>(
+fn miss_line<R: Repository<Fault = StoreFault>>(
     alloc: Global,
-    archive: &mut Store<S>,
+    archive: &mut R,
     number: u32,
 ) -> Result<Shown, Failure> {
     let word = format!(in alloc; "{number}")?;
@@ -86,9 +109,9 @@ fn miss_line<S: Alter>(
 
 impl<'s, 'a> Search<'s, 'a> {
     /// A search in an archive for what is typed. `BadData` where the class is none of the plan.
-    pub fn new<S: Alter>(
+    pub fn new<R: Repository<Fault = StoreFault>>(
         rt: &HostRuntime,
-        archive: &Store<S>,
+        archive: &R,
         typed: &'s Choice<'a>,
         questions: &'s Questions,
     ) -> Result<Search<'s, 'a>, Failure> {
@@ -103,7 +126,6 @@ impl<'s, 'a> Search<'s, 'a> {
             last: bounds.last,
             found: Vec::new(alloc),
             unread: Vec::new(alloc),
-            more: 0,
         })
     }
 
@@ -120,11 +142,7 @@ impl<'s, 'a> Search<'s, 'a> {
     /// Notes which records may have been found.
     fn note_unread(&mut self, entries: &[RecordEntry]) -> Result<(), AllocError> {
         for entry in entries {
-            if self.unread.len() < MAX_NAMED {
-                self.unread.push(entry.number)?;
-            } else {
-                self.more = self.more.saturating_add(1);
-            }
+            add_number(&mut self.unread, entry.number)?;
         }
         Ok(())
     }
@@ -136,13 +154,63 @@ impl<'s, 'a> Search<'s, 'a> {
         archive: &mut R,
     ) -> Result<Option<Vec<RecordEntry>>, Failure>
         ensures reads { OnlyReads R.clean R.stands archive.old archive.new }
+        ensures page { IfOk result (λ o. R.clean archive.new → (a : Archive)
+            → R.stands archive.old a → IsSearchTurn (question_of self.old.questions.now)
+            (choice_view self.old.choice) a self.old.last self.old.from (page_view o)
+            self.new.from) }
+    {
+        match self.step(rt, archive, Beside::Nothing, PAGE)? {
+            Some(page) => Ok(Some(page.found)),
+            None => Ok(None),
+        }
+    }
+
+    /// The same, and what the headers of their messages say, where something is asked of these.
+    pub fn next_with_headers<R: Repository<Fault = StoreFault>>(
+        &mut self,
+        rt: &HostRuntime,
+        archive: &mut R,
+    ) -> Result<Option<Found>, Failure>
+        ensures reads { OnlyReads R.clean R.stands archive.old archive.new }
+        ensures page { IfOk result (λ o. R.clean archive.new → (a : Archive)
+            → R.stands archive.old a → IsSearchTurn (question_of self.old.questions.now)
+            (choice_view self.old.choice) a self.old.last self.old.from
+            (page_view (option_map (λ f. f.entries) o)) self.new.from) }
+        ensures headers { IfOk result (λ o. R.clean archive.new → (a : Archive)
+            → R.stands archive.old a → IfSome o (λ f. map texts_view f.headers.items ≡
+            (if asks_nothing self.old.questions.now then []
+            else texts_found a Beside.Headers (map entry_view f.entries.items)))) }
+    {
+        match self.step(rt, archive, Beside::Headers, HEADERS_PAGE)? {
+            Some(page) => Ok(Some(Found {
+                entries: page.found,
+                headers: page.headers,
+            })),
+            None => Ok(None),
+        }
+    }
+
+    /// The next step of the search, which looks at so many records.
+    fn step<R: Repository<Fault = StoreFault>>(
+        &mut self,
+        rt: &HostRuntime,
+        archive: &mut R,
+        beside: Beside,
+        most: usize,
+    ) -> Result<Option<FoundPage>, Failure>
+        requires { 1 ≤ most }
+        ensures reads { OnlyReads R.clean R.stands archive.old archive.new }
 
         // The calls answer the pages of a walk: what meets the choice and the questions, and no
         // other record.
         ensures page { IfOk result (λ o. R.clean archive.new → (a : Archive)
             → R.stands archive.old a → IsSearchTurn (question_of self.old.questions.now)
-            (choice_view self.old.choice) a self.old.last self.old.from (page_view o)
-            self.new.from) }
+            (choice_view self.old.choice) a self.old.last self.old.from
+            (page_view (option_map (λ p. p.found) o)) self.new.from) }
+        ensures headers { IfOk result (λ o. R.clean archive.new → (a : Archive)
+            → R.stands archive.old a → IfSome o (λ p. map texts_view p.headers.items ≡
+            (if asks_nothing self.old.questions.now then []
+            else texts_found a beside (map entry_view p.found.items)))) }
     {
         let Some(from) = self.from else {
             return Ok(None);
@@ -155,30 +223,32 @@ impl<'s, 'a> Search<'s, 'a> {
             archive,
             &self.choice,
             self.questions,
+            beside,
             from,
-            PAGE,
+            most,
         )
         .map_err(|fault| walk_failure(rt.alloc(), fault))?;
         self.note_found(page.found.as_slice())?;
         self.note_unread(page.unread.as_slice())?;
         self.from = page.next;
-        Ok(Some(page.found))
+        Ok(Some(page))
     }
 
     /// Tells which records may have been found, had all their fields been read.
     fn tell_unread(&self, rt: &HostRuntime) -> Result<(), AllocError> {
-        for number in &self.unread {
-            tell(rt, &unread_line(rt.alloc(), *number)?);
-        }
-        if self.more > 0 {
-            tell(rt, &more_line(rt.alloc(), self.more)?);
+        if !self.unread.is_empty() {
+            tell(rt, &unread_line(rt.alloc(), self.unread.as_slice())?);
         }
         Ok(())
     }
 
     /// Ends a search that has come to its end: tells which records may have been found, had all their fields been read, and
     /// which numbers that are typed by themselves were not found. These are a failure, which is reported then.
-    pub fn end<S: Alter>(self, rt: &HostRuntime, archive: &mut Store<S>) -> Result<(), Failure> {
+    pub fn end<R: Repository<Fault = StoreFault>>(
+        self,
+        rt: &HostRuntime,
+        archive: &mut R,
+    ) -> Result<(), Failure> {
         self.tell_unread(rt)?;
         let missing = not_found(
             rt.alloc(),

@@ -4,3 +4,4 @@ pub mod ShownLemmas
 pub mod TallyLemmas
 pub mod DayLemmas
 mod Rows
+pub mod MarkLemmas

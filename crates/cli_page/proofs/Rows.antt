@@ -1,5 +1,6 @@
 -- Examples of the definitions.
-use Rattle.std.proofs.Common.{◌≡◌, ◌∷◌, [], refl}
+use Rattle.std.proofs.Common.{◌≡◌, ◌∷◌, [], codes, refl}
+use Rattle.cli_page.specs.Marks.{read_all}
 use Rattle.cli_page.specs.Columns.{no_year, breadth_of, span_of, no_column, columns_from, columns_of}
 
 -- one year with records, 1971
@@ -19,3 +20,10 @@ forty_years = refl
 in_twos : columns_from 2 (no_column 1970) (record { due = 1; later = 0 } ∷ record { due = 2; later = 1 } ∷ record { due = 0; later = 5 } ∷ [])
     ≡ record { from = 1970; years = 2; due = 3; later = 1 } ∷ record { from = 1972; years = 1; due = 0; later = 5 } ∷ []
 in_twos = refl
+
+-- a name between quotation marks is read as the same name without them
+without_its_marks : read_all (codes "\"Lee, Ann\" <ann@example.org>") ≡ codes "Lee, Ann <ann@example.org>"
+without_its_marks = refl
+
+as_it_is : read_all (codes "O'Neil") ≡ codes "O'Neil"
+as_it_is = refl

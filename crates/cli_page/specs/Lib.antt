@@ -3,3 +3,4 @@ pub mod Counting
 pub mod Columns
 pub mod Tallies
 pub mod Days
+pub mod Marks

@@ -3,12 +3,12 @@
 ghost use Rattle.std.specs.Prelude.{IsPermutation};
 
 use crate::head::{close_head, open_head};
+use crate::marks::sorting_key;
 use crate::page::{Page, put};
 use crate::report::Record;
 use class_plan::Date;
 use cli_texts::Headers;
 use jiff::fmt::rfc2822::DateTimeParser;
-use mail_display::fold;
 use std::alloc::{AllocError, Global};
 
 /// The order of the records in an index.
@@ -19,15 +19,20 @@ pub enum Order {
     /// By the moments of their headers' dates (RFC 5322, section 3.3), the earliest first; those without a date that can be
     /// read come last. Records of the same moment go by number.
     Date,
-    /// By their senders without case, as octets of UTF-8 in canonical decomposition; records of the same sender go by number.
+    /// By their senders without quotation marks and without case, as octets of UTF-8 in canonical decomposition; records of
+    /// the same sender go by number.
     Sender,
 }
 
 /// What an index is about.
 #[derive(Clone, Copy)]
 pub struct IndexHeading<'a> {
+    /// The file of the store.
+    pub file: &'a str,
     /// When it is made.
     pub moment: &'a str,
+    /// The conditions that its records meet, and their numbers, as they are typed. None where it is of all records.
+    pub conditions: Option<&'a str>,
     pub order: Order,
 }
 
@@ -40,7 +45,7 @@ struct Letter {
     headers: Headers,
     /// The moment of its date, in seconds since 1970-01-01T00:00:00Z.
     moment: Option<i64>,
-    /// Its sender without case.
+    /// What it is sorted by: its sender without quotation marks and without case.
     sender: String,
 }
 
@@ -79,7 +84,7 @@ impl Letter {
         Ok(Letter {
             file,
             moment: moment_of(headers.date.as_str()),
-            sender: fold(alloc, headers.sender.as_str())?,
+            sender: sorting_key(alloc, headers.sender.as_str())?,
             headers,
         })
     }
@@ -111,7 +116,7 @@ impl Row {
         }
     }
 
-    /// Its sender without case. A record without a message has none, which comes first.
+    /// What its sender is sorted by. A record without a message has none, which comes first.
     fn sender(&self) -> &str {
         match &self.letter {
             Some(letter) => letter.sender.as_str(),
@@ -128,7 +133,7 @@ impl Row {
         };
         put!(page;
             markup(class) "<th scope=\"row\" class=\"n\">" number(u64::from(self.number))
-            "</th><td>" name(self.path.as_slice())
+            "</th><td>" path(self.path.as_slice())
             "</td><td class=\"d\">" date(self.day) "</td><td class=\"d\">"
         )?;
         match (&self.letter, self.due) {
@@ -200,17 +205,33 @@ impl Index {
         close_head(page)?;
         put!(page;
             "<body class=\"index\">\n<header>\n<h1>Exported records</h1>\n<dl class=\"facts\">\n"
+            "<dt>Store</dt><dd>" text(about.file) "</dd>\n"
             "<dt>Made</dt><dd>" text(about.moment) "</dd>\n"
             "<dt>Records</dt><dd>" number(self.rows.len() as u64) "</dd>\n"
-            "<dt>Order</dt><dd>" markup(order_words(about.order))
-            "</dd>\n</dl>\n</header>\n<main>\n<table>\n"
-            "<caption>Long texts are cut here; manifest.csv has them whole. SHA256SUMS has the \
-            sums of the files.</caption>\n"
-            "<thead><tr><th scope=\"col\" class=\"n\">Record</th><th scope=\"col\">Class</th>\
-            <th scope=\"col\">Captured</th><th scope=\"col\">Due</th>\
-            <th scope=\"col\" class=\"t\">Sender</th><th scope=\"col\" class=\"t\">Subject</th>\
-            <th scope=\"col\">Date in the header</th><th scope=\"col\">File</th></tr></thead>\n\
-            <tbody>\n"
+        )?;
+        put!(page; "<dt>Conditions</dt><dd>")?;
+        match about.conditions {
+            Some(conditions) => page.text(conditions)?,
+            None => page.markup("none: all records of the store")?,
+        }
+        put!(page;
+            "</dd>\n<dt>Order</dt><dd>" markup(order_words(about.order))
+            "</dd>\n</dl>\n</header>\n<main>\n"
+        )
+    }
+
+    /// Adds the head of the table.
+    fn table_head(page: &mut Page) -> Result<(), AllocError> {
+        page.markup(
+            "<table>\n\
+            <caption>Long texts are cut here; manifest.csv has them whole. SHA256SUMS has the \
+            sums of the files.</caption>\n\
+            <thead><tr><th scope=\"col\" class=\"n\">Record</th>\
+            <th scope=\"col\" class=\"k\">Class</th>\
+            <th scope=\"col\" class=\"d\">Captured</th><th scope=\"col\" class=\"d\">Due</th>\
+            <th scope=\"col\">Sender</th><th scope=\"col\">Subject</th>\
+            <th scope=\"col\" class=\"h\">Date in the header</th>\
+            <th scope=\"col\" class=\"d\">File</th></tr></thead>\n<tbody>\n",
         )
     }
 
@@ -218,6 +239,7 @@ impl Index {
     pub fn write(mut self, page: &mut Page, about: &IndexHeading<'_>) -> Result<(), AllocError> {
         sort_rows(&mut self.rows, about.order)?;
         self.heading(page, about)?;
+        Index::table_head(page)?;
         for row in self.rows.as_slice() {
             row.write(page)?;
         }

@@ -14,6 +14,7 @@ mod fault;
 mod head;
 mod holds;
 mod index;
+mod marks;
 mod page;
 mod report;
 mod style;

@@ -64,6 +64,20 @@ impl Page {
         self.text(str::from_utf8(name).unwrap_or("\u{fffd}"))
     }
 
+    /// Adds the path of a class. A line may end after each slash of it.
+    pub(crate) fn path(&mut self, path: &[u8]) -> Result<(), AllocError> {
+        let text = str::from_utf8(path).unwrap_or("\u{fffd}");
+        let mut is_first = true;
+        for segment in text.split('/') {
+            if !is_first {
+                self.markup("/<wbr>")?;
+            }
+            is_first = false;
+            self.text(segment)?;
+        }
+        Ok(())
+    }
+
     /// Adds a number in decimal.
     pub fn number(&mut self, number: u64) -> Result<(), AllocError> {
         write!(self.html, "{number}")

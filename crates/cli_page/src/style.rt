@@ -32,8 +32,12 @@ tfoot th, tfoot td { border-top: 2px solid var(--line); font-weight: bold; }
 .n, .d { font-variant-numeric: tabular-nums; }
 .p { width: 32%; }
 .t { width: 30%; }
-.index { max-width: 80rem; page: wide; }
-.index .t { width: 24%; }
+.index { max-width: 90rem; page: wide; }
+.index table { table-layout: fixed; }
+.index th.n { width: 4.4em; }
+.index th.d { width: 6em; }
+.index th.h { width: 16.5em; }
+.index th.k { width: 19%; }
 .d, time { white-space: nowrap; }
 .sign { width: 7em; border-left: 1px solid var(--line); }
 .barred td, .barred th { color: var(--faint); }
@@ -54,7 +58,10 @@ footer { margin-top: 2rem; padding-top: .4rem; border-top: 1px solid var(--line)
 @media print {
 :root { color-scheme: light; --ink: #000; --paper: #fff; --faint: #444; --line: #999; --band: #eee; --due: #a3261f; --later: #3c6fa6; --note: #fff; }
 body { max-width: none; padding: 0; font-size: 9.5pt; print-color-adjust: exact; -webkit-print-color-adjust: exact; }
-h2 { break-after: avoid; }
+.index { font-size: 8.5pt; line-height: 1.3; }
+.index td, .index th { padding: .1rem .25rem; }
+h2, caption, thead { break-after: avoid; }
+tbody tr:first-child, tfoot tr { break-before: avoid; }
 tr, figure, .note { break-inside: avoid; }
 thead { display: table-header-group; }
 tfoot { display: table-row-group; }

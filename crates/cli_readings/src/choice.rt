@@ -1,14 +1,14 @@
 //! What is asked of the records that a command is about.
 
 use cli_choice::{Questions, QuestionsFault};
-use cli_console::{Failure, Status, judge_day};
+use cli_console::{Failure, Status, judge_day, refusal_words};
 use command_lines::archives::Choice;
 use mail_display::FieldGroup;
 use record_question::QuestionFault;
 use sieve_text::{ScanRefusal, TextRefusal};
 use std::alloc::{AllocError, Global};
 use tool_findings::{finding_in_test, push_words};
-use tool_texts::{Shown, place_of, put, refusal_text};
+use tool_texts::{Shown, place_of, put};
 
 /// Why a text is not exactly one test.
 fn words_of(refusal: TextRefusal) -> &'static str {
@@ -17,7 +17,7 @@ fn words_of(refusal: TextRefusal) -> &'static str {
         TextRefusal::Scan(ScanRefusal::ScriptTooLong) => {
             "the test has more than 262,144 octets; write a shorter one"
         }
-        TextRefusal::Scan(refusal) => refusal_text(refusal.number()).unwrap_or("refused"),
+        TextRefusal::Scan(refusal) => refusal_words(refusal.number()),
         TextRefusal::Syntax => {
             "the test cannot go on like this; look for a missing comma, bracket or quotation mark just before this place, and for a mark behind the test"
         }

@@ -1,16 +1,18 @@
 //! `export`: records as files, with lists of them.
 
+use crate::conditions::conditions_of;
 use crate::folder::{ListFile, judge_free, make_file, make_folder, write_to};
 use crate::list::row_of;
 use crate::report::record_of;
 use cli_choice::Questions;
-use cli_console::{Failure, Search, message_of, now};
+use cli_console::{Failure, Search, message_of, now, write_text};
 use cli_page::{Index, IndexHeading, Order, Page};
 use cli_texts::{Headers, Kept, MANIFEST_HEADER, headers_of, manifest_row, moment_text, sum_of};
 use command_lines::archives::{Choice, Sorting, Target};
 use record_store::{RecordEntry, Store};
 use sqlite::Alter;
 use std::alloc::{AllocError, Global};
+use tool_texts::{Shown, put};
 
 /// The file of an export that lists its records.
 const MANIFEST: &str = "manifest.csv";
@@ -30,6 +32,23 @@ struct Export<'a> {
     index: Index,
     /// The message that was written last.
     last: Option<Written>,
+    count: Count,
+}
+
+/// How much an export has.
+#[derive(Clone, Copy)]
+struct Count {
+    records: u64,
+    messages: u64,
+    octets: u64,
+}
+
+impl Count {
+    /// Adds a message.
+    fn add_message(&mut self, octets: usize) {
+        self.messages = self.messages.saturating_add(1);
+        self.octets = self.octets.saturating_add(octets as u64);
+    }
 }
 
 /// A message that was written to a file.
@@ -90,6 +109,7 @@ fn write_new<S: Alter>(
     }
     let octets = message_of(rt, archive, entry)?;
     export.last = Some(write_message(rt, export, entry.message, octets.as_slice())?);
+    export.count.add_message(octets.len());
     Ok(())
 }
 
@@ -119,6 +139,7 @@ fn export_record<S: Alter>(
         write_new(rt, archive, export, entry)?;
         row_beside(rt.alloc(), &mut export.index, entry, export.last.as_ref())?
     };
+    export.count.records = export.count.records.saturating_add(1);
     export.manifest.write(rt, export.folder, row.as_slice())
 }
 
@@ -150,10 +171,19 @@ fn order_of(sorting: Sorting) -> Order {
 }
 
 /// Writes an index to its file.
-fn write_index(rt: &HostRuntime, index: Index, target: Target<'_>) -> Result<(), Failure> {
+fn write_index(
+    rt: &HostRuntime,
+    index: Index,
+    file: &str,
+    choice: &Choice<'_>,
+    target: Target<'_>,
+) -> Result<(), Failure> {
     let moment = moment_text(rt.alloc(), now(rt)?)?;
+    let conditions = conditions_of(rt.alloc(), choice)?;
     let heading = IndexHeading {
+        file,
         moment: moment.as_str(),
+        conditions: conditions.as_deref(),
         order: order_of(target.sorting),
     };
     let mut page = Page::new(rt.alloc());
@@ -162,12 +192,45 @@ fn write_index(rt: &HostRuntime, index: Index, target: Target<'_>) -> Result<(),
     write_to(rt, target.folder, &mut file, page.as_str().as_bytes())
 }
 
+/// Writes what lists the records of an export, and how much it has.
+fn finish(
+    rt: &HostRuntime,
+    export: Export<'_>,
+    file: &str,
+    choice: &Choice<'_>,
+    target: Target<'_>,
+) -> Result<(), Failure> {
+    let Export {
+        folder,
+        mut manifest,
+        mut sums,
+        index,
+        count,
+        ..
+    } = export;
+    manifest.write(rt, folder, b"")?;
+    sums.write(rt, folder, b"")?;
+    write_index(rt, index, file, choice, target)?;
+    write_text(rt, &exported_line(rt.alloc(), count, folder)?)
+}
+
+/// What an export comes to, in a line.
+fn exported_line(alloc: Global, count: Count, folder: &str) -> Result<Shown, AllocError> {
+    let mut line = Shown::new(alloc);
+    put!(line; "exported records " value(&count.records) " messages " value(&count.messages)
+        " octets " value(&count.octets) " to " named(folder.as_bytes()))?;
+    line.end_line()?;
+    Ok(line)
+}
+
 /// Exports the records that meet a choice, and whose messages have what is asked of them, to a folder in which none of the
-/// files is yet. The index is written after the messages: where it is missing, the export was cut off. `BadData` where the
-/// class is none of the plan, and where a number that is typed by itself is not found.
+/// files is yet, and writes how much that is. The index is written after the messages, with the file of the store and what
+/// was asked for: where it is missing, the export was cut off. `BadData` where the class is none of the plan, and where a
+/// number that is typed by itself is not found; where nothing else is, no list is left.
 pub fn export_to<S: Alter>(
     rt: &HostRuntime,
     archive: &mut Store<S>,
+    file: &str,
     choice: &Choice<'_>,
     questions: &Questions,
     target: Target<'_>,
@@ -184,10 +247,18 @@ pub fn export_to<S: Alter>(
         sums: ListFile::new(SUMS, ""),
         index: Index::new(rt.alloc()),
         last: None,
+        count: Count {
+            records: 0,
+            messages: 0,
+            octets: 0,
+        },
     };
     export_records(rt, archive, &mut export, &mut search)?;
-    export.manifest.write(rt, folder, b"")?;
-    export.sums.write(rt, folder, b"")?;
-    write_index(rt, export.index, target)?;
-    search.end(rt, archive)
+    let ended = search.end(rt, archive);
+    if export.count.records == 0 {
+        ended?;
+        return finish(rt, export, file, choice, target);
+    }
+    finish(rt, export, file, choice, target)?;
+    ended
 }

@@ -1,6 +1,6 @@
 //! What `mailfile-store` reads of an archive, for each of its subcommands that change nothing.
 //!
-//! - `choice`: what is asked of the records that a command is about;
+//! - `choice`: what is asked of the records that a command is about; `conditions`: the same as it can be typed;
 //! - `list`, `show`, `export`, `judge` (for `check`), `why` and `report`: these subcommands;
 //! - `folder`: the files of an export;
 //! - `sums`: what a copy is compared by.
@@ -9,6 +9,7 @@
 #![tactic(auto)]
 
 mod choice;
+mod conditions;
 mod export;
 mod folder;
 mod judge;

@@ -1,7 +1,7 @@
 //! `list`: the records, a line each.
 
 use cli_choice::Questions;
-use cli_console::{Failure, Search, message_of, write_data};
+use cli_console::{Failure, Found, Search, message_of, write_data};
 use cli_texts::{
     Headers, LIST_HEADER, LIST_HEADER_WITH_TEXTS, ListedHeaders, Row, headers_of, json_object,
     listed_line, listed_row,
@@ -26,26 +26,24 @@ pub fn row_of(entry: &RecordEntry) -> Row<'_> {
     }
 }
 
-/// What the header of a record's message says, where it is asked for and the message is there.
-fn headers_asked<S: Alter>(
+/// What the header of a record's message says, where the message is there and was not read before.
+fn headers_of_record<S: Alter>(
     rt: &HostRuntime,
     archive: &mut Store<S>,
     entry: &RecordEntry,
-    listing: Listing,
 ) -> Result<Option<Headers>, Failure> {
-    if !listing.headers || entry.destroyed {
+    if entry.destroyed {
         return Ok(None);
     }
     let message = message_of(rt, archive, entry)?;
     Ok(Some(headers_of(rt.alloc(), message.as_slice())?))
 }
 
-/// What is listed of a header, as it is asked for.
-fn listed(listing: Listing, headers: &Option<Headers>) -> ListedHeaders<'_> {
+/// What is listed of the header of a record, where it is asked for.
+fn listed(headers: Option<&Headers>) -> ListedHeaders<'_> {
     match headers {
         Some(texts) => ListedHeaders::Texts(texts),
-        None if listing.headers => ListedHeaders::Destroyed,
-        None => ListedHeaders::Unasked,
+        None => ListedHeaders::Destroyed,
     }
 }
 
@@ -80,34 +78,90 @@ fn push_record(
     }
 }
 
-/// Writes the records of a page, which come after so many others.
-fn write_page<S: Alter>(
+/// The text of a list, which is written piece by piece.
+#[derive(Drop)]
+struct ListText<'a> {
+    rt: &'a HostRuntime,
+    format: Format,
+    text: Vec<u8>,
+    /// How many records it has.
+    count: u64,
+}
+
+impl ListText<'_> {
+    /// Adds a record, and writes the text where it is long.
+    fn add(&mut self, entry: &RecordEntry, headers: ListedHeaders<'_>) -> Result<(), Failure> {
+        let is_first = self.count == 0;
+        let alloc = self.rt.alloc();
+        push_record(alloc, &mut self.text, entry, headers, self.format, is_first)?;
+        self.count = self.count.saturating_add(1);
+        if self.text.len() >= PIECE {
+            self.write()?;
+        }
+        Ok(())
+    }
+
+    /// Writes what is not written yet.
+    fn write(&mut self) -> Result<(), Failure> {
+        write_data(self.rt, self.text.as_slice())?;
+        self.text.clear();
+        Ok(())
+    }
+}
+
+/// Adds the records that are found.
+fn add_records<S: Alter>(
     rt: &HostRuntime,
     archive: &mut Store<S>,
-    page: &[RecordEntry],
-    listing: Listing,
-    before: u64,
+    search: &mut Search<'_, '_>,
+    list: &mut ListText<'_>,
 ) -> Result<(), Failure> {
-    let mut text = Vec::new(rt.alloc());
-    let mut is_first = before == 0;
-    for entry in page {
-        let headers = headers_asked(rt, archive, entry, listing)?;
-        let headers = listed(listing, &headers);
-        push_record(
-            rt.alloc(),
-            &mut text,
-            entry,
-            headers,
-            listing.format,
-            is_first,
-        )?;
-        is_first = false;
-        if text.len() >= PIECE {
-            write_data(rt, text.as_slice())?;
-            text.clear();
+    for _ in 0..u64::MAX {
+        let Some(page) = search.next_page(rt, archive)? else {
+            break;
+        };
+        for entry in page.iter() {
+            list.add(entry, ListedHeaders::Unasked)?;
+        }
+        list.write()?;
+    }
+    Ok(())
+}
+
+/// Adds the records of a page with what the headers of their messages say. Where no message was read for what is asked, it
+/// is read here.
+fn add_page_with_headers<S: Alter>(
+    rt: &HostRuntime,
+    archive: &mut Store<S>,
+    page: &Found,
+    list: &mut ListText<'_>,
+) -> Result<(), Failure> {
+    for (at, entry) in page.entries.iter().enumerate() {
+        match page.headers.get(at) {
+            Some(headers) => list.add(entry, ListedHeaders::Texts(headers))?,
+            None => {
+                let headers = headers_of_record(rt, archive, entry)?;
+                list.add(entry, listed(headers.as_ref()))?;
+            }
         }
     }
-    write_data(rt, text.as_slice())
+    list.write()
+}
+
+/// Adds the records that are found with what the headers of their messages say.
+fn add_records_with_headers<S: Alter>(
+    rt: &HostRuntime,
+    archive: &mut Store<S>,
+    search: &mut Search<'_, '_>,
+    list: &mut ListText<'_>,
+) -> Result<(), Failure> {
+    for _ in 0..u64::MAX {
+        let Some(page) = search.next_with_headers(rt, archive)? else {
+            break;
+        };
+        add_page_with_headers(rt, archive, &page, list)?;
+    }
+    Ok(())
 }
 
 /// Writes the records that are found. Answers how many there are.
@@ -117,15 +171,18 @@ fn write_records<S: Alter>(
     search: &mut Search<'_, '_>,
     listing: Listing,
 ) -> Result<u64, Failure> {
-    let mut count: u64 = 0;
-    for _ in 0..u64::MAX {
-        let Some(page) = search.next_page(rt, archive)? else {
-            break;
-        };
-        write_page(rt, archive, page.as_slice(), listing, count)?;
-        count = count.saturating_add(page.len() as u64);
+    let mut list = ListText {
+        rt,
+        format: listing.format,
+        text: Vec::new(rt.alloc()),
+        count: 0,
+    };
+    if listing.headers {
+        add_records_with_headers(rt, archive, search, &mut list)?;
+    } else {
+        add_records(rt, archive, search, &mut list)?;
     }
-    Ok(count)
+    Ok(list.count)
 }
 
 /// What a format has after so many records.

@@ -1,5 +1,6 @@
 //! `report`: one page of HTML on what is kept, what is due and what is held.
 
+use crate::conditions::conditions_of;
 use class_plan::{Date, Plan};
 use cli_choice::Questions;
 use cli_console::{Failure, Search, Status, is_by, message_of, now, today, write_data};
@@ -8,7 +9,6 @@ use cli_texts::{Headers, headers_of, moment_text};
 use command_lines::archives::Choice;
 use record_store::{RecordEntry, Store};
 use sqlite::Alter;
-use std::alloc::{AllocError, Global};
 
 /// The failure of a report.
 fn report_failure(rt: &HostRuntime, fault: ReportFault) -> Failure {
@@ -81,64 +81,6 @@ fn add_records<S: Alter>(
     Ok(())
 }
 
-/// Adds an option with its value to a text, if it is typed.
-fn push_typed(text: &mut String, option: &str, value: Option<&str>) -> Result<(), AllocError> {
-    if let Some(value) = value {
-        push_word(text, option)?;
-        push_word(text, value)?;
-    }
-    Ok(())
-}
-
-/// Adds a word to a text, after a blank.
-fn push_word(text: &mut String, word: &str) -> Result<(), AllocError> {
-    if !text.is_empty() {
-        text.push(' ')?;
-    }
-    text.push_str(word)
-}
-
-/// Adds an option with its day to a text, if it is typed.
-fn push_day(
-    alloc: Global,
-    text: &mut String,
-    option: &str,
-    day: Option<Date>,
-) -> Result<(), AllocError> {
-    match day {
-        Some(day) => {
-            let day = format!(in alloc; "{day}")?;
-            push_typed(text, option, Some(day.as_str()))
-        }
-        None => Ok(()),
-    }
-}
-
-/// Adds a flag to a text, if it is typed.
-fn push_flag(text: &mut String, flag: &str, is_typed: bool) -> Result<(), AllocError> {
-    if is_typed {
-        push_word(text, flag)?;
-    }
-    Ok(())
-}
-
-/// The conditions of a choice, as they are typed.
-fn conditions_of(alloc: Global, choice: &Choice<'_>) -> Result<String, AllocError> {
-    let mut text = String::new(alloc);
-    push_typed(&mut text, "--sender", choice.sender)?;
-    push_typed(&mut text, "--recipient", choice.recipient)?;
-    push_typed(&mut text, "--subject", choice.subject)?;
-    push_typed(&mut text, "--where", choice.test)?;
-    push_typed(&mut text, "--class", choice.class)?;
-    push_day(alloc, &mut text, "--since", choice.since)?;
-    push_day(alloc, &mut text, "--until", choice.until)?;
-    push_day(alloc, &mut text, "--due", choice.due)?;
-    push_flag(&mut text, "--held", choice.is_held)?;
-    push_flag(&mut text, "--live", choice.is_live)?;
-    push_flag(&mut text, "--destroyed", choice.is_destroyed)?;
-    Ok(text)
-}
-
 /// What stands at the head of a report.
 fn heading_of<'a>(
     file: &'a str,
@@ -167,12 +109,7 @@ fn write_page(
 ) -> Result<(), Failure> {
     let moment = moment_text(rt.alloc(), now(rt)?)?;
     let typed = conditions_of(rt.alloc(), choice)?;
-    let conditions = if choice.is_empty() {
-        None
-    } else {
-        Some(typed.as_str())
-    };
-    let heading = heading_of(file, day, today(rt)?, moment.as_str(), conditions);
+    let heading = heading_of(file, day, today(rt)?, moment.as_str(), typed.as_deref());
     let mut page = Page::new(rt.alloc());
     report
         .write(&mut page, plan, &heading)

@@ -1,20 +1,26 @@
 //! The command line of `mailfile-store`: what it asks for, with each value read and judged.
 
+mod histories;
+mod history_words;
 mod words;
 
 use crate::reading::{NoCommand, day_of, has_flag, read_words, required, value_of, values_of};
 use crate::table::Word;
-use choice_words::{read_numbers, reads_as_number};
+use choice_words::{read_numbers, reads_as_number, reversed_range};
 pub use choice_words::{Choice, TypedNumbers};
 use clap::ArgMatches;
+pub use histories::{Attribution, DeedKind, HistoryAsked, HistoryTask};
+use histories::{attribution_asked, head_asked, history_asked};
 use jiff::civil::Date;
 use session_words::{is_name, read_number};
-use std::alloc::Global;
+use std::alloc::{AllocError, Global};
 
 /// What `mailfile-store` is asked to do, with the store in the file at a path.
 #[derive(Drop)]
 pub struct CommandLine<'a> {
     pub store: &'a str,
+    /// For the history, where the command changes something.
+    pub attribution: Attribution<'a>,
     pub command: Command<'a>,
 }
 
@@ -51,8 +57,16 @@ pub enum Command<'a> {
     Copy {
         new: &'a str,
     },
-    /// Judges the whole store.
-    Check,
+    /// Judges the whole store, and says of a mark whether its history has it.
+    Check {
+        head: Option<&'a str>,
+    },
+    /// Begins the history of the store, or prints it.
+    History(HistoryTask<'a>),
+    /// Prints the certificates of records that were destroyed; of all, where there is no number.
+    Certificates {
+        numbers: Vec<TypedNumbers>,
+    },
     /// Judges rules by the plan of the store.
     CheckRules(RulesChecked<'a>),
     Why(Why<'a>),
@@ -191,10 +205,10 @@ pub struct Disposal {
 }
 
 /// The number of a record, as it is typed: one of 32 bits, in decimal digits without a leading zero.
-fn number_of(alloc: Global, word: &str) -> Result<u32, NoCommand> {
+fn number_of(alloc: Global, word: &str, reason: &str) -> Result<u32, NoCommand> {
     match read_number(word.as_bytes(), u64::from(u32::MAX)) {
         Some(number) => Ok(number as u32),
-        None => Err(NoCommand::wrong(alloc, word, "not a number of a record")),
+        None => Err(NoCommand::wrong(alloc, word, reason)),
     }
 }
 
@@ -208,8 +222,24 @@ fn record_asked<'a>(alloc: Global, asked: &ArgMatches<'a>) -> Result<TypedNumber
     let word = required(asked, words::NUMBER)?;
     Ok(TypedNumber {
         word,
-        number: number_of(alloc, word)?,
+        number: number_of(
+            alloc,
+            word,
+            "not a number of a record, as 3; list prints the numbers",
+        )?,
     })
+}
+
+/// Why a word is no numbers of records. Of a range that goes backwards it says how it is typed.
+fn no_numbers(alloc: Global, word: &str) -> Result<String, AllocError> {
+    match reversed_range(word.as_bytes()) {
+        Some(TypedNumbers::Range { first, last }) => {
+            format!(in alloc; "{word}: a range begins with its smaller number; type {first}-{last}")
+        }
+        _ => format!(in alloc;
+            "{word}: neither a number of a record, as 3, nor a range of numbers, as 5-9"
+        ),
+    }
 }
 
 /// The numbers of records that are given, and the ranges of them.
@@ -218,8 +248,7 @@ fn numbers_asked(alloc: Global, asked: &ArgMatches<'_>) -> Result<Vec<TypedNumbe
     let mut numbers = Vec::with_capacity(alloc, typed.len())?;
     for word in typed {
         let Some(read) = read_numbers(word.as_bytes()) else {
-            let reason = "neither a number of a record, as 3, nor a range of numbers, as 5-9";
-            return Err(NoCommand::wrong(alloc, *word, reason));
+            return Err(NoCommand::Wrong(no_numbers(alloc, *word)?));
         };
         numbers.push(read)?;
     }
@@ -302,7 +331,11 @@ fn days_asked(
 /// The number of the first record that is looked at.
 fn first_asked(alloc: Global, asked: &ArgMatches<'_>) -> Result<u32, NoCommand> {
     match value_of(asked, words::FROM) {
-        Some(word) => number_of(alloc, word),
+        Some(word) => number_of(
+            alloc,
+            word,
+            "not a number of a record, from which on --from looks; a sender is typed after --sender",
+        ),
         None => Ok(1),
     }
 }
@@ -414,19 +447,26 @@ fn name_asked<'a>(alloc: Global, asked: &ArgMatches<'a>) -> Result<&'a str, NoCo
 fn new_name_asked<'a>(alloc: Global, asked: &ArgMatches<'a>) -> Result<&'a str, NoCommand> {
     let name = name_asked(alloc, asked)?;
     if reads_as_number(name.as_bytes()) {
-        let reason = "a number or range of records; did you forget the name?";
-        return Err(NoCommand::wrong(alloc, name, reason));
+        let text = format!(in alloc;
+            "{name}: a number or range of records, where the name of the hold belongs; type the name before it, as audit {name}"
+        )?;
+        return Err(NoCommand::Wrong(text));
     }
     Ok(name)
 }
 
-/// Which records a hold is about. They must be named.
-fn held_asked<'a>(alloc: Global, asked: &ArgMatches<'a>) -> Result<Choice<'a>, NoCommand> {
+/// Which records the hold of a name is about. They must be named.
+fn held_asked<'a>(
+    alloc: Global,
+    asked: &ArgMatches<'a>,
+    name: &str,
+) -> Result<Choice<'a>, NoCommand> {
     let mut choice = conditions_asked(alloc, asked)?;
     choice.numbers = numbers_asked(alloc, asked)?;
     if choice.is_empty() {
-        let reason = "name the records by their numbers, or by conditions as --sender";
-        return Err(NoCommand::Wrong(String::from_str(alloc, reason)?));
+        let reason =
+            "the name of the hold; name the records too, by their numbers as 3 5-9, or by conditions as --sender müller";
+        return Err(NoCommand::wrong(alloc, name, reason));
     }
     Ok(choice)
 }
@@ -461,7 +501,9 @@ fn check_asked<'a>(alloc: Global, asked: &ArgMatches<'a>) -> Result<Command<'a>,
             alloc,
             "an officer needs the folder of --rules",
         )?)),
-        None => Ok(Command::Check),
+        None => Ok(Command::Check {
+            head: head_asked(alloc, asked)?,
+        }),
     }
 }
 
@@ -508,6 +550,10 @@ fn reading_asked<'a>(
             new: required(asked, words::NEW)?,
         },
         "check" => check_asked(alloc, asked)?,
+        "history" => Command::History(history_asked(alloc, asked)?),
+        "certificates" => Command::Certificates {
+            numbers: numbers_asked(alloc, asked)?,
+        },
         "why" => Command::Why(why_asked(alloc, asked)?),
         _ => return Ok(None),
     }))
@@ -530,12 +576,12 @@ fn chosen_asked<'a>(
         ),
         "hold" => {
             let name = new_name_asked(alloc, asked)?;
-            (held_asked(alloc, asked)?, ChosenTask::Hold(name))
+            (held_asked(alloc, asked, name)?, ChosenTask::Hold(name))
         }
-        "release" => (
-            held_asked(alloc, asked)?,
-            ChosenTask::Release(name_asked(alloc, asked)?),
-        ),
+        "release" => {
+            let name = name_asked(alloc, asked)?;
+            (held_asked(alloc, asked, name)?, ChosenTask::Release(name))
+        }
         "report" => {
             let day = day_asked(alloc, asked, words::DAY)?;
             (conditions_asked(alloc, asked)?, ChosenTask::Report { day })
@@ -567,8 +613,13 @@ fn line_asked<'a>(
     asked: &ArgMatches<'a>,
 ) -> Result<CommandLine<'a>, NoCommand> {
     let store = required(asked, words::STORE)?;
+    let attribution = attribution_asked(alloc, asked)?;
     match command_asked(alloc, name, asked) {
-        Ok(command) => Ok(CommandLine { store, command }),
+        Ok(command) => Ok(CommandLine {
+            store,
+            attribution,
+            command,
+        }),
         Err(none) => Err(none),
     }
 }

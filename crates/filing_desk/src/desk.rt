@@ -1,6 +1,6 @@
 //! The desk: what it keeps, and how it is made and taken apart.
 
-ghost use Rattle.std.specs.Prelude.{◌≡◌, IfOk, IfErr};
+ghost use Rattle.std.specs.Prelude.{◌≡◌, [], IfOk, IfErr};
 ghost use Rattle.record_archive.specs.Archive.{Archive};
 
 use desk_flights::{Flights, PinnedPaths};
@@ -43,6 +43,14 @@ impl<A: Records> Desk<A> {
             last: 0,
             open_paths: None,
         })
+    }
+
+    /// Drops the captures in flight. The archive, the scripts and the programs stay as they are, and no ticket is given again.
+    pub fn drop_flights(&mut self)
+        ensures { (s : Standing) → StandsFor A.keeper self.old s
+            → StandsFor A.keeper self.new (record s { flights = [] }) }
+    {
+        self.flights = Flights::new(self.alloc);
     }
 
     /// Gives the archive back. Scripts, programs and captures in flight are dropped.

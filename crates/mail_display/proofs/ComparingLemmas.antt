@@ -3,7 +3,7 @@ use Rattle.std.proofs.Common.{◌≡◌, ℕ, Bool, true, false, cond, List, [],
 use Rattle.std.specs.Char.{is_whitespace, encode_utf8}
 use Rattle.std.specs.Str.{encode_utf8_all}
 use Rattle.std.proofs.lemmas.Str.{encodes-append}
-use Rattle.mail_display.specs.Comparing.{begins_white, one_space}
+use Rattle.mail_display.specs.Comparing.{one_space}
 
 -- whether the last of characters is white space
 abbrev ends_after : Bool → List ℕ → Bool

@@ -1,5 +1,5 @@
 -- Examples of the definitions.
-use Rattle.std.proofs.Common.{◌≡◌, ◌∷◌, ◌++◌, [], refl}
+use Rattle.std.proofs.Common.{◌≡◌, ◌∷◌, [], refl}
 use Rattle.std.specs.Prelude.{codes}
 use Rattle.mail_display.specs.Comparing.{one_space}
 use Rattle.mail_display.specs.Words.{word_at}

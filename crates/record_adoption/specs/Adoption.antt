@@ -4,7 +4,7 @@ use Rattle.std.specs.List.{AllByRecursion}
 use Rattle.sqlite.specs.Store.{Ghosts}
 use Rattle.sqlite.specs.Schema.{Schema}
 use Rattle.sqlite.specs.Tree.{Trees}
-use Rattle.sqlite.specs.Effect.{Database}
+use Rattle.sqlite.specs.Effect.{Database, IsDatabase}
 use Rattle.sqlite.specs.State.{Survives}
 use Rattle.sqlite.specs.Held.{Held, state}
 use Rattle.sqlite_keyed.specs.Lists.{sort_by}
@@ -254,10 +254,16 @@ pub record Sees {S : Type 0} (g : Ghosts S) (Are : Schema → Type 0) (old new :
   pub quiet : IsQuiet g old new
   pub survives : CommitsNothingOf g old new (Are (state g old).now.schema)
 
+-- these trees are those of a database that stores each of these archives, and is sound where the one before was
+pub record StoresEach (was : Database) (Is : Archive → Type 0) (trees : Trees) : Type 0 where
+  pub db : Database
+  pub stored : (a : Archive) → Is a → StoresArchive db a
+  pub sound : IsDatabase was → (a : Archive) → Is a → IsDatabase db
+  pub same : trees ≡ db.trees
+
 -- a crash leaves what it might have left before, or tables that keep each of these archives
 abbrev pub LeavesArchive : {S : Type 0} → Ghosts S → (old new : Held S) → (Archive → Type 0) → Type 0
-LeavesArchive g old new Is = Survives (state g old) (state g new) (λ (trees : Trees). (db : Database) ×
-    ((a : Archive) → Is a → StoresArchive db a) × (trees ≡ db.trees))
+LeavesArchive g old new Is = Survives (state g old) (state g new) (StoresEach (state g old).now Is)
 
 -- the rows of the plan, and what a store keeps beside the connection, are the archive's
 abbrev pub TellsContents : Contents → Archive → Type 0

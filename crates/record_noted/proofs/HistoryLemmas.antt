@@ -1,11 +1,12 @@
 -- A store beside which a history is kept.
-use Rattle.std.proofs.Common.{◌≡◌, ◌≤◌, ◌+◌, ℕ, List, [], ◌∷◌, ◌++◌, length, Ok, Err, Result, true, refl, sym, ap, subst, ◌∙◌, arith, IsTrue}
-use Rattle.std.specs.Prelude.{string_bytes}
+use Rattle.std.proofs.Common.{◌≡◌, ◌≤◌, ◌+◌, ℕ, List, [], ◌∷◌, ◌++◌, length, Ok, Err, Result, true, refl, sym, ap, subst, ◌∙◌, arith, inl, IsTrue}
+use Rattle.std.specs.Prelude.{OnOk}
 use Rattle.std.specs.Result.{IsErr, IsErrAnd}
 use Rattle.std.proofs.lemmas.Bool.{false≢true}
 use Rattle.sqlite.specs.Store.{Ghosts}
 use Rattle.sqlite.specs.Effect.{Database}
-use Rattle.sqlite.specs.State.{HasCleanDisk}
+use Rattle.sqlite.specs.State.{State, HasCleanDisk, Survives}
+use Rattle.sqlite.specs.Tree.{Trees}
 use Rattle.sqlite.specs.Held.{state}
 use Rattle.sqlite.proofs.StateLemmas.{survives_weaker}
 use Rattle.record_tables.specs.Events.{new_event, StoresEvents, IsPastEvents, KeepsEvents, NotesEvent}
@@ -19,11 +20,22 @@ use Rattle.record_archive.specs.Faults.{WhereRefused, is_trouble}
 use Rattle.record_archive.specs.declared.fault.ArchiveRefusal.{ArchiveRefusal}
 use Rattle.record_store.specs.Faults.{StoreFault}
 use Rattle.record_store.specs.Stores as store
-use Rattle.record_store.specs.Stores.{StandsFor, ObeysRows, TreesKeep}
+use Rattle.record_store.specs.Stores.{StandsFor, ObeysRows, TreesKeep, Behaves, Falls}
 use Rattle.record_store.specs.Companions.{IsReady, Brought, FailsStill, LeavesBoth}
 use Rattle.record_store.specs.declared.store.Store.{Store}
-use Rattle.record_noted.specs.Histories.{rows_from, rows_of, StandsWith, StandsTold, Becomes, Obeys, Leaves, DoesTold, IsTold}
+use Rattle.record_noted.specs.Histories.{rows_from, rows_of, StandsWith, StandsTold, Becomes, Obeys, Leaves, Notes, DoesTold, IsTold}
 use Rattle.record_noted.specs.declared.store.NotedStore.{NotedStore}
+
+-- a state that nothing has changed
+pub survives_itself : (s : State) (P : Trees → Type 0) → Survives s s P
+survives_itself s P = record {
+  clean = omega arith;
+  shield = λ h. h;
+  counts = omega arith;
+  limit = refl;
+  closes = λ clean is_open. inl is_open;
+  crash = λ clean db h. inl h;
+}
 
 -- ---- one line more
 
@@ -47,12 +59,12 @@ rows_past n mark (x ∷ ls) k low = (omega (arith, low), rows_past (n + 1) (mark
 
 -- ---- a call that notes its line
 
-module _ {S : Type 0} (g : Ghosts S) (old : NotedStore S) (line mark : List ℕ) (marked : mark ≡ mark_after (string_bytes old.mark) line) where
-  abbrev Notes : Database → Database → Type 0
-  Notes = NotesEvent (new_event old.next line mark)
+module _ {S : Type 0} (g : Ghosts S) (old : NotedStore S) (line mark : List ℕ) (marked : mark ≡ mark_after old.mark.items line) where
+  abbrev Adds : Database → Database → Type 0
+  Adds = NotesEvent (new_event old.next line mark)
 
   -- the history is one line longer in the tables
-  lines_noted : (a : Archive) (ls : List (List ℕ)) → StandsWith g old a ls → (was db : Database) → Notes was db
+  lines_noted : (a : Archive) (ls : List (List ℕ)) → StandsWith g old a ls → (was db : Database) → Adds was db
       → StoresEvents was (rows_of ls) → StoresEvents db (rows_of (ls ++ line ∷ []))
   lines_noted a ls r was db notes events =
       let past : IsPastEvents old.next (rows_of ls) = rows_past 1 [] ls old.next (omega (arith, r.next)) in
@@ -68,8 +80,8 @@ module _ {S : Type 0} (g : Ghosts S) (old : NotedStore S) (line mark : List ℕ)
   stands_noted : (new : NotedStore S) (a b : Archive) (ls : List (List ℕ)) → StandsWith g old a ls → StandsFor g new.store b
       → (HasCleanDisk (state g new.store.conn) → HasCleanDisk (state g old.store.conn))
       → (HasCleanDisk (state g new.store.conn) → IsTrue (state g old.store.conn).is_open
-      × Notes (state g old.store.conn).now (state g new.store.conn).now)
-      → new.next ≡ old.next + 1 → string_bytes new.mark ≡ mark → StandsWith g new b (ls ++ line ∷ [])
+      × Adds (state g old.store.conn).now (state g new.store.conn).now)
+      → new.next ≡ old.next + 1 → new.mark.items ≡ mark → StandsWith g new b (ls ++ line ∷ [])
   stands_noted new a b ls r stands falls brought number ends = record {
     stands = stands;
     next = omega (arith, number, length_more ls line, r.next);
@@ -79,12 +91,12 @@ module _ {S : Type 0} (g : Ghosts S) (old : NotedStore S) (line mark : List ℕ)
         lines_noted a ls r (state g old.store.conn).now (state g new.store.conn).now it.1 (r.lines (falls clean) it.0);
   }
 
-  pub obeys_noted : {X : Type 0} (new : NotedStore S) (x : X) (command : Archive → Result Archive ArchiveRefusal)
+  obeys_noted : {X : Type 0} (new : NotedStore S) (x : X) (command : Archive → Result Archive ArchiveRefusal)
       (Answers : Archive → X → Type 0)
       → (IsReady g KeepsEvents old.store → ObeysRows g old.store new.store (Ok x) command Answers)
-      → Brought {X = X} g KeepsEvents Notes old.store new.store (Ok x)
+      → Brought {X = X} g KeepsEvents Adds old.store new.store (Ok x)
       → (HasCleanDisk (state g new.store.conn) → HasCleanDisk (state g old.store.conn))
-      → new.next ≡ old.next + 1 → string_bytes new.mark ≡ mark → Obeys g old new (Ok x) command Answers line
+      → new.next ≡ old.next + 1 → new.mark.items ≡ mark → Obeys g old new (Ok x) command Answers line
   obeys_noted new x command Answers obeys brought falls number ends clean a ls r =
       let done = obeys (ready a ls r) clean a r.stands in
       (go (command a) done.0, done.1)
@@ -93,8 +105,8 @@ module _ {S : Type 0} (g : Ghosts S) (old : NotedStore S) (line mark : List ℕ)
       go (Ok b) stands = stands_noted new a b ls r stands falls (λ clean. brought a r.stands (ready a ls r) clean) number ends
       go (Err f) none = none
 
-  pub leaves_noted : (new : NotedStore S) (command : Archive → Result Archive ArchiveRefusal)
-      → LeavesBoth g KeepsEvents Notes old.store new.store command → Leaves g old new command line
+  leaves_noted : (new : NotedStore S) (command : Archive → Result Archive ArchiveRefusal)
+      → LeavesBoth g KeepsEvents Adds old.store new.store command → Leaves g old new command line
   leaves_noted new command left a ls r is_open =
       let made = left a r.stands (ready a ls r) is_open in
       survives_weaker (state g old.store.conn) (state g new.store.conn) _ _
@@ -109,6 +121,20 @@ module _ {S : Type 0} (g : Ghosts S) (old : NotedStore S) (line mark : List ℕ)
       ))
       made
 
+  -- the call succeeds
+  pub notes_done : {X : Type 0} (new : NotedStore S) (x : X) (command : Archive → Result Archive ArchiveRefusal)
+      (Answers : Archive → X → Type 0)
+      → (IsReady g KeepsEvents old.store → ObeysRows g old.store new.store (Ok x) command Answers)
+      → Brought {X = X} g KeepsEvents Adds old.store new.store (Ok x) → Behaves {X = X} g old.store new.store (Ok x)
+      → LeavesBoth g KeepsEvents Adds old.store new.store command
+      → new.next ≡ old.next + 1 → new.mark.items ≡ mark → Notes g old new (Ok x) command Answers line
+  notes_done new x command Answers obeys brought behaves left number ends = record {
+    was_clean = behaves.falls;
+    obeys = obeys_noted new x command Answers obeys brought behaves.falls number ends;
+    «open» = behaves.«open»;
+    crash = leaves_noted new command left;
+  }
+
 -- ---- a call that is refused
 
 -- the store after a refusal
@@ -121,7 +147,7 @@ pub stands_still : {S : Type 0} (g : Ghosts S) (old new : NotedStore S) (a : Arc
 stands_still g old new a ls r stands number mark falls still = record {
   stands = stands;
   next = number ∙ r.next;
-  mark = ap string_bytes mark ∙ r.mark;
+  mark = ap (λ m. m.items) mark ∙ r.mark;
   lines = λ clean is_open.
       let it = still clean is_open in
       subst (λ db. StoresEvents db (rows_of ls)) (sym it.1) (r.lines (falls clean) it.0);
@@ -142,7 +168,7 @@ passed_on {X = X} g old new (Err e) f command Answers line is same h =
 passed_on g old new (Ok x) f command Answers line is same h = absurd (false≢true is)
 
 -- the store refuses, or the archive
-pub refused_noted : {S X : Type 0} (g : Ghosts S) (old new : NotedStore S) (result : Result X StoreFault) (f : StoreFault)
+refused_noted : {S X : Type 0} (g : Ghosts S) (old new : NotedStore S) (result : Result X StoreFault) (f : StoreFault)
     (command : Archive → Result Archive ArchiveRefusal) (Answers : Archive → X → Type 0) (line : List ℕ) → IsErr result
     → IsErrAnd result (λ x. x ≡ f)
     → ((a : Archive) → StandsFor g old.store a → StandsFor g new.store a
@@ -156,26 +182,58 @@ refused_noted g old new result f command Answers line is same obeys still falls 
     (stands_still g old new a ls r done.0 number mark falls (λ clean is_open. still a r.stands clean is_open), done.1))
 
 -- there is no mark for the line
-pub unmarked : {S X : Type 0} (g : Ghosts S) (old : NotedStore S) (result : Result X StoreFault) (f : StoreFault)
+unmarked : {S X : Type 0} (g : Ghosts S) (old : NotedStore S) (result : Result X StoreFault) (f : StoreFault)
     (command : Archive → Result Archive ArchiveRefusal) (Answers : Archive → X → Type 0) (line : List ℕ) → IsErr result
     → IsErrAnd result (λ x. x ≡ f) → is_trouble f ≡ true → Obeys g old old result command Answers line
 unmarked g old result f command Answers line is same trouble =
     passed_on g old old result f command Answers line is same (λ a ls r. (r, λ clean. no_refusal f _ trouble))
+
+-- a refusal promises nothing of a success
+never_done : {X : Type 0} (result : Result X StoreFault) (P : Type 0) → IsErr result → OnOk result P
+never_done (Err e) P is = tt
+never_done (Ok x) P is = absurd (false≢true is)
+
+-- the call is refused by the store or the archive
+pub notes_refused : {S X : Type 0} (g : Ghosts S) (old : NotedStore S) (line mark : List ℕ) (marked : mark ≡ mark_after old.mark.items line)
+    (new : NotedStore S) (result : Result X StoreFault) (f : StoreFault) (command : Archive → Result Archive ArchiveRefusal)
+    (Answers : Archive → X → Type 0) → IsErr result → IsErrAnd result (λ x. x ≡ f)
+    → ((a : Archive) → StandsFor g old.store a → StandsFor g new.store a
+    × (HasCleanDisk (state g new.store.conn) → WhereRefused (λ r. command a ≡ Err r) f))
+    → FailsStill {X = X} g old.store new.store (Err f) → Falls g old.store new.store
+    → LeavesBoth g KeepsEvents (NotesEvent (new_event old.next line mark)) old.store new.store command
+    → new.next ≡ old.next → new.mark ≡ old.mark → Notes g old new result command Answers line
+notes_refused g old line mark marked new result f command Answers is same obeys still falls left number ends = record {
+  was_clean = falls;
+  obeys = refused_noted g old new result f command Answers line is same obeys still falls number ends;
+  «open» = λ clean. never_done result _ is;
+  crash = leaves_noted g old line mark marked new command left;
+}
+
+-- the call is refused before the store is asked
+pub notes_unmarked : {S X : Type 0} (g : Ghosts S) (old : NotedStore S) (result : Result X StoreFault) (f : StoreFault)
+    (command : Archive → Result Archive ArchiveRefusal) (Answers : Archive → X → Type 0) (line : List ℕ) → IsErr result
+    → IsErrAnd result (λ x. x ≡ f) → is_trouble f ≡ true → Notes g old old result command Answers line
+notes_unmarked g old result f command Answers line is same trouble = record {
+  was_clean = λ clean. clean;
+  obeys = unmarked g old result f command Answers line is same trouble;
+  «open» = λ clean. never_done result _ is;
+  crash = λ a ls r is_open. survives_itself (state g old.store.conn) _;
+}
 
 -- ---- a history that explains the archive
 
 pub told : {S X : Type 0} (g : Ghosts S) (old new : NotedStore S) (result : Result X StoreFault)
     (command : Archive → Result Archive ArchiveRefusal) (Answers : Archive → X → Type 0) (line : List ℕ) (deed : Archive → Deed) (e : Event)
     → line ≡ line_of old.next e → ((a : Archive) → StandsFor g old.store a → e.deed ≡ deed a) → TellsInLines deed command
-    → Obeys g old new result command Answers line → Leaves g old new command line → IsTold g old new result command
-told {S} {X} g old new result command Answers line deed e is same tells obeys left = record {
-  does = does result obeys;
+    → Notes g old new result command Answers line → IsTold g old new result command
+told {S} {X} g old new result command Answers line deed e is same tells notes = record {
+  does = does result notes.obeys;
   crash = λ (a : Archive) s is_open.
       survives_weaker (state g old.store.conn) (state g new.store.conn) _ _ (λ clean trees it. (
         it.0,
         it.1,
         (s.0 ++ line ∷ [], it.2, one_more a it.0 s.0 s.1 s.2 it.1),
-      )) (left a s.0 s.1 is_open);
+      )) (notes.crash a s.0 s.1 is_open);
 }
   where
     one_more : (a b : Archive) (ls : List (List ℕ)) → StandsWith g old a ls → Told a ls → command a ≡ Ok b → Told b (ls ++ line ∷ [])
@@ -195,7 +253,7 @@ told {S} {X} g old new result command Answers line deed e is same tells obeys le
 
 pub stands_begun : {S : Type 0} (g : Ghosts S) (old : Store S) (new : NotedStore S) (a : Archive) → StandsFor g old a → StandsFor g new.store a
     → (HasCleanDisk (state g new.store.conn) → IsTrue (state g old.conn).is_open × StoresEvents (state g new.store.conn).now [])
-    → new.next ≡ 1 → string_bytes new.mark ≡ [] → StandsWith g new a []
+    → new.next ≡ 1 → new.mark.items ≡ [] → StandsWith g new a []
 stands_begun g old new a was stands begun number mark = record {
   stands = stands;
   next = number;

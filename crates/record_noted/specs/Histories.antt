@@ -1,5 +1,5 @@
 -- A store beside which a history is kept, and what its calls promise.
-use Rattle.std.specs.Prelude.{◌≡◌, ◌+◌, ℕ, List, [], ◌∷◌, ◌++◌, length, Result, Ok, Err, IsTrue, string_bytes}
+use Rattle.std.specs.Prelude.{◌≡◌, ◌+◌, ℕ, List, [], ◌∷◌, ◌++◌, length, Result, Ok, Err, OnOk, IsTrue}
 use Rattle.sqlite.specs.Store.{Ghosts}
 use Rattle.sqlite.specs.State.{HasCleanDisk, Survives}
 use Rattle.sqlite.specs.Tree.{Trees}
@@ -14,7 +14,7 @@ use Rattle.record_archive.specs.Calls.{Makes, KeepsMade}
 use Rattle.record_archive.specs.Faults.{WhereRefused}
 use Rattle.record_archive.specs.declared.fault.ArchiveRefusal.{ArchiveRefusal}
 use Rattle.record_store.specs.Faults.{StoreFault}
-use Rattle.record_store.specs.Stores.{StandsFor, TreesKeep}
+use Rattle.record_store.specs.Stores.{StandsFor, TreesKeep, Falls}
 use Rattle.record_noted.specs.declared.store.NotedStore.{NotedStore}
 
 -- the rows of lines, numbered upwards, each with its mark
@@ -30,7 +30,7 @@ rows_of ls = rows_from 1 [] ls
 pub record StandsWith {S : Type 0} (g : Ghosts S) (noted : NotedStore S) (a : Archive) (ls : List (List ℕ)) : Type 0 where
   pub stands : StandsFor g noted.store a
   pub next : noted.next ≡ length ls + 1
-  pub mark : string_bytes noted.mark ≡ chain ls
+  pub mark : noted.mark.items ≡ chain ls
   pub lines : HasCleanDisk (state g noted.store.conn) → IsTrue (state g noted.store.conn).is_open →
       StoresEvents (state g noted.store.conn).now (rows_of ls)
 
@@ -67,6 +67,15 @@ module _ {S : Type 0} (g : Ghosts S) (old new : NotedStore S) where
   Leaves command line = (a : Archive) → (ls : List (List ℕ)) → StandsWith g old a ls → IsTrue (state g old.store.conn).is_open →
       Survives (state g old.store.conn) (state g new.store.conn)
       (λ (trees : Trees). KeepsMade (λ image b. TreesKeepWith image b (ls ++ line ∷ [])) trees (command a))
+
+  -- A call carries out a command of the archive, and notes it by this line. What is clean after it was clean before, and where
+  -- it succeeds the connection is open.
+  pub record Notes {X : Type 0} (result : Result X StoreFault) (command : Archive → Result Archive ArchiveRefusal)
+      (Answers : Archive → X → Type 0) (line : List ℕ) : Type 0 where
+    pub was_clean : Falls g old.store new.store
+    pub obeys : Obeys result command Answers line
+    pub «open» : HasCleanDisk (state g new.store.conn) → OnOk result (IsTrue (state g new.store.conn).is_open)
+    pub crash : Leaves command line
 
   -- The same where the history explains the archive: afterwards it explains the one that the command makes, whatever a crash
   -- leaves.

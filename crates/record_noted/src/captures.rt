@@ -8,7 +8,7 @@ ghost use Rattle.record_archive.specs.Archive.{AreClasses};
 ghost use Rattle.record_archive.specs.Lines.{line_view};
 ghost use Rattle.record_history.specs.Replay.{seal};
 ghost use Rattle.record_history.specs.Events.{Event, Captured, Filing};
-ghost use Rattle.record_noted.specs.Histories.{Obeys, Leaves, IsTold, IsLineOf};
+ghost use Rattle.record_noted.specs.Histories.{Notes, IsTold, IsLineOf};
 
 use crate::store::NotedStore;
 use class_paths::Paths;
@@ -30,18 +30,16 @@ impl<S: Alter> NotedStore<S> {
         requires some { 0 < length paths.now }
         requires day { IsCaptureDay day }
         requires paths { AreClasses self.old.store.plan paths.now }
-        ensures obeys { Obeys S.Store self.old self.new result
+        ensures { Notes S.Store self.old self.new result
             (λ a. archive.capture a body.now (number_of_day day) paths.now)
             (λ a lines. map line_view lines.items ≡
             archive.capture_lines a (number_of_day day) paths.now) line.now }
-        ensures crash { Leaves S.Store self.old self.new
-            (λ a. archive.capture a body.now (number_of_day day) paths.now) line.now }
     {
         let mark = self.mark_of(line)?;
         let note = Note {
             number: self.next,
             line,
-            mark: mark.as_bytes(),
+            mark: mark.as_slice(),
         };
         let lines = self.store.capture_with(body, day, paths, note)?;
         self.next += 1;
@@ -65,12 +63,10 @@ impl<S: Alter> NotedStore<S> {
         requires some { 0 < length paths.now }
         requires day { IsCaptureDay day }
         requires paths { AreClasses self.old.store.plan paths.now }
-        ensures obeys { Obeys S.Store self.old self.new result
+        ensures notes { Notes S.Store self.old self.new result
             (λ a. archive.capture a body.now (number_of_day day) paths.now)
             (λ a lines. map line_view lines.items ≡
             archive.capture_lines a (number_of_day day) paths.now) line.now }
-        ensures crash { Leaves S.Store self.old self.new
-            (λ a. archive.capture a body.now (number_of_day day) paths.now) line.now }
         ensures told { (e : Event) (filing : Option Filing)
             → IsLineOf self.old line.now (Captured self.old.store.next (seal body.now)
             (number_of_day day) filing paths.now) e

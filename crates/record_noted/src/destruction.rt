@@ -6,7 +6,7 @@ ghost use Rattle.class_plan.specs.declared.schedules.Schedule.{Schedule};
 ghost use Rattle.record_archive.specs.Archive as archive;
 ghost use Rattle.record_archive.specs.Calls.{Quietly};
 ghost use Rattle.record_history.specs.Events.{Event, Destroyed};
-ghost use Rattle.record_noted.specs.Histories.{Obeys, Leaves, IsTold, IsLineOf};
+ghost use Rattle.record_noted.specs.Histories.{Notes, IsTold, IsLineOf};
 
 use crate::store::NotedStore;
 use class_plan::Date;
@@ -17,16 +17,14 @@ use sqlite::Alter;
 
 impl<S: Alter> NotedStore<S> {
     fn note_destroy(&mut self, line: &[u8], number: u32, day: Date) -> Result<(), StoreFault>
-        ensures obeys { Obeys S.Store self.old self.new result
+        ensures { Notes S.Store self.old self.new result
             (λ a. archive.destroy_on a number (epoch_day day)) Quietly line.now }
-        ensures crash { Leaves S.Store self.old self.new
-            (λ a. archive.destroy_on a number (epoch_day day)) line.now }
     {
         let mark = self.mark_of(line)?;
         let note = Note {
             number: self.next,
             line,
-            mark: mark.as_bytes(),
+            mark: mark.as_slice(),
         };
         self.store.destroy_with(number, day, note)?;
         self.next += 1;
@@ -39,10 +37,8 @@ impl<S: Alter> NotedStore<S> {
     /// Refused with 80 to 84, 89 (`sqlite`, or after 4,294,967,294 events) or 99 (no memory). A refusal changes nothing, and
     /// notes nothing.
     pub fn destroy(&mut self, line: &[u8], number: u32, day: Date) -> Result<(), StoreFault>
-        ensures obeys { Obeys S.Store self.old self.new result
+        ensures notes { Notes S.Store self.old self.new result
             (λ a. archive.destroy_on a number (epoch_day day)) Quietly line.now }
-        ensures crash { Leaves S.Store self.old self.new
-            (λ a. archive.destroy_on a number (epoch_day day)) line.now }
         ensures told { (e : Event) (on : ℕ) (schedule : Schedule) → epoch_day day ≡ pos on
             → IsLineOf self.old line.now (Destroyed number on schedule) e
             → IsTold S.Store self.old self.new result

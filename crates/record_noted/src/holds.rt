@@ -3,7 +3,7 @@
 ghost use Rattle.record_archive.specs.Archive as archive;
 ghost use Rattle.record_archive.specs.Calls.{Quietly};
 ghost use Rattle.record_history.specs.Events.{Event, Held, Released};
-ghost use Rattle.record_noted.specs.Histories.{Obeys, Leaves, IsTold, IsLineOf};
+ghost use Rattle.record_noted.specs.Histories.{Notes, IsTold, IsLineOf};
 
 use crate::store::NotedStore;
 use record_history::commands_are_told;
@@ -13,16 +13,14 @@ use sqlite::Alter;
 
 impl<S: Alter> NotedStore<S> {
     fn note_hold(&mut self, line: &[u8], name: &[u8], number: u32) -> Result<(), StoreFault>
-        ensures obeys { Obeys S.Store self.old self.new result
+        ensures { Notes S.Store self.old self.new result
             (λ a. archive.hold a name.now number) Quietly line.now }
-        ensures crash { Leaves S.Store self.old self.new
-            (λ a. archive.hold a name.now number) line.now }
     {
         let mark = self.mark_of(line)?;
         let note = Note {
             number: self.next,
             line,
-            mark: mark.as_bytes(),
+            mark: mark.as_slice(),
         };
         self.store.hold_with(name, number, note)?;
         self.next += 1;
@@ -35,10 +33,8 @@ impl<S: Alter> NotedStore<S> {
     /// Refused with 80, 84, 86, 89 (`sqlite`, or after 4,294,967,294 events) or 99 (no memory). A refusal changes nothing,
     /// and notes nothing.
     pub fn hold(&mut self, line: &[u8], name: &[u8], number: u32) -> Result<(), StoreFault>
-        ensures obeys { Obeys S.Store self.old self.new result
+        ensures notes { Notes S.Store self.old self.new result
             (λ a. archive.hold a name.now number) Quietly line.now }
-        ensures crash { Leaves S.Store self.old self.new
-            (λ a. archive.hold a name.now number) line.now }
         ensures told { (e : Event) → IsLineOf self.old line.now (Held name.now number) e
             → IsTold S.Store self.old self.new result (λ a. archive.hold a name.now number) }
     {
@@ -47,16 +43,14 @@ impl<S: Alter> NotedStore<S> {
     }
 
     fn note_release(&mut self, line: &[u8], name: &[u8], number: u32) -> Result<(), StoreFault>
-        ensures obeys { Obeys S.Store self.old self.new result
+        ensures { Notes S.Store self.old self.new result
             (λ a. archive.release a name.now number) Quietly line.now }
-        ensures crash { Leaves S.Store self.old self.new
-            (λ a. archive.release a name.now number) line.now }
     {
         let mark = self.mark_of(line)?;
         let note = Note {
             number: self.next,
             line,
-            mark: mark.as_bytes(),
+            mark: mark.as_slice(),
         };
         self.store.release_with(name, number, note)?;
         self.next += 1;
@@ -69,10 +63,8 @@ impl<S: Alter> NotedStore<S> {
     /// Refused with 80, 85, 89 (`sqlite`, or after 4,294,967,294 events) or 99 (no memory). A refusal changes nothing, and
     /// notes nothing.
     pub fn release(&mut self, line: &[u8], name: &[u8], number: u32) -> Result<(), StoreFault>
-        ensures obeys { Obeys S.Store self.old self.new result
+        ensures notes { Notes S.Store self.old self.new result
             (λ a. archive.release a name.now number) Quietly line.now }
-        ensures crash { Leaves S.Store self.old self.new
-            (λ a. archive.release a name.now number) line.now }
         ensures told { (e : Event) → IsLineOf self.old line.now (Released name.now number) e
             → IsTold S.Store self.old self.new result (λ a. archive.release a name.now number) }
     {

@@ -4,8 +4,11 @@
 
 mod captures;
 mod destruction;
+mod events;
 mod holds;
+mod opening;
 mod plans;
 mod store;
 
+pub use opening::{OpenFault, Opened};
 pub use store::NotedStore;

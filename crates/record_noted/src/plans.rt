@@ -3,7 +3,7 @@
 ghost use Rattle.record_archive.specs.Archive as archive;
 ghost use Rattle.record_archive.specs.Calls.{Quietly};
 ghost use Rattle.record_history.specs.Events.{Event, ClassAdded, PlanReplaced};
-ghost use Rattle.record_noted.specs.Histories.{Obeys, Leaves, IsTold, IsLineOf};
+ghost use Rattle.record_noted.specs.Histories.{Notes, IsTold, IsLineOf};
 
 use crate::store::NotedStore;
 use class_plan::Plan;
@@ -14,16 +14,14 @@ use sqlite::Alter;
 
 impl<S: Alter> NotedStore<S> {
     fn note_add_class(&mut self, line: &[u8], path: &[u8]) -> Result<(), StoreFault>
-        ensures obeys { Obeys S.Store self.old self.new result
+        ensures { Notes S.Store self.old self.new result
             (λ a. archive.add_class a path.now) Quietly line.now }
-        ensures crash { Leaves S.Store self.old self.new
-            (λ a. archive.add_class a path.now) line.now }
     {
         let mark = self.mark_of(line)?;
         let note = Note {
             number: self.next,
             line,
-            mark: mark.as_bytes(),
+            mark: mark.as_slice(),
         };
         self.store.add_class_with(path, note)?;
         self.next += 1;
@@ -36,10 +34,8 @@ impl<S: Alter> NotedStore<S> {
     /// Refused with 52, 53, 54, 56, 89 (`sqlite`, or after 4,294,967,294 events) or 99 (no memory). A refusal changes
     /// nothing, and notes nothing.
     pub fn add_class(&mut self, line: &[u8], path: &[u8]) -> Result<(), StoreFault>
-        ensures obeys { Obeys S.Store self.old self.new result
+        ensures notes { Notes S.Store self.old self.new result
             (λ a. archive.add_class a path.now) Quietly line.now }
-        ensures crash { Leaves S.Store self.old self.new
-            (λ a. archive.add_class a path.now) line.now }
         ensures told { (e : Event) → IsLineOf self.old line.now (ClassAdded path.now) e
             → IsTold S.Store self.old self.new result (λ a. archive.add_class a path.now) }
     {
@@ -48,16 +44,14 @@ impl<S: Alter> NotedStore<S> {
     }
 
     fn note_revise(&mut self, line: &[u8], plan: Plan) -> Result<(), StoreFault>
-        ensures obeys { Obeys S.Store self.old self.new result
+        ensures { Notes S.Store self.old self.new result
             (λ a. archive.revise a plan) Quietly line.now }
-        ensures crash { Leaves S.Store self.old self.new
-            (λ a. archive.revise a plan) line.now }
     {
         let mark = self.mark_of(line)?;
         let note = Note {
             number: self.next,
             line,
-            mark: mark.as_bytes(),
+            mark: mark.as_slice(),
         };
         self.store.revise_with(plan, note)?;
         self.next += 1;
@@ -70,10 +64,8 @@ impl<S: Alter> NotedStore<S> {
     /// Refused with 57, 89 (`sqlite`, or after 4,294,967,294 events) or 99 (no memory). A refusal changes nothing, and
     /// notes nothing.
     pub fn revise(&mut self, line: &[u8], plan: Plan) -> Result<(), StoreFault>
-        ensures obeys { Obeys S.Store self.old self.new result
+        ensures notes { Notes S.Store self.old self.new result
             (λ a. archive.revise a plan) Quietly line.now }
-        ensures crash { Leaves S.Store self.old self.new
-            (λ a. archive.revise a plan) line.now }
         ensures told { (e : Event) → IsLineOf self.old line.now (PlanReplaced plan) e
             → IsTold S.Store self.old self.new result (λ a. archive.revise a plan) }
     {

@@ -1,6 +1,6 @@
 //! The store with its history, and the history's beginning.
 
-ghost use Rattle.std.specs.Prelude.{◌≡◌, ◌<◌, ℕ, List, [], true, IfOk, IfErr, OnOk, string_bytes};
+ghost use Rattle.std.specs.Prelude.{◌≡◌, ◌<◌, ℕ, List, [], true, IfOk, IfErr, OnOk};
 ghost use Rattle.record_history.specs.Chain.{mark_after};
 ghost use Rattle.record_archive.specs.Archive.{Archive, empty_archive};
 ghost use Rattle.record_archive.specs.Faults.{is_trouble};
@@ -21,7 +21,7 @@ pub struct NotedStore<S: Alter> {
     /// The number of the next event.
     pub(crate) next: u32,
     /// The mark of the last event; empty where there is none.
-    pub(crate) mark: String,
+    pub(crate) mark: Vec<u8>,
 }
 
 impl<S: Alter> NotedStore<S> {
@@ -46,7 +46,7 @@ impl<S: Alter> NotedStore<S> {
                 alloc,
                 store,
                 next: 1,
-                mark: String::new(alloc),
+                mark: Vec::new(alloc),
             }),
             Err(fault) => Err((fault, store)),
         }
@@ -60,17 +60,17 @@ impl<S: Alter> NotedStore<S> {
     }
 
     /// The mark of the last event: 64 hexadecimal digits, or none where there is no event.
-    pub fn mark(&self) -> &str
-        ensures { result.now ≡ string_bytes self.now.mark }
+    pub fn mark(&self) -> &[u8]
+        ensures { result.now ≡ self.now.mark.items }
     {
-        self.mark.as_str()
+        self.mark.as_slice()
     }
 
     /// The mark of the next event, which has this line. Refused with 89 after 4,294,967,294 events (`NoRowid`), or with
     /// 99 (no memory).
-    pub(crate) fn mark_of(&self, line: &[u8]) -> Result<String, StoreFault>
-        ensures mark { IfOk result (λ m. string_bytes m ≡
-            mark_after (string_bytes self.now.mark) line.now) }
+    pub(crate) fn mark_of(&self, line: &[u8]) -> Result<Vec<u8>, StoreFault>
+        ensures mark { IfOk result (λ m. m.items ≡
+            mark_after self.now.mark.items line.now) }
         ensures room { OnOk result (self.now.next < 4294967295) }
         ensures trouble { IfErr result (λ f. is_trouble f ≡ true) }
     {
@@ -78,8 +78,8 @@ impl<S: Alter> NotedStore<S> {
             let full = Error::SqliteFailure(ErrorCode::NoRowid);
             return Err(StoreFault::Database(Cause::Sqlite(full)));
         }
-        let mark = next_mark(self.alloc, self.mark.as_bytes(), line)?;
-        Ok(mark)
+        let mark = next_mark(self.alloc, self.mark.as_slice(), line)?;
+        Ok(mark.into_bytes())
     }
 
     /// The store, to look at.

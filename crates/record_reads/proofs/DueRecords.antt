@@ -1,13 +1,11 @@
 -- What the query of due records shows of the tables.
-use Rattle.std.proofs.Common.{◌≡◌, ◌≤◌, ℕ, pos, List, [], ◌∷◌, ◌++◌, map, filter, flat_map, length, Bool, true, false, None, Some}
-use Rattle.std.proofs.Common.{cond, ◌&&◌, codes, refl, sym, ap, ap₂, subst, ◌∙◌, Ordering, Less, Equal, Greater, is_gt}
+use Rattle.std.proofs.Common.{◌≡◌, ◌≤◌, ℕ, pos, List, [], ◌∷◌, map, filter, length, true, false, None, Some}
+use Rattle.std.proofs.Common.{cond, codes, refl, sym, ap, subst, ◌∙◌, Ordering, Less, Equal, Greater, is_gt}
 use Rattle.std.proofs.Common.{is_eq, int_cmp, true≢false, IsPermutation, arith}
 use Rattle.std.specs.List.{AllByRecursion}
 use Rattle.std.specs.Cmp.{IsTotalOrder}
 use Rattle.std.specs.Ordering.{ordering_reverse}
-use Rattle.std.proofs.Math.Bool.{and-true, and-false}
 use Rattle.std.proofs.lemmas.Cmp.{int_cmp_total, on_total, then_total}
-use Rattle.std.proofs.lemmas.List.Elements.{filter-append}
 use Rattle.std.proofs.lemmas.List.Sorted.{IsPermutation-map, IsPermutation-trans}
 use Rattle.sqlite.specs.declared.types.Value.TheVariants.{Null, Int}
 use Rattle.sqlite.specs.Order.{Row}
@@ -25,10 +23,10 @@ use Rattle.sqlite.specs.Collation.TheVariants.{Binary}
 use Rattle.sqlite_value.specs.Keys.{ascending}
 use Rattle.sqlite_value.proofs.OrderLemmas.{value_cmp-Int}
 use Rattle.sqlite_trees.specs.Tree.{IsAscending}
-use Rattle.sqlite_keyed.specs.Lists.{sort_by, insert_sorted, pairs}
+use Rattle.sqlite_keyed.specs.Lists.{sort_by, insert_sorted}
 use Rattle.sqlite_keyed.proofs.ListLemmas.{IsPermutation-flat_map, all_weaker, all-map, all-flat_map, ascending-append}
-use Rattle.sqlite_keyed.proofs.ListLemmas.{ascending-map, ascending_weaker, ascending-filter, filter-map, map-map}
-use Rattle.sqlite_keyed.proofs.ListLemmas.{map-flat_map, flat_map_same_on, filter_same, filter_none, all_of}
+use Rattle.sqlite_keyed.proofs.ListLemmas.{ascending-map, ascending_weaker, ascending-filter, map-map}
+use Rattle.sqlite_keyed.proofs.ListLemmas.{map-flat_map, flat_map_same_on}
 use Rattle.sqlite_keyed.proofs.KeyedLemmas.{Less-from_lt}
 use Rattle.sqlite_keyed.proofs.SortLemmas.{sorted_unique, IsPermutation-sort_by}
 use Rattle.sqlite_keyed.proofs.RuleLemmas.{at_most_one}
@@ -44,6 +42,7 @@ use Rattle.record_tables.specs.Reads.{is_by, due_cmp, dues_by}
 use Rattle.record_reads.specs.DueRecords.{DueRecord, due_record, is_of, with_records, due_records_by, due_record_values}
 use Rattle.record_reads.specs.DueRecords.{ReadsDueRecord, FitsDueRecord}
 use Rattle.record_tables.proofs.Texts.{on_table, alone}
+use Rattle.record_reads.proofs.Joins.{beside, joined as joined_by, is_asked, asked_is}
 
 abbrev pub select_due_records : List ℕ
 select_due_records =
@@ -131,32 +130,8 @@ dues_rise day t keyed =
 abbrev Pair : Type 0
 Pair = Due × Record
 
-abbrev beside : Due → Record → Pair
-beside d r = (d, r)
-
-abbrev is_asked : ℕ → Pair → Bool
-is_asked day a = is_of a.0 a.1 && is_by day a.0
-
 abbrev joined : List Record → List Due → List Pair
-joined rs = flat_map (λ d. map (beside d) (filter (is_of d) rs))
-
-filter_both : (p : Record → Bool) (b : Bool) (d : Due) (rs : List Record)
-    → map (beside d) (filter (λ r. p r && b) rs) ≡ cond b (map (beside d) (filter p rs)) []
-filter_both p true d rs = ap (map (beside d)) (filter_same (λ r. p r && true) p (λ r. and-true (p r)) rs)
-filter_both p false d rs = ap (map (beside d)) (filter_none _ rs (all_of _ (λ r. and-false (p r)) rs))
-
--- the pairs that the query selects are the due days up to the day, each with its record
-asked_is : (day : ℕ) (rs : List Record) (ds : List Due) → filter (is_asked day) (pairs ds rs) ≡ joined rs (filter (is_by day) ds)
-asked_is day rs [] = refl
-asked_is day rs (d ∷ ds) =
-    filter-append (is_asked day) (map (beside d) rs) (pairs ds rs)
-    ∙ ap₂ ◌++◌ (filter-map (is_asked day) (beside d) rs ∙ filter_both (is_of d) (is_by day d) d rs) (asked_is day rs ds)
-    ∙ go (is_by day d)
-  where
-    go : (b : Bool) → cond b (map (beside d) (filter (is_of d) rs)) []
-        ++ joined rs (filter (is_by day) ds) ≡ joined rs (cond b (d ∷ filter (is_by day) ds) (filter (is_by day) ds))
-    go true = refl
-    go false = refl
+joined = joined_by is_of
 
 few_rise : (R : Pair → Pair → Type 0) (d : Due) (rs : List Record) → length rs ≤ 1 → IsAscending R (map (beside d) rs)
 few_rise R d [] few = tt
@@ -200,12 +175,13 @@ shows_due_records old new rows day t s keyed h =
     (last_table db s.schema.common.records.tree record_row record_key t.records (seen old.now.trees _ ∙ s.records) keyed.records (at_end db)) in
     let out : Pair → Output = λ a. output q (params ∷ due_row a.0 ∷ record_row a.1 ∷ []) in
     let matched =
-    matches_are q db params source (is_asked day) (λ a.
+    matches_are q db params source (is_asked is_of (is_by day)) (λ a.
     then_term (at_ints false Eq (pos a.1.number) (pos a.0.number))
     (last_term (at_ints false Le (pos a.0.day) (pos day)))) in
     let ys = joined t.records (dues_by day t) in
     let kept : answer.kept ≡ map out (joined t.records (filter (is_by day) t.dues)) =
-    answer.distinct ∙ ap (map (output q)) (answer.grouped ∙ matched) ∙ map-map (output q) _ _ ∙ ap (map out) (asked_is day t.records t.dues) in
+    answer.distinct ∙ ap (map (output q)) (answer.grouped ∙ matched) ∙ map-map (output q) _ _
+    ∙ ap (map out) (asked_is is_of (is_by day) t.records t.dues) in
     let same : IsPermutation (map out (joined t.records (filter (is_by day) t.dues))) answer.ordered =
     subst (λ l. IsPermutation l answer.ordered) kept answer.same in
     let sorted : IsPermutation ys (joined t.records (filter (is_by day) t.dues)) =

@@ -2,8 +2,11 @@ pub mod Queries
 pub mod TypedLemmas
 pub mod ReadLemmas
 pub mod LookupLemmas
+pub mod Joins
+pub mod LiveBodies
 pub mod DueRecords
 pub mod StoredDueLemmas
 pub mod Quiet
 pub mod RawLemmas
 pub mod PageReads
+pub mod EventReads

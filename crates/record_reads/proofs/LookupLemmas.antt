@@ -27,7 +27,7 @@ use Rattle.record_reads.proofs.ReadLemmas.{answers}
 
 -- ---- what they show
 
-same_test : (m n : ℕ) → int_eq (pos m) (pos n) ≡ (m == n)
+pub same_test : (m n : ℕ) → int_eq (pos m) (pos n) ≡ (m == n)
 same_test m n = grind (arith, ints)
 
 test_key : (n m : ℕ) → list_all (holds ((Int (pos n) ∷ []) ∷ (Int (pos m) ∷ []) ∷ [])) key_test ≡ (m == n)
@@ -54,7 +54,7 @@ bodies_numbered n t = map (λ (m : Message). m.body) (filter (λ (m : Message). 
 abbrev pub body_values : List ℕ → Row
 body_values body = Blob body ∷ []
 
-few_messages : (n : ℕ) (t : Tables) → AreKeyed t → length (filter (λ (m : Message). m.number == n) t.messages) ≤ 1
+pub few_messages : (n : ℕ) (t : Tables) → AreKeyed t → length (filter (λ (m : Message). m.number == n) t.messages) ≤ 1
 few_messages n t keyed = at_most_one message_key (pos n) (λ (m : Message). m.number == n) (λ m e. same_test m.number n ∙ e) t.messages keyed.messages
 
 pub few_bodies : (n : ℕ) (t : Tables) → AreKeyed t → length (bodies_numbered n t) ≤ 1

@@ -5,3 +5,4 @@ pub mod RawRows
 pub mod DueRecords
 pub mod StoredDues
 pub mod Pages
+pub mod Events

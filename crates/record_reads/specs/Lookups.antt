@@ -1,5 +1,5 @@
 -- Rows that are looked up by their keys, and the connection after a look.
-use Rattle.std.specs.Prelude.{◌≡◌, ◌==◌, ℕ, Bool, false, List, Option, option_map, find, IsTrue, Result, Err}
+use Rattle.std.specs.Prelude.{◌≡◌, ◌==◌, ℕ, Bool, false, List, Option, None, Some, option_map, find, if◌then◌else◌, IsTrue, Result, Err}
 use Rattle.std.specs.List.{list_any}
 use Rattle.sqlite.specs.Store.{Ghosts}
 use Rattle.sqlite.specs.State.{HasCleanDisk, Survives}
@@ -16,6 +16,14 @@ record_with n t = find (λ (r : Record). r.number == n) t.records
 
 abbrev pub body_with : ℕ → Tables → Option (List ℕ)
 body_with n t = option_map (λ (m : Message). m.body) (find (λ (m : Message). m.number == n) t.messages)
+
+abbrev pub live_body_in : Tables → Option Record → Option (List ℕ)
+live_body_in t None = None
+live_body_in t (Some r) = if r.destroyed then None else body_with r.message t
+
+-- the octets of the message of the record with a number, if it is not destroyed
+abbrev pub live_body_with : ℕ → Tables → Option (List ℕ)
+live_body_with n t = live_body_in t (record_with n t)
 
 abbrev pub has_hold_of : List ℕ → ℕ → Tables → Bool
 has_hold_of name n t = list_any (is_hold name n) t.holds

@@ -3,6 +3,8 @@
 
 mod cells;
 pub mod due_records;
+pub mod events;
+pub mod live_bodies;
 pub mod lookup;
 pub mod pages;
 pub mod placed_holds;

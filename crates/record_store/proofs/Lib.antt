@@ -20,3 +20,4 @@ pub mod EntryLoops
 pub mod EntryReads
 pub mod EntryRows
 pub mod RepositoryLemmas
+pub mod EventLemmas

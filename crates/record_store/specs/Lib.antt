@@ -1,4 +1,5 @@
 pub mod Stores
+pub mod Messages
 pub mod Layouts
 pub mod Faults
 pub mod Captures
@@ -7,3 +8,4 @@ pub mod Destruction
 pub mod Revisions
 pub mod Entries
 pub mod Companions
+pub mod Events

@@ -5,23 +5,24 @@ ghost use Rattle.sqlite.specs.State.{HasCleanDisk};
 ghost use Rattle.sqlite.specs.Held.{state};
 ghost use Rattle.record_archive.specs.Archive as archive;
 ghost use Rattle.record_archive.specs.Archive.{Archive};
-ghost use Rattle.record_store.specs.Stores.{StandsFor, Tells, LeavesAll, Falls, IsNeverOwn};
+ghost use Rattle.record_store.specs.Messages.{body_in};
+ghost use Rattle.record_store.specs.Stores.{StandsFor, Tells, Behaves, LeavesAll, Falls, IsNeverOwn};
 
 use crate::fault::{LOST, StoreFault, lost_or};
 use crate::store::Store;
 use record_archive::ArchiveRefusal;
-use record_reads::lookup::message_body;
+use record_reads::live_bodies::live_body;
 use sqlite::Alter;
 
 impl<S: Alter> Store<S> {
-    fn body_of(&mut self, message: u32) -> Result<Option<Vec<u8>>, StoreFault>
+    /// The octets of a live record's message; `None` where there is no such record, or no such message.
+    fn live_body(&mut self, number: u32) -> Result<Option<Vec<u8>>, StoreFault>
         ensures tells { Tells S.Store self.old self.new result (λ a b. option_map (λ v. v.items) b ≡
-            archive.body_of a.messages message) (λ a f. ⊥) }
-        ensures falls { Falls S.Store self.old self.new }
-        ensures cause { IsNeverOwn S.Store self.old self.new result }
+            body_in (archive.message a number)) (λ a f. ⊥) }
+        ensures behaves { Behaves S.Store self.old self.new result }
         ensures crash { LeavesAll S.Store self.old self.new }
     {
-        match message_body(self.alloc, &mut self.conn, message) {
+        match live_body(self.alloc, &mut self.conn, number) {
             Ok(body) => Ok(body),
             Err(fault) => Err(lost_or(fault)),
         }
@@ -37,13 +38,13 @@ impl<S: Alter> Store<S> {
         ensures cause { IsNeverOwn S.Store self.old self.new result }
         ensures crash { LeavesAll S.Store self.old self.new }
     {
+        if let Some(body) = self.live_body(number)? {
+            return Ok(body);
+        }
         let record = self.record_at(number)?;
         if record.destroyed {
             return Err(StoreFault::Refused(ArchiveRefusal::Destroyed));
         }
-        match self.body_of(record.message)? {
-            Some(body) => Ok(body),
-            None => Err(LOST),
-        }
+        Err(LOST)
     }
 }

@@ -218,7 +218,8 @@ dues = record {
 
 -- ---- any of them
 
-pub no_works : (schema : Schema) (keys : Keys) (tree : ℕ) (olds news : List Row) (ts : List Table) → AllByRecursion (λ (t : Table). t.references ≡ []) ts
+pub no_works : (schema : Schema) (keys : Keys) (tree : ℕ) (olds news : List Row) (ts : List Table)
+    → AllByRecursion (λ (t : Table). t.references ≡ []) ts
     → flat_map (λ (child : Table). filter_map (work_for schema keys 0 tree olds news child) child.references) ts ≡ []
 no_works schema keys tree olds news [] h = refl
 no_works schema keys tree olds news (t ∷ ts) h = rw h.0 (no_works schema keys tree olds news ts h.1)

@@ -18,3 +18,4 @@ pub mod DropLemmas
 pub mod LayoutLemmas
 pub mod EventLemmas
 pub mod CompanionLemmas
+mod EventLayouts

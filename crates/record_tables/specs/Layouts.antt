@@ -87,18 +87,22 @@ pub record Empties (old new : State) : Type 0 where
 abbrev pub TellsAlone : Schema → Bool → Type 0
 TellsAlone schema is_alone = is_alone ≡ true → schema ≡ archive_schema
 
--- the tables are created where none had their names, and have this plan and no other row
+-- the tables are created where none had their names, and have this plan and no other row; the database is sound
 pub record IsLaid (schedules : List Rule) (classes : List ClassEntry) (old new : Database) : Type 0 where
   pub stored : IsFree old.schema → StoresKeyed new (with_version (with_plan schedules classes [] no_rows))
+  pub sound : IsFree old.schema → IsDatabase new
 
--- the rows of version 1 are in the tables of version 2, which have no schedules and no due days
+-- the rows of version 1 are in the tables of version 2, which have no schedules and no due days; the database is sound
 pub record IsWidened (old new : Database) : Type 0 where
   pub stored : (t : Tables) → StoresFirst old t → Stores new t
+  pub sound : (t : Tables) → StoresFirst old t → IsDatabase new
 
--- the rows of version 1 are now in version 2, where this plan and these due days replace the plan that was there
+-- the rows of version 1 are now in version 2, where this plan and these due days replace the plan that was there; the
+-- database is sound
 pub record IsMoved (schedules : List Rule) (classes : List ClassEntry) (dues : List Due) (old new : Database) : Type 0 where
   pub stored : (t : Tables) → StoresFirst old t → AreKeyed t →
       StoresKeyed new (with_version (with_plan schedules classes dues t))
+  pub sound : (t : Tables) → StoresFirst old t → AreKeyed t → IsDatabase new
 
 -- the command is one that shows no rows and reads no time, and its text is this text as a whole
 pub record IsBare (text : List ℕ) (compiled : Compiled) : Type 0 where

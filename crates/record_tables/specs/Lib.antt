@@ -9,3 +9,4 @@ pub mod Layout
 pub mod Faults
 pub mod Events
 pub mod Companions
+pub mod EventLayouts

@@ -35,7 +35,7 @@ fn is_null(value: &Value) -> bool
     }
 }
 
-fn is_column(column: &Column, name: &[u8], kind: Kind, not_null: bool) -> bool
+pub(crate) fn is_column(column: &Column, name: &[u8], kind: Kind, not_null: bool) -> bool
     ensures { IsTrue result ↔ (column.now ≡ strict_column name.now kind not_null) }
 {
     column.name.as_slice() == name
@@ -58,7 +58,7 @@ fn has_no_stamps(stamps: &Stamps) -> bool
     stamps.places.is_empty() && is_no_terms(&stamps.terms) && stamps.formats.is_empty()
 }
 
-fn is_keyed_table(table: &Table, name: &[u8]) -> bool
+pub(crate) fn is_keyed_table(table: &Table, name: &[u8]) -> bool
     ensures { IsTrue result ↔ (table.now ≡ keyed_table name.now table.now.tree table.now.columns) }
 {
     table.name.as_slice() == name
@@ -257,7 +257,7 @@ pub(crate) fn is_due_table(table: &Table) -> bool
     is_keyed_table(table, b"due_day") && is_due_columns(table.columns.as_slice())
 }
 
-fn table_of<'a>(schema: &'a Schema, name: &[u8]) -> Option<&'a Table>
+pub(crate) fn table_of<'a>(schema: &'a Schema, name: &[u8]) -> Option<&'a Table>
     ensures { option_map (λ t. t.now) result ≡ table_of schema.now name.now }
 {
     match schema.table_named(name) {

@@ -4,6 +4,7 @@
 
 pub mod alone;
 pub mod companions;
+pub mod event_layout;
 pub mod events;
 pub mod fault;
 pub mod lay;

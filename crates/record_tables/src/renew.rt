@@ -146,8 +146,8 @@ impl Change for Renewal<'_> {
     ghost may_be_made = { λ c db. TellsAlone db.schema c.is_alone
         × AreAscending (map due_of c.dues.now) };
 
-    ghost makes = { λ c. IsRevisedAlone (map rule_of c.schedules.now) (map class_entry_of c.classes.now)
-        (map due_of c.dues.now) };
+    ghost makes = { λ c. IsRevisedAlone (map rule_of c.schedules.now)
+        (map class_entry_of c.classes.now) (map due_of c.dues.now) };
 
     fn make<S: Alter>(self, tx: &mut Transaction<'_, S>) -> Result<(), Error> {
         if self.is_alone {

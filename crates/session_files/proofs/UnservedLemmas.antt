@@ -41,10 +41,11 @@ use Rattle.record_tables.specs.Tables.{no_schema}
 use Rattle.record_tables.specs.Steps.{CommitsNothing}
 use Rattle.record_archive.specs.Archive.{Archive, empty_archive}
 use Rattle.record_adoption.specs.Adoption.{Finds, LeavesArchive}
+use Rattle.record_adoption.proofs.AdoptSettled.{finds_again}
 use Rattle.record_files.specs.Closing.{HoldsLeft}
 use Rattle.record_files.specs.Files.{FindsAt, system_file}
 use Rattle.record_files.proofs.OpeningLemmas.{holds_something}
-use Rattle.session_files.specs.Unserved.{FindsStill, HoldsStill, KeepsUnserved}
+use Rattle.session_files.specs.Unserved.{HoldsStill, KeepsUnserved}
 use Rattle.session_files.specs.declared.session.NoSession.TheVariants.{Unopened}
 use Rattle.session_files.proofs.RefusalLemmas.{image_first}
 
@@ -65,27 +66,32 @@ holds_still g old new a image kept clean found holds =
       left.0,
       elim (kept.crash clean left.0 left.1) [
         | inl before ↦ inl before
-        | inr made ↦ inr (record { db = made.0; same = made.2; stored = made.1 a found })
+        | inr made ↦ inr (record { db = made.db; sound = λ was. made.sound was a found; same = made.same; stored = made.stored a found })
       ],
       left.2,
     ))
 
 -- the connection had just been opened, so a crash before the call left only what was found
 pub finds_still : {D : Type 0} {g : Ghosts D} (conn : Held (FileStore D g)) (image : Image) (a : Archive)
-    → SeenMayStay g → IsOpened conn → Finds (file_state conn).now a → HoldsStill (file_state conn) a image → FindsStill a image
+    → SeenMayStay g → IsOpened conn → Finds (file_state conn).now a → HoldsStill (file_state conn) a image → ∥ FindsAt image a ∥₁
 finds_still conn image a stays opened found holds =
     let on = opened.0.is_open in
     ∥∥₁_map holds (λ it. elim it.1 [
       | inl may ↦
           let same : it.0 ≡ (file_state conn).now.trees =
           settled_at conn.store stays it.0 on may ∙ ap (λ (db : Database). db.trees) (sym opened.0.clean) in
-          inl (inl (record {
+          inl (record {
             db = (file_state conn).now;
             sound = (opened.1 on).0;
             held = ∣ subst (HoldsDatabase image) same it.2 ∣₁;
             has = found;
-          }))
-      | inr kept ↦ inr (it.0, kept, it.2)
+          })
+      | inr kept ↦ inl (record {
+        db = kept.db;
+        sound = kept.sound (opened.1 on).0;
+        held = ∣ subst (HoldsDatabase image) kept.same it.2 ∣₁;
+        has = finds_again (file_state conn).now kept.db a found kept.stored;
+      })
     ])
 
 -- ---- files that were not opened

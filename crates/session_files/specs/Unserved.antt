@@ -7,7 +7,7 @@ use Rattle.sqlite.specs.WalReads.{AreClean}
 use Rattle.sqlite.specs.WalFiles.{outcomes}
 use Rattle.sqlite.specs.Recovery.{Image}
 use Rattle.sqlite.specs.Tree.{Trees}
-use Rattle.sqlite.specs.Effect.{Database}
+use Rattle.sqlite.specs.Effect.{Database, IsDatabase}
 use Rattle.sqlite.specs.State.{State}
 use Rattle.sqlite.specs.Closing.{files_left}
 use Rattle.sqlite.specs.Files.{HoldsDatabase, IsCleanLeft}
@@ -19,23 +19,17 @@ use Rattle.record_files.specs.Files.{FindsAt}
 use Rattle.session_files.specs.declared.session.NoSession.{NoSession}
 use Rattle.session_files.specs.declared.session.NoSession.TheVariants.{Unadopted, Unopened, Unplaced}
 
--- these trees are those of a database that stores the archive
-pub record TreesStore (trees : Trees) (a : Archive) : Type 0 where
+-- these trees are those of a database that stores the archive, and is sound where the one before was
+pub record TreesStore (was : Database) (trees : Trees) (a : Archive) : Type 0 where
   pub db : Database
+  pub sound : IsDatabase was → IsDatabase db
   pub same : trees ≡ db.trees
   pub stored : StoresArchive db a
 
 -- The files recover to a database that a crash might have left of the connection, or to one that stores the archive.
 abbrev pub HoldsStill : State → Archive → Image → Type 0
-HoldsStill before a image = ∥ ((trees : Trees) × (before.may_leave trees ⊎ TreesStore trees a) × HoldsDatabase image trees) ∥₁
-
--- the files recover to the trees of a database that stores the archive
-abbrev pub StoresAt : Image → Archive → Type 0
-StoresAt image a = (trees : Trees) × TreesStore trees a × HoldsDatabase image trees
-
--- the archive is found in the files again, or they have its rows
-abbrev pub FindsStill : Archive → Image → Type 0
-FindsStill a image = ∥ (FindsAt image a ⊎ StoresAt image a) ∥₁
+HoldsStill before a image =
+    ∥ ((trees : Trees) × (before.may_leave trees ⊎ TreesStore before.now trees a) × HoldsDatabase image trees) ∥₁
 
 -- What an open that failed does not say of the files that it leaves: that it took their pages to end in sums where they
 -- do, and that the trees of a store that it had made are numbered.
@@ -52,5 +46,5 @@ module _ {D : Type 0} {g : Ghosts D} (first : Image) (a : Archive) where
   KeepsUnserved (Unopened e (Some rest)) = IsCleanLeft rest → IsWellOpened first rest → (image : Image)
       → outcomes g (files_left rest).0 (files_left rest).1 image → ∥ FindsAt image a ∥₁
   KeepsUnserved (Unadopted fault files) = AreClean g files.log files.db → (image : Image)
-      → outcomes g files.log files.db image → FindsStill a image
+      → outcomes g files.log files.db image → ∥ FindsAt image a ∥₁
   KeepsUnserved (Unplaced why) = Unit {0}

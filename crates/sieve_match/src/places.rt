@@ -23,8 +23,11 @@ const NEAR_PLACES: usize = 64;
 /// The greatest number of places of a later group.
 const FAR_PLACES: usize = 4096;
 
-/// The greatest number of items of a piece with backslashes that is found as a key is.
-const LONGEST_KEY: usize = 4096;
+/// The octets of the room for the key of a piece with backslashes, if they are enough.
+const SHORT_KEY: usize = 4096;
+
+/// The octets of the room for the key of any other such piece. A pattern of a script is shorter.
+const LONG_KEY: usize = 65_536;
 
 /// Whether the first `count` items of a pattern fit the front of a text, one octet each.
 pub(crate) fn fits_front(pattern: &[u8], count: usize, text: &[u8], comparator: Comparator) -> bool
@@ -72,27 +75,81 @@ pub(crate) fn first_place(
 {
     match piece.shape {
         Shape::Plain => find(&pattern[..piece.count], text, comparator),
-        Shape::Escaped if piece.count <= LONGEST_KEY => {
-            place_of_key(pattern, piece.count, text, comparator)
+        Shape::Escaped if piece.count <= text.len() => {
+            place_of_escaped(pattern, piece.count, text, comparator)
         }
         _ => place_by_groups(pattern, piece.count, text, comparator),
     }
 }
 
-/// The first place of a text that the first `count` items of a pattern fit, if they are octets and no wildcards.
+/// The first place of a text that the first `count` items of a pattern fit, none of which is `?`.
+fn place_of_escaped(
+    pattern: &[u8],
+    count: usize,
+    text: &[u8],
+    comparator: Comparator,
+) -> Option<usize>
+    requires within { count ≤ length (items_of pattern.now) }
+    ensures { FindsPiece comparator pattern.now count text.now result }
+{
+    if count <= SHORT_KEY {
+        place_of_short_key(pattern, count, text, comparator)
+    } else if count <= LONG_KEY {
+        place_of_long_key(pattern, count, text, comparator)
+    } else {
+        place_by_groups(pattern, count, text, comparator)
+    }
+}
+
+/// The same, with room for a short key.
 #[cold]
 #[inline(never)]
-fn place_of_key(pattern: &[u8], count: usize, text: &[u8], comparator: Comparator) -> Option<usize>
+fn place_of_short_key(
+    pattern: &[u8],
+    count: usize,
+    text: &[u8],
+    comparator: Comparator,
+) -> Option<usize>
     requires short { count ≤ 4096 }
     requires within { count ≤ length (items_of pattern.now) }
     ensures { FindsPiece comparator pattern.now count text.now result }
 {
-    let mut room = [0; LONGEST_KEY];
-    let key = &mut room[..count];
+    let mut room = [0; SHORT_KEY];
+    place_of_key(pattern, &mut room[..count], text, comparator)
+}
+
+/// The same, with room for a long key.
+#[cold]
+#[inline(never)]
+fn place_of_long_key(
+    pattern: &[u8],
+    count: usize,
+    text: &[u8],
+    comparator: Comparator,
+) -> Option<usize>
+    requires short { count ≤ 65536 }
+    requires within { count ≤ length (items_of pattern.now) }
+    ensures { FindsPiece comparator pattern.now count text.now result }
+{
+    let mut room = [0; LONG_KEY];
+    place_of_key(pattern, &mut room[..count], text, comparator)
+}
+
+/// The first place of a text that the items at the front of a pattern fit, as many as the key has room for. Where they are
+/// octets and no wildcards, the key becomes these octets and is searched for.
+fn place_of_key(
+    pattern: &[u8],
+    key: &mut [u8],
+    text: &[u8],
+    comparator: Comparator,
+) -> Option<usize>
+    requires { length key.old ≤ length (items_of pattern.now) }
+    ensures { FindsPiece comparator pattern.now (length key.old) text.now result }
+{
     if copy_octets(pattern, key) {
         find(key, text, comparator)
     } else {
-        place_by_groups(pattern, count, text, comparator)
+        place_by_groups(pattern, key.len(), text, comparator)
     }
 }
 

@@ -2,14 +2,29 @@
 
 use crate::answers::{Call, answer};
 use crate::stages::execute;
-use record_noted::NotedStore;
+use record_noted::{NotedStore, OpenFault, Opened};
 use record_store::Store;
-use sqlite::Connection;
+use sqlite::{Alter, Connection};
 use std::test::Fail;
 
 const FIRST: &[u8] = b"1 2031-01-01T09:30:00Z ann held audit 1 : order 12/3";
 
 const SECOND: &[u8] = b"2 2031-01-01T09:31:00Z bob held case 1";
+
+const SECOND_MARK: &[u8] = b"de9647962dee6991be4fb01ec6080cb3af527ad2a82c451845cbbb459f309534";
+
+/// Whether a page from the second event on has this one alone.
+fn is_second_read<S: Alter + Drop>(noted: &mut NotedStore<S>) -> bool {
+    let Ok(events) = noted.events(2, 10) else {
+        return false;
+    };
+    events.len() == 1
+        && events.iter().all(|event| {
+            event.number == 2
+                && event.line.as_slice() == SECOND
+                && event.mark.as_slice() == SECOND_MARK
+        })
+}
 
 #[test]
 fn histories(rt: HostRuntime) -> Result<(), Fail> {
@@ -25,6 +40,9 @@ fn histories(rt: HostRuntime) -> Result<(), Fail> {
         answer(alloc, &mut store, Call::Capture("one"))?.as_str(),
         "1 never; "
     );
+    let Ok(Opened::Plain(store)) = NotedStore::open(alloc, store) else {
+        return Err(Fail::from("a history of no table"));
+    };
     let Ok(mut noted) = NotedStore::begin(alloc, store) else {
         return Err(Fail::from("no history"));
     };
@@ -37,7 +55,13 @@ fn histories(rt: HostRuntime) -> Result<(), Fail> {
         answer(alloc, &mut store, Call::Hold("case", 1))?.as_str(),
         "refused 86"
     );
-    let mut conn = store.into_connection();
+    let Ok(Opened::Noted(mut noted)) = NotedStore::open(alloc, store) else {
+        return Err(Fail::from("not opened"));
+    };
+    assert_eq!(rt; noted.next(), 3);
+    assert!(rt; noted.mark() == SECOND_MARK);
+    assert!(rt; is_second_read(&mut noted));
+    let mut conn = noted.into_store().into_connection();
     execute(
         &mut conn,
         &[
@@ -48,4 +72,25 @@ fn histories(rt: HostRuntime) -> Result<(), Fail> {
             "INSERT INTO same SELECT count(*) FROM event JOIN wanted ON event.number = wanted.number AND event.line = wanted.line AND event.mark = wanted.mark",
         ],
     )
+}
+
+#[test]
+fn tables_of_other_events(rt: HostRuntime) -> Result<(), Fail> {
+    let alloc = rt.alloc();
+    let mut conn = Connection::open_in_memory(alloc)?;
+    execute(
+        &mut conn,
+        &["CREATE TABLE event (number INTEGER PRIMARY KEY, line TEXT NOT NULL) STRICT"],
+    )?;
+    if !conn.is_autocommit() {
+        return Err(Fail::from("a transaction goes on"));
+    }
+    let Ok(store) = Store::create(alloc, conn) else {
+        return Err(Fail::from("not created"));
+    };
+    assert!(rt; matches!(
+        NotedStore::open(alloc, store),
+        Err((OpenFault::NoHistory, _))
+    ));
+    Ok(())
 }

@@ -27,25 +27,54 @@ impl OfficerRules {
     }
 }
 
-/// What is said of a word that is no name of an officer, and of a script that is not there.
-fn said_of(alloc: Global, word: &str, reason: &'static str) -> Result<Shown, AllocError> {
+/// The greatest number of officers that are named where another one was asked for.
+const MAX_NAMED: usize = 8;
+
+/// Adds the officers whose rules a folder has, if there are any.
+fn push_officers(text: &mut Shown, folder: &str, officers: &[String]) -> Result<(), AllocError> {
+    if officers.is_empty() {
+        return Ok(());
+    }
+    put!(text; "; officers in " named(folder.as_bytes()) ": ")?;
+    for (number, officer) in officers.iter().take(MAX_NAMED).enumerate() {
+        text.words(if number == 0 { "" } else { ", " })?;
+        text.named(officer.as_bytes())?;
+    }
+    match officers.len().saturating_sub(MAX_NAMED) {
+        0 => Ok(()),
+        more => put!(text; " and " value(&more) " more"),
+    }
+}
+
+/// What is said of a word that is no name of an officer, and of a script that is not there, with the officers whose rules the
+/// folder has.
+fn said_of(
+    rt: &HostRuntime,
+    folder: &str,
+    word: &str,
+    reason: &'static str,
+) -> Result<Shown, AllocError> {
+    let alloc = rt.alloc();
     let mut text = Shown::new(alloc);
     put!(text; named(word.as_bytes()) ": " words(reason))?;
+    let officers = officers_in(rt, folder).unwrap_or(Vec::new(alloc));
+    push_officers(&mut text, folder, officers.as_slice())?;
     Ok(text)
 }
 
 /// The rules of an officer in a folder of all rules: the program `OFFICER/main.sieve`, the officer's own scripts beside it,
 /// and those of `global`. A failure where the word is no name of an officer that a folder can have, or there is no such
-/// program.
+/// program; it says which officers the folder has.
 pub fn rules_of(rt: &HostRuntime, folder: &str, officer: &str) -> Result<OfficerRules, Failure> {
     let alloc = rt.alloc();
     let folder = folder.strip_suffix('/').unwrap_or(folder);
     if !is_officer(officer.as_bytes()) {
-        return Err(Failure::of(said_of(alloc, officer, "not a name of an officer")));
+        let said = said_of(rt, folder, officer, "not a name of an officer");
+        return Err(Failure::of(said));
     }
     let main = format!(in alloc; "{folder}/{officer}/{MAIN}{SCRIPT_ENDING}")?;
     if !is_there(rt, main.as_str()) {
-        return Err(Failure::of(said_of(alloc, main.as_str(), "not there")));
+        return Err(Failure::of(said_of(rt, folder, main.as_str(), "not there")));
     }
     let global = format!(in alloc; "{folder}/{GLOBAL}")?;
     Ok(OfficerRules {

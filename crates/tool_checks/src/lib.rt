@@ -27,5 +27,5 @@ pub use folders::{OfficerRules, officers_in, rules_of};
 pub use plans::{NamedPlan, check_plan, read_plan};
 pub use reached::{Start, reached_from, read_script_text};
 pub use refusals::{Kind, Refusal, Refusals};
-pub use scripts::{Surroundings, check_officer, check_script, judge_script};
+pub use scripts::{Surroundings, check_officer, check_script, judge_script, warn_of_globals};
 pub use told::Told;

@@ -7,9 +7,9 @@ use crate::told::Told;
 use crate::warnings::warn_of_names;
 use class_plan::Plan;
 use command_lines::tools::Folders;
-use rule_folders::{Reached, SCRIPT_ENDING};
+use rule_folders::{GLOBAL, Reached, SCRIPT_ENDING};
 use std::alloc::AllocError;
-use tool_console::{Failure, Verdict, paths_in};
+use tool_console::{Failure, Verdict, is_there, paths_in};
 use tool_findings::{Finding, Report, judge, push_words};
 use tool_texts::{Shown, place_of, put};
 
@@ -177,6 +177,38 @@ fn unused_words(words: &mut Shown, main: &str, number: Option<u8>) -> Result<(),
         Some(number) => put!(words; ", which is refused (" value(&number) ")"),
         None => Ok(()),
     }
+}
+
+/// Writes the warning of a script for all officers that is refused and was not judged, if it is one.
+fn warn_of_global(rt: &HostRuntime, path: &str, told: &mut Told) -> Result<(), Failure> {
+    if !told.is_unjudged(path)? {
+        return Ok(());
+    }
+    let text = read_script_text(rt, path)?;
+    let Some(report) = judge(rt.alloc(), &text)? else {
+        return Ok(());
+    };
+    let mut words = Shown::new(rt.alloc());
+    put!(words;
+        "warning: no script that was checked reaches this one, which is refused ("
+        value(&report.verdict.number) ")")?;
+    let mut refusals = Refusals::new(rt.alloc());
+    refusals.add(path, None, Kind::Note, words)?;
+    refusals.write_lines(rt)
+}
+
+/// Warns of each script for all officers in a folder of all rules that is refused, and that no script reaches that was
+/// judged before.
+pub fn warn_of_globals(rt: &HostRuntime, folder: &str, told: &mut Told) -> Result<(), Failure> {
+    let folder = folder.strip_suffix('/').unwrap_or(folder);
+    let global = format!(in rt.alloc(); "{folder}/{GLOBAL}")?;
+    if !is_there(rt, global.as_str()) {
+        return Ok(());
+    }
+    for path in paths_in(rt, global.as_str(), SCRIPT_ENDING)? {
+        warn_of_global(rt, path.as_str(), told)?;
+    }
+    Ok(())
 }
 
 /// Judges the program of an officer as `check_script` does, and warns of each script of the officer that it does not

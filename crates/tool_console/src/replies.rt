@@ -8,7 +8,7 @@ use crate::output::{write_line, write_text};
 use std::alloc::{AllocError, Global};
 use std::io::BufRead;
 use std::str;
-use tool_findings::{Finding, judge};
+use tool_findings::{Finding, judge, push_words};
 use tool_places::PlaceMap;
 use tool_texts::{Payload, Shown, fault_text, put, refusal_text};
 
@@ -151,16 +151,13 @@ fn shown_place(alloc: Global, script: Script<'_>, at: usize) -> Result<Shown, Al
     Ok(text)
 }
 
-/// The place of a refusal in its script: the offset that the reply gives, or for 30 to 41 the place where the script is
-/// refused by that number. None where neither is known.
-fn place_of_refusal(script: Script<'_>, number: u8, told: Option<usize>) -> Option<usize> {
-    if told.is_some() || !matches!(number, 30..=41) {
-        return told;
-    }
+/// What is found first in a script, where that is what a refusal says: it has that number, and the offset that the reply
+/// gives, if it gives one.
+fn finding_of(script: Script<'_>, number: u8, told: Option<usize>) -> Option<Finding> {
     script
         .verdict
         .filter(|verdict| verdict.number == number)
-        .map(|verdict| verdict.at)
+        .filter(|verdict| told.map_or(true, |at| at == verdict.at))
 }
 
 /// Writes a line, which comes without its LF, and the text of its number.
@@ -177,14 +174,35 @@ fn write_explained(
     write_line(rt, &mut explained)
 }
 
-/// Shows the place of a refusal in its script, where it is known.
-fn show_refusal(
+/// Writes a line, which comes without its LF, with what a finding in a script says, and the place of the finding.
+fn write_found(
     rt: &HostRuntime,
+    line: &[u8],
+    script: Script<'_>,
+    finding: &Finding,
+) -> Result<(), Failure> {
+    let mut explained = Shown::new(rt.alloc());
+    push_read(&mut explained, line)?;
+    explained.words(": ")?;
+    push_words(&mut explained, script.places.text(), finding)?;
+    write_line(rt, &mut explained)?;
+    write_text(rt, &shown_place(rt.alloc(), script, finding.place)?)
+}
+
+/// Writes the line of a refusal of a script, which comes without its LF: with what is found there where that is what was
+/// refused, or else with the text of its number; and with its place, where it is known.
+fn explain_refusal(
+    rt: &HostRuntime,
+    line: &[u8],
     script: Script<'_>,
     number: u8,
     told: Option<usize>,
 ) -> Result<(), Failure> {
-    match place_of_refusal(script, number, told) {
+    if let Some(finding) = finding_of(script, number, told) {
+        return write_found(rt, line, script, &finding);
+    }
+    write_explained(rt, line, refusal_text(number))?;
+    match told {
         Some(at) => write_text(rt, &shown_place(rt.alloc(), script, at)?),
         None => Ok(()),
     }
@@ -193,13 +211,10 @@ fn show_refusal(
 /// Writes a line, which comes without its LF, with its explanation.
 fn explain_line(rt: &HostRuntime, line: &[u8], script: Option<Script<'_>>) -> Result<(), Failure> {
     match read_reply(line) {
-        Reply::Refused(number, told) => {
-            write_explained(rt, line, refusal_text(number))?;
-            match script {
-                Some(script) => show_refusal(rt, script, number, told),
-                None => Ok(()),
-            }
-        }
+        Reply::Refused(number, told) => match script {
+            Some(script) => explain_refusal(rt, line, script, number, told),
+            None => write_explained(rt, line, refusal_text(number)),
+        },
         Reply::Fault(number) => write_explained(rt, line, fault_text(number)),
         Reply::Other => write_explained(rt, line, None),
     }
@@ -223,7 +238,7 @@ fn explain_all<R: BufRead>(
 }
 
 /// Writes each reply that comes on standard input with the text of its number after it. Where the script of a file was
-/// refused, the place of each refusal in it follows, where it is known.
+/// refused, what is wrong there is written in place of that text, as a check of the script has it, and its place follows.
 pub fn explain(rt: &HostRuntime, script: Option<&str>) -> Result<(), Failure> {
     let mut replies = lines_of(rt.alloc(), rt.stdin())?;
     let Some(path) = script else {

@@ -59,7 +59,8 @@ impl Finding {
             Subject::Word(start, end, meant) => {
                 start < end && (meant.is_some() || self.number == 30)
             }
-            Subject::Whole | Subject::Arguments(_, _, _) | Subject::Missing(_, _) => false,
+            Subject::Missing(_, _) => self.number == 41,
+            Subject::Whole | Subject::Arguments(_, _, _) => false,
             Subject::Surplus(_, _) | Subject::Joined(_, _, _) => false,
             _ => true,
         }

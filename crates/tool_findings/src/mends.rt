@@ -144,12 +144,24 @@ pub(crate) fn replace_command(
     Ok(())
 }
 
+/// Puts the braces of a block around what follows an offset in a branch; one that has a block is replaced.
+fn add_block(script: &mut Repaired, faulty: &Faulty<'_>, at: usize) -> Result<(), AllocError> {
+    if faulty.front.has_block {
+        return replace_command(script, faulty);
+    }
+    script.patch(Patch::insertion(faulty.front.end, b"}"))?;
+    script.patch(Patch::insertion(at, b"{"))
+}
+
 /// Repairs a command that breaks a rule, so that what it was faulted for is not found again.
 pub(crate) fn mend_command(script: &mut Repaired, faulty: &Faulty<'_>) -> Result<(), AllocError> {
     if let Subject::Capability(_, capability) = faulty.subject {
         if script.require(capability)? {
             return Ok(());
         }
+    }
+    if let Subject::Missing(at, "{") = faulty.subject {
+        return add_block(script, faulty, at);
     }
     match small_patch(faulty) {
         Some(patch) => script.patch(patch),

@@ -1,10 +1,10 @@
 //! What a broken rule is about.
 
 use crate::subjects::Subject;
-use crate::usage::wrong_arguments;
+use crate::usage::{lacks_string, wrong_arguments};
 use crate::words::{BRANCHES, CAPABILITIES, COMMANDS, COMPARATORS, TAGS, TESTS, is_among, nearest};
 use sieve_check::CheckFault;
-use sieve_syntax::{Token, TokenKind};
+use sieve_syntax::{Mark, Token, TokenKind};
 use std::alloc::{AllocError, Global};
 
 /// The octets of a name; none for any other token.
@@ -64,6 +64,21 @@ fn takes_string(before: &[Token]) -> bool {
     is_taking && tokens.all(|token| matches!(token.kind, TokenKind::Tag(_)))
 }
 
+/// The name of a command where its test, or the branch before it, goes on: a mark is missing before it. That is the brace
+/// of a branch, or else a semicolon. None after the name of a branch that takes a test.
+fn mark_before(before: &[Token], last: &Token, start: usize) -> Option<Subject> {
+    let branch = before.first().and_then(name_of).unwrap_or(b"");
+    let last_name = name_of(last).unwrap_or(b"");
+    if is_among(last_name, &["if", "elsif"]) {
+        return None;
+    }
+    Some(if is_among(branch, BRANCHES) {
+        Subject::Missing(start, "{")
+    } else {
+        Subject::Missing(last.end as usize, ";")
+    })
+}
+
 /// What is wrong with a name of a test that is unknown, where it follows these tokens of its command.
 fn unknown_name(
     alloc: Global,
@@ -88,14 +103,19 @@ fn unknown_name(
     if matches!(last.kind, TokenKind::Number(_)) && last.end as usize == start {
         return Ok(Subject::Unit(last.start as usize, end));
     }
-    if is_among(name, COMMANDS) && !is_among(last_name, BRANCHES) {
-        return Ok(Subject::Missing(last.end as usize, ";"));
+    if is_among(name, COMMANDS) {
+        if let Some(missing) = mark_before(before, last, start) {
+            return Ok(missing);
+        }
     }
     if takes_string(before) {
         return Ok(Subject::Unquoted(start, end));
     }
     if is_among(name, TAGS) {
         return Ok(Subject::Untagged(start, end));
+    }
+    if lacks_string(before) {
+        return Ok(Subject::Unquoted(start, end));
     }
     word(alloc, token, name, TESTS)
 }
@@ -111,6 +131,47 @@ fn unknown_test(alloc: Global, tokens: &[Token]) -> Result<Subject, AllocError> 
         }
     }
     Ok(Subject::Whole)
+}
+
+/// Whether a token ends a test.
+fn ends_test(token: &Token) -> bool {
+    match &token.kind {
+        TokenKind::StringValue(_) | TokenKind::Number(_) => true,
+        TokenKind::Mark(mark) => matches!(mark, Mark::CloseBracket | Mark::CloseParen),
+        TokenKind::Identifier(name) => is_among(name.as_slice(), &["true", "false"]),
+        TokenKind::Tag(_) => false,
+    }
+}
+
+/// Whether a list of tests is open after these tokens.
+fn is_in_list(tokens: &[Token]) -> bool {
+    let open = tokens
+        .iter()
+        .filter(|token| matches!(token.kind, TokenKind::Mark(Mark::OpenParen)))
+        .count();
+    let closed = tokens
+        .iter()
+        .filter(|token| matches!(token.kind, TokenKind::Mark(Mark::CloseParen)))
+        .count();
+    open > closed
+}
+
+/// The first test that directly follows another one: in a list a comma is missing between them, and elsewhere a test that
+/// joins them.
+fn wrong_tests(tokens: &[Token]) -> Subject {
+    let following = tokens.iter().enumerate().skip(1);
+    for (last, (number, token)) in tokens.iter().zip(following) {
+        let is_test = name_of(token).is_some_and(|name| is_among(name, TESTS));
+        if !is_test || !ends_test(last) {
+            continue;
+        }
+        return if is_in_list(&tokens[..number.min(tokens.len())]) {
+            Subject::Missing(last.end as usize, ",")
+        } else {
+            Subject::Unjoined(token.start as usize, token.end as usize)
+        };
+    }
+    Subject::Whole
 }
 
 /// The first string that is not one of these words.
@@ -209,6 +270,7 @@ pub(crate) fn subject_of_rule(
         CheckFault::TagNotAllowed | CheckFault::TagTwice => wrong_tag(alloc, tokens),
         CheckFault::WrongArguments => Ok(wrong_arguments(tokens)),
         CheckFault::UnknownComparator => unknown_comparator(alloc, tokens),
+        CheckFault::Tests => Ok(wrong_tests(tokens)),
         _ => Ok(Subject::Whole),
     }
 }

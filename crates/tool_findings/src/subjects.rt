@@ -25,6 +25,8 @@ pub enum Subject {
     TestAlone(usize, usize),
     /// A word between two tests, and the name of the test that joins them.
     Joined(usize, usize, &'static str),
+    /// The name of a test that directly follows another test, which no test joins to it.
+    Unjoined(usize, usize),
     /// A mark of typography in place of a plain one.
     Typographic(usize, usize, &'static str),
     /// A byte order mark.
@@ -53,6 +55,7 @@ impl Subject {
             Subject::Unit(start, end) => Subject::Unit(at(start), at(end)),
             Subject::TestAlone(start, end) => Subject::TestAlone(at(start), at(end)),
             Subject::Joined(start, end, name) => Subject::Joined(at(start), at(end), name),
+            Subject::Unjoined(start, end) => Subject::Unjoined(at(start), at(end)),
             Subject::Typographic(start, end, mark) => Subject::Typographic(
                 at(start),
                 at(end),
@@ -79,6 +82,7 @@ impl Subject {
             | Subject::Unit(at, _)
             | Subject::TestAlone(at, _)
             | Subject::Joined(at, _, _)
+            | Subject::Unjoined(at, _)
             | Subject::Typographic(at, _, _)
             | Subject::Arguments(at, _, _) => Some(at),
         }

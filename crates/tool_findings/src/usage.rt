@@ -117,6 +117,19 @@ fn form_broken(name: &[u8], following: &[Token]) -> Option<&'static str> {
     }
 }
 
+/// Whether the last name among these tokens takes a string more than those that follow it.
+pub(crate) fn lacks_string(tokens: &[Token]) -> bool {
+    let Some(place) = tokens.iter().rposition(|token| name_of(token).is_some()) else {
+        return false;
+    };
+    let (before, following) = tokens.split_at(place.saturating_add(1).min(tokens.len()));
+    before
+        .last()
+        .and_then(name_of)
+        .and_then(usage_of)
+        .is_some_and(|usage| counts_after(following).strings < usage.counts.strings)
+}
+
 /// The first name that takes one string outside brackets, or needs a tag, and how it is written.
 fn narrow_name(tokens: &[Token]) -> Subject {
     for token in tokens {

@@ -91,6 +91,14 @@ fn push_joined(line: &mut Shown, word: &[u8], name: &'static str) -> Result<(), 
     )
 }
 
+/// Adds that a test follows another one, which no test joins to it.
+fn push_unjoined(line: &mut Shown, word: &[u8]) -> Result<(), AllocError> {
+    put!(line;
+        quoted(word) " is a second test; write allof (TEST, TEST) where both are to hold, "
+        "or anyof (TEST, TEST) where one is enough"
+    )
+}
+
 /// Adds that a mark of typography stands where a plain one must.
 fn push_typographic(line: &mut Shown, mark: &[u8], plain: &'static str) -> Result<(), AllocError> {
     match plain {
@@ -123,6 +131,7 @@ fn push_subject(line: &mut Shown, text: &[u8], finding: &Finding) -> Result<(), 
             put!(line; quoted(part(text, start, end)) " is a test and no command; write if before it")
         }
         Subject::Joined(start, end, name) => push_joined(line, part(text, start, end), name),
+        Subject::Unjoined(start, end) => push_unjoined(line, part(text, start, end)),
         Subject::Typographic(start, end, plain) => {
             push_typographic(line, part(text, start, end), plain)
         }

@@ -4,3 +4,4 @@ pub mod Shelving
 pub mod Outcomes
 pub mod Partings
 pub mod Inquiries
+pub mod Culprits

@@ -70,7 +70,7 @@ pub struct Answer {
 }
 
 /// Refuses a message that is longer than a session takes (95).
-fn judge_length(message: &[u8]) -> Result<(), InquiryFault>
+pub(crate) fn judge_length(message: &[u8]) -> Result<(), InquiryFault>
     ensures short { OnOk result (length message.now ≤ 8388608) }
     ensures long { IfErr result (λ f. (8388608 < length message.now) × (f ≡ TooLong)) }
 {
@@ -107,7 +107,7 @@ fn paths_in(alloc: Global, opened: &BTreeSet<Vec<u8>>) -> Result<Paths, AllocErr
 }
 
 /// A message as the evaluator's run asks about it.
-fn borrowed_case<'m>(
+pub(crate) fn borrowed_case<'m>(
     alloc: Global,
     message: &'m [u8],
     plan: &Plan,
@@ -203,7 +203,7 @@ fn narrated(
 
 /// The outcome of the machine's run, and what the evaluator's comes to, whose outcome is the same. A script that is too
 /// heavy is not run.
-fn run_of(
+pub(crate) fn run_of(
     alloc: Global,
     inquiry: &Inquiry<'_>,
     book: &Book<'_>,

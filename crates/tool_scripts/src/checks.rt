@@ -3,6 +3,7 @@
 use command_lines::tools::{Check, Folders, Place};
 use tool_checks::{
     Refusals, Surroundings, Told, check_officer, check_plan, check_script, read_plan, rules_of,
+    warn_of_globals,
 };
 use tool_console::{Failure, Verdict};
 use tool_inquiry::script_name;
@@ -77,6 +78,9 @@ fn check_each(
         if let Verdict::Refused = check_named(rt, *name, asked.place, around, &mut told)? {
             verdict = Verdict::Refused;
         }
+    }
+    if let Place::Rules(folder) = asked.place {
+        warn_of_globals(rt, folder, &mut told)?;
     }
     Ok(verdict)
 }

@@ -13,10 +13,11 @@ returns-in_ok-lay_later-clause-ok g c clean inside =
     let laid = c.in_ok-lay_later.ensures.ok clean (dropped.mode ∙ inside) in
     let has : c.args.has_dues ≡ true = search in
     let told = subst (TellsDues old.now.schema) has c.requires in
-    record { stored = λ t s. told_with old.now t s told (λ on. widened old mid new t dropped laid on s) }
+    record { stored = λ t s. told_with old.now t s told (λ on. widened old mid new t dropped laid on s); sound = λ t s. laid.sound }
 
 pub returns-in_ok-lay_later-2-clause-ok : goal.returns-in_ok-lay_later-2-clause-ok
 returns-in_ok-lay_later-2-clause-ok g c clean inside =
     let old = state g.S.Store c.args.tx.now.conn.now in
     let new = state g.S.Store c.lay_later-else-has_dues.new.tx.conn.now in
-    record { stored = λ t s. widened_bare old new t (c.in_ok-lay_later-2.ensures.ok clean inside) s }
+    let laid = c.in_ok-lay_later-2.ensures.ok clean inside in
+    record { stored = λ t s. widened_bare old new t laid s; sound = λ t s. laid.sound }

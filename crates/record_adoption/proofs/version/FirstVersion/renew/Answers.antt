@@ -23,7 +23,9 @@ moved g c db made a is = stores_moved (tells_slices is.1 c.as_slice.ensures.valu
 
 -- a crash leaves it stored, or what was there
 crash : (g : Over) (c : After-move_first g) → LeavesArchive g.S.Store c.args.conn.now c.move_first.new.conn (IsFound g c)
-crash g c = leaves_made g.S.Store c.args.conn.now c.move_first.new.conn (IsFound g c) (IsMovedHere g c) (moved g c) c.move_first.ensures.crash
+crash g c =
+    leaves_made g.S.Store c.args.conn.now c.move_first.new.conn (IsFound g c) (IsMovedHere g c)
+    (λ db made a is. (moved g c db made a is, λ was. made.sound is.0.tables is.0.stored is.0.keyed)) c.move_first.ensures.crash
 
 pub returns-clause-ok : goal.returns-clause-ok
 returns-clause-ok g c clean = moved g (goal.at.returns-clause-ok g c).After-move_first _ (c.in_ok-move_first.ensures.ok clean)

@@ -73,7 +73,8 @@ crash : (g : Over) (c : After-replace_plan g)
 crash g c =
     let at = (goal.at.After-replace_plan g c).In_ok-are_stored in
     leaves_then c.replace_plan.new.conn _ _ (dues_read g at) (λ a is. is.0.stored.schema) (still_found g at)
-    (leaves_made g.S.Store c.are_dues.new.conn c.replace_plan.new.conn _ (IsRevisedHere g c) (settled g c) c.replace_plan.ensures.crash)
+    (leaves_made g.S.Store c.are_dues.new.conn c.replace_plan.new.conn _ (IsRevisedHere g c)
+    (λ db turns a is. (settled g c db turns a is, λ was. turns.sound was is.0.tables is.0.stored is.0.keyed tt)) c.replace_plan.ensures.crash)
 
 pub returns-clause-ok : goal.returns-clause-ok
 returns-clause-ok g c clean = λ (a : Archive) is.

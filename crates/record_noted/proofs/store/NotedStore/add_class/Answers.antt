@@ -12,4 +12,4 @@ returns-clause-told g c = λ (e : Event) of.
     c.args.line.now
     (λ (a : Archive). ClassAdded c.args.path.now) e of.line_is (λ a s. of.deed_is) (law.lines (λ (a : Archive). ClassAdded c.args.path.now) (λ a.
     archive.add_class a c.args.path.now) (law.additions c.args.path.now))
-    c.note_add_class.ensures.obeys c.note_add_class.ensures.crash
+    c.note_add_class.ensures

@@ -18,4 +18,4 @@ returns-clause-told g c = λ (e : Event) (filing : Option Filing) of.
     Archive). Captured (next_number a) (seal c.args.body.now) (number_of_day c.args.day) filing c.args.paths.now) (λ a. archive.capture a
     c.args.body.now (number_of_day c.args.day) c.args.paths.now) (law.captures c.args.body.now (number_of_day c.args.day) filing
     c.args.paths.now))
-    c.note_capture.ensures.obeys c.note_capture.ensures.crash
+    c.note_capture.ensures

@@ -17,4 +17,4 @@ returns-clause-told g c = λ (e : Event) (on : ℕ) (schedule : Schedule) is of.
     told g.S.Store c.args.self.now c.note_destroy.new.self c.note_destroy.result (λ a. archive.destroy_on a n (epoch_day c.args.day)) Quietly
     c.args.line.now (λ (a : Archive). Destroyed n on schedule) e of.line_is (λ a s. of.deed_is)
     (subst (λ z. TellsInLines (λ (a : Archive). Destroyed n on schedule) (λ a. archive.destroy_on a n z)) (sym is) tells)
-    c.note_destroy.ensures.obeys c.note_destroy.ensures.crash
+    c.note_destroy.ensures

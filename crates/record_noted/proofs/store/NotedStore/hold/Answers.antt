@@ -11,4 +11,4 @@ returns-clause-told g c = λ (e : Event) of.
     told g.S.Store c.args.self.now c.note_hold.new.self c.note_hold.result (λ a. archive.hold a c.args.name.now c.args.number) Quietly c.args.line.now
     (λ (a : Archive). Held c.args.name.now c.args.number) e of.line_is (λ a s. of.deed_is) (law.lines (λ (a : Archive). Held c.args.name.now
     c.args.number) (λ a. archive.hold a c.args.name.now c.args.number) (law.holds c.args.name.now c.args.number))
-    c.note_hold.ensures.obeys c.note_hold.ensures.crash
+    c.note_hold.ensures

@@ -2,41 +2,25 @@ use Rattle.std.proofs.Common.{refl, sym, ◌∙◌}
 use Rattle.record_archive.specs.Calls.{Quietly}
 use Rattle.jiff.specs.Words.{epoch_day}
 use Rattle.record_archive.specs.Archive as archive
-use Rattle.record_noted.specs.Histories.{Leaves}
-use Rattle.record_noted.proofs.HistoryLemmas.{obeys_noted, leaves_noted, refused_noted, unmarked}
-use Rattle.record_noted.proofs.store.NotedStore.note_destroy.Given.{Over}
-use Rattle.record_noted.proofs.store.NotedStore.note_destroy.Goals.{After-destroy_with}
+use Rattle.record_noted.proofs.HistoryLemmas.{notes_done, notes_refused, notes_unmarked}
 use Rattle.record_noted.proofs.store.NotedStore.note_destroy.Goals as goal
 
-pub returns-clause-obeys : goal.returns-clause-obeys
-returns-clause-obeys g c =
-    obeys_noted g.S.Store c.args.self.now c.args.line.now c.as_bytes.result.now (c.as_bytes.ensures.value ∙ c.in_ok-mark.ensures.mark) _ (tt {0})
-    (λ a. archive.destroy_on a c.args.number (epoch_day c.args.day)) Quietly c.in_ok-destroy_with.ensures.obeys c.in_ok-destroy_with.ensures.brought
-    c.destroy_with.ensures.behaves.falls refl
-    (sym c.as_bytes.ensures.value)
+pub returns : goal.returns
+returns g c =
+    notes_done g.S.Store c.args.self.now c.args.line.now c.as_slice.result.now (c.as_slice.ensures.value ∙ c.in_ok-mark.ensures.mark) _ (tt {0})
+    (λ a. archive.destroy_on a c.args.number (epoch_day c.args.day)) Quietly c.in_ok-destroy_with.ensures.obeys
+    c.in_ok-destroy_with.ensures.brought c.in_ok-destroy_with.ensures.behaves c.destroy_with.ensures.crash refl (sym c.as_slice.ensures.value)
 
-left : (g : Over) (c : After-destroy_with g) → Leaves g.S.Store c.args.self.now (record c.args.self.now { store = c.destroy_with.new.self })
-    (λ a. archive.destroy_on a c.args.number (epoch_day c.args.day)) c.args.line.now
-left g c =
-    leaves_noted g.S.Store c.args.self.now c.args.line.now c.as_bytes.result.now (c.as_bytes.ensures.value ∙ c.in_ok-mark.ensures.mark)
-    (record c.args.self.now { store = c.destroy_with.new.self }) (λ a. archive.destroy_on a c.args.number (epoch_day c.args.day))
-    c.destroy_with.ensures.crash
+pub returns-in_err-destroy_with : goal.returns-in_err-destroy_with
+returns-in_err-destroy_with g c =
+    notes_refused g.S.Store c.args.self.now c.args.line.now c.as_slice.result.now (c.as_slice.ensures.value ∙ c.in_ok-mark.ensures.mark)
+    (record c.args.self.now { store = c.destroy_with.new.self }) _ c.in_err-destroy_with.field-0.0
+    (λ a. archive.destroy_on a c.args.number (epoch_day c.args.day))
+    Quietly c.from_residual-in_err-destroy_with.ensures.0 c.from_residual-in_err-destroy_with.ensures.1
+    c.in_err-destroy_with.ensures.obeys c.in_err-destroy_with.ensures.still
+    c.destroy_with.ensures.behaves.falls c.destroy_with.ensures.crash refl refl
 
-pub returns-clause-crash : goal.returns-clause-crash
-returns-clause-crash g c = left g (goal.at.returns-clause-crash g c).After-destroy_with
-
-pub returns-in_err-destroy_with-clause-crash : goal.returns-in_err-destroy_with-clause-crash
-returns-in_err-destroy_with-clause-crash g c = left g (goal.at.returns-in_err-destroy_with-clause-crash g c).After-destroy_with
-
-pub returns-in_err-destroy_with-clause-obeys : goal.returns-in_err-destroy_with-clause-obeys
-returns-in_err-destroy_with-clause-obeys g c =
-    refused_noted g.S.Store c.args.self.now (record c.args.self.now { store = c.destroy_with.new.self }) _ c.in_err-destroy_with.field-0.0
-    (λ a. archive.destroy_on a c.args.number (epoch_day c.args.day)) Quietly c.args.line.now c.from_residual-in_err-destroy_with.ensures.0
-    c.from_residual-in_err-destroy_with.ensures.1
-    c.in_err-destroy_with.ensures.obeys c.in_err-destroy_with.ensures.still c.destroy_with.ensures.behaves.falls refl refl
-
-pub returns-in_err-mark-clause-obeys : goal.returns-in_err-mark-clause-obeys
-returns-in_err-mark-clause-obeys g c =
-    unmarked g.S.Store c.args.self.now _ c.in_err-mark.field-0.0 (λ a. archive.destroy_on a c.args.number (epoch_day c.args.day)) Quietly
-    c.args.line.now
-    c.from_residual.ensures.0 c.from_residual.ensures.1 c.in_err-mark.ensures.trouble
+pub returns-in_err-mark : goal.returns-in_err-mark
+returns-in_err-mark g c =
+    notes_unmarked g.S.Store c.args.self.now _ c.in_err-mark.field-0.0 (λ a. archive.destroy_on a c.args.number (epoch_day c.args.day))
+    Quietly c.args.line.now c.from_residual.ensures.0 c.from_residual.ensures.1 c.in_err-mark.ensures.trouble

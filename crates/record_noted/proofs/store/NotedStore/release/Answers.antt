@@ -12,4 +12,4 @@ returns-clause-told g c = λ (e : Event) of.
     c.args.line.now
     (λ (a : Archive). Released c.args.name.now c.args.number) e of.line_is (λ a s. of.deed_is) (law.lines (λ (a : Archive). Released c.args.name.now
     c.args.number) (λ a. archive.release a c.args.name.now c.args.number) (law.releases c.args.name.now c.args.number))
-    c.note_release.ensures.obeys c.note_release.ensures.crash
+    c.note_release.ensures

@@ -11,7 +11,8 @@ use Rattle.record_archive.specs.Faults.{is_trouble}
 use Rattle.record_store.specs.Companions.{LeavesBoth}
 use Rattle.record_store.specs.Stores.{Becomes}
 use Rattle.record_store.proofs.AllowedLemmas.{ready_refused}
-use Rattle.record_store.proofs.CommandLemmas.{fell, is_trouble-fault_of, obeys_refused, stands_planned, stands_both, brought_both, stands_refused, leaves_both}
+use Rattle.record_store.proofs.CommandLemmas.{fell, is_trouble-fault_of, obeys_refused, stands_planned, stands_both}
+use Rattle.record_store.proofs.CommandLemmas.{brought_both, stands_refused, leaves_both}
 use Rattle.record_store.proofs.ClassLemmas.{is_added, added_archive, keeps_added, same_dues, leaves_added}
 use Rattle.record_store.proofs.Causes.{behaves_busy}
 use Rattle.record_store.proofs.store.Store.add_class_with.Given.{Over}

@@ -12,7 +12,10 @@ returns-clause-ok g c clean inside =
     let before : HasCleanDisk (state g.S.Store c.lay_beside.new.tx.conn.now) = omega (arith, c.fill.ensures.frame.survives.clean) in
     let wide = c.in_ok-lay_beside.ensures.ok before inside in
     let put = c.in_ok-fill.ensures.ok clean ((c.in_ok-lay_beside.ensures.goes_on before inside).mode ∙ inside) in
-    record { stored = λ t s keyed. put.stored t (wide.stored t s) keyed tt }
+    record {
+      stored = λ t s keyed. put.stored t (wide.stored t s) keyed tt;
+      sound = λ t s keyed. put.sound (wide.sound t s) t (wide.stored t s) keyed tt;
+    }
 
 pub returns-clause-goes_on : goal.returns-clause-goes_on
 returns-clause-goes_on g c clean inside =

@@ -1,0 +1,138 @@
+//! The fault with which the run over a message ended, in words for a log.
+
+use class_plan::Plan;
+use cli_sources::{Rules, Script};
+use desk_commands::Payload;
+use sieve_meaning::{Location, RunFault};
+use std::alloc::{AllocError, Global};
+use tool_inquiry::{Faulted, Inquiry, InquiryFault, ScriptFile, Scripts, fault_of, script_of};
+use tool_texts::{Shown, fault_text, put};
+
+/// A script of rules as it is run; none where it is not good.
+fn file_of(
+    alloc: Global,
+    script: &Script,
+    location: Location,
+) -> Result<Option<ScriptFile>, AllocError> {
+    match &script.text {
+        Payload::Whole(text) => script_of(alloc, script.path.as_str(), location, text.clone()?),
+        Payload::TooLong => Ok(None),
+        Payload::NoMemory => Err(AllocError),
+    }
+}
+
+/// Adds scripts of rules as they are run, as far as they are good.
+fn add_files(
+    alloc: Global,
+    files: &mut Vec<ScriptFile>,
+    scripts: &[Script],
+    location: Location,
+) -> Result<(), AllocError> {
+    for script in scripts {
+        if let Some(file) = file_of(alloc, script, location)? {
+            files.push(file)?;
+        }
+    }
+    Ok(())
+}
+
+/// The scripts of rules as they are run; none where the program, which is the first one, is not good.
+fn scripts_of(alloc: Global, rules: &Rules) -> Result<Option<Scripts>, InquiryFault> {
+    let Some((program, own)) = rules.scripts.as_slice().split_first() else {
+        return Ok(None);
+    };
+    let Some(main) = file_of(alloc, program, Location::Personal)? else {
+        return Ok(None);
+    };
+    let mut others = Vec::new(alloc);
+    add_files(alloc, &mut others, own, Location::Personal)?;
+    add_files(
+        alloc,
+        &mut others,
+        rules.globals.as_slice(),
+        Location::Global,
+    )?;
+    Ok(Some(Scripts::new(alloc, main, others)?))
+}
+
+/// Where a fault is: the command that it is of, or the program where that was not run.
+fn place_in(alloc: Global, faulted: Faulted<'_>, program: &str) -> Result<Shown, AllocError> {
+    if let Some(culprit) = faulted.culprit {
+        return Ok(culprit.place);
+    }
+    let mut text = Shown::new(alloc);
+    text.named(program.as_bytes())?;
+    Ok(text)
+}
+
+/// Where the run of rules over a message ends in a fault, by the open classes of a plan: the script, the line and the column,
+/// with the class or the script that is named there. None where that is not known, as for want of memory.
+pub fn place_of_fault(
+    alloc: Global,
+    rules: &Rules,
+    plan: &Plan,
+    fault: RunFault,
+    message: &[u8],
+) -> Result<Option<Shown>, InquiryFault> {
+    let Some(scripts) = scripts_of(alloc, rules)? else {
+        return Ok(None);
+    };
+    let inquiry = Inquiry {
+        scripts: &scripts,
+        plan,
+        plan_text: None,
+        message_name: "the message",
+        message,
+        moment: 0,
+    };
+    match fault_of(alloc, &inquiry)? {
+        Some(faulted) if faulted.fault == fault => {
+            Ok(Some(place_in(alloc, faulted, rules.main.as_str())?))
+        }
+        _ => Ok(None),
+    }
+}
+
+/// The text of a run's fault.
+fn text_of(fault: RunFault) -> &'static str {
+    fault_text(fault.number()).unwrap_or("the run ended with a fault")
+}
+
+/// The beginning of a text, up to its first comma or semicolon.
+fn beginning(text: &'static str) -> &'static str {
+    let text = text.split_once(", ").map_or(text, |(first, _)| first);
+    text.split_once("; ").map_or(text, |(first, _)| first)
+}
+
+/// Adds the number of a fault, and where it is if that is known.
+fn push_fault(text: &mut Shown, fault: RunFault, place: Option<&Shown>) -> Result<(), AllocError> {
+    put!(text; "fault " value(&fault.number()) ": ")?;
+    match place {
+        Some(place) => put!(text; text(place) ": "),
+        None => Ok(()),
+    }
+}
+
+/// The fault of a run in words, with where it is if that is known.
+pub fn fault_words(
+    alloc: Global,
+    fault: RunFault,
+    place: Option<&Shown>,
+) -> Result<Shown, AllocError> {
+    let mut text = Shown::new(alloc);
+    push_fault(&mut text, fault, place)?;
+    text.words(text_of(fault))?;
+    Ok(text)
+}
+
+/// The fault of a run in words, where its message was given up, with where it is if that is known.
+pub fn given_up_words(
+    alloc: Global,
+    fault: RunFault,
+    place: Option<&Shown>,
+) -> Result<Shown, AllocError> {
+    let mut text = Shown::new(alloc);
+    push_fault(&mut text, fault, place)?;
+    put!(text; words(beginning(text_of(fault))) "; the message is not captured")?;
+    Ok(text)
+}

@@ -1,0 +1,300 @@
+//! The room in which an intake is made: a Maildir in files, a desk over an archive, and a log.
+
+use crate::deliver::{desk_failure, undecoded_in};
+use crate::fault_words::given_up_words;
+use crate::intake::{Intake, maildir_failure};
+use crate::intake_memory::told_of;
+use crate::moments::Timing;
+use crate::time_limit::{TimeLimit, too_slow_reason};
+use class_plan::Plan;
+use cli_console::{Failure, Status};
+use cli_sources::maildir::{NewMail, is_in_cur, move_to_cur, new_path, settle};
+use cli_sources::payload_of_no_link;
+use desk_commands::{Capture, DeskFault, MAX_MESSAGE_OCTETS, Payload};
+use filing_desk::{Delivery, Desk, deliver};
+use mail_intake::{Listing, Mailroom, Memory, Reason, Refusal, Taken, Told};
+use record_archive::Records;
+use sieve_meaning::RunFault;
+use std::alloc::{AllocError, Global};
+use std::io::{self, ErrorKind};
+use std::mem;
+use tool_texts::Shown;
+
+/// A Maildir, the desk that captures its messages, and what is said of them.
+#[derive(Drop)]
+pub(crate) struct Room<'a, A> {
+    pub job: Intake<'a>,
+    desk: Desk<A>,
+    /// The plan of the archive; none where there is no memory for it.
+    plan: Option<Plan>,
+    timing: Timing,
+    /// The new messages, until they are listed.
+    mail: NewMail,
+    /// How many messages are taken.
+    taken: u64,
+    /// Whether anything was said of a message.
+    has_spoken: bool,
+    /// Which messages stay, and the words for it.
+    pub told: Vec<Told>,
+}
+
+/// A reason that was just put into words, if there was memory for them.
+fn unfit(words: Result<Shown, AllocError>) -> Reason {
+    match words {
+        Ok(words) => Reason::Unfit(words.into_string()),
+        Err(AllocError) => Reason::NoMemory,
+    }
+}
+
+/// The same of a message that is given up.
+fn given_up(words: Result<Shown, AllocError>) -> Reason {
+    match words {
+        Ok(words) => Reason::GivenUp(words.into_string()),
+        Err(AllocError) => Reason::NoMemory,
+    }
+}
+
+/// Words of the program.
+fn words_of(alloc: Global, words: &'static str) -> Result<Shown, AllocError> {
+    let mut text = Shown::new(alloc);
+    text.words(words)?;
+    Ok(text)
+}
+
+/// An error in words.
+fn error_words(alloc: Global, error: &io::Error) -> Result<Shown, AllocError> {
+    let mut text = Shown::new(alloc);
+    text.value(error)?;
+    Ok(text)
+}
+
+/// Why a message stays whose file cannot be had.
+fn unread(alloc: Global, error: &io::Error) -> Reason {
+    match error.kind() {
+        ErrorKind::OutOfMemory => Reason::NoMemory,
+        _ => unfit(error_words(alloc, error)),
+    }
+}
+
+/// Finds that a message can be moved to `cur`.
+fn judge_name(rt: &HostRuntime, maildir: &str, name: &str) -> Result<(), Reason> {
+    match is_in_cur(rt, maildir, name) {
+        Ok(false) => Ok(()),
+        Ok(true) => Err(unfit(words_of(rt.alloc(), "cur has a message of this name"))),
+        Err(error) => Err(unread(rt.alloc(), &error)),
+    }
+}
+
+/// The octets of a new message.
+fn octets_of(rt: &HostRuntime, maildir: &str, name: &str) -> Result<Vec<u8>, Reason> {
+    let alloc = rt.alloc();
+    let Ok(path) = new_path(alloc, maildir, name) else {
+        return Err(Reason::NoMemory);
+    };
+    judge_name(rt, maildir, name)?;
+    match payload_of_no_link(rt, path.as_str(), MAX_MESSAGE_OCTETS) {
+        Ok(Payload::Whole(octets)) => Ok(octets),
+        Ok(Payload::TooLong) => Err(unfit(words_of(alloc, "more than 8,388,608 octets"))),
+        Ok(Payload::NoMemory) => Err(Reason::NoMemory),
+        Err(error) => Err(unread(alloc, &error)),
+    }
+}
+
+/// How a message was taken, by what was answered to its capture.
+fn taken_by(capture: &Capture) -> Taken {
+    if capture.lines.is_empty() {
+        Taken::Discarded
+    } else {
+        Taken::Captured
+    }
+}
+
+impl<'a, A: Records> Room<'a, A> {
+    /// A room for new messages, in which nothing was done.
+    pub fn new(
+        job: Intake<'a>,
+        desk: Desk<A>,
+        plan: Option<Plan>,
+        timing: Timing,
+        mail: NewMail,
+    ) -> Room<'a, A> {
+        let told = Vec::new(job.rt.alloc());
+        Room {
+            job,
+            desk,
+            plan,
+            timing,
+            mail,
+            taken: 0,
+            has_spoken: false,
+            told,
+        }
+    }
+
+    /// Gives the archive back.
+    pub fn into_archive(self) -> A {
+        let Room { desk, .. } = self;
+        desk.into_store()
+    }
+
+    /// Tells of scripts that are not used, before anything else is said.
+    fn speak(&mut self) {
+        if !self.has_spoken {
+            self.has_spoken = true;
+            self.job.log.tell_unused(&self.job.filing);
+        }
+    }
+
+    /// Delivers a message to the desk, within the time that it may take.
+    fn deliver_now(&mut self, message: Payload) -> Result<Result<Delivery, DeskFault>, Failure> {
+        let rt = self.job.rt;
+        let officer = self.job.filing.officer.as_bytes();
+        let on_fault = self.job.filing.on_fault;
+        let moment = self.timing.moment(rt)?;
+        let mut time = TimeLimit::from_now(rt, self.job.filing.limit)?;
+        Ok(deliver(
+            &mut self.desk,
+            officer,
+            moment,
+            message,
+            on_fault,
+            &mut time,
+        ))
+    }
+
+    /// Where the run over a message ended in a fault, if that is known. The message is read once more for that.
+    fn place_of(&self, name: &str, fault: RunFault) -> Option<Shown> {
+        let plan = self.plan.as_ref()?;
+        let octets = octets_of(self.job.rt, self.job.maildir, name).ok()?;
+        self.job
+            .filing
+            .place_of_fault(self.job.rt.alloc(), plan, fault, octets.as_slice())
+    }
+
+    /// Reports a capture.
+    fn report(&mut self, name: &str, capture: &Capture, undecoded: &[Shown]) {
+        self.speak();
+        let place = capture.fault.and_then(|fault| self.place_of(name, fault));
+        self.job
+            .log
+            .report(name, capture, undecoded, place.as_ref());
+    }
+
+    /// Why a message stays whose run ended in a fault.
+    fn faulty(&self, name: &str, fault: RunFault) -> Reason {
+        let place = self.place_of(name, fault);
+        given_up(given_up_words(self.job.rt.alloc(), fault, place.as_ref()))
+    }
+
+    /// That a message stays. Its capture is dropped.
+    fn refused(&mut self, reason: Reason) -> Refusal<Failure> {
+        self.desk.drop_flights();
+        Refusal::Stays(reason)
+    }
+
+    /// Why a message was not captured.
+    fn refusal_of(&mut self, name: &str, fault: DeskFault) -> Refusal<Failure> {
+        match fault {
+            DeskFault::NoMemory => self.refused(Reason::NoMemory),
+            fault => Refusal::Ends(desk_failure(self.job.rt.alloc(), name, fault)),
+        }
+    }
+
+    /// Hears that messages stay whose names are no UTF-8. It is told how many, unless that was told on this day.
+    pub fn hear_nameless(&mut self, count: usize, memory: &Memory, day: u64) {
+        if count == 0 {
+            return;
+        }
+        let words = count.to_string(self.job.rt.alloc()).ok();
+        let words = words.as_ref().map_or("", |words| words.as_str());
+        if memory.is_to_be_told(&[], words.as_bytes(), day) {
+            self.job.log.tell_nameless(count);
+        }
+        if let Ok(told) = told_of(self.job.rt.alloc(), "", words) {
+            let _ = self.told.push(told);
+        }
+    }
+}
+
+impl<'a, A: Records> Mailroom for Room<'a, A> {
+    type Fault = Failure;
+
+    // What the system's files have, and which calls were made of them, no contract says.
+    ghost made = { λ _ _. Unit {0} };
+
+    ghost has = { λ _ _. ⊥ };
+
+    fn list(&mut self) -> Result<Listing, Failure> {
+        let none = NewMail {
+            names: Vec::new(self.job.rt.alloc()),
+            nameless: 0,
+        };
+        let mail = mem::replace(&mut self.mail, none);
+        Ok(Listing {
+            names: mail.names,
+            nameless: mail.nameless,
+        })
+    }
+
+    fn read(&mut self, name: &str) -> Result<Vec<u8>, Reason> {
+        octets_of(self.job.rt, self.job.maildir, name)
+    }
+
+    fn capture(&mut self, name: &str, octets: Vec<u8>) -> Result<Taken, Refusal<Failure>> {
+        let alloc = self.job.rt.alloc();
+        let message = Payload::Whole(octets);
+        let undecoded = undecoded_in(alloc, &message);
+        let done = match self.deliver_now(message) {
+            Ok(done) => done,
+            Err(failure) => return Err(Refusal::Ends(failure)),
+        };
+        match done {
+            Ok(Delivery::Captured(capture)) => {
+                self.report(name, &capture, undecoded.as_slice());
+                Ok(taken_by(&capture))
+            }
+            Ok(Delivery::GivenUp(fault)) => {
+                let reason = self.faulty(name, fault);
+                Err(self.refused(reason))
+            }
+            Ok(Delivery::OutOfTime) => {
+                let reason = given_up(too_slow_reason(alloc, self.job.filing.limit));
+                Err(self.refused(reason))
+            }
+            Err(fault) => Err(self.refusal_of(name, fault)),
+        }
+    }
+
+    fn file_away(&mut self, name: &str) -> Result<(), Failure> {
+        match move_to_cur(self.job.rt, self.job.maildir, name) {
+            Ok(()) => {
+                self.taken = self.taken.saturating_add(1);
+                self.job.log.show_progress(self.taken);
+                Ok(())
+            }
+            Err(error) => {
+                let text = self.job.log.not_moved(name, &error);
+                Err(Failure::shown(Status::TryAgain, text))
+            }
+        }
+    }
+
+    fn tell(&mut self, name: &str, reason: &Reason) {
+        self.speak();
+        self.job.log.name_one(name, reason.words());
+    }
+
+    fn remember(&mut self, name: &str, reason: Reason) {
+        if let Ok(told) = told_of(self.job.rt.alloc(), name, reason.words()) {
+            let _ = self.told.push(told);
+        }
+    }
+
+    fn settle(&mut self) -> Result<(), Failure> {
+        settle(self.job.rt, self.job.maildir).map_err(|error| maildir_failure(
+            self.job.rt,
+            self.job.maildir,
+            error,
+        ))
+    }
+}

@@ -1,0 +1,92 @@
+//! What is read of the archive beside its history. Each call is the store's own of the same name.
+
+ghost use Rattle.std.specs.Prelude.{◌≡◌, map, min, take, option_map, Some, Ok, false, IfOk};
+ghost use Rattle.jiff.specs.Words.{epoch_day};
+ghost use Rattle.sqlite.specs.State.{HasCleanDisk};
+ghost use Rattle.sqlite.specs.Held.{state};
+ghost use Rattle.class_plan.specs.Plans.{Listing};
+ghost use Rattle.record_archive.specs.Archive as archive;
+ghost use Rattle.record_archive.specs.Archive.{Archive, due_list_on};
+ghost use Rattle.record_archive.specs.Lines.{line_view};
+ghost use Rattle.record_choice.specs.Entries.{entries_from, entry_of, entry_view, OfRecord};
+ghost use Rattle.record_noted.specs.Histories.{StandsTold};
+ghost use Rattle.record_noted.specs.Readings.{ReadsTold};
+
+use crate::store::NotedStore;
+use class_plan::{Date, Plan};
+use record_choice::{RecordEntry, Repository};
+use record_store::{Line, StoreFault};
+use sqlite::Alter;
+
+impl<S: Alter> NotedStore<S> {
+    /// The archive's present plan.
+    pub fn plan(&self) -> &Plan
+        ensures { result.now ≡ self.now.store.plan }
+    {
+        self.store.plan()
+    }
+
+    /// The number that the next record gets. Where none is left it is the last one, and a capture is refused.
+    pub fn next_record(&self) -> u32
+        ensures { result ≡ min self.now.store.next 4294967295 }
+    {
+        u32::try_from(self.store.next_number()).unwrap_or(u32::MAX)
+    }
+
+    /// Finds that the connection is open, as `Store::ensure_open`.
+    pub fn ensure_open(&mut self) -> Result<(), StoreFault>
+        ensures reads { ReadsTold S.Store self.old self.new }
+    {
+        self.store.ensure_open()
+    }
+
+    /// Whether more than one live record has a message, of those messages that a live record has.
+    pub fn is_shared(&self, message: u32) -> bool
+        ensures { (a : Archive) (r : archive.Record) → StandsTold S.Store self.now a
+            → archive.record_at a r.number ≡ Some r → r.destroyed ≡ false → r.message ≡ message
+            → result ≡ archive.is_shared a r }
+    {
+        self.store.is_shared(message)
+    }
+
+    /// The records from a number on, in the order of their numbers, at most `most` of them. The only refusals are 89
+    /// (`sqlite`) and 99 (no memory).
+    pub fn entries(&mut self, from: u32, most: usize) -> Result<Vec<RecordEntry>, StoreFault>
+        ensures reads { ReadsTold S.Store self.old self.new }
+        ensures told { IfOk result (λ v. HasCleanDisk (state S.Store self.new.store.conn)
+            → (a : Archive) → StandsTold S.Store self.old a
+            → map entry_view v.items ≡ take most (entries_from a from)) }
+    {
+        self.store.entries(from, most)
+    }
+
+    /// The record with a number. Refused with 80 (no such record), 89 (`sqlite`) or 99 (no memory).
+    pub fn entry(&mut self, number: u32) -> Result<RecordEntry, StoreFault>
+        ensures reads { ReadsTold S.Store self.old self.new }
+        ensures told { IfOk result (λ e. HasCleanDisk (state S.Store self.new.store.conn)
+            → (a : Archive) → StandsTold S.Store self.old a
+            → OfRecord a number (λ r. entry_view e ≡ entry_of a r)) }
+    {
+        self.store.entry(number)
+    }
+
+    /// The octets of a record's message. Refused with 80 (no such record), 84 (destroyed), 89 (`sqlite`) or 99 (no memory).
+    pub fn message(&mut self, number: u32) -> Result<Vec<u8>, StoreFault>
+        ensures reads { ReadsTold S.Store self.old self.new }
+        ensures told { IfOk result (λ v. HasCleanDisk (state S.Store self.new.store.conn)
+            → (a : Archive) → StandsTold S.Store self.old a
+            → archive.message a number ≡ Ok (Some v.items)) }
+    {
+        self.store.message(number)
+    }
+
+    /// The due list of a day. The only refusals are 89 (`sqlite`) and 99 (no memory).
+    pub fn due(&mut self, day: Date) -> Result<Vec<Line>, StoreFault>
+        ensures reads { ReadsTold S.Store self.old self.new }
+        ensures told { IfOk result (λ v. HasCleanDisk (state S.Store self.new.store.conn)
+            → (a : Archive) → StandsTold S.Store self.old a
+            → map line_view v.items ≡ due_list_on a (epoch_day day)) }
+    {
+        self.store.due(day)
+    }
+}
