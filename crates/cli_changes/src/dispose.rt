@@ -3,13 +3,12 @@
 use class_plan::{Action, Date, Schedule};
 use cli_choice::{Meant, meant_of};
 use cli_console::{Failure, Status, judge_day, now, tell, tell_words, today, write_text};
-use cli_history::StoreLedger;
 use cli_texts::{Certificate, captured_line, certificate_line, sum_text};
 use command_lines::archives::{Disposal, TypedNumbers};
 use record_choice::{
     Destroyed, DisposeFault, Disposed, End, Reason, Registrar, asked_lines, dispose,
 };
-use record_store::StoreFault;
+use record_store::{Store, StoreFault};
 use sqlite::Alter;
 use std::alloc::{AllocError, Global};
 use tool_texts::{Shown, put};
@@ -141,7 +140,7 @@ fn refused(rt: &HostRuntime, fault: DisposeFault<StoreFault>) -> Failure {
 /// Which records a disposal by a day is about.
 fn meant_by<S: Alter>(
     rt: &HostRuntime,
-    archive: &mut StoreLedger<'_, S>,
+    archive: &mut Store<S>,
     typed: &[TypedNumbers],
     day: Date,
 ) -> Result<Meant, Failure> {
@@ -172,7 +171,7 @@ fn settle(
 /// Destroys the records of some numbers, all that are due where there is no number, with a certificate for each.
 fn destroy_asked<S: Alter>(
     rt: &HostRuntime,
-    archive: &mut StoreLedger<'_, S>,
+    archive: &mut Store<S>,
     numbers: &[u32],
     day: Date,
 ) -> Result<(), Failure> {
@@ -193,7 +192,7 @@ fn destroy_asked<S: Alter>(
 /// Lists the records of some numbers, all that are due where there is no number, a line each.
 fn list_asked<S: Alter>(
     rt: &HostRuntime,
-    archive: &mut StoreLedger<'_, S>,
+    archive: &mut Store<S>,
     numbers: &[u32],
     day: Date,
 ) -> Result<(), Failure> {
@@ -207,7 +206,7 @@ fn list_asked<S: Alter>(
 /// Lists or destroys the records of some numbers, all that are due where there is no number.
 fn dispose_of<S: Alter>(
     rt: &HostRuntime,
-    archive: &mut StoreLedger<'_, S>,
+    archive: &mut Store<S>,
     destroys: bool,
     numbers: &[u32],
     day: Date,
@@ -234,7 +233,7 @@ pub fn day_of_disposal(rt: &HostRuntime, asked: &Disposal) -> Result<Date, Failu
 /// passes over what may not be destroyed; `BadData` with the reason where that is a record whose number is typed by itself.
 pub fn dispose_by<S: Alter>(
     rt: &HostRuntime,
-    archive: &mut StoreLedger<'_, S>,
+    archive: &mut Store<S>,
     asked: &Disposal,
     day: Date,
 ) -> Result<(), Failure> {

@@ -6,8 +6,9 @@ ghost use Rattle.cli_changes.specs.Moments.{IsMoment, IsRefused, day_of_moment};
 use class_plan::{Date, date_of, day_number};
 use cli_console::{Failure, Status, Walk, now};
 use command_lines::archives::Moment;
-use record_choice::{Choice, Repository};
-use record_store::{RecordEntry, StoreFault};
+use record_choice::Choice;
+use record_store::{RecordEntry, Store};
+use sqlite::Alter;
 use std::alloc::{AllocError, Global};
 use tool_texts::{Shown, put};
 
@@ -29,7 +30,7 @@ pub enum MomentFault {
 }
 
 /// The day of a moment, in days since 1970-01-01.
-pub(crate) fn day_of_moment(moment: u64) -> u64
+fn day_of_moment(moment: u64) -> u64
     ensures { result ≡ day_of_moment moment }
 {
     moment / DAY
@@ -125,10 +126,7 @@ fn last_of(last: Option<u32>, entries: &[RecordEntry]) -> Option<u32> {
 
 /// The last day on which a record of a store was captured, in days since 1970-01-01; none where there is no record. The
 /// failure is that of the store.
-fn last_day<R: Repository<Fault = StoreFault>>(
-    rt: &HostRuntime,
-    archive: &mut R,
-) -> Result<Option<u32>, Failure> {
+fn last_day<S: Alter>(rt: &HostRuntime, archive: &mut Store<S>) -> Result<Option<u32>, Failure> {
     let every = Choice::every();
     let mut walk = Walk::from(&every, 1);
     let mut last = None;
@@ -168,10 +166,10 @@ impl Timing {
     }
 
     /// Looks for the last day of a store, where no moment is named. The failure is that of the store.
-    pub fn look<R: Repository<Fault = StoreFault>>(
+    pub fn look<S: Alter>(
         &mut self,
         rt: &HostRuntime,
-        archive: &mut R,
+        archive: &mut Store<S>,
     ) -> Result<(), Failure> {
         if let Moment::Unnamed = self.asked {
             self.last = last_day(rt, archive)?;

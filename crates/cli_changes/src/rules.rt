@@ -1,7 +1,6 @@
 //! The rules by which mail is filed, and what is done where they are at fault.
 
 use crate::fault_words::place_of_fault;
-use crate::rules_sum::sum_of_rules;
 use class_plan::Plan;
 use cli_console::{Failure, Status, tell};
 use cli_sources::{Rules, RulesFault, read_rules, set_rules};
@@ -69,14 +68,6 @@ impl<'a> FilingRules<'a> {
             limit: asked.limit,
             rules,
         })
-    }
-
-    /// The sum of the rules, in hexadecimal digits; none where they are at fault.
-    pub fn sum(&self, alloc: Global) -> Result<Option<String>, AllocError> {
-        match &self.rules {
-            Some(rules) => Ok(Some(sum_of_rules(alloc, rules)?)),
-            None => Ok(None),
-        }
     }
 
     /// Tells of each script of the officer that the program does not reach.

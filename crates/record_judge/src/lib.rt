@@ -5,7 +5,6 @@
 #![tactic(auto)]
 
 mod captures;
-mod contents;
 mod deeds;
 mod destruction;
 mod faults;

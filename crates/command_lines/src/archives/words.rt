@@ -1,7 +1,6 @@
 //! The subcommands of `mailfile-store`, each with its words and an example.
 
-use super::history_words::{BEGIN, BEGIN_REASON, BY, CHOSEN_BY, DEEDS, EVENTS_SINCE, HEAD, REASON};
-use crate::table::{FLAG, Form, Hint, OPTION, PLACE, Program, Subcommand, Word};
+use crate::table::{FLAG, Form, OPTION, PLACE, Program, Subcommand, Word};
 
 pub const STORE: Word = Word {
     name: "store",
@@ -24,16 +23,12 @@ pub const NUMBERS: Word = Word {
 pub const NUMBER: Word = Word {
     name: "number",
     value: "NUMBER",
-    help: Some("The number of the record, as list prints it"),
     ..PLACE
 };
 
 pub const OFFICER: Word = Word {
     name: "officer",
     value: "OFFICER",
-    help: Some(
-        "The officer by whose rules mail is filed: the name of a folder in that of the rules",
-    ),
     ..PLACE
 };
 
@@ -49,7 +44,7 @@ const CREATE: Subcommand = Subcommand {
     name: "create",
     about: "Makes a new store with a plan, in a file that only its owner may read and write",
     example: "Example: mailfile-store create --store records.db --plan plan.toml",
-    words: &[STORE, PLAN_FILE, BY, REASON],
+    words: &[STORE, PLAN_FILE],
     has_shared: false,
 };
 
@@ -82,8 +77,6 @@ const PLAN: Subcommand = Subcommand {
             help: Some("Replaces it without asking"),
             ..YES
         },
-        BY,
-        REASON,
     ],
     has_shared: false,
 };
@@ -129,16 +122,7 @@ const DELIVER: Subcommand = Subcommand {
     name: "deliver",
     about: "Captures the message on standard input, and prints its records",
     example: "Example: mailfile-store deliver --store records.db --rules rules ann < mail.eml",
-    words: &[
-        STORE,
-        AT,
-        LIMIT,
-        RULES,
-        UNFILED_ON_FAULT,
-        BY,
-        REASON,
-        OFFICER,
-    ],
+    words: &[STORE, AT, LIMIT, RULES, UNFILED_ON_FAULT, OFFICER],
     has_shared: false,
 };
 
@@ -157,7 +141,6 @@ pub const TIMES: Word = Word {
 pub const MAILDIR: Word = Word {
     name: "maildir",
     value: "MAILDIR",
-    help: Some("The folder of the mail, which has the folders new and cur"),
     ..PLACE
 };
 
@@ -173,8 +156,6 @@ const INTAKE: Subcommand = Subcommand {
         UNFILED_ON_FAULT,
         QUIET,
         TIMES,
-        BY,
-        REASON,
         OFFICER,
         MAILDIR,
     ],
@@ -341,7 +322,6 @@ pub const SORT: Word = Word {
 pub const FOLDER: Word = Word {
     name: "folder",
     value: "FOLDER",
-    help: Some("The folder of the export, which is made where there is none"),
     ..PLACE
 };
 
@@ -356,7 +336,6 @@ const EXPORT: Subcommand = Subcommand {
 pub const NEW: Word = Word {
     name: "new",
     value: "NEW",
-    help: Some("The file of the new store"),
     ..PLACE
 };
 
@@ -386,7 +365,6 @@ const CHECK: Subcommand = Subcommand {
             help: Some("The officer whose rules are checked; all officers if none is given"),
             ..OFFICER
         },
-        HEAD,
     ],
     has_shared: false,
 };
@@ -421,7 +399,6 @@ const WHY: Subcommand = Subcommand {
 pub const NAME: Word = Word {
     name: "name",
     value: "NAME",
-    help: Some("The name of the hold, as audit: 1 to 64 visible characters of ASCII, no blank"),
     ..PLACE
 };
 
@@ -429,7 +406,7 @@ const HOLD: Subcommand = Subcommand {
     name: "hold",
     about: "Keeps records from destruction by a hold of that name",
     example: "Example: mailfile-store hold --store records.db --until 2026-06-30 audit",
-    words: &[STORE, BY, REASON, NAME, NUMBERS],
+    words: &[STORE, NAME, NUMBERS],
     has_shared: true,
 };
 
@@ -437,7 +414,7 @@ const RELEASE: Subcommand = Subcommand {
     name: "release",
     about: "Ends the hold of that name on records",
     example: "Example: mailfile-store release --store records.db audit 1 5-9",
-    words: &[STORE, BY, REASON, NAME, NUMBERS],
+    words: &[STORE, NAME, NUMBERS],
     has_shared: true,
 };
 
@@ -457,8 +434,6 @@ const DISPOSE: Subcommand = Subcommand {
             help: Some("Destroys the records"),
             ..YES
         },
-        BY,
-        REASON,
         NUMBERS,
     ],
     has_shared: false,
@@ -480,34 +455,6 @@ const REPORT: Subcommand = Subcommand {
     has_shared: true,
 };
 
-const HISTORY: Subcommand = Subcommand {
-    name: "history",
-    about: "Prints what was done to an archive, a line for each event, as they are hashed; all, or those of the records of some numbers",
-    example: "Example: mailfile-store history --store records.db --deeds destroyed --since 2026-01-01",
-    words: &[
-        STORE,
-        BEGIN,
-        CHOSEN_BY,
-        BEGIN_REASON,
-        EVENTS_SINCE,
-        DEEDS,
-        Word {
-            conflict: None,
-            ..JSON
-        },
-        NUMBERS,
-    ],
-    has_shared: false,
-};
-
-const CERTIFICATES: Subcommand = Subcommand {
-    name: "certificates",
-    about: "Prints a certificate for each record that was destroyed, from the history",
-    example: "Example: mailfile-store certificates --store records.db 17",
-    words: &[STORE, NUMBERS],
-    has_shared: false,
-};
-
 /// The conditions of a choice of records.
 const CONDITIONS: &[Word] = &[
     SENDER, RECIPIENT, SUBJECT, WHERE, CLASS, SINCE, UNTIL, DUE, HELD, LIVE, DESTROYED,
@@ -517,40 +464,8 @@ pub const PROGRAM: Program = Program {
     name: "mailfile-store",
     about: "Runs an archive of e-mail in a file: captures, lists, shows, exports, holds and destroys records",
     subcommands: &[
-        CREATE,
-        PLAN,
-        DELIVER,
-        INTAKE,
-        LIST,
-        SHOW,
-        EXPORT,
-        COPY,
-        CHECK,
-        WHY,
-        HOLD,
-        RELEASE,
-        DISPOSE,
-        REPORT,
-        HISTORY,
-        CERTIFICATES,
+        CREATE, PLAN, DELIVER, INTAKE, LIST, SHOW, EXPORT, COPY, CHECK, WHY, HOLD, RELEASE,
+        DISPOSE, REPORT,
     ],
     shared: CONDITIONS,
-    hints: &[
-        Hint {
-            typed: "--to",
-            meant: "--recipient",
-        },
-        Hint {
-            typed: "--cc",
-            meant: "--recipient",
-        },
-        Hint {
-            typed: "--after",
-            meant: "--since",
-        },
-        Hint {
-            typed: "--before",
-            meant: "--until",
-        },
-    ],
 };
