@@ -30,7 +30,7 @@ pub enum MomentFault {
 }
 
 /// The day of a moment, in days since 1970-01-01.
-fn day_of_moment(moment: u64) -> u64
+pub(crate) fn day_of_moment(moment: u64) -> u64
     ensures { result ≡ day_of_moment moment }
 {
     moment / DAY
