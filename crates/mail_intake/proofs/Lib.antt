@@ -1,3 +1,4 @@
-pub mod Passing
+pub mod Kept
 pub mod OrderLaws
+pub mod Passing
 pub mod Rows

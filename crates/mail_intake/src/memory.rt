@@ -1,8 +1,8 @@
 //! What was told of messages that stay.
 
-ghost use Rattle.std.specs.Prelude.{◌≡◌, ◌++◌, [], IfOk, IfSome, OnOk, map};
+ghost use Rattle.std.specs.Prelude.{◌≡◌, ◌<◌, ◌^◌, ◌++◌, [], ℕ, IfOk, IfSome, OnOk, Some, map, option_map, decimal};
 ghost use Rattle.std.specs.List.{flat_map, list_any};
-ghost use Rattle.mail_intake.specs.Telling.{entry, field, is_of, is_to_be_told, memory_view, spelling, told_view};
+ghost use Rattle.mail_intake.specs.Telling.{CanBeKept, IsReading, Keeps, Memory as Kept, entries_of, entry, field, fields_of, is_of, is_to_be_told, memory_view, spelling, told_view};
 
 use std::alloc::{AllocError, Global};
 
@@ -66,39 +66,51 @@ fn push_entries(octets: &mut Vec<u8>, told: &[Told]) -> Result<(), AllocError>
     Ok(())
 }
 
-/// A day in decimal digits; none where it is none.
-fn day_in(digits: &[u8]) -> Option<u64> {
+/// What stands between the NULs of octets.
+fn fields_in(alloc: Global, octets: &[u8]) -> Result<Vec<&[u8]>, AllocError>
+    ensures { IfOk result (λ v. map (λ f. f.now) v.items ≡ fields_of octets.now) }
+{
+    octets.split(|octet| *octet == 0).collect(alloc)
+}
+
+/// The day that a field spells; none where it spells none.
+fn day_in(digits: &[u8]) -> Option<u64>
+    ensures { (n : ℕ) → n < 2 ^ 64 → digits.now ≡ decimal n → result ≡ Some n }
+{
     str::from_utf8(digits).ok()?.parse().ok()
 }
 
-/// The entries of pairs of fields. What follows the last NUL is none.
-fn entries_in(alloc: Global, fields: &[u8]) -> Result<Vec<Told>, AllocError> {
+/// The entries that fields spell, two each.
+fn entries_in(alloc: Global, fields: &[&[u8]]) -> Result<Vec<Told>, AllocError>
+    ensures { IfOk result (λ v.
+        map told_view v.items ≡ entries_of (map (λ f. f.now) fields.now)) }
+{
     let mut told = Vec::new(alloc);
-    let mut name: Option<&[u8]> = None;
-    for field in fields.split(|octet| *octet == 0) {
-        match name {
-            None => name = Some(field),
-            Some(known) => {
-                told.push(Told {
-                    name: Vec::from_slice(alloc, known)?,
-                    words: Vec::from_slice(alloc, field)?,
-                })?;
-                name = None;
-            }
-        }
+    let mut rest = fields;
+    while let [name, words, others @ ..] = rest {
+        told.push(Told {
+            name: Vec::from_slice(alloc, name)?,
+            words: Vec::from_slice(alloc, words)?,
+        })?;
+        rest = others;
     }
     Ok(told)
 }
 
-/// What octets may spell.
-fn parsed(alloc: Global, octets: &[u8]) -> Result<Option<Memory>, AllocError> {
-    let Some(end) = octets.iter().position(|octet| *octet == 0) else {
+/// The one memory that octets may keep.
+fn parsed(alloc: Global, octets: &[u8]) -> Result<Option<Memory>, AllocError>
+    ensures only { IfOk result (λ found.
+        (m : Kept) → Keeps octets.now m → option_map memory_view found ≡ Some m) }
+    ensures fit { IfOk result (λ found. IfSome found (λ m. CanBeKept (memory_view m))) }
+{
+    let fields = fields_in(alloc, octets)?;
+    let [digits, entries @ ..] = fields.as_slice() else {
         return Ok(None);
     };
-    let Some(day) = day_in(&octets[..end]) else {
+    let Some(day) = day_in(digits) else {
         return Ok(None);
     };
-    let told = entries_in(alloc, &octets[end + 1..])?;
+    let told = entries_in(alloc, entries)?;
     Ok(Some(Memory { day, told }))
 }
 
@@ -127,7 +139,8 @@ impl Memory {
     /// The memory that is kept in these octets; none where they keep none. They are not trusted: what is read is what they
     /// spell, each octet of them.
     pub fn read(alloc: Global, octets: &[u8]) -> Result<Option<Memory>, AllocError>
-        ensures { IfOk result (λ m. IfSome m (λ m. octets.now ≡ spelling (memory_view m))) }
+        ensures { IfOk result (λ found.
+            IsReading octets.now (option_map memory_view found)) }
     {
         let Some(memory) = parsed(alloc, octets)? else {
             return Ok(None);
