@@ -613,6 +613,7 @@ pub fn read_command_line<'a>(
     rt: &HostRuntime,
     words: &'a [String],
 ) -> Result<CommandLine<'a>, NoCommand> {
-    let matches = read_words(rt, &words::PROGRAM, words)?;
-    read_matches(rt.alloc(), &matches)
+    let alloc = rt.alloc();
+    let matches = read_words(rt, &words::program(alloc)?, words)?;
+    read_matches(alloc, &matches)
 }

@@ -1,6 +1,7 @@
 //! The command lines of the three programs, read into types: what a program is asked to do, or why that is nothing.
 //!
 //! - `table`: subcommands with their words, as data; `reading`: the words that `clap` finds by them;
+//! - `hints`: the option that is meant by a word that is none;
 //! - `wrapping`: help, at most 80 columns wide;
 //! - `session`, `archives` and `tools`: the command lines of `mailfile`, `mailfile-store` and `mailfile-tool`.
 //!
@@ -8,6 +9,7 @@
 #![tactic(auto)]
 
 pub mod archives;
+mod hints;
 mod reading;
 pub mod session;
 mod table;

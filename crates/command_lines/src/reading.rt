@@ -1,6 +1,7 @@
 //! Words of a command line, which `clap` reads by a program's table.
 
-use crate::table::{Program, Word, command_of};
+use crate::hints::hint_on;
+use crate::table::{Hint, Program, Word, command_of};
 use crate::wrapping::push_wrapped;
 use clap::error::ErrorKind;
 use clap::{ArgMatches, Command, Error};
@@ -128,23 +129,56 @@ pub(crate) fn read_by<'a>(
         .map_err(|_| tell_refusal(rt, shown))
 }
 
-/// Reads words by the table of a program, and prints what `clap` reports where they are none of its.
+/// Which option is meant by words that `clap` refuses, where that is told: after the name of their subcommand, which is the
+/// first word that is typed.
+fn hinted(
+    alloc: Global,
+    program: &Program,
+    words: &[String],
+    error: &Error,
+) -> Result<Option<String>, AllocError> {
+    let Some(name) = words.get(1) else {
+        return Ok(None);
+    };
+    let report = error.to_string(alloc)?;
+    match hint_on(program, name, &report) {
+        Some(Hint { typed, meant }) => Ok(Some(format!(in alloc;
+            "{typed}: no such option; {meant} is meant?"
+        )?)),
+        None => Ok(None),
+    }
+}
+
+/// Why words are none of a program's: by a hint, or as `clap` reports, which is printed.
+fn refusal_of(
+    rt: &HostRuntime,
+    program: &Program,
+    words: &[String],
+    error: &Error,
+) -> Result<NoCommand, AllocError> {
+    let alloc = rt.alloc();
+    if let Some(text) = hinted(alloc, program, words, error)? {
+        return Ok(NoCommand::Wrong(text));
+    }
+    let shown = shown_words(alloc, words)?;
+    let told = Line {
+        command: command_of(alloc, program)?,
+        words: shown.as_slice(),
+    };
+    Ok(tell_refusal(rt, told))
+}
+
+/// Reads words by the table of a program. Where they are none of its, and the program has no hint on them, what `clap` reports
+/// is printed.
 pub(crate) fn read_words<'a>(
     rt: &HostRuntime,
     program: &Program,
     words: &'a [String],
 ) -> Result<ArgMatches<'a>, NoCommand> {
-    let alloc = rt.alloc();
-    let shown = shown_words(alloc, words)?;
-    let line = Line {
-        command: command_of(alloc, program)?,
-        words,
-    };
-    let told = Line {
-        command: command_of(alloc, program)?,
-        words: shown.as_slice(),
-    };
-    read_by(rt, line, told)
+    match command_of(rt.alloc(), program)?.try_get_matches_from(words) {
+        Ok(matches) => Ok(matches),
+        Err(error) => Err(refusal_of(rt, program, words, &error)?),
+    }
 }
 
 /// The value of a word that is given, if it is.

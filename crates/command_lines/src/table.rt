@@ -77,17 +77,29 @@ pub struct Subcommand {
 /// The version of the programs.
 pub const VERSION: &str = "0.1.0";
 
-/// The command line of a program, which always has a subcommand.
+/// What may be typed for an option that has another name. Both are written with their hyphens.
 #[derive(Clone, Copy)]
+pub struct Hint {
+    pub typed: &'static str,
+    /// The option, where the subcommand has it.
+    pub meant: &'static str,
+}
+
+/// The command line of a program, which always has a subcommand.
+///
+/// Its subcommands are in groups, each of which a function hands over: a function that names a whole large table takes too
+/// long to prove.
+#[derive(Drop)]
 pub struct Program {
     /// As it is started, and as its help names it.
     pub name: &'static str,
     /// What it does.
     pub about: &'static str,
     /// Its subcommands, in the order in which they are shown.
-    pub subcommands: &'static [Subcommand],
+    pub groups: Vec<&'static [Subcommand]>,
     /// The words that several of them have.
     pub shared: &'static [Word],
+    pub hints: &'static [Hint],
 }
 
 /// An argument in the form of a word. A number with a sign is a value too, so that its own reason refuses it.
@@ -184,6 +196,20 @@ fn with_subcommand<'a>(
     command.subcommand(subcommand)
 }
 
+/// Adds subcommands to a program.
+fn with_subcommands<'a>(
+    alloc: Global,
+    command: Command<'a>,
+    group: &[Subcommand],
+    shared: &[Word],
+) -> Result<Command<'a>, AllocError> {
+    let mut command = command;
+    for described in group {
+        command = with_subcommand(alloc, command, described, shared)?;
+    }
+    Ok(command)
+}
+
 /// A command line that has no words yet. `--help` names the program so, whatever the name of its file is.
 pub fn bare_command<'a>(
     alloc: Global,
@@ -199,8 +225,8 @@ pub fn bare_command<'a>(
 /// The whole command line of a program. The only error is out of memory.
 pub fn command_of<'a>(alloc: Global, program: &Program) -> Result<Command<'a>, AllocError> {
     let mut command = bare_command(alloc, program.name, program.about)?.subcommand_required(true);
-    for described in program.subcommands {
-        command = with_subcommand(alloc, command, described, program.shared)?;
+    for group in &program.groups {
+        command = with_subcommands(alloc, command, *group, program.shared)?;
     }
     Ok(command)
 }

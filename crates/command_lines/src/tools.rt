@@ -265,7 +265,7 @@ fn why_asked<'a>(alloc: Global, asked: &ArgMatches<'a>) -> Result<Why<'a>, NoCom
 /// message that is not clear, are `Wrong`; help, and what `clap` refuses, are printed.
 pub fn read_command<'a>(rt: &HostRuntime, words: &'a [String]) -> Result<Command<'a>, NoCommand> {
     let alloc = rt.alloc();
-    let matches = read_words(rt, &words::PROGRAM, words)?;
+    let matches = read_words(rt, &words::program(alloc)?, words)?;
     Ok(match matches.subcommand().ok_or(NoCommand::Unread)? {
         ("frame", asked) => Command::Frame {
             file: value_of(asked, words::COMMANDS),

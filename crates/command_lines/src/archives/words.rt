@@ -1,6 +1,7 @@
 //! The subcommands of `mailfile-store`, each with its words and an example.
 
-use crate::table::{FLAG, Form, OPTION, PLACE, Program, Subcommand, Word};
+use crate::table::{FLAG, Form, Hint, OPTION, PLACE, Program, Subcommand, Word};
+use std::alloc::{AllocError, Global};
 
 pub const STORE: Word = Word {
     name: "store",
@@ -23,12 +24,16 @@ pub const NUMBERS: Word = Word {
 pub const NUMBER: Word = Word {
     name: "number",
     value: "NUMBER",
+    help: Some("The number of the record, as list prints it"),
     ..PLACE
 };
 
 pub const OFFICER: Word = Word {
     name: "officer",
     value: "OFFICER",
+    help: Some(
+        "The officer by whose rules mail is filed: the name of a folder in that of the rules",
+    ),
     ..PLACE
 };
 
@@ -141,6 +146,7 @@ pub const TIMES: Word = Word {
 pub const MAILDIR: Word = Word {
     name: "maildir",
     value: "MAILDIR",
+    help: Some("The folder of the mail, which has the folders new and cur"),
     ..PLACE
 };
 
@@ -322,6 +328,7 @@ pub const SORT: Word = Word {
 pub const FOLDER: Word = Word {
     name: "folder",
     value: "FOLDER",
+    help: Some("The folder of the export, which is made where there is none"),
     ..PLACE
 };
 
@@ -336,6 +343,7 @@ const EXPORT: Subcommand = Subcommand {
 pub const NEW: Word = Word {
     name: "new",
     value: "NEW",
+    help: Some("The file of the new store"),
     ..PLACE
 };
 
@@ -399,6 +407,7 @@ const WHY: Subcommand = Subcommand {
 pub const NAME: Word = Word {
     name: "name",
     value: "NAME",
+    help: Some("The name of the hold, as audit: 1 to 64 visible characters of ASCII, no blank"),
     ..PLACE
 };
 
@@ -460,12 +469,65 @@ const CONDITIONS: &[Word] = &[
     SENDER, RECIPIENT, SUBJECT, WHERE, CLASS, SINCE, UNTIL, DUE, HELD, LIVE, DESTROYED,
 ];
 
-pub const PROGRAM: Program = Program {
-    name: "mailfile-store",
-    about: "Runs an archive of e-mail in a file: captures, lists, shows, exports, holds and destroys records",
-    subcommands: &[
-        CREATE, PLAN, DELIVER, INTAKE, LIST, SHOW, EXPORT, COPY, CHECK, WHY, HOLD, RELEASE,
-        DISPOSE, REPORT,
-    ],
-    shared: CONDITIONS,
-};
+/// What people type for conditions.
+const HINTS: &[Hint] = &[
+    Hint {
+        typed: "--to",
+        meant: "--recipient",
+    },
+    Hint {
+        typed: "--cc",
+        meant: "--recipient",
+    },
+    Hint {
+        typed: "--after",
+        meant: "--since",
+    },
+    Hint {
+        typed: "--before",
+        meant: "--until",
+    },
+];
+
+/// The subcommands that make a store and capture mail.
+const CAPTURING: &[Subcommand] = &[CREATE, PLAN, DELIVER, INTAKE];
+
+/// Those that read records.
+const READING: &[Subcommand] = &[LIST, SHOW, EXPORT, COPY];
+
+/// Those that judge what was done.
+const JUDGING: &[Subcommand] = &[CHECK, WHY];
+
+/// Those that decide how long records are kept.
+const KEEPING: &[Subcommand] = &[HOLD, RELEASE, DISPOSE, REPORT];
+
+fn capturing() -> &'static [Subcommand] {
+    CAPTURING
+}
+
+fn reading() -> &'static [Subcommand] {
+    READING
+}
+
+fn judging() -> &'static [Subcommand] {
+    JUDGING
+}
+
+fn keeping() -> &'static [Subcommand] {
+    KEEPING
+}
+
+fn conditions() -> &'static [Word] {
+    CONDITIONS
+}
+
+/// The whole command line, with all subcommands.
+pub fn program(alloc: Global) -> Result<Program, AllocError> {
+    Ok(Program {
+        name: "mailfile-store",
+        about: "Runs an archive of e-mail in a file: captures, lists, shows, exports, holds and destroys records",
+        groups: vec![in alloc; capturing(), reading(), judging(), keeping()]?,
+        shared: conditions(),
+        hints: HINTS,
+    })
+}

@@ -1,6 +1,7 @@
 //! The subcommands of `mailfile-tool`, each with its words and an example.
 
 use crate::table::{FLAG, Form, OPTION, PLACE, Program, Subcommand, Word};
+use std::alloc::{AllocError, Global};
 
 pub const PERSONAL: Word = Word {
     name: "personal",
@@ -212,10 +213,15 @@ const RECIPIENTS: Subcommand = Subcommand {
     has_shared: false,
 };
 
+const SUBCOMMANDS: &[Subcommand] = &[FRAME, EXPLAIN, CHECK, COMPILE, DUMP, WHY, RECIPIENTS];
+
 /// The whole command line, with all subcommands.
-pub const PROGRAM: Program = Program {
-    name: "mailfile-tool",
-    about: "Tools for mailfile: sessions without counting octets, texts for numbers, script checks, images as text, and why a message is filed",
-    subcommands: &[FRAME, EXPLAIN, CHECK, COMPILE, DUMP, WHY, RECIPIENTS],
-    shared: &[],
-};
+pub fn program(alloc: Global) -> Result<Program, AllocError> {
+    Ok(Program {
+        name: "mailfile-tool",
+        about: "Tools for mailfile: sessions without counting octets, texts for numbers, script checks, images as text, and why a message is filed",
+        groups: vec![in alloc; SUBCOMMANDS]?,
+        shared: &[],
+        hints: &[],
+    })
+}
