@@ -1,3 +1,4 @@
 pub mod Parting
+pub mod Kept
 mod Rows
 pub mod Texts

@@ -1,7 +1,10 @@
 use Rattle.std.proofs.Common.{rules, ◌≡◌, ◌++◌, map, sym, ap, ap₂, ◌∙◌}
 use Rattle.record_archive.specs.Archive.{Archive}
 use Rattle.record_choice.specs.Entries.{entry_view}
+use Rattle.record_choice.specs.Walks.{shows_answer}
 use Rattle.cli_choice.specs.Headers.{texts_found}
+use Rattle.cli_choice.specs.Questions.{is_found, is_missed}
+use Rattle.cli_choice.proofs.Kept.{kept_next}
 use Rattle.cli_choice.proofs.Texts.{texts_more}
 use Rattle.cli_choice.proofs.search.part.Goals as goal
 
@@ -11,15 +14,15 @@ loop-entry-preserved g c = record {
   found = λ clean (a : Archive) s.
       let before = c.reading_of.ensures.reads.falls clean in
       let stands = c.loop-entry.invariant.reads.stands a s in
-      let was = c.loop-entry.invariant.found before a s in
-      let shown = c.in_ok-reading.ensures.found clean a stands in
-      search (rules, was, shown, c.in_ok-add.ensures.found, c.in-Some.ensures.goes);
+      kept_next (shows_answer a (is_found c.args.questions.now)) _ _ _ _ (map entry_view c.loop-entry.entry-iterator.rest.items)
+      c.in_ok-add.ensures.found (c.in_ok-reading.ensures.found clean a stands)
+      ∙ c.loop-entry.invariant.found before a s;
   unread = λ clean (a : Archive) s.
       let before = c.reading_of.ensures.reads.falls clean in
       let stands = c.loop-entry.invariant.reads.stands a s in
-      let was = c.loop-entry.invariant.unread before a s in
-      let shown = c.in_ok-reading.ensures.unread clean a stands in
-      search (rules, was, shown, c.in_ok-add.ensures.unread, c.in-Some.ensures.goes);
+      kept_next (shows_answer a (is_missed c.args.questions.now)) _ _ _ _ (map entry_view c.loop-entry.entry-iterator.rest.items)
+      c.in_ok-add.ensures.unread (c.in_ok-reading.ensures.unread clean a stands)
+      ∙ c.loop-entry.invariant.unread before a s;
   headers = λ clean (a : Archive) s.
       let before = c.reading_of.ensures.reads.falls clean in
       let stands = c.loop-entry.invariant.reads.stands a s in
