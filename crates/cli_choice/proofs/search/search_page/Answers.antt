@@ -11,7 +11,7 @@ pub returns-then-is_nothing-clause-unread : goal.returns-then-is_nothing-clause-
 returns-then-is_nothing-clause-unread g c = λ clean (a : Archive) s.
     subst
     (λ l. IsPageOf (Some (is_missed c.args.questions.now)) (choice_view c.args.choice.now) a (Some c.args.from) (map entry_view l)
-    c.in_ok-page.page.next) (sym c.new-2.ensures.items)
+    c.in_ok-page.page.next) (sym c.new-then-is_nothing.ensures.items)
     (none_missed c.args.questions.now (sym c.is_nothing.ensures ∙ c.if-is_nothing.true) (choice_view c.args.choice.now) a (Some c.args.from)
     c.in_ok-page.page.next)
 
