@@ -67,12 +67,12 @@ fn place_in(alloc: Global, faulted: Faulted<'_>, program: &str) -> Result<Shown,
 
 /// Where the run of rules over a message ends in a fault, by the open classes of a plan: the script, the line and the column,
 /// with the class or the script that is named there. None where that is not known, as for want of memory.
-pub fn place_of_fault(
+pub fn place_of_fault<'m>(
     alloc: Global,
     rules: &Rules,
-    plan: &Plan,
+    plan: &'m Plan,
     fault: RunFault,
-    message: &[u8],
+    message: &'m [u8],
 ) -> Result<Option<Shown>, InquiryFault> {
     let Some(scripts) = scripts_of(alloc, rules)? else {
         return Ok(None);

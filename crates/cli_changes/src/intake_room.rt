@@ -141,7 +141,8 @@ impl<'a, A: Records> Room<'a, A> {
     fn speak(&mut self) {
         if !self.has_spoken {
             self.has_spoken = true;
-            self.job.log.tell_unused(&self.job.filing);
+            let job = &self.job;
+            job.log.tell_unused(&job.filing);
         }
     }
 

@@ -84,12 +84,12 @@ impl<'a> FilingRules<'a> {
 
     /// Where the run of these rules over a message ended in a fault, by the open classes of a plan: the script, the line and
     /// the column, with the class or the script that is named there. None where that is not known, as for want of memory.
-    pub fn place_of_fault(
+    pub fn place_of_fault<'m>(
         &self,
         alloc: Global,
-        plan: &Plan,
+        plan: &'m Plan,
         fault: RunFault,
-        message: &[u8],
+        message: &'m [u8],
     ) -> Option<Shown> {
         let rules = self.rules.as_ref()?;
         place_of_fault(alloc, rules, plan, fault, message).unwrap_or(None)

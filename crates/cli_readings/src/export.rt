@@ -180,10 +180,11 @@ fn write_index(
 ) -> Result<(), Failure> {
     let moment = moment_text(rt.alloc(), now(rt)?)?;
     let conditions = conditions_of(rt.alloc(), choice)?;
+    let conditions = conditions.as_deref();
     let heading = IndexHeading {
         file,
         moment: moment.as_str(),
-        conditions: conditions.as_deref(),
+        conditions,
         order: order_of(target.sorting),
     };
     let mut page = Page::new(rt.alloc());
