@@ -65,27 +65,37 @@ fn place_in(alloc: Global, faulted: Faulted<'_>, program: &str) -> Result<Shown,
     Ok(text)
 }
 
-/// Where the run of rules over a message ends in a fault, by the open classes of a plan: the script, the line and the column,
-/// with the class or the script that is named there. None where that is not known, as for want of memory.
-pub fn place_of_fault<'m>(
+/// The fault that scripts end in over a message, by the open classes of a plan.
+fn faulted_by<'q>(
     alloc: Global,
-    rules: &Rules,
-    plan: &'m Plan,
-    fault: RunFault,
-    message: &'m [u8],
-) -> Result<Option<Shown>, InquiryFault> {
-    let Some(scripts) = scripts_of(alloc, rules)? else {
-        return Ok(None);
-    };
+    scripts: &'q Scripts,
+    plan: &'q Plan,
+    message: &'q [u8],
+) -> Result<Option<Faulted<'q>>, InquiryFault> {
     let inquiry = Inquiry {
-        scripts: &scripts,
+        scripts,
         plan,
         plan_text: None,
         message_name: "the message",
         message,
         moment: 0,
     };
-    match fault_of(alloc, &inquiry)? {
+    fault_of(alloc, &inquiry)
+}
+
+/// Where the run of rules over a message ends in a fault, by the open classes of a plan: the script, the line and the column,
+/// with the class or the script that is named there. None where that is not known, as for want of memory.
+pub fn place_of_fault(
+    alloc: Global,
+    rules: &Rules,
+    plan: &Plan,
+    fault: RunFault,
+    message: &[u8],
+) -> Result<Option<Shown>, InquiryFault> {
+    let Some(scripts) = scripts_of(alloc, rules)? else {
+        return Ok(None);
+    };
+    match faulted_by(alloc, &scripts, plan, message)? {
         Some(faulted) if faulted.fault == fault => {
             Ok(Some(place_in(alloc, faulted, rules.main.as_str())?))
         }

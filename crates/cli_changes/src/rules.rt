@@ -84,12 +84,12 @@ impl<'a> FilingRules<'a> {
 
     /// Where the run of these rules over a message ended in a fault, by the open classes of a plan: the script, the line and
     /// the column, with the class or the script that is named there. None where that is not known, as for want of memory.
-    pub fn place_of_fault<'m>(
+    pub fn place_of_fault(
         &self,
         alloc: Global,
-        plan: &'m Plan,
+        plan: &Plan,
         fault: RunFault,
-        message: &'m [u8],
+        message: &[u8],
     ) -> Option<Shown> {
         let rules = self.rules.as_ref()?;
         place_of_fault(alloc, rules, plan, fault, message).unwrap_or(None)
