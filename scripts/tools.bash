@@ -167,6 +167,16 @@ frame_agrees() {
     [[ $(wc -l < "$work/replies") == $(($(wc -l < "$work/lines") + 1)) ]]
 }
 
+# Whether a pattern of 20,000 characters, each after a backslash, is tried on a value of 1 MiB in a second of a processor.
+long_pattern_takes_no_time() {
+    local piece=$work/piece
+    printf '%019999d' 0 | sed 's/0/\\\\a/g' > "$piece"
+    printf 'require "fileinto";\nif header :matches "subject" "*%s\\\\b*" { fileinto "x"; }\n' "$(< "$piece")" > "$work/long.sieve"
+    printf 'Subject: %01048576d\n\nx\n' 0 | tr 0 a > "$work/long.eml"
+    (ulimit -t 1 && exec ./mailfile-tool why "$work/long.sieve" "$work/long.eml") > "$work/answer" &&
+        grep -q -x '  2:1 if: not taken' "$work/answer"
+}
+
 tools() {
     tool_cases
     count "frame refuses what a session would misread" frame_agrees
@@ -177,6 +187,7 @@ tools() {
     count "a session without counted octets" typed_session
     count "fields that are said once" fields_are_said_once
     count "a folder with too many scripts" full_folder_is_named
+    count "a long pattern on a long value" long_pattern_takes_no_time
     group tools
 }
 
