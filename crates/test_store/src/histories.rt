@@ -88,9 +88,11 @@ fn tables_of_other_events(rt: HostRuntime) -> Result<(), Fail> {
     let Ok(store) = Store::create(alloc, conn) else {
         return Err(Fail::from("not created"));
     };
-    assert!(rt; matches!(
-        NotedStore::open(alloc, store),
-        Err((OpenFault::NoHistory, _))
-    ));
+    assert!(rt;
+        matches!(
+            NotedStore::open(alloc, store),
+            Err((OpenFault::NoHistory, _))
+        )
+    );
     Ok(())
 }
