@@ -2,6 +2,7 @@
 use Rattle.std.specs.Prelude.{ℕ, List, [], ◌∷◌, ◌++◌, filter, not}
 use Rattle.std.specs.List.{Contains}
 use Rattle.std.specs.Str.{bytes_eq}
+use Rattle.mail_intake.specs.Calls.{Call, Makes}
 use Rattle.mail_intake.specs.Fates.{Fate, filed, unread, turned_away, Ending, after_all, at_capture, at_move}
 
 pub record Mail : Type 0 where
@@ -45,3 +46,8 @@ IsEndIn f (at_move name octets how) = HasNew name octets f
 abbrev pub Lead : (Left : Folders → Type 0) → List Fate → Folders → Type 0
 Lead Left [] f = Left f
 Lead Left (x ∷ xs) f = IsFateIn f x × Lead Left xs (left_by x f)
+
+-- FROM ONE MOMENT TO ANOTHER THESE CALLS WERE MADE, and each message is where it was
+pub record OnlyMakes {M : Type 0} (has_made : M → List Call → Type 0) (has : M → Folders → Type 0) (before after : M) (calls : List Call) : Type 0 where
+  pub made : Makes has_made before after calls
+  pub kept : (f : Folders) → has before f → has after f

@@ -3,7 +3,7 @@
 ghost use Rattle.std.specs.Prelude.{◌≡◌, ◌∷◌, [], ℕ, Bool, List, None, map, string_bytes, true, IfOk, IfErr};
 ghost use Rattle.mail_intake.specs.Calls.{Call, Makes, cause_of, is_done};
 ghost use Rattle.mail_intake.specs.Fates.{AreThoseOf, Ending, EndsAs, Fate, course, last_course, name_of, outcome_for, outcome_of, stays, whole_course};
-ghost use Rattle.mail_intake.specs.Folders.{Folders, IsEndIn, IsFateIn, left_by};
+ghost use Rattle.mail_intake.specs.Folders.{Folders, IsEndIn, IsFateIn, OnlyMakes, left_by};
 ghost use Rattle.mail_intake.specs.Intakes.{IsIntake, Passes};
 ghost use Rattle.mail_intake.specs.Order.{AreInOrder, AreSomeOf, handed_over};
 ghost use Rattle.mail_intake.specs.Telling.{Memory as Told, memory_view};
@@ -53,9 +53,8 @@ fn leave<M: Mailroom>(
     name: &str,
     reason: Reason,
 ) -> Outcome
-    ensures calls { Makes M.made room.old room.new
+    ensures calls { OnlyMakes M.made M.has room.old room.new
         (stays (memory_view memory.now) day name.now (cause_of reason)) }
-    ensures kept { (f : Folders) → M.has room.old f → M.has room.new f }
     ensures outcome { result ≡ outcome_for (cause_of reason) }
 {
     let outcome = outcome_for(&reason);

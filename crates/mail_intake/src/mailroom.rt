@@ -3,7 +3,7 @@
 ghost use Rattle.std.specs.Prelude.{◌≡◌, ◌∷◌, [], List, map, string_bytes, IfOk, OnOk, OnErr};
 ghost use Rattle.mail_intake.specs.Calls.{Call, Makes, answer_of, cause_of, is_done, look_of};
 ghost use Rattle.mail_intake.specs.Calls as call;
-ghost use Rattle.mail_intake.specs.Folders.{Folders, HasNew, Mail, moved};
+ghost use Rattle.mail_intake.specs.Folders.{Folders, HasNew, Mail, OnlyMakes, moved};
 
 use crate::reason::Reason;
 
@@ -56,17 +56,15 @@ pub trait Mailroom {
 
     /// The octets of a new message, or why it stays.
     fn read(&mut self, name: &str) -> Result<Vec<u8>, Reason>
-        ensures made { Makes made self.old self.new
+        ensures call { OnlyMakes made has self.old self.new
             (call.read name.now (look_of result) ∷ []) }
         ensures found { IfOk result (λ v. (f : Folders) → has self.old f
-            → HasNew name.now v.items f) }
-        ensures kept { (f : Folders) → has self.old f → has self.new f };
+            → HasNew name.now v.items f) };
 
     /// Hands a message to the archive.
     fn capture(&mut self, name: &str, octets: Vec<u8>) -> Result<Taken, Refusal<Self::Fault>>
-        ensures made { Makes made self.old self.new
-            (call.capture name.now octets.items (answer_of result) ∷ []) }
-        ensures kept { (f : Folders) → has self.old f → has self.new f };
+        ensures call { OnlyMakes made has self.old self.new
+            (call.capture name.now octets.items (answer_of result) ∷ []) };
 
     /// Moves a message from `new` to `cur`. A refusal moves nothing.
     fn file_away(&mut self, name: &str) -> Result<(), Self::Fault>
@@ -78,18 +76,16 @@ pub trait Mailroom {
 
     /// Tells that a message stays, and why.
     fn tell(&mut self, name: &str, reason: &Reason)
-        ensures made { Makes made self.old self.new
-            (call.tell name.now (cause_of reason.now) ∷ []) }
-        ensures kept { (f : Folders) → has self.old f → has self.new f };
+        ensures call { OnlyMakes made has self.old self.new
+            (call.tell name.now (cause_of reason.now) ∷ []) };
 
     /// Remembers that a message stays, and why, for the next intake.
     fn remember(&mut self, name: &str, reason: Reason)
-        ensures made { Makes made self.old self.new
-            (call.remember name.now (cause_of reason) ∷ []) }
-        ensures kept { (f : Folders) → has self.old f → has self.new f };
+        ensures call { OnlyMakes made has self.old self.new
+            (call.remember name.now (cause_of reason) ∷ []) };
 
     /// Makes the moves so far last over a power cut.
     fn settle(&mut self) -> Result<(), Self::Fault>
-        ensures made { Makes made self.old self.new (call.settle (is_done result) ∷ []) }
-        ensures kept { (f : Folders) → has self.old f → has self.new f };
+        ensures call { OnlyMakes made has self.old self.new
+            (call.settle (is_done result) ∷ []) };
 }

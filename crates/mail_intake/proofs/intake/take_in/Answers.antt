@@ -23,11 +23,11 @@ returns g c =
       is_settled = is_done c.settle-last.result;
       order = subst (λ l. AreThoseOf l p.fates each.0) same p.order;
       calls = makes_then made c.args.room.now c.list.new.self c.settle-last.new.self _ _ c.in-Ok.ensures.made
-          (makes_then made c.list.new.self c.take_each-end.new.room c.settle-last.new.self _ _ p.calls c.settle-last.ensures.made);
+          (makes_then made c.list.new.self c.take_each-end.new.room c.settle-last.new.self _ _ p.calls c.settle-last.ensures.call.made);
       ended = c.settled.ensures each.0 each.1;
       counts = p.counts;
       listed = c.in-Ok.ensures.listed;
       folders = λ (f : Folders) h. lead_weaker (λ g. IsEndIn g each.0 × has c.take_each-end.new.room g)
-          (λ g. IsEndIn g each.0 × has c.settle-last.new.self g) (λ (g : Folders) k. (k.0, c.settle-last.ensures.kept g k.1)) p.fates f
+          (λ g. IsEndIn g each.0 × has c.settle-last.new.self g) (λ (g : Folders) k. (k.0, c.settle-last.ensures.call.kept g k.1)) p.fates f
           (p.folders f (c.in-Ok.ensures.kept f h));
     }

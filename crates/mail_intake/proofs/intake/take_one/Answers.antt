@@ -10,8 +10,8 @@ returns-in-Err-clause-taken g c = (
   unread c.args.name.now (cause_of c.in-Err.reason),
   refl,
   sym c.leave.ensures.outcome,
-  makes_then g.M.Mailroom.made c.args.room.now c.read.new.self c.leave.new.room _ _ c.in-Err.ensures.made c.leave.ensures.calls,
-  λ (f : Folders) h. (tt, c.leave.ensures.kept f (c.in-Err.ensures.kept f h)),
+  makes_then g.M.Mailroom.made c.args.room.now c.read.new.self c.leave.new.room _ _ c.in-Err.ensures.call.made c.leave.ensures.calls.made,
+  λ (f : Folders) h. (tt, c.leave.ensures.calls.kept f (c.in-Err.ensures.call.kept f h)),
 )
 
 pub returns-in-Ok-file_away-clause-taken : goal.returns-in-Ok-file_away-clause-taken
@@ -21,11 +21,11 @@ returns-in-Ok-file_away-clause-taken g c =
       refl,
       refl,
       makes_then made c.args.room.now c.capture.new.self c.file_away.new.self _ _
-          (makes_then made c.args.room.now c.read.new.self c.capture.new.self _ _ c.in-Ok.ensures.made c.in-Ok-capture.ensures.made)
+          (makes_then made c.args.room.now c.read.new.self c.capture.new.self _ _ c.in-Ok.ensures.call.made c.in-Ok-capture.ensures.call.made)
           c.in-Ok-file_away.ensures.made,
       λ (f : Folders) h. (
         c.in-Ok.ensures.found f h,
-        c.in-Ok-file_away.ensures.moved f (c.in-Ok-capture.ensures.kept f (c.in-Ok.ensures.kept f h)),
+        c.in-Ok-file_away.ensures.moved f (c.in-Ok-capture.ensures.call.kept f (c.in-Ok.ensures.call.kept f h)),
       ),
     )
 
@@ -36,11 +36,11 @@ returns-in-Err-file_away-clause-ended g c =
       tt,
       ([], refl),
       makes_then made c.args.room.now c.capture.new.self c.file_away.new.self _ _
-          (makes_then made c.args.room.now c.read.new.self c.capture.new.self _ _ c.in-Ok.ensures.made c.in-Ok-capture.ensures.made)
+          (makes_then made c.args.room.now c.read.new.self c.capture.new.self _ _ c.in-Ok.ensures.call.made c.in-Ok-capture.ensures.call.made)
           c.in-Err-file_away.ensures.made,
       λ (f : Folders) h. (
         c.in-Ok.ensures.found f h,
-        c.in-Err-file_away.ensures.kept f (c.in-Ok-capture.ensures.kept f (c.in-Ok.ensures.kept f h)),
+        c.in-Err-file_away.ensures.kept f (c.in-Ok-capture.ensures.call.kept f (c.in-Ok.ensures.call.kept f h)),
       ),
     )
 
@@ -51,13 +51,13 @@ returns-in-Err-Stays-clause-taken g c =
       refl,
       sym c.leave-in-Err-Stays.ensures.outcome,
       makes_then made c.args.room.now c.capture.new.self c.leave-in-Err-Stays.new.room _ _
-          (makes_then made c.args.room.now c.read.new.self c.capture.new.self _ _ c.in-Ok.ensures.made
+          (makes_then made c.args.room.now c.read.new.self c.capture.new.self _ _ c.in-Ok.ensures.call.made
           (subst (λ e. Makes made c.read.new.self c.capture.new.self (capture c.args.name.now c.in-Ok.octets.items (answer_of (Err e)) ∷ []))
-          c.in-Err-Stays.field-0-is c.in-Err-Stays.ensures.made))
-          c.leave-in-Err-Stays.ensures.calls,
+          c.in-Err-Stays.field-0-is c.in-Err-Stays.ensures.call.made))
+          c.leave-in-Err-Stays.ensures.calls.made,
       λ (f : Folders) h. (
         c.in-Ok.ensures.found f h,
-        c.leave-in-Err-Stays.ensures.kept f (c.in-Err-Stays.ensures.kept f (c.in-Ok.ensures.kept f h)),
+        c.leave-in-Err-Stays.ensures.calls.kept f (c.in-Err-Stays.ensures.call.kept f (c.in-Ok.ensures.call.kept f h)),
       ),
     )
 
@@ -67,11 +67,11 @@ returns-in-Err-Ends-clause-ended g c =
       at_capture c.args.name.now c.in-Ok.octets.items,
       tt,
       ([], refl),
-      makes_then made c.args.room.now c.read.new.self c.capture.new.self _ _ c.in-Ok.ensures.made
+      makes_then made c.args.room.now c.read.new.self c.capture.new.self _ _ c.in-Ok.ensures.call.made
           (subst (λ e. Makes made c.read.new.self c.capture.new.self (capture c.args.name.now c.in-Ok.octets.items (answer_of (Err e)) ∷ []))
-          c.in-Err-Ends.field-0-is c.in-Err-Ends.ensures.made),
+          c.in-Err-Ends.field-0-is c.in-Err-Ends.ensures.call.made),
       λ (f : Folders) h. (
         c.in-Ok.ensures.found f h,
-        c.in-Err-Ends.ensures.kept f (c.in-Ok.ensures.kept f h),
+        c.in-Err-Ends.ensures.call.kept f (c.in-Ok.ensures.call.kept f h),
       ),
     )
