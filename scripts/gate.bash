@@ -115,13 +115,10 @@ lines_fit() {
     ! grep -v -E "^[^:]*:[0-9]+: *(//|ghost use|use |#\[)|\"|^crates/cli_page/src/style.rt:" "$work/said"
 }
 
-# A file of proofs in which one line is longer all the same, and waits to be broken when its crate is proved again.
-readonly LONG='crates/mail_intake/proofs/Kept.antt'
-
 # Whether each line of a proof has at most 150 characters; one with a text of SQL in quotation marks may have more.
 proofs_fit() {
     LC_ALL=C.UTF-8 grep -r -n -E --include='*.antt' '^.{151}' crates/*/proofs > "$work/said"
-    ! grep -v -E "\"|^$LONG:" "$work/said"
+    ! grep -v '"' "$work/said"
 }
 
 # Whether the edits that the gate tries change code alone.
