@@ -1,9 +1,9 @@
 -- The definitions on worked rows.
-use Rattle.std.proofs.Common.{◌≡◌, ℕ, List, [], ◌∷◌, map, codes, Option, Some, None, refl}
+use Rattle.std.proofs.Common.{◌≡◌, ℕ, List, [], ◌∷◌, map, codes, Option, Some, None, Bool, true, false, refl}
 use Rattle.session_words.specs.Words.{digits_up_to, number_up_to}
 use Rattle.choice_words.specs.declared.numbers.TypedNumbers.{TypedNumbers}
 use Rattle.choice_words.specs.declared.numbers.TypedNumbers.TheVariants.{One, Range}
-use Rattle.choice_words.specs.Numbers.{numbers_typed, reversed_typed}
+use Rattle.choice_words.specs.Numbers.{numbers_typed, reads_as_numbers, reversed_typed}
 
 -- each word, and the numbers that it is
 abbrev rows : List (List ℕ × Option TypedNumbers)
@@ -46,3 +46,23 @@ reversed_rows =
 reversed_are : map (λ r. reversed_typed r.0) reversed_rows ≡ map (λ r. r.1) reversed_rows
 unfolding digits_up_to number_up_to
 reversed_are = refl
+
+-- each word, and whether it reads as numbers
+abbrev reading_rows : List (List ℕ × Bool)
+reading_rows =
+    (codes "3", true) ∷
+    (codes "5-9", true) ∷
+    (codes "9-5", true) ∷
+    (codes "1,3", true) ∷
+    (codes "1,9-5,", true) ∷
+    (codes "./3", false) ∷
+    (codes "1,audit", false) ∷
+    (codes "1,03", false) ∷
+    (codes "2024-03", false) ∷
+    (codes ",", false) ∷
+    (codes "", false) ∷
+    []
+
+reading_is : map (λ r. reads_as_numbers r.0) reading_rows ≡ map (λ r. r.1) reading_rows
+unfolding digits_up_to number_up_to
+reading_is = refl

@@ -1,6 +1,6 @@
 -- The words that are numbers of records.
-use Rattle.std.specs.Prelude.{ℕ, ◌+◌, ◌==◌, nat_le, Bool, List, take, drop, Option, Some, None, option_map, if◌then◌else◌}
-use Rattle.std.specs.List.{position}
+use Rattle.std.specs.Prelude.{ℕ, ◌+◌, ◌==◌, ◌&&◌, ◌||◌, nat_le, Bool, List, length, take, drop, Option, Some, None, is_some, option_map, if◌then◌else◌}
+use Rattle.std.specs.List.{position, slice_split, list_any, list_all}
 use Rattle.session_words.specs.Words.{number_up_to}
 use Rattle.choice_words.specs.declared.numbers.TypedNumbers.{TypedNumbers}
 use Rattle.choice_words.specs.declared.numbers.TypedNumbers.TheVariants.{One, Range}
@@ -40,3 +40,15 @@ reversed_typed word = reversed_round (position is_hyphen word) word
 -- THE NUMBERS THAT A WORD IS: one number, or a range
 abbrev pub numbers_typed : List ℕ → Option TypedNumbers
 numbers_typed word = numbers_round (position is_hyphen word) word
+
+-- numbers of records, or a range of them backwards
+abbrev pub is_numbers : List ℕ → Bool
+is_numbers word = is_some (numbers_typed word) || is_some (reversed_typed word)
+
+abbrev pub is_comma : ℕ → Bool
+is_comma o = o == 44
+
+-- A WORD READS AS NUMBERS: such parts alone, and at least one, with commas between or after them
+abbrev pub reads_as_numbers : List ℕ → Bool
+reads_as_numbers word = list_any is_numbers (slice_split is_comma word)
+    && list_all (λ part. (length part == 0) || is_numbers part) (slice_split is_comma word)

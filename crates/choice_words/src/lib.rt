@@ -13,6 +13,6 @@ mod ranges;
 
 pub use choice::Choice;
 pub use numbers::{
-    TypedNumbers, read_numbers, read_record_number, reads_as_number, reversed_range,
+    TypedNumbers, read_numbers, read_record_number, reads_as_numbers, reversed_range,
 };
 pub use ranges::add_number;

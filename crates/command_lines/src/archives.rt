@@ -4,7 +4,7 @@ mod words;
 
 use crate::reading::{NoCommand, day_of, has_flag, read_words, required, value_of, values_of};
 use crate::table::Word;
-use choice_words::{read_numbers, reads_as_number, reversed_range};
+use choice_words::{read_numbers, reads_as_numbers, reversed_range};
 pub use choice_words::{Choice, TypedNumbers};
 use clap::ArgMatches;
 use jiff::civil::Date;
@@ -398,12 +398,38 @@ fn sorting_asked(alloc: Global, asked: &ArgMatches<'_>) -> Result<Sorting, NoCom
     }
 }
 
-/// Where an export is written, and how its index is sorted.
+/// Refuses a word that reads as numbers of records where something else belongs, which was more likely forgotten, in words that
+/// say what.
+fn judge_place(alloc: Global, word: &str, forgotten: &str) -> Result<(), NoCommand> {
+    if reads_as_numbers(word.as_bytes()) {
+        return Err(NoCommand::wrong(alloc, word, forgotten));
+    }
+    Ok(())
+}
+
+/// What is said of numbers of records where the folder of an export belongs.
+const FOLDER_FORGOTTEN: &str =
+    "numbers of records, where the folder of the export belongs; type it before them, as for-court 3 5-9; type ./ before a folder of this name";
+
+/// Where an export is written, and how its index is sorted. A folder that reads as numbers is refused.
 fn target_asked<'a>(alloc: Global, asked: &ArgMatches<'a>) -> Result<Target<'a>, NoCommand> {
+    let folder = required(asked, words::FOLDER)?;
+    judge_place(alloc, folder, FOLDER_FORGOTTEN)?;
     Ok(Target {
-        folder: required(asked, words::FOLDER)?,
+        folder,
         sorting: sorting_asked(alloc, asked)?,
     })
+}
+
+/// What is said of numbers of records where the file of a copy belongs.
+const FILE_FORGOTTEN: &str =
+    "numbers of records, where the file of the new store belongs, which gets all records; type ./ before a file of this name";
+
+/// The file of a copy. One that reads as numbers is refused.
+fn copy_asked<'a>(alloc: Global, asked: &ArgMatches<'a>) -> Result<Command<'a>, NoCommand> {
+    let new = required(asked, words::NEW)?;
+    judge_place(alloc, new, FILE_FORGOTTEN)?;
+    Ok(Command::Copy { new })
 }
 
 /// What is done with the plan. `--yes` is refused where there is no plan to agree to.
@@ -429,15 +455,14 @@ fn name_asked<'a>(alloc: Global, asked: &ArgMatches<'a>) -> Result<&'a str, NoCo
     Err(NoCommand::wrong(alloc, name, reason))
 }
 
-/// The name of a hold that is to be placed. One that reads as numbers is refused, since the name was more likely forgotten.
+/// What is said of numbers of records where the name of a hold belongs.
+const NAME_FORGOTTEN: &str =
+    "numbers of records, where the name of the hold belongs; type it before them, as audit 3 5-9";
+
+/// The name of a hold that is to be placed. One that reads as numbers is refused.
 fn new_name_asked<'a>(alloc: Global, asked: &ArgMatches<'a>) -> Result<&'a str, NoCommand> {
     let name = name_asked(alloc, asked)?;
-    if reads_as_number(name.as_bytes()) {
-        let text = format!(in alloc;
-            "{name}: a number or range of records, where the name of the hold belongs; type the name before it, as audit {name}"
-        )?;
-        return Err(NoCommand::Wrong(text));
-    }
+    judge_place(alloc, name, NAME_FORGOTTEN)?;
     Ok(name)
 }
 
@@ -530,9 +555,7 @@ fn reading_asked<'a>(
             record: record_asked(alloc, asked)?,
             fields: has_flag(asked, words::FIELDS),
         },
-        "copy" => Command::Copy {
-            new: required(asked, words::NEW)?,
-        },
+        "copy" => copy_asked(alloc, asked)?,
         "check" => check_asked(alloc, asked)?,
         "why" => Command::Why(why_asked(alloc, asked)?),
         _ => return Ok(None),
@@ -550,10 +573,10 @@ fn chosen_asked<'a>(
             choice_asked(alloc, asked)?,
             ChosenTask::List(listing_asked(alloc, asked)?),
         ),
-        "export" => (
-            choice_asked(alloc, asked)?,
-            ChosenTask::Export(target_asked(alloc, asked)?),
-        ),
+        "export" => {
+            let target = target_asked(alloc, asked)?;
+            (choice_asked(alloc, asked)?, ChosenTask::Export(target))
+        }
         "hold" => {
             let name = new_name_asked(alloc, asked)?;
             (held_asked(alloc, asked, name)?, ChosenTask::Hold(name))
