@@ -74,10 +74,10 @@ fn change_on<S: Alter>(
 /// What became of the records that are meant.
 #[derive(Clone, Copy)]
 struct Changed {
-    /// Whether there is one at all.
+    /// Whether the archive did it on one.
     is_any: bool,
-    /// Whether the archive did it on each.
-    is_done: bool,
+    /// Whether it refused one.
+    is_refused: bool,
 }
 
 /// Changes the hold of a name on those records of a page that are meant, and adds what becomes of them.
@@ -93,9 +93,11 @@ fn change_page<S: Alter>(
     let typed = choice.numbers.as_slice();
     for entry in page {
         if is_meant(change, name.as_bytes(), typed, entry) {
-            changed.is_any = true;
-            changed.is_done = change_on(rt, archive, change, name, entry.number)?
-                && changed.is_done;
+            if change_on(rt, archive, change, name, entry.number)? {
+                changed.is_any = true;
+            } else {
+                changed.is_refused = true;
+            }
         }
     }
     Ok(())
@@ -128,25 +130,30 @@ fn said_of(alloc: Global, name: &str, words: &'static str) -> Result<Shown, Allo
     Ok(text)
 }
 
-/// Tells that no hold ended. `BadData` where no record of the archive has a hold of that name.
+/// Tells that no hold ended. `BadData` where a record is refused, which was told, and where no record of the archive has a hold
+/// of that name.
 fn end_of_none<S: Alter>(
     rt: &HostRuntime,
     archive: &mut Store<S>,
     name: &str,
+    is_refused: bool,
 ) -> Result<(), Failure> {
     let alloc = rt.alloc();
-    if is_held_by(rt, archive, name)? {
-        let words = "none of these records has this hold; list --held shows the holds";
-        tell(rt, &said_of(alloc, name, words)?);
-        return Ok(());
+    if !is_held_by(rt, archive, name)? {
+        let words = "no record has a hold of this name; list --held shows the holds";
+        return Err(Failure::shown(Status::BadData, said_of(alloc, name, words)));
     }
-    let words = "no record has a hold of this name; list --held shows the holds";
-    Err(Failure::shown(Status::BadData, said_of(alloc, name, words)))
+    if is_refused {
+        return Err(Failure::Reported(Status::BadData));
+    }
+    let words = "none of these records has this hold; list --held shows the holds";
+    tell(rt, &said_of(alloc, name, words)?);
+    Ok(())
 }
 
 /// Changes the hold of a name on the records that are found. Those that are typed by themselves, and that are not found or
 /// that the archive refuses, are told, and are a failure in the end. So is the end of a hold that no record has; where it is
-/// none of the records that are found that has it, this is told. `BadData` where the class is none of the plan.
+/// none of the records that are found that has it, and none is refused, this is told. `BadData` where the class is none of the plan.
 pub fn change_holds<S: Alter>(
     rt: &HostRuntime,
     archive: &mut Store<S>,
@@ -158,7 +165,7 @@ pub fn change_holds<S: Alter>(
     let mut search = Search::new(rt, archive, choice, questions)?;
     let mut changed = Changed {
         is_any: false,
-        is_done: true,
+        is_refused: false,
     };
     for _ in 0..u64::MAX {
         let Some(page) = search.next_page(rt, archive)? else {
@@ -169,8 +176,8 @@ pub fn change_holds<S: Alter>(
     }
     search.end(rt, archive)?;
     match change {
-        Change::End if !changed.is_any => end_of_none(rt, archive, name),
-        _ if changed.is_done => Ok(()),
-        _ => Err(Failure::Reported(Status::BadData)),
+        Change::End if !changed.is_any => end_of_none(rt, archive, name, changed.is_refused),
+        _ if changed.is_refused => Err(Failure::Reported(Status::BadData)),
+        _ => Ok(()),
     }
 }

@@ -21,6 +21,7 @@ use cli_texts::Headers;
 use record_choice::{RecordEntry, Repository};
 use record_store::StoreFault;
 use std::alloc::{AllocError, Global};
+use tool_plans::meant_class;
 use tool_texts::{Shown, put};
 
 /// How many records a search looks at in a step where the headers of their messages are kept.
@@ -50,11 +51,21 @@ pub struct Search<'s, 'a> {
     unread: Vec<TypedNumbers>,
 }
 
+/// That a class is none of a plan, and which one was meant, perhaps.
+fn no_class(alloc: Global, class: &str, plan: &Plan) -> Result<Shown, AllocError> {
+    let mut text = Shown::new(alloc);
+    put!(text; named(class.as_bytes()) ": no class of the plan")?;
+    if let Some(meant) = meant_class(alloc, plan, class.as_bytes())? {
+        put!(text; "; is it " quoted(meant.as_bytes()) "?")?;
+    }
+    Ok(text)
+}
+
 /// Finds that a class is one of the plan.
 fn judge_class(alloc: Global, class: Option<&str>, plan: &Plan) -> Result<(), Failure> {
     match class {
         Some(class) if plan.schedule_of(class.as_bytes()).is_none() => {
-            Err(Failure::at(alloc, Status::BadData, class, &"no class of the plan"))
+            Err(Failure::shown(Status::BadData, no_class(alloc, class, plan)))
         }
         _ => Ok(()),
     }

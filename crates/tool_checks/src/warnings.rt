@@ -9,10 +9,10 @@ use class_plan::Plan;
 use rule_folders::tokens_of;
 use sieve_syntax::Token;
 use std::alloc::{AllocError, Global};
-use std::str;
 use tool_console::{Failure, Verdict, is_there};
-use tool_findings::{Front, Guess, Named, fronts_of, impossible_fields, name_in};
+use tool_findings::{Front, Named, fronts_of, impossible_fields, name_in};
 use tool_places::PlaceMap;
+use tool_plans::meant_class;
 use tool_texts::{Shown, put};
 
 /// The fault of a run that files into no open class.
@@ -26,39 +26,6 @@ struct Script<'a> {
     tokens: &'a [Token],
     /// The script that is judged with all that it reaches.
     start: &'a Start<'a>,
-}
-
-/// Whether a path of more segments ends with a word.
-fn ends_with_segment(path: &str, word: &[u8]) -> bool {
-    match path.rsplit_once('/') {
-        Some((_, last)) => last.as_bytes().eq_ignore_ascii_case(word),
-        None => false,
-    }
-}
-
-/// The class that was meant by a path that the plan does not have, perhaps, in words.
-fn meant_class(
-    alloc: Global,
-    plan: &Plan,
-    path: &[u8],
-    words: &mut Shown,
-) -> Result<(), AllocError> {
-    let mut by_slips = Guess::new(alloc, path)?;
-    let mut by_segment = None;
-    let classes = plan.classes(alloc)?;
-    for (class, _, _) in classes.as_slice() {
-        let Ok(class) = str::from_utf8(*class) else {
-            continue;
-        };
-        by_slips.compare(class)?;
-        if by_segment.is_none() && ends_with_segment(class, path) {
-            by_segment = Some(class);
-        }
-    }
-    match by_slips.found().or(by_segment) {
-        Some(class) => put!(words; "; is it " quoted(class.as_bytes()) "?"),
-        None => Ok(()),
-    }
 }
 
 /// What is wrong with a class that a script files into; false where it is open.
@@ -78,7 +45,9 @@ fn judge_class(
     }
     put!(words; "the plan has no class " quoted(path))?;
     if told.may_guess() {
-        meant_class(alloc, plan, path, words)?;
+        if let Some(class) = meant_class(alloc, plan, path)? {
+            put!(words; "; is it " quoted(class.as_bytes()) "?")?;
+        }
     }
     Ok(true)
 }

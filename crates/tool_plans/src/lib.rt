@@ -1,14 +1,17 @@
 //! All that is wrong with a plan file, and where.
 //!
 //! `judge` answers the refusal that a session gives, and beside it what else is found. `outline` reads the keys of the
-//! file with their places, `shapes` judges their kinds, `classes` the classes and schedules.
+//! file with their places, `shapes` judges their kinds, `classes` the classes and schedules. `meant` finds the class that was meant by
+//! a path that is none.
 #![tactic(auto)]
 
 mod classes;
 mod dropped;
 mod findings;
+mod meant;
 mod outline;
 mod shapes;
 
 pub use dropped::dropped_paths;
 pub use findings::{Finding, Report, judge};
+pub use meant::meant_class;
