@@ -1,6 +1,6 @@
 //! `deliver`: one message from standard input.
 
-use crate::fault_words::{fault_words, given_up_words};
+use crate::fault_words::{Cause, fault_words, given_up_words};
 use crate::moments::{Timing, date_of_clock};
 use crate::rules::FilingRules;
 use crate::time_limit::{TimeLimit, too_slow_words};
@@ -93,30 +93,30 @@ fn tell_lines(rt: &HostRuntime, before: &Shown, lines: &[Shown]) {
     }
 }
 
-/// Tells of the fault with which the run over a captured message ended, if it did, and where, if that is known.
-pub fn tell_fault(rt: &HostRuntime, before: &Shown, capture: &Capture, place: Option<&Shown>) {
+/// Tells of the fault with which the run over a captured message ended, if it did, with what is known of it.
+pub fn tell_fault(rt: &HostRuntime, before: &Shown, capture: &Capture, cause: Option<&Cause>) {
     if let Some(fault) = capture.fault {
-        if let Ok(words) = fault_words(rt.alloc(), fault, place) {
+        if let Ok(words) = fault_words(rt.alloc(), fault, cause) {
             tell_line(rt, before, &words);
         }
     }
 }
 
-/// Reports a capture, with what is told of its undecoded words, and where its run ended in a fault, if it did and that is
-/// known. It is made, so whatever happens to the report is no failure.
+/// Reports a capture, with what is told of its undecoded words, and what is known of the fault in which its run ended, if it
+/// did. It is made, so whatever happens to the report is no failure.
 pub fn report_capture(
     rt: &HostRuntime,
     before: &Shown,
     capture: &Capture,
     undecoded: &[Shown],
-    place: Option<&Shown>,
+    cause: Option<&Cause>,
 ) {
     if let Ok(text) = record_lines(rt.alloc(), before, capture) {
         let _ = write_text(rt, &text);
     }
     tell_due(rt, before, capture);
     tell_lines(rt, before, undecoded);
-    tell_fault(rt, before, capture, place);
+    tell_fault(rt, before, capture, cause);
 }
 
 /// The message on standard input. `BadData` with the number of one that is too long; where it cannot be read it may be
@@ -131,11 +131,11 @@ pub fn read_message(rt: &HostRuntime) -> Result<Payload, Failure> {
     }
 }
 
-/// What became of a message, and where its run ended in a fault, if it did and that is known.
+/// What became of a message, and what is known of the fault in which its run ended, if it did.
 #[derive(Drop)]
 pub struct Delivered {
     outcome: Delivery,
-    place: Option<Shown>,
+    cause: Option<Cause>,
 }
 
 /// The fault with which the run over a message ended, if it did.
@@ -198,13 +198,13 @@ fn deliver_at<A: Records>(
         Ok(outcome) => outcome,
         Err(failure) => return (archive, Err(failure)),
     };
-    let place = match (fault_in(&outcome), octets) {
+    let cause = match (fault_in(&outcome), octets) {
         (Some(fault), Some(octets)) => {
-            filing.place_of_fault(rt.alloc(), archive.plan(), fault, octets.as_slice())
+            filing.cause_of_fault(rt.alloc(), archive.plan(), fault, octets.as_slice())
         }
         _ => None,
     };
-    (archive, Ok(Delivered { outcome, place }))
+    (archive, Ok(Delivered { outcome, cause }))
 }
 
 /// The moment of a delivery to a store.
@@ -242,15 +242,15 @@ pub fn report_delivery(
     limit: u64,
     undecoded: &[Shown],
 ) -> Result<(), Failure> {
-    let place = delivered.place.as_ref();
+    let cause = delivered.cause.as_ref();
     match &delivered.outcome {
         Delivery::Captured(capture) => {
-            report_capture(rt, &Shown::new(rt.alloc()), capture, undecoded, place);
+            report_capture(rt, &Shown::new(rt.alloc()), capture, undecoded, cause);
             Ok(())
         }
         Delivery::GivenUp(fault) => Err(Failure::shown(
             Status::TryAgain,
-            given_up_words(rt.alloc(), *fault, place),
+            given_up_words(rt.alloc(), *fault, cause),
         )),
         Delivery::OutOfTime => Err(Failure::shown(
             Status::TryAgain,

@@ -3,6 +3,7 @@
 use class_plan::Plan;
 use cli_sources::{Rules, Script};
 use desk_commands::Payload;
+use sieve_meaning::reading::first_string;
 use sieve_meaning::{Location, RunFault};
 use std::alloc::{AllocError, Global};
 use tool_inquiry::{Faulted, Inquiry, InquiryFault, ScriptFile, Scripts, fault_of, script_of};
@@ -55,14 +56,72 @@ fn scripts_of(alloc: Global, rules: &Rules) -> Result<Option<Scripts>, InquiryFa
     Ok(Some(Scripts::new(alloc, main, others)?))
 }
 
-/// Where a fault is: the command that it is of, or the program where that was not run.
-fn place_in(alloc: Global, faulted: Faulted<'_>, program: &str) -> Result<Shown, AllocError> {
-    if let Some(culprit) = faulted.culprit {
-        return Ok(culprit.place);
+/// Why a path is no open class.
+#[derive(Clone, Copy)]
+enum Unopened {
+    Closed,
+    Missing,
+}
+
+impl Unopened {
+    /// Why a path is no open class of a plan.
+    fn of(plan: &Plan, path: &[u8]) -> Unopened {
+        if plan.contains(path) {
+            Unopened::Closed
+        } else {
+            Unopened::Missing
+        }
     }
-    let mut text = Shown::new(alloc);
-    text.named(program.as_bytes())?;
-    Ok(text)
+
+    /// That in words.
+    fn words(self) -> &'static str {
+        match self {
+            Unopened::Closed => "the class is closed",
+            Unopened::Missing => "the plan has no such class",
+        }
+    }
+
+    /// What is to be done about it.
+    fn mend(self) -> &'static str {
+        match self {
+            Unopened::Closed => "open the class or correct the path",
+            Unopened::Missing => "add the class or correct the path",
+        }
+    }
+}
+
+/// What is known of a run's fault.
+#[derive(Drop)]
+pub struct Cause {
+    /// The script, the line and the column, with the class or the script that is named there.
+    place: Shown,
+    /// Why the class is not open that is named there, where that is the fault.
+    class: Option<Unopened>,
+}
+
+/// What is known of a fault: by the command that it is of, or the program where that was not run.
+fn cause_in(
+    alloc: Global,
+    plan: &Plan,
+    faulted: Faulted<'_>,
+    program: &str,
+) -> Result<Cause, AllocError> {
+    let Some(culprit) = faulted.culprit else {
+        let mut place = Shown::new(alloc);
+        place.named(program.as_bytes())?;
+        return Ok(Cause { place, class: None });
+    };
+    let class = match faulted.fault {
+        RunFault::ClassNotOpen => {
+            let path = first_string(culprit.command.arguments.as_slice());
+            Some(Unopened::of(plan, path))
+        }
+        _ => None,
+    };
+    Ok(Cause {
+        place: culprit.place,
+        class,
+    })
 }
 
 /// The fault that scripts end in over a message, by the open classes of a plan.
@@ -83,21 +142,21 @@ fn faulted_by<'q>(
     fault_of(alloc, &inquiry)
 }
 
-/// Where the run of rules over a message ends in a fault, by the open classes of a plan: the script, the line and the column,
-/// with the class or the script that is named there. None where that is not known, as for want of memory.
-pub fn place_of_fault(
+/// What is known of the fault in which the run of rules over a message ends, by the open classes of a plan. None where that is
+/// not known, as for want of memory.
+pub fn cause_of_fault(
     alloc: Global,
     rules: &Rules,
     plan: &Plan,
     fault: RunFault,
     message: &[u8],
-) -> Result<Option<Shown>, InquiryFault> {
+) -> Result<Option<Cause>, InquiryFault> {
     let Some(scripts) = scripts_of(alloc, rules)? else {
         return Ok(None);
     };
     match faulted_by(alloc, &scripts, plan, message)? {
         Some(faulted) if faulted.fault == fault => {
-            Ok(Some(place_in(alloc, faulted, rules.main.as_str())?))
+            Ok(Some(cause_in(alloc, plan, faulted, rules.main.as_str())?))
         }
         _ => Ok(None),
     }
@@ -115,34 +174,48 @@ fn beginning(text: &'static str) -> &'static str {
 }
 
 /// Adds the number of a fault, and where it is if that is known.
-fn push_fault(text: &mut Shown, fault: RunFault, place: Option<&Shown>) -> Result<(), AllocError> {
+fn push_fault(text: &mut Shown, fault: RunFault, cause: Option<&Cause>) -> Result<(), AllocError> {
     put!(text; "fault " value(&fault.number()) ": ")?;
-    match place {
-        Some(place) => put!(text; text(place) ": "),
+    match cause {
+        Some(cause) => put!(text; text(&cause.place) ": "),
         None => Ok(()),
     }
 }
 
-/// The fault of a run in words, with where it is if that is known.
+/// Why the class is not open that a fault is of, where that is known.
+fn class_of(cause: Option<&Cause>) -> Option<Unopened> {
+    cause.and_then(|cause| cause.class)
+}
+
+/// The fault of a run in words, with what is known of it.
 pub fn fault_words(
     alloc: Global,
     fault: RunFault,
-    place: Option<&Shown>,
+    cause: Option<&Cause>,
 ) -> Result<Shown, AllocError> {
     let mut text = Shown::new(alloc);
-    push_fault(&mut text, fault, place)?;
-    text.words(text_of(fault))?;
+    push_fault(&mut text, fault, cause)?;
+    match class_of(cause) {
+        Some(class) => put!(text;
+            words(class.words()) ", so nothing but unfiled captured the message; "
+            words(class.mend()))?,
+        None => text.words(text_of(fault))?,
+    }
     Ok(text)
 }
 
-/// The fault of a run in words, where its message was given up, with where it is if that is known.
+/// The fault of a run in words, where its message was given up, with what is known of it.
 pub fn given_up_words(
     alloc: Global,
     fault: RunFault,
-    place: Option<&Shown>,
+    cause: Option<&Cause>,
 ) -> Result<Shown, AllocError> {
     let mut text = Shown::new(alloc);
-    push_fault(&mut text, fault, place)?;
-    put!(text; words(beginning(text_of(fault))) "; the message is not captured")?;
+    push_fault(&mut text, fault, cause)?;
+    let words = match class_of(cause) {
+        Some(class) => class.words(),
+        None => beginning(text_of(fault)),
+    };
+    put!(text; words(words) "; the message is not captured")?;
     Ok(text)
 }

@@ -174,7 +174,7 @@ impl<'a> Intake<'a> {
             rt,
             maildir,
             timing,
-            filing: FilingRules::read(rt, filing)?,
+            filing: FilingRules::read(rt, filing, telling.has_times)?,
             log: IntakeLog::new(rt, telling),
         })
     }

@@ -1,8 +1,9 @@
 //! What an intake says of its messages.
 
 use crate::deliver::{report_capture, tell_fault};
+use crate::fault_words::Cause;
 use crate::rules::FilingRules;
-use crate::time_of_day::time_now;
+use crate::time_of_day::line_start;
 use cli_console::{tell, tell_words, write_text};
 use command_lines::archives::Telling;
 use desk_commands::Capture;
@@ -27,15 +28,9 @@ impl<'a> IntakeLog<'a> {
         IntakeLog { rt, telling }
     }
 
-    /// What a line begins with: the time of day, where that is asked for and there is a clock.
+    /// What a line begins with.
     fn line(&self) -> Result<Shown, AllocError> {
-        let mut text = Shown::new(self.rt.alloc());
-        if self.telling.has_times {
-            if let Ok(time) = time_now(self.rt) {
-                put!(text; text(&time) " ")?;
-            }
-        }
-        Ok(text)
+        line_start(self.rt, self.telling.has_times)
     }
 
     /// What is told of a message that stays.
@@ -77,15 +72,6 @@ impl<'a> IntakeLog<'a> {
         }
     }
 
-    /// What is told of a message that is captured and could not be moved.
-    pub fn not_moved(&self, name: &str, error: &io::Error) -> Result<Shown, AllocError> {
-        let mut text = self.line()?;
-        put!(text; named(name.as_bytes())
-            " is captured, but still in new, where the next intake would capture it again: "
-            value(error))?;
-        Ok(text)
-    }
-
     /// The name of a message before what is said of it.
     fn name_before(&self, name: &str) -> Result<Shown, AllocError> {
         let mut text = self.line()?;
@@ -93,22 +79,22 @@ impl<'a> IntakeLog<'a> {
         Ok(text)
     }
 
-    /// Reports a capture, each line after the name of its message, as far as there is memory for that, and where its run
-    /// ended in a fault, if it did and that is known. A quiet intake tells of a fault alone.
+    /// Reports a capture, each line after the name of its message, as far as there is memory for that, with what is known of
+    /// the fault in which its run ended, if it did. A quiet intake tells of a fault alone.
     pub fn report(
         &self,
         name: &str,
         capture: &Capture,
         undecoded: &[Shown],
-        place: Option<&Shown>,
+        cause: Option<&Cause>,
     ) {
         let Ok(before) = self.name_before(name) else {
             return;
         };
         if self.telling.is_quiet {
-            tell_fault(self.rt, &before, capture, place);
+            tell_fault(self.rt, &before, capture, cause);
         } else {
-            report_capture(self.rt, &before, capture, undecoded, place);
+            report_capture(self.rt, &before, capture, undecoded, cause);
         }
     }
 

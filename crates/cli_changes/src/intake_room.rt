@@ -1,7 +1,7 @@
 //! The room in which an intake is made: a Maildir in files, a desk over an archive, and a log.
 
 use crate::deliver::{desk_failure, undecoded_in};
-use crate::fault_words::given_up_words;
+use crate::fault_words::{Cause, given_up_words};
 use crate::intake::{Intake, maildir_failure};
 use crate::intake_memory::told_of;
 use crate::moments::Timing;
@@ -18,7 +18,7 @@ use sieve_meaning::RunFault;
 use std::alloc::{AllocError, Global};
 use std::io::{self, ErrorKind};
 use std::mem;
-use tool_texts::Shown;
+use tool_texts::{Shown, put};
 
 /// A Maildir, the desk that captures its messages, and what is said of them.
 #[derive(Drop)]
@@ -100,6 +100,15 @@ fn octets_of(rt: &HostRuntime, maildir: &str, name: &str) -> Result<Vec<u8>, Rea
     }
 }
 
+/// What is told of a message that is captured and could not be moved.
+fn not_moved(alloc: Global, name: &str, error: &io::Error) -> Result<Shown, AllocError> {
+    let mut text = Shown::new(alloc);
+    put!(text; named(name.as_bytes())
+        " is captured, but still in new, where the next intake would capture it again: "
+        value(error))?;
+    Ok(text)
+}
+
 /// How a message was taken, by what was answered to its capture.
 fn taken_by(capture: &Capture) -> Taken {
     if capture.lines.is_empty() {
@@ -163,28 +172,28 @@ impl<'a, A: Records> Room<'a, A> {
         ))
     }
 
-    /// Where the run over a message ended in a fault, if that is known. The message is read once more for that.
-    fn place_of(&self, name: &str, fault: RunFault) -> Option<Shown> {
+    /// What is known of the fault in which the run over a message ended. The message is read once more for that.
+    fn cause_of(&self, name: &str, fault: RunFault) -> Option<Cause> {
         let plan = self.plan.as_ref()?;
         let octets = octets_of(self.job.rt, self.job.maildir, name).ok()?;
         self.job
             .filing
-            .place_of_fault(self.job.rt.alloc(), plan, fault, octets.as_slice())
+            .cause_of_fault(self.job.rt.alloc(), plan, fault, octets.as_slice())
     }
 
     /// Reports a capture.
     fn report(&mut self, name: &str, capture: &Capture, undecoded: &[Shown]) {
         self.speak();
-        let place = capture.fault.and_then(|fault| self.place_of(name, fault));
+        let cause = capture.fault.and_then(|fault| self.cause_of(name, fault));
         self.job
             .log
-            .report(name, capture, undecoded, place.as_ref());
+            .report(name, capture, undecoded, cause.as_ref());
     }
 
     /// Why a message stays whose run ended in a fault.
     fn faulty(&self, name: &str, fault: RunFault) -> Reason {
-        let place = self.place_of(name, fault);
-        given_up(given_up_words(self.job.rt.alloc(), fault, place.as_ref()))
+        let cause = self.cause_of(name, fault);
+        given_up(given_up_words(self.job.rt.alloc(), fault, cause.as_ref()))
     }
 
     /// That a message stays. Its capture is dropped.
@@ -274,7 +283,7 @@ impl<'a, A: Records> Mailroom for Room<'a, A> {
                 Ok(())
             }
             Err(error) => {
-                let text = self.job.log.not_moved(name, &error);
+                let text = not_moved(self.job.rt.alloc(), name, &error);
                 Err(Failure::shown(Status::TryAgain, text))
             }
         }

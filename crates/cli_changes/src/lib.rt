@@ -37,3 +37,4 @@ pub use plan::{replace_plan, write_plan};
 pub use plan_file::read_plan;
 pub use rule_checks::check_rules;
 pub use rules::FilingRules;
+pub use time_of_day::logged;

@@ -66,7 +66,7 @@ fn try_rules<'a, A: Records>(
         moment: Moment::Now,
         limit: 1,
     };
-    let filing = match FilingRules::read(rt, &filing) {
+    let filing = match FilingRules::read(rt, &filing, false) {
         Ok(filing) => filing,
         Err(failure) => return (archive, refused_by(rt, failure)),
     };

@@ -1,6 +1,7 @@
 //! The rules by which mail is filed, and what is done where they are at fault.
 
-use crate::fault_words::place_of_fault;
+use crate::fault_words::{Cause, cause_of_fault};
+use crate::time_of_day::{as_line, line_start};
 use class_plan::Plan;
 use cli_console::{Failure, Status, tell};
 use cli_sources::{Rules, RulesFault, read_rules, set_rules};
@@ -9,6 +10,7 @@ use filing_desk::{Desk, OnFault};
 use record_archive::Records;
 use sieve_meaning::RunFault;
 use std::alloc::{AllocError, Global};
+use tool_checks::push_officers;
 use tool_texts::{Shown, put};
 
 /// How mail is filed.
@@ -18,37 +20,45 @@ pub struct FilingRules<'a> {
     pub on_fault: OnFault,
     /// How long the work on a message may take, in seconds.
     pub limit: u64,
+    /// Whether what is told of the rules begins with the time of day.
+    has_times: bool,
     /// None where the rules are at fault, and mail may go to `unfiled` then.
     rules: Option<Rules>,
 }
 
-/// Reports a fault of rules. It is no failure where mail may go to `unfiled` then.
-fn excuse(rt: &HostRuntime, fault: &RulesFault, on_fault: OnFault) -> Result<(), Failure> {
-    let failure = Failure::shown(Status::TryAgain, fault.text(rt.alloc()));
-    if !fault.is_of_rules() || matches!(on_fault, OnFault::GiveUp) {
-        return Err(failure);
+/// What is told of a fault of the rules in a folder. Of an officer who is not there it says who is.
+fn fault_text(rt: &HostRuntime, folder: &str, fault: &RulesFault) -> Result<Shown, AllocError> {
+    let mut text = fault.text(rt.alloc())?;
+    if let RulesFault::BadOfficer(_) | RulesFault::Missing(_) = fault {
+        push_officers(rt, &mut text, folder)?;
     }
-    match failure {
-        Failure::Told(_, text) => {
-            tell(rt, &text);
-            Ok(())
-        }
-        other => Err(other),
-    }
+    Ok(text)
 }
 
-/// What is told of a script that an officer's program does not reach.
-fn unused_words(alloc: Global, path: &str, main: &str) -> Result<Shown, AllocError> {
-    let mut text = Shown::new(alloc);
-    put!(text;
-        named(path.as_bytes()) ": warning: " named(main.as_bytes()) " does not reach this script")?;
-    Ok(text)
+/// Reports a fault of rules in words. It is no failure where mail may go to `unfiled` then.
+fn excuse(
+    rt: &HostRuntime,
+    fault: &RulesFault,
+    words: Result<Shown, AllocError>,
+    on_fault: OnFault,
+    has_times: bool,
+) -> Result<(), Failure> {
+    let words = words?;
+    if !fault.is_of_rules() || matches!(on_fault, OnFault::GiveUp) {
+        return Err(Failure::Told(Status::TryAgain, words));
+    }
+    tell(rt, &as_line(rt, has_times, &words)?);
+    Ok(())
 }
 
 impl<'a> FilingRules<'a> {
     /// The rules of a folder. Where they cannot be had it may be done later, `TryAgain`; where they are at fault, that is
-    /// no failure if mail may go to `unfiled` then.
-    pub fn read(rt: &HostRuntime, asked: &Filing<'a>) -> Result<FilingRules<'a>, Failure> {
+    /// no failure if mail may go to `unfiled` then. What is told of them begins with the time of day, where that is asked for.
+    pub fn read(
+        rt: &HostRuntime,
+        asked: &Filing<'a>,
+        has_times: bool,
+    ) -> Result<FilingRules<'a>, Failure> {
         let officer = asked.officer;
         let on_fault = if asked.unfiled_on_fault {
             OnFault::Capture
@@ -58,7 +68,8 @@ impl<'a> FilingRules<'a> {
         let rules = match read_rules(rt, asked.rules, officer) {
             Ok(rules) => Some(rules),
             Err(fault) => {
-                excuse(rt, &fault, on_fault)?;
+                let words = fault_text(rt, asked.rules, &fault);
+                excuse(rt, &fault, words, on_fault, has_times)?;
                 None
             }
         };
@@ -66,8 +77,18 @@ impl<'a> FilingRules<'a> {
             officer,
             on_fault,
             limit: asked.limit,
+            has_times,
             rules,
         })
+    }
+
+    /// What is told of a script that the officer's program does not reach.
+    fn unused_words(&self, rt: &HostRuntime, path: &str, main: &str) -> Result<Shown, AllocError> {
+        let mut text = line_start(rt, self.has_times)?;
+        put!(text;
+            named(path.as_bytes()) ": warning: " named(main.as_bytes())
+            " does not reach this script")?;
+        Ok(text)
     }
 
     /// Tells of each script of the officer that the program does not reach.
@@ -76,23 +97,23 @@ impl<'a> FilingRules<'a> {
             return;
         };
         for path in &rules.unused {
-            if let Ok(words) = unused_words(rt.alloc(), path.as_str(), rules.main.as_str()) {
+            if let Ok(words) = self.unused_words(rt, path.as_str(), rules.main.as_str()) {
                 tell(rt, &words);
             }
         }
     }
 
-    /// Where the run of these rules over a message ended in a fault, by the open classes of a plan: the script, the line and
-    /// the column, with the class or the script that is named there. None where that is not known, as for want of memory.
-    pub fn place_of_fault(
+    /// What is known of the fault in which the run of these rules over a message ended, by the open classes of a plan. None
+    /// where that is not known, as for want of memory.
+    pub fn cause_of_fault(
         &self,
         alloc: Global,
         plan: &Plan,
         fault: RunFault,
         message: &[u8],
-    ) -> Option<Shown> {
+    ) -> Option<Cause> {
         let rules = self.rules.as_ref()?;
-        place_of_fault(alloc, rules, plan, fault, message).unwrap_or(None)
+        cause_of_fault(alloc, rules, plan, fault, message).unwrap_or(None)
     }
 
     /// Sets the rules at a desk.
@@ -100,7 +121,11 @@ impl<'a> FilingRules<'a> {
         let Some(rules) = &self.rules else {
             return Ok(());
         };
-        set_rules(rt.alloc(), desk, rules).or_else(|fault| excuse(rt, &fault, self.on_fault))
+        let Err(fault) = set_rules(rt.alloc(), desk, rules) else {
+            return Ok(());
+        };
+        let words = fault.text(rt.alloc());
+        excuse(rt, &fault, words, self.on_fault, self.has_times)
     }
 
     /// A desk over an archive, with these rules. A failure hands the archive back.

@@ -29,6 +29,32 @@ pub fn time_of_day(alloc: Global, moment: u64) -> Result<Shown, AllocError> {
 }
 
 /// The time of day by the clock. `TryAgain` where there is none.
-pub fn time_now(rt: &HostRuntime) -> Result<Shown, Failure> {
+fn time_now(rt: &HostRuntime) -> Result<Shown, Failure> {
     Ok(time_of_day(rt.alloc(), now(rt)?)?)
+}
+
+/// What a line of a log begins with: the time of day, where that is asked for and there is a clock.
+pub fn line_start(rt: &HostRuntime, has_times: bool) -> Result<Shown, AllocError> {
+    let mut text = Shown::new(rt.alloc());
+    if has_times {
+        if let Ok(time) = time_now(rt) {
+            put!(text; text(&time) " ")?;
+        }
+    }
+    Ok(text)
+}
+
+/// A text as a line of a log.
+pub fn as_line(rt: &HostRuntime, has_times: bool, text: &Shown) -> Result<Shown, AllocError> {
+    let mut line = line_start(rt, has_times)?;
+    line.text(text)?;
+    Ok(line)
+}
+
+/// A failure that is reported as a line of a log.
+pub fn logged(rt: &HostRuntime, has_times: bool, failure: Failure) -> Failure {
+    match failure {
+        Failure::Told(status, text) => Failure::shown(status, as_line(rt, has_times, &text)),
+        other => other,
+    }
 }

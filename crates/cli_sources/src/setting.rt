@@ -18,7 +18,7 @@ fn place_in(alloc: Global, script: &Script) -> Result<Option<Place>, AllocError>
         return Ok(None);
     };
     match judge(alloc, text.as_slice())? {
-        Some(report) => Ok(Some(place_of(text.as_slice(), report.verdict.at))),
+        Some(report) => Ok(Some(place_of(text.as_slice(), report.verdict.place))),
         None => Ok(None),
     }
 }

@@ -6,8 +6,8 @@ use crate::drafts::make;
 use class_plan::Date;
 use cli_changes::{
     Delivered, FilingRules, Intake, Timing, change_holds, check_rules, day_of_disposal, deliver_to,
-    dispose_by, read_message, read_plan, replace_plan, report_delivery, take_new, undecoded_in,
-    write_plan,
+    dispose_by, logged, read_message, read_plan, replace_plan, report_delivery, take_new,
+    undecoded_in, write_plan,
 };
 use cli_choice::{Change, Questions};
 use cli_console::{Failure, day_or_today};
@@ -214,7 +214,7 @@ fn deliver<A: Archives>(
     let timing = Timing::new(rt, filing.moment)?;
     let message = read_message(rt)?;
     let undecoded = undecoded_in(rt.alloc(), &message);
-    let rules = FilingRules::read(rt, filing)?;
+    let rules = FilingRules::read(rt, filing, false)?;
     rules.tell_unused(rt);
     let work = DeliverOne {
         rules,
@@ -229,7 +229,7 @@ fn deliver<A: Archives>(
 }
 
 /// Captures the new messages of a Maildir.
-fn intake<'a, A: Archives>(
+fn take_from<'a, A: Archives>(
     rt: &'a HostRuntime,
     archives: &A,
     store: &str,
@@ -239,6 +239,22 @@ fn intake<'a, A: Archives>(
 ) -> Result<(), Failure> {
     let job = Intake::read(rt, maildir, filing, telling)?;
     lend(rt, archives, store, TakeNew(job))
+}
+
+/// Captures the new messages of a Maildir. A failure is a line of its log.
+fn intake<'a, A: Archives>(
+    rt: &'a HostRuntime,
+    archives: &A,
+    store: &str,
+    maildir: &'a str,
+    filing: &Filing<'a>,
+    telling: Telling,
+) -> Result<(), Failure> {
+    take_from(rt, archives, store, maildir, filing, telling).map_err(|failure| logged(
+        rt,
+        telling.has_times,
+        failure,
+    ))
 }
 
 /// Writes the message of a record once the archive is closed, or the fields of its header.

@@ -13,25 +13,35 @@ pub struct OfficerRules {
     /// The path of the officer's program.
     pub main: String,
     personal: String,
-    /// None where there is no such folder.
-    global: Option<String>,
+    global: String,
+    /// Whether there is a folder of scripts for all officers.
+    has_global: bool,
 }
 
 impl OfficerRules {
-    /// The folders of the scripts that the program can include.
+    /// The folders of the scripts that the program can include. There may be none for all officers.
     pub fn folders(&self) -> Folders<'_> {
         Folders {
             personal: Some(self.personal.as_str()),
-            global: self.global.as_ref().map(|global| global.as_str()),
+            global: Some(self.global.as_str()),
         }
+    }
+
+    /// Those of these folders that are there.
+    pub fn folders_there(&self) -> Folders<'_> {
+        let mut folders = self.folders();
+        if !self.has_global {
+            folders.global = None;
+        }
+        folders
     }
 }
 
 /// The greatest number of officers that are named where another one was asked for.
 const MAX_NAMED: usize = 8;
 
-/// Adds the officers whose rules a folder has, if there are any.
-fn push_officers(text: &mut Shown, folder: &str, officers: &[String]) -> Result<(), AllocError> {
+/// Adds officers whose rules a folder has, if there are any.
+fn push_names(text: &mut Shown, folder: &str, officers: &[String]) -> Result<(), AllocError> {
     if officers.is_empty() {
         return Ok(());
     }
@@ -46,6 +56,13 @@ fn push_officers(text: &mut Shown, folder: &str, officers: &[String]) -> Result<
     }
 }
 
+/// Adds the officers whose rules a folder has, up to eight, where there are any and the folder can be read.
+pub fn push_officers(rt: &HostRuntime, text: &mut Shown, folder: &str) -> Result<(), AllocError> {
+    let folder = folder.strip_suffix('/').unwrap_or(folder);
+    let officers = officers_in(rt, folder).unwrap_or(Vec::new(rt.alloc()));
+    push_names(text, folder, officers.as_slice())
+}
+
 /// What is said of a word that is no name of an officer, and of a script that is not there, with the officers whose rules the
 /// folder has.
 fn said_of(
@@ -54,11 +71,9 @@ fn said_of(
     word: &str,
     reason: &'static str,
 ) -> Result<Shown, AllocError> {
-    let alloc = rt.alloc();
-    let mut text = Shown::new(alloc);
+    let mut text = Shown::new(rt.alloc());
     put!(text; named(word.as_bytes()) ": " words(reason))?;
-    let officers = officers_in(rt, folder).unwrap_or(Vec::new(alloc));
-    push_officers(&mut text, folder, officers.as_slice())?;
+    push_officers(rt, &mut text, folder)?;
     Ok(text)
 }
 
@@ -80,11 +95,8 @@ pub fn rules_of(rt: &HostRuntime, folder: &str, officer: &str) -> Result<Officer
     Ok(OfficerRules {
         main,
         personal: format!(in alloc; "{folder}/{officer}")?,
-        global: if is_there(rt, global.as_str()) {
-            Some(global)
-        } else {
-            None
-        },
+        has_global: is_there(rt, global.as_str()),
+        global,
     })
 }
 

@@ -23,7 +23,7 @@ mod scripts;
 mod told;
 mod warnings;
 
-pub use folders::{OfficerRules, officers_in, rules_of};
+pub use folders::{OfficerRules, officers_in, push_officers, rules_of};
 pub use plans::{NamedPlan, check_plan, read_plan};
 pub use reached::{Start, reached_from, read_script_text};
 pub use refusals::{Kind, Refusal, Refusals};

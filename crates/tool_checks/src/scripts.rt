@@ -122,9 +122,9 @@ fn check_reached(
 }
 
 /// Judges a script that is known by a name, with each script that it reaches by its includes and that was not judged
-/// before. What is wrong is written to standard output: refusals and, where a plan is named, classes that it does not have
-/// or that are closed. Warnings, which change no verdict, are of scripts that are not there, of includes that come back or
-/// lead too deep, and of fields that no message can have.
+/// before. What is wrong is written to standard output: refusals, scripts that are not there and, where a plan is named,
+/// classes that it does not have or that are closed. Warnings, which change no verdict, are of includes that come back or lead
+/// too deep, and of fields that no message can have.
 pub fn check_script(
     rt: &HostRuntime,
     path: &str,

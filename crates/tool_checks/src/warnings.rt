@@ -18,6 +18,9 @@ use tool_texts::{Shown, put};
 /// The fault of a run that files into no open class.
 const CLASS_NOT_OPEN: u8 = 1;
 
+/// The fault of a run that includes a script that is not there.
+const SCRIPT_MISSING: u8 = 2;
+
 /// A script in whose commands is looked for what goes wrong.
 #[derive(Clone, Copy)]
 struct Script<'a> {
@@ -90,11 +93,11 @@ fn warn_of_script(
         return Ok(());
     }
     let mut words = Shown::new(rt.alloc());
-    put!(words; "warning: " named(folder.as_bytes()) " has no script " quoted(name))?;
+    put!(words; named(folder.as_bytes()) " has no script " quoted(name))?;
     refusals.add(
         script.path,
         Some(script.places.place(at)),
-        Kind::Note,
+        Kind::Fault(SCRIPT_MISSING),
         words,
     )?;
     Ok(())
@@ -152,7 +155,7 @@ fn warn_of_command(
     }
 }
 
-/// Writes what goes wrong by the commands of a good script. The verdict is `Refused` where a class is not there.
+/// Writes what goes wrong by the commands of a good script. The verdict is `Refused` where a run ends with a fault by one.
 fn warn_of_commands(
     rt: &HostRuntime,
     script: &Script<'_>,
@@ -174,7 +177,7 @@ fn warn_of_commands(
 
 /// Writes what goes wrong by what a good script names: each class that the plan does not have or that is closed, where a
 /// plan is named, each script that is not there, and each field that no message can have. The verdict is `Refused` for a
-/// class.
+/// class and for a script.
 pub fn warn_of_names(
     rt: &HostRuntime,
     start: &Start<'_>,

@@ -41,7 +41,7 @@ impl<'a> Source<'a> {
     pub fn folders(&self) -> Folders<'_> {
         match self {
             Source::Path(_, folders) => *folders,
-            Source::Officer(rules) => rules.folders(),
+            Source::Officer(rules) => rules.folders_there(),
         }
     }
 
