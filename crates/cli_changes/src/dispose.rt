@@ -168,6 +168,14 @@ fn settle(
     Ok(())
 }
 
+/// Tells that no record may be destroyed by a day, of those that this is said of.
+fn tell_none(rt: &HostRuntime, whose: &'static str, day: Date) -> Result<(), Failure> {
+    let mut text = Shown::new(rt.alloc());
+    put!(text; words(whose) " is due by " value(&day) " and may be destroyed")?;
+    tell(rt, &text);
+    Ok(())
+}
+
 /// Destroys the records of some numbers, all that are due where there is no number, with a certificate for each.
 fn destroy_asked<S: Alter>(
     rt: &HostRuntime,
@@ -179,14 +187,18 @@ fn destroy_asked<S: Alter>(
         rt,
         is_any_gone: false,
     };
-    let Disposed { end, .. } = dispose(
+    let Disposed { count, end } = dispose(
         rt.alloc(),
         archive,
         &mut certificates,
         numbers,
         day,
     ).map_err(|fault| refused(rt, fault))?;
-    settle(rt, certificates.is_any_gone, end)
+    settle(rt, certificates.is_any_gone, end)?;
+    if count == 0 {
+        tell_none(rt, "no record", day)?;
+    }
+    Ok(())
 }
 
 /// Lists the records of some numbers, all that are due where there is no number, a line each.
@@ -199,6 +211,9 @@ fn list_asked<S: Alter>(
     let lines = asked_lines(rt.alloc(), archive, numbers, day).map_err(|fault| refused(rt, fault))?;
     for line in lines.as_slice() {
         write_text(rt, &captured_line(rt.alloc(), line)?)?;
+    }
+    if lines.is_empty() {
+        tell_none(rt, "no record", day)?;
     }
     Ok(())
 }
@@ -230,7 +245,8 @@ pub fn day_of_disposal(rt: &HostRuntime, asked: &Disposal) -> Result<Date, Failu
 }
 
 /// Writes what is due by a day and may be destroyed, or destroys it; where numbers are typed, these records alone. A range
-/// passes over what may not be destroyed; `BadData` with the reason where that is a record whose number is typed by itself.
+/// passes over what may not be destroyed; `BadData` with the reason where that is a record whose number is typed by itself. Where
+/// there is none, this is told.
 pub fn dispose_by<S: Alter>(
     rt: &HostRuntime,
     archive: &mut Store<S>,
@@ -239,7 +255,7 @@ pub fn dispose_by<S: Alter>(
 ) -> Result<(), Failure> {
     match meant_by(rt, archive, asked.numbers.as_slice(), day)? {
         Meant::All => dispose_of(rt, archive, asked.destroys, &[], day),
-        Meant::Nothing => Ok(()),
+        Meant::Nothing => tell_none(rt, "none of these records", day),
         Meant::Numbers(numbers) => {
             dispose_of(rt, archive, asked.destroys, numbers.as_slice(), day)
         }

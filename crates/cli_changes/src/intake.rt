@@ -1,7 +1,7 @@
 //! `intake`: the new messages of a Maildir.
 
 use crate::intake_log::IntakeLog;
-use crate::intake_memory::{recall, renew};
+use crate::intake_memory::{forget, recall, renew};
 use crate::intake_room::Room;
 use crate::moments::{Timing, day_of_moment};
 use crate::rules::FilingRules;
@@ -109,6 +109,7 @@ fn take_timed<A: Records>(
         Err(failure) => return (archive, Err(failure)),
     };
     if mail.names.is_empty() && mail.nameless == 0 {
+        forget(&job);
         return (archive, Ok(()));
     }
     let plan = archive.plan().copy().ok();

@@ -190,6 +190,17 @@ fn keep(rt: &HostRuntime, maildir: &str, recalled: &Recalled, memory: &Memory) -
     }
 }
 
+/// Forgets what was told, where no message is new. A failure of that is not told: nothing stays that would be told again.
+pub(crate) fn forget(job: &Intake<'_>) {
+    let rt = job.rt;
+    let Ok(path) = path_in(rt.alloc(), job.maildir, NAME) else {
+        return;
+    };
+    if let Ok(Some(_)) = octets_at(rt, path.as_str()) {
+        let _ = remove_at(rt, path.as_str());
+    }
+}
+
 /// Remembers on a day what was told of messages that stay, and forgets what was told before. An intake that did not come to
 /// its end forgets nothing of that day.
 pub(crate) fn renew(

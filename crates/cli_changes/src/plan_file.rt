@@ -8,17 +8,21 @@ use std::alloc::{AllocError, Global};
 use std::io::ErrorKind;
 use tool_texts::{Shown, put};
 
+/// What the name of a file ends with that `mailfile-tool check` judges as a plan.
+const PLAN_ENDING: &str = ".toml";
+
 /// The number of a plan's text that is too long.
 const TOO_LONG: u8 = 58;
 
 /// What is said of a plan that is refused by a number.
 fn refused_words(alloc: Global, path: &str, number: u8) -> Result<Shown, AllocError> {
     let mut text = Shown::new(alloc);
-    put!(text;
-        named(path.as_bytes()) ": " value(&number)
-        ": " words(refusal_words(number))
-        "; mailfile-tool check " named(path.as_bytes()) " says where"
-    )?;
+    put!(text; named(path.as_bytes()) ": " value(&number) ": " words(refusal_words(number)))?;
+    if path.ends_with(PLAN_ENDING) {
+        put!(text; "; mailfile-tool check " named(path.as_bytes()) " says where")?;
+    } else {
+        text.words("; mailfile-tool check says where, once the name ends with .toml")?;
+    }
     Ok(text)
 }
 

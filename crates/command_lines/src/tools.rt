@@ -176,13 +176,20 @@ fn explain_asked<'a>(asked: &ArgMatches<'a>) -> Explain<'a> {
     }
 }
 
-/// What is judged.
+/// What is judged. Files have to be named; officers of a folder of all rules may be missing.
 fn check_asked<'a>(alloc: Global, asked: &ArgMatches<'a>) -> Result<Check<'a>, NoCommand> {
     let files = values_of(asked, words::FILES).unwrap_or(&[]);
+    let place = place_asked(asked);
+    if let (Place::Folders(_), true) = (place, files.is_empty()) {
+        return Err(wrong(
+            alloc,
+            "check takes scripts, and plans by the ending .toml; or with --rules officers",
+        )?);
+    }
     Ok(Check {
         files: Vec::from_slice(alloc, files)?,
         plan: value_of(asked, words::PRESENT_PLAN),
-        place: place_asked(asked),
+        place,
     })
 }
 

@@ -1,12 +1,14 @@
 //! Scripts and plans, judged as they are named.
 
 use command_lines::tools::{Check, Folders, Place};
+use std::alloc::AllocError;
 use tool_checks::{
-    Refusals, Surroundings, Told, check_officer, check_plan, check_script, read_plan, rules_of,
-    warn_of_globals,
+    Refusals, Surroundings, Told, check_officer, check_plan, check_script, push_officers,
+    read_plan, rules_of, warn_of_globals,
 };
 use tool_console::{Failure, Verdict};
 use tool_inquiry::script_name;
+use tool_texts::Shown;
 
 /// What the path of a plan's file ends with.
 const PLAN_ENDING: &str = ".toml";
@@ -85,10 +87,22 @@ fn check_each(
     Ok(verdict)
 }
 
+/// That no officer is named, with those whose rules a folder has.
+fn no_officer(rt: &HostRuntime, folder: &str) -> Result<Shown, AllocError> {
+    let mut text = Shown::new(rt.alloc());
+    text.words("check --rules takes the officer too whose rules are checked")?;
+    push_officers(rt, &mut text, folder)?;
+    Ok(text)
+}
+
 /// Judges the scripts and plans of files, or the programs of officers, one after the other; a plan's path ends with `.toml`.
 /// The verdict is `Refused` where one of these, or the present plan, is refused, or where a script files into a class that
-/// the present plan does not have or that is closed. A warning changes no verdict.
+/// the present plan does not have or that is closed, or includes a script that is not there. A warning changes no verdict. A
+/// failure where no officer is named; it says which officers the folder has.
 pub fn check_files(rt: &HostRuntime, asked: &Check<'_>) -> Result<Verdict, Failure> {
+    if let (Place::Rules(folder), true) = (asked.place, asked.files.is_empty()) {
+        return Err(Failure::of(no_officer(rt, folder)));
+    }
     let mut refusals = Refusals::new(rt.alloc());
     let Some(present) = read_plan(rt, &mut refusals, asked.plan)? else {
         refusals.write_lines(rt)?;

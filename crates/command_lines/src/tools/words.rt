@@ -91,6 +91,7 @@ pub const FILES: Word = Word {
     name: "files",
     form: Form::Places,
     value: "FILE",
+    is_required: false,
     help: Some("Scripts, and plans by the ending .toml; - is standard input, a script"),
     ..PLACE
 };
