@@ -39,7 +39,8 @@ pub fn judge_day(rt: &HostRuntime, day: Date) -> Result<(), Failure> {
         return Ok(());
     }
     let mut text = Shown::new(rt.alloc());
-    put!(text; value(&day) ": this day has not come yet")?;
+    put!(text; value(&day)
+        ": this day has not come yet; report --day shows what will be due by it")?;
     Err(Failure::Told(Status::Usage, text))
 }
 
