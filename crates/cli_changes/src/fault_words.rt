@@ -6,7 +6,9 @@ use desk_commands::Payload;
 use sieve_meaning::reading::first_string;
 use sieve_meaning::{Location, RunFault};
 use std::alloc::{AllocError, Global};
-use tool_inquiry::{Faulted, Inquiry, InquiryFault, ScriptFile, Scripts, fault_of, script_of};
+use tool_inquiry::{
+    Culprit, Faulted, Inquiry, InquiryFault, ScriptFile, Scripts, fault_of, script_of,
+};
 use tool_texts::{Shown, fault_text, put};
 
 /// A script of rules as it is run; none where it is not good.
@@ -106,22 +108,20 @@ fn cause_in(
     faulted: Faulted<'_>,
     program: &str,
 ) -> Result<Cause, AllocError> {
-    let Some(culprit) = faulted.culprit else {
+    let Faulted { fault, culprit } = faulted;
+    let Some(Culprit { command, place }) = culprit else {
         let mut place = Shown::new(alloc);
         place.named(program.as_bytes())?;
         return Ok(Cause { place, class: None });
     };
-    let class = match faulted.fault {
+    let class = match fault {
         RunFault::ClassNotOpen => {
-            let path = first_string(culprit.command.arguments.as_slice());
+            let path = first_string(command.arguments.as_slice());
             Some(Unopened::of(plan, path))
         }
         _ => None,
     };
-    Ok(Cause {
-        place: culprit.place,
-        class,
-    })
+    Ok(Cause { place, class })
 }
 
 /// The fault that scripts end in over a message, by the open classes of a plan.

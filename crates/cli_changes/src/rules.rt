@@ -29,7 +29,7 @@ pub struct FilingRules<'a> {
 /// What is told of a fault of the rules in a folder. Of an officer who is not there it says who is.
 fn fault_text(rt: &HostRuntime, folder: &str, fault: &RulesFault) -> Result<Shown, AllocError> {
     let mut text = fault.text(rt.alloc())?;
-    if let RulesFault::BadOfficer(_) | RulesFault::Missing(_) = fault {
+    if matches!(fault, RulesFault::BadOfficer(_) | RulesFault::Missing(_)) {
         push_officers(rt, &mut text, folder)?;
     }
     Ok(text)
