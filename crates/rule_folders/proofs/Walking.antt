@@ -1,7 +1,7 @@
 -- What a walk keeps at each step.
 use Rattle.std.proofs.Common.{◌≡◌, ◌<◌, ◌+◌, arith, length, take, get_or, inl, inr, ℕ, Bool, List, [], ◌∷◌, ◌++◌, Option, Some, None, Vec, map, filter, refl, sym, ap, ◌∙◌, subst, append_assoc}
 use Rattle.std.specs.declared.alloc.Global.{Global}
-use Rattle.std.specs.List.{Contains, IsDistinct}
+use Rattle.std.specs.List.{AllByRecursion, Contains, IsDistinct}
 use Rattle.std.specs.Str.{bytes_eq}
 use Rattle.std.specs.Cmp.Lexicographic.{nat_list_eq_equiv}
 use Rattle.std.proofs.lemmas.List.{append-nil, map_push, take_more, take-append-le}
@@ -9,8 +9,8 @@ use Rattle.std.proofs.lemmas.List.Elements.{Contains-append_left, Contains-appen
 use Rattle.std.proofs.lemmas.Map.Keys.{IsDistinct-push}
 use Rattle.tool_findings.specs.declared.circles.Edge.{Edge}
 use Rattle.tool_findings.specs.Commands.{Include}
-use Rattle.rule_folders.specs.Reading.{Entry, Makes, Read, number_at}
-use Rattle.rule_folders.specs.Reached.{AreEdges, AreFollowed, AreLedTo, Includes, IsEdge, IsFollowed, IsMissing, IsMissingAt, IsWalk, is_found, read_of}
+use Rattle.rule_folders.specs.Reading.{Entry, Makes, Read, number_at, octets}
+use Rattle.rule_folders.specs.Reached.{AreEdges, AreFollowed, AreLedTo, HasInclude, Includes, IsAskedBy, IsEdge, IsFollowed, IsMissing, IsMissingAt, IsWalk, is_found, read_of}
 use Rattle.rule_folders.specs.Steps.{Goes, IsEdgeOf, with_edge}
 use Rattle.rule_folders.proofs.Numbers.{apart, at_more}
 
@@ -25,6 +25,16 @@ module _ (place : List ℕ → Bool → Option (List ℕ)) where
   led_more before (u ∷ ts) t s h at inc =
       (h.0, led_more (before ++ u ∷ []) ts t s h.1 (subst (λ l. Contains l s) (sym (append_assoc before (u ∷ []) ts)) at) inc)
 
+  asked_grow : (es fs : List Entry) (reads : List Read) → AllByRecursion (IsAskedBy place es) reads
+      → AllByRecursion (IsAskedBy place (es ++ fs)) reads
+  asked_grow es fs [] h = tt
+  asked_grow es fs (r ∷ reads) h = ((h.0.0, Contains-append_left es fs h.0.0 h.0.1, h.0.2), asked_grow es fs reads h.1)
+
+  asked_push : (es : List Entry) (reads : List Read) (r : Read) → AllByRecursion (IsAskedBy place es) reads → IsAskedBy place es r
+      → AllByRecursion (IsAskedBy place es) (reads ++ r ∷ [])
+  asked_push es [] r h k = (k, tt)
+  asked_push es (q ∷ reads) r h k = (h.0, asked_push es reads r h.1 k)
+
   -- a script more, which one of the others includes
   pub walk_more : (program : Entry) (reads : List Read) (es : List Entry) (t s : Entry) → IsWalk place program reads es
       → number_at t.path es ≡ None → Contains es s → Includes place s t → IsWalk place program (reads ++ read_of t ∷ []) (es ++ t ∷ [])
@@ -36,18 +46,22 @@ module _ (place : List ℕ → Bool → Option (List ℕ)) where
         (IsDistinct-push nat_list_eq_equiv (map (λ (e : Entry). e.path) es) t.path w.once (apart t.path es new));
     found = map_push read_of w.others t ∙ ap (λ l. l ++ read_of t ∷ []) w.found
         ∙ sym (filter-append is_found reads (read_of t ∷ []));
+    asked = asked_push (es ++ t ∷ []) reads (read_of t) (asked_grow es (t ∷ []) reads w.asked)
+        (s, Contains-append_left es (t ∷ []) s at, (inc.0, inc.1, inc.4, inc.3));
   }
 
-  -- a script that is not there
-  pub walk_missing : (program : Entry) (reads : List Read) (es : List Entry) (path : List ℕ) (g : Bool) → IsWalk place program reads es
-      → IsWalk place program (reads ++ (record { path = path; is_global = g; answer = None }) ∷ []) es
-  walk_missing program reads es path g w = record {
+  -- a script that one of the others includes, and that is not there
+  pub walk_missing : (program : Entry) (reads : List Read) (es : List Entry) (path : List ℕ) (s : Entry) (i : Include)
+      → IsWalk place program reads es → Contains es s → HasInclude (octets s) i → place i.name i.is_global ≡ Some path
+      → IsWalk place program (reads ++ (record { path = path; is_global = i.is_global; answer = None }) ∷ []) es
+  walk_missing program reads es path s i w at has is = record {
     others = w.others;
     first = w.first;
     led = w.led;
     once = w.once;
     found = w.found ∙ sym (append-nil (filter is_found reads))
-        ∙ sym (filter-append is_found reads ((record { path = path; is_global = g; answer = None }) ∷ []));
+        ∙ sym (filter-append is_found reads ((record { path = path; is_global = i.is_global; answer = None }) ∷ []));
+    asked = asked_push es reads (record { path = path; is_global = i.is_global; answer = None }) w.asked (s, at, (i, has, is, refl));
   }
 
   missing_left_at : (o : Option (List ℕ)) (g : Bool) (rs more : List Read) → IsMissingAt place o g rs → IsMissingAt place o g (rs ++ more)
@@ -157,6 +171,7 @@ module _ (place : List ℕ → Bool → Option (List ℕ)) where
     led = tt;
     once = subst (λ l. IsDistinct bytes_eq (map (λ (x : Entry). x.path) l)) (sym e) (alone_once program.path);
     found = refl;
+    asked = tt;
   }
 
 module _ {S : Type 0} (made : S → List Read → Type 0) (place : S → List ℕ → Bool → Option (List ℕ)) where

@@ -32,19 +32,25 @@ module _ (place : List ℕ → Bool → Option (List ℕ)) where
   Includes s t = (i : Include) × HasInclude (octets s) i × (i.name ≡ t.name) × (i.is_global ≡ t.is_global)
       × (place i.name i.is_global ≡ Some t.path)
 
+  -- a read was made for an include of one of these scripts
+  abbrev pub IsAskedBy : List Entry → Read → Type 0
+  IsAskedBy scripts r = (s : Entry) × Contains scripts s × ((i : Include) × HasInclude (octets s) i
+      × (place i.name i.is_global ≡ Some r.path) × (i.is_global ≡ r.is_global))
+
   -- EACH OF THESE SCRIPTS IS INCLUDED BY ONE THAT STANDS BEFORE IT
   abbrev pub AreLedTo : (before : List Entry) → List Entry → Type 0
   AreLedTo before [] = Unit {0}
   AreLedTo before (t ∷ ts) = ((s : Entry) × Contains before s × Includes s t) × AreLedTo (before ++ t ∷ []) ts
 
-  -- The program stands first, each other script is included by one before it, no path stands twice, and the others are what
-  -- the reads found, in their order.
+  -- The program stands first, each other script is included by one before it, no path stands twice, the others are what the
+  -- reads found, in their order, and nothing was read that none of these scripts includes.
   pub record IsWalk (program : Entry) (reads : List Read) (scripts : List Entry) : Type 0 where
     pub others : List Entry
     pub first : scripts ≡ program ∷ others
     pub led : AreLedTo (program ∷ []) others
     pub once : IsDistinct bytes_eq (map (λ (e : Entry). e.path) scripts)
     pub found : map read_of others ≡ filter is_found reads
+    pub asked : AllByRecursion (IsAskedBy scripts) reads
 
   -- no script can have the name, or it was answered that none is there
   abbrev pub IsMissingAt : Option (List ℕ) → Bool → List Read → Type 0

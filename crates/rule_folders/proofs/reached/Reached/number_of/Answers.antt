@@ -38,7 +38,7 @@ returns-in_default-text g c =
         places = fun_ext (λ name. fun_ext (λ b. c.in_ok-found.ensures.kept name b));
         added = [];
         more = sym (append-nil c.args.self.now);
-        walk = λ p s e h at w. walk_missing (place c.args.scripts.now) p e c.args.self.now path is_global w;
+        walk = λ p s e h at w. walk_missing (place c.args.scripts.now) p e c.args.self.now path s (include_of c.args.included.now) w at h c.requires;
       },
     )
 
