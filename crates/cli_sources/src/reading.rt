@@ -1,5 +1,8 @@
 //! The scripts of an officer that the officer's program reaches, from the folder of all rules.
 
+ghost use Rattle.std.specs.Prelude.{◌≡◌, IfOk, if◌then◌else◌, option_map, string_bytes};
+ghost use Rattle.rule_folders.specs.Paths.{path_of_name};
+
 use crate::fault::RulesFault;
 use crate::payloads::payload_of_file;
 use desk_commands::{MAX_SCRIPT_OCTETS, Payload};
@@ -50,14 +53,28 @@ struct Folder<'a> {
 
 impl Folder<'_> {
     /// Takes into account that a script is read; false where its location has more than it may already.
-    fn count(&mut self, is_global: bool) -> bool {
-        let count = if is_global {
-            &mut self.global_count
+    fn count(&mut self, is_global: bool) -> bool
+        ensures own { self.new.own ≡ self.old.own }
+        ensures global { self.new.global ≡ self.old.global }
+    {
+        if is_global {
+            self.global_count = self.global_count.saturating_add(1);
+            self.global_count <= MAX_SCRIPTS + 1
         } else {
-            &mut self.own_count
-        };
-        *count = count.saturating_add(1);
-        *count <= MAX_SCRIPTS + 1
+            self.own_count = self.own_count.saturating_add(1);
+            self.own_count <= MAX_SCRIPTS + 1
+        }
+    }
+
+    /// The path of a location.
+    fn location(&self, is_global: bool) -> &str
+        ensures { result.now ≡ string_bytes (if is_global then self.now.global else self.now.own) }
+    {
+        if is_global {
+            self.global.as_str()
+        } else {
+            self.own.as_str()
+        }
     }
 
     /// The path of a script of a location.
@@ -66,9 +83,11 @@ impl Folder<'_> {
         alloc: Global,
         name: &[u8],
         is_global: bool,
-    ) -> Result<Option<String>, AllocError> {
-        let folder = if is_global { &self.global } else { &self.own };
-        path_in(alloc, folder.as_str(), name)
+    ) -> Result<Option<String>, AllocError>
+        ensures { IfOk result (λ path. option_map string_bytes path ≡ path_of_name
+            (string_bytes (if is_global then self.now.global else self.now.own)) name.now) }
+    {
+        path_in(alloc, self.location(is_global), name)
     }
 }
 
@@ -83,6 +102,12 @@ fn found_in(payload: Payload) -> Result<Found, RulesFault> {
 
 impl Scripts for Folder<'_> {
     type Fault = RulesFault;
+
+    ghost place = { λ f name is_global.
+        path_of_name (string_bytes (if is_global then f.global else f.own)) name };
+
+    /// No contract can say what a file has.
+    ghost made = { λ _ _. Unit {0} };
 
     fn no_memory(&self) -> RulesFault {
         RulesFault::NoMemory
@@ -219,8 +244,7 @@ pub fn read_rules(rt: &HostRuntime, folder: &str, officer: &str) -> Result<Rules
         global_count: 0,
     };
     let program = read_program(&mut folder)?;
-    let mut reached = Reached::alone(alloc, program)?;
-    let _edges = reached.follow(&mut folder)?;
+    let (reached, _edges) = Reached::follow(alloc, program, &mut folder)?;
     let unused = unused_in(&folder, &reached)?;
     Ok(rules_of(alloc, officer, reached, unused)?)
 }

@@ -6,18 +6,21 @@
 //!
 //! - `names`: which names officers, scripts and recipients have;
 //! - `includes`: the scripts that a script includes;
-//! - `reached`: the scripts that a program reaches by its includes.
+//! - `reached`: the scripts that a program reaches by its includes; `laws`: what any walk along them satisfies.
 //!
-//! `specs/Names` defines the names.
+//! `specs/Names` defines the names, `specs/Paths` where files are, `specs/Includes` what a text includes, and `specs/Reached`
+//! which scripts are reached. What a file has no contract can say: a walk is right by the answers that its reads gave.
 #![tactic(auto)]
 
 mod includes;
+mod laws;
 mod names;
 mod reached;
 #[cfg(test)]
 mod tests;
 
 pub use includes::{Included, includes_in, tokens_of};
+pub use laws::reached_are_exactly;
 pub use names::{
     GLOBAL, MAIN, SCRIPT_ENDING, is_domain, is_officer, is_recipient, is_script_name, path_in,
     script_in,

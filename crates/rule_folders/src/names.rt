@@ -1,8 +1,9 @@
 //! The names of officers, scripts and recipients.
 
-ghost use Rattle.std.specs.Prelude.{◌≡◌};
+ghost use Rattle.std.specs.Prelude.{◌≡◌, IfOk, option_map, string_bytes};
 ghost use Rattle.std.specs.List.{list_all};
 ghost use Rattle.rule_folders.specs.Names.{begins_with_dot, is_officer_name, is_name_of_script, is_plain_octet, is_name_of_recipient, is_domain_octet, is_name_of_domain};
+ghost use Rattle.rule_folders.specs.Paths.{path_of_name, path_under, without_slash};
 
 use session_words::is_name;
 use std::alloc::{AllocError, Global};
@@ -90,14 +91,32 @@ pub fn is_domain(word: &[u8]) -> bool
     !word.is_empty() && are_of_domain(word)
 }
 
+/// A folder without the `/` that its name may end with.
+fn without_slash(folder: &str) -> &str
+    ensures { result.now ≡ without_slash folder.now }
+{
+    match folder.strip_suffix('/') {
+        Some(front) => front,
+        None => folder,
+    }
+}
+
+/// The path of the script of a name in a folder whose name does not end with a `/`.
+fn join(alloc: Global, folder: &str, name: &str) -> Result<String, AllocError>
+    ensures { IfOk result (λ path. string_bytes path ≡ path_under folder.now name.now) }
+{
+    format!(in alloc; "{folder}/{name}{SCRIPT_ENDING}")
+}
+
 /// The path of a script in a folder, by its name; none where no file can have it.
-pub fn path_in(alloc: Global, folder: &str, name: &[u8]) -> Result<Option<String>, AllocError> {
-    let folder = folder.strip_suffix('/').unwrap_or(folder);
+pub fn path_in(alloc: Global, folder: &str, name: &[u8]) -> Result<Option<String>, AllocError>
+    ensures { IfOk result (λ path. option_map string_bytes path ≡ path_of_name folder.now name.now) }
+{
     if !is_script_name(name) {
         return Ok(None);
     }
     match str::from_utf8(name) {
-        Ok(name) => Ok(Some(format!(in alloc; "{folder}/{name}{SCRIPT_ENDING}")?)),
+        Ok(name) => Ok(Some(join(alloc, without_slash(folder), name)?)),
         Err(_) => Ok(None),
     }
 }

@@ -1,3 +1,6 @@
+ghost use Rattle.std.specs.Prelude.{◌≡◌, codes, if◌then◌else◌};
+ghost use Rattle.rule_folders.specs.Paths.{path_of_name};
+
 use super::*;
 use std::alloc::{AllocError, Global};
 
@@ -7,16 +10,27 @@ struct Few {
     alloc: Global,
 }
 
+/// The folder of a script.
+fn folder(is_global: bool) -> &'static str
+    ensures { result.now ≡ (if is_global then codes "global" else codes "ann") }
+{
+    if is_global { "global" } else { "ann" }
+}
+
 impl Scripts for Few {
     type Fault = AllocError;
+
+    ghost place = { λ _ name is_global.
+        path_of_name (if is_global then codes "global" else codes "ann") name };
+
+    ghost made = { λ _ _. Unit {0} };
 
     fn no_memory(&self) -> AllocError {
         AllocError
     }
 
     fn path_of(&self, alloc: Global, included: &Included) -> Result<Option<String>, AllocError> {
-        let folder = if included.is_global { "global" } else { "ann" };
-        path_in(alloc, folder, included.name.as_slice())
+        path_in(alloc, folder(included.is_global), included.name.as_slice())
     }
 
     fn read(&mut self, path: &str, _is_global: bool) -> Result<Found, AllocError> {
@@ -41,8 +55,7 @@ fn reaches_by_includes(rt: HostRuntime) -> Result<(), AllocError> {
         is_global: false,
         text: Some(Vec::from_slice(alloc, b"require \"include\"; include :once \"a\";")?),
     };
-    let mut reached = Reached::alone(alloc, program)?;
-    let edges = reached.follow(&mut Few { alloc })?;
+    let (reached, edges) = Reached::follow(alloc, program, &mut Few { alloc })?;
     assert_eq!(rt; reached.scripts().len(), 3);
     assert_eq!(rt; reached.path(2), "global/b.sieve");
     assert!(rt; !reached.has("ann/c.sieve"));

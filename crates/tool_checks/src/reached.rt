@@ -1,5 +1,8 @@
 //! The scripts that a script can reach by its includes, in files.
 
+ghost use Rattle.std.specs.Prelude.{◌≡◌, IfOk, option_map, string_bytes};
+ghost use Rattle.tool_checks.specs.Places.{is_own_name, path_within, place_of, start_of};
+
 use command_lines::tools::Folders;
 use rule_folders::{Found, Included, Reached, Script, Scripts, path_in};
 use std::alloc::{AllocError, Global};
@@ -13,6 +16,21 @@ const LONGER: u64 = 64;
 /// The name of standard input on the command line.
 const STANDARD_INPUT: &str = "-";
 
+/// The path of a script in a folder, by its name; none where there is no folder.
+fn path_within(
+    alloc: Global,
+    folder: Option<&str>,
+    name: &[u8],
+) -> Result<Option<String>, AllocError>
+    ensures { IfOk result (λ path. option_map string_bytes path
+        ≡ path_within (option_map (λ f. f.now) folder.entry) name.now) }
+{
+    match folder {
+        Some(folder) => path_in(alloc, folder, name),
+        None => Ok(None),
+    }
+}
+
 /// A script, and where those are that it can include.
 #[derive(Clone, Copy)]
 pub struct Start<'a> {
@@ -24,14 +42,13 @@ pub struct Start<'a> {
 
 impl Start<'_> {
     /// Whether a name is that of this script among the officer's own.
-    fn is_named(&self, alloc: Global, name: &[u8]) -> Result<bool, AllocError> {
+    fn is_named(&self, alloc: Global, name: &[u8]) -> Result<bool, AllocError>
+        ensures { IfOk result (λ b. b ≡ is_own_name (start_of self.now) name.now) }
+    {
         if name != self.name {
             return Ok(false);
         }
-        let Some(folder) = self.folders.global else {
-            return Ok(true);
-        };
-        match path_in(alloc, folder, name)? {
+        match path_within(alloc, self.folders.global, name)? {
             Some(path) => Ok(path.as_str() != self.path),
             None => Ok(true),
         }
@@ -43,14 +60,17 @@ impl Start<'_> {
         alloc: Global,
         name: &[u8],
         is_global: bool,
-    ) -> Result<Option<String>, AllocError> {
-        if !is_global && self.is_named(alloc, name)? {
+    ) -> Result<Option<String>, AllocError>
+        ensures { IfOk result (λ path. option_map string_bytes path
+            ≡ place_of (start_of self.now) name.now is_global) }
+    {
+        if is_global {
+            return path_within(alloc, self.folders.global, name);
+        }
+        if self.is_named(alloc, name)? {
             return Ok(Some(String::from_str(alloc, self.path)?));
         }
-        match self.folders.of(is_global) {
-            Some(folder) => path_in(alloc, folder, name),
-            None => Ok(None),
-        }
+        path_within(alloc, self.folders.personal, name)
     }
 }
 
@@ -73,6 +93,11 @@ struct Files<'a> {
 
 impl Scripts for Files<'_> {
     type Fault = Failure;
+
+    ghost place = { λ f name is_global. place_of (start_of f.start.now) name is_global };
+
+    /// No contract can say what a file has.
+    ghost made = { λ _ _. Unit {0} };
 
     fn no_memory(&self) -> Failure {
         Failure::NoMemory
@@ -103,7 +128,5 @@ pub fn reached_from<'a>(
         is_global: false,
         text: Some(read_script_text(rt, start.path)?),
     };
-    let mut reached = Reached::alone(alloc, program)?;
-    let edges = reached.follow(&mut Files { rt, start })?;
-    Ok((reached, edges))
+    Reached::follow(alloc, program, &mut Files { rt, start })
 }

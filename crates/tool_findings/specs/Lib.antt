@@ -1,2 +1,4 @@
+pub mod Commands
+pub mod Cutting
 pub mod Judgements
 pub mod LoneTests

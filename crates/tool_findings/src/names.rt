@@ -1,5 +1,10 @@
 //! What a command names.
 
+ghost use Rattle.std.specs.Prelude.{◌≡◌, None, MatchOption};
+ghost use Rattle.std.specs.List.{list_any};
+ghost use Rattle.std.specs.Option.{option_map};
+ghost use Rattle.tool_findings.specs.Commands.{first_string, include_by, include_named, is_tag};
+
 use crate::words::is_among;
 use sieve_syntax::{Mark, Token, TokenKind};
 use std::alloc::{AllocError, Global};
@@ -21,16 +26,27 @@ pub enum Named<'a> {
     },
 }
 
-/// Whether a tag of this name is among tokens.
-fn has_tag(tokens: &[Token], name: &str) -> bool {
-    tokens.iter().any(|token| match &token.kind {
+/// Whether a token is a tag of this name.
+fn is_tag(token: &Token, name: &str) -> bool
+    ensures { result ≡ is_tag name.now token.now }
+{
+    match &token.kind {
         TokenKind::Tag(tag) => is_among(tag.as_slice(), &[name]),
         _ => false,
-    })
+    }
+}
+
+/// Whether a tag of this name is among tokens.
+fn has_tag(tokens: &[Token], name: &str) -> bool
+    ensures { result ≡ list_any (is_tag name.now) tokens.now }
+{
+    tokens.iter().any(|token| is_tag(token, name))
 }
 
 /// The first string among tokens, and its offset in octets.
-fn first_string(tokens: &[Token]) -> Option<(&[u8], usize)> {
+fn first_string(tokens: &[Token]) -> Option<(&[u8], usize)>
+    ensures { option_map (λ s. (s.0.now, s.1)) result ≡ first_string tokens.now }
+{
     for token in tokens.iter() {
         if let TokenKind::StringValue(text) = &token.kind {
             return Some((text.as_slice(), token.start as usize));
@@ -41,27 +57,27 @@ fn first_string(tokens: &[Token]) -> Option<(&[u8], usize)> {
 
 /// What the command with these tokens names, and where, an offset in octets; none for a command that is no `fileinto`
 /// and no `include`.
-pub fn name_in(tokens: &[Token]) -> Option<(Named<'_>, usize)> {
+pub fn name_in(tokens: &[Token]) -> Option<(Named<'_>, usize)>
+    ensures { MatchOption result (include_by tokens.now ≡ None)
+        (λ x. include_by tokens.now ≡ include_named x.0 x.1) }
+{
     let TokenKind::Identifier(command) = &tokens.first()?.kind else {
         return None;
     };
     let (name, at) = first_string(tokens)?;
-    if is_among(command.as_slice(), &["fileinto"]) {
-        return Some((Named::Class(name), at));
-    }
     if is_among(command.as_slice(), &["include"]) {
-        let is_global = has_tag(tokens, "global");
-        let is_optional = has_tag(tokens, "optional");
-        let is_once = has_tag(tokens, "once");
         return Some((
             Named::Script {
                 name,
-                is_global,
-                is_optional,
-                is_once,
+                is_global: has_tag(tokens, "global"),
+                is_optional: has_tag(tokens, "optional"),
+                is_once: has_tag(tokens, "once"),
             },
             at,
         ));
+    }
+    if is_among(command.as_slice(), &["fileinto"]) {
+        return Some((Named::Class(name), at));
     }
     None
 }

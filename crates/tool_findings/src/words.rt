@@ -1,5 +1,9 @@
 //! The words that a script may use, and the nearest of them to a word that is none.
 
+ghost use Rattle.std.specs.Prelude.{◌≡◌};
+ghost use Rattle.std.specs.List.{list_any};
+ghost use Rattle.std.specs.Str.{str_eq_ignore_ascii_case};
+
 use std::alloc::{AllocError, Global};
 use std::str;
 use strsim::osa_distance;
@@ -54,7 +58,9 @@ const MAX_WORD: usize = 80;
 const LONG_WORD: usize = 6;
 
 /// Whether a word is one of these, whatever the case of its letters.
-pub fn is_among(word: &[u8], known: &[&str]) -> bool {
+pub fn is_among(word: &[u8], known: &[&str]) -> bool
+    ensures { result ≡ list_any (λ name. str_eq_ignore_ascii_case word.now name.now) known.now }
+{
     known
         .iter()
         .any(|name| word.eq_ignore_ascii_case(name.as_bytes()))
