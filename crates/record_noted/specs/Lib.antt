@@ -1,2 +1,4 @@
 pub mod Histories
+pub mod Keepers
 pub mod Openings
+pub mod Readings

@@ -8,6 +8,7 @@ mod events;
 mod holds;
 mod opening;
 mod plans;
+mod readings;
 mod store;
 
 pub use opening::{OpenFault, Opened};
