@@ -124,10 +124,7 @@ pub(crate) fn capture<S: Alter, K: Clock>(
     lines
 }
 
-pub(crate) fn due<S: Alter>(
-    noted: &mut NotedStore<S>,
-    day: Date,
-) -> Result<Vec<Line>, StoreFault>
+pub(crate) fn due<S: Alter>(noted: &mut NotedStore<S>, day: Date) -> Result<Vec<Line>, StoreFault>
     ensures { CarriesOut (keeper_of S.Store) noted.old noted.new unchanged
         (λ a lines. map line_view lines.items ≡ due_list_on a (epoch_day day)) result }
 {
