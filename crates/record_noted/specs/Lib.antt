@@ -1,3 +1,4 @@
+pub mod Foundings
 pub mod Histories
 pub mod Keepers
 pub mod Openings

@@ -5,6 +5,7 @@
 mod captures;
 mod destruction;
 mod events;
+mod founding;
 mod holds;
 mod opening;
 mod plans;
