@@ -1,7 +1,7 @@
 -- A history begins with events, one after another.
-use Rattle.std.proofs.Common.{◌≡◌, ◌<◌, ◌+◌, ◌∷◌, [], ℕ, zero, suc, List, take, length, get_or, refl, sym, subst, ◌∙◌, arith, rules, IsTrue}
+use Rattle.std.proofs.Common.{◌≡◌, ◌<◌, ◌≤◌, ◌+◌, ◌++◌, ◌∷◌, [], ℕ, zero, suc, List, map, take, length, get_or, refl, sym, ap, ap₂, subst, ◌∙◌, arith, rules, IsTrue}
 use Rattle.std.proofs.Common.{Result, Ok, Err, OnOk, OnErr}
-use Rattle.std.proofs.lemmas.List.{take_more}
+use Rattle.std.proofs.lemmas.List.{length-map, map-append, take_more}
 use Rattle.std.specs.Borrow.{MutBor}
 use Rattle.sqlite.specs.Store.{Ghosts}
 use Rattle.sqlite.specs.Effect.{Database}
@@ -10,13 +10,16 @@ use Rattle.sqlite.specs.Held.{Held, state}
 use Rattle.sqlite.specs.declared.error.Error.{Error}
 use Rattle.record_tables.specs.Companions.{Accompanies}
 use Rattle.record_tables.specs.Changes.{RestBeside}
-use Rattle.record_tables.specs.Events.{Event, Notes, StoresEvents}
+use Rattle.record_tables.specs.Events.{Event, Notes, StoresEvents, new_event}
 use Rattle.record_tables.specs.Layouts.{GoesOn}
 use Rattle.record_tables.specs.Steps.{MakesIn, StaysInside}
 use Rattle.record_tables.proofs.EventLemmas.{note_accompanies}
-use Rattle.record_history.specs.Chain.{mark_after}
+use Rattle.record_reads.specs.Events.{event_of}
+use Rattle.record_reads.specs.declared.events.EventRow.{EventRow}
+use Rattle.record_history.specs.Chain.{chain, mark_after}
 use Rattle.record_noted.specs.Foundings.{AreInOrder}
-use Rattle.record_noted.specs.Histories.{rows_from}
+use Rattle.record_noted.specs.Histories.{rows_from, rows_of}
+use Rattle.record_noted.proofs.HistoryLemmas.{rows_more}
 
 rest_itself : (db : Database) → RestBeside db db
 rest_itself db = λ table apart was. record { stands = was; rows = refl }
@@ -108,3 +111,43 @@ in_order n mark (l ∷ ls) (suc k) d low =
     let rest = rows_from (n + 1) (mark_after mark l) ls in
     let at = number_at (n + 1) (mark_after mark l) ls k d (omega (arith, low)) in
     (omega (arith, at), in_order (n + 1) (mark_after mark l) ls k d (omega (arith, low)))
+
+-- ---- elements
+
+pub get_or_map : {A B : Type 0} (f : A → B) (xs : List A) (i : ℕ) (d : A) → get_or (map f xs) i (f d) ≡ f (get_or xs i d)
+get_or_map f [] i d = refl
+get_or_map f (x ∷ xs) zero d = refl
+get_or_map f (x ∷ xs) (suc i) d = get_or_map f xs i d
+
+take_nothing : {A : Type 0} (n : ℕ) → ◌≡◌ {A = List A} (take n []) []
+take_nothing zero = refl
+take_nothing (suc n) = refl
+
+pub take_whole : {A : Type 0} (xs : List A) (n : ℕ) → length xs ≤ n → take n xs ≡ xs
+take_whole [] n high = take_nothing n
+take_whole (x ∷ xs) zero high = absurd (omega (arith, high))
+take_whole (x ∷ xs) (suc n) high = ap (λ l. x ∷ l) (take_whole xs n (omega (arith, high)))
+
+-- ---- one line more
+
+length_rows : (n : ℕ) (mark : List ℕ) (ls : List (List ℕ)) → length (rows_from n mark ls) ≡ length ls
+length_rows n mark [] = refl
+length_rows n mark (l ∷ ls) = ap suc (length_rows (n + 1) (mark_after mark l) ls)
+
+pub rows_counted : (rows : List EventRow) (ls : List (List ℕ)) → map event_of rows ≡ rows_of ls → length rows ≡ length ls
+rows_counted rows ls is = sym (length-map rows event_of) ∙ ap length is ∙ length_rows 1 [] ls
+
+pub rows_next : (rows : List EventRow) (row : EventRow) (ls : List (List ℕ)) (l : List ℕ) → map event_of rows ≡ rows_of ls
+    → row.number ≡ length rows + 1 → row.line.items ≡ l → row.mark.items ≡ mark_after (chain ls) l
+    → map event_of (rows ++ row ∷ []) ≡ rows_of (ls ++ l ∷ [])
+rows_next rows row ls l is number line mark =
+    let count = rows_counted rows ls is in
+    let event : event_of row ≡ new_event row.number l (mark_after (chain ls) l) = ap₂ (new_event row.number) line mark in
+    map-append event_of rows (row ∷ []) ∙ ap₂ (λ es (e : Event). es ++ e ∷ []) is event
+    ∙ sym (rows_more 1 [] ls l row.number (omega (arith, number, count)))
+
+-- the lines up to the next
+pub lines_next : {V : Type 0} (f : V → List ℕ) (vs : List V) (i : ℕ) (v : V) → i < length vs → v ≡ get_or vs i v
+    → map f (take (i + 1) vs) ≡ map f (take i vs) ++ f v ∷ []
+lines_next f vs i v low is =
+    ap (map f) (take_more vs i v low) ∙ map-append f (take i vs) _ ∙ ap (λ x. map f (take i vs) ++ f x ∷ []) (sym is)

@@ -44,11 +44,11 @@ length_more : (ls : List (List ℕ)) (l : List ℕ) → length (ls ++ l ∷ []) 
 length_more [] l = omega arith
 length_more (x ∷ ls) l = omega (arith, length_more ls l)
 
-chain_more : (mark : List ℕ) (ls : List (List ℕ)) (l : List ℕ) → chain_from mark (ls ++ l ∷ []) ≡ mark_after (chain_from mark ls) l
+pub chain_more : (mark : List ℕ) (ls : List (List ℕ)) (l : List ℕ) → chain_from mark (ls ++ l ∷ []) ≡ mark_after (chain_from mark ls) l
 chain_more mark [] l = refl
 chain_more mark (x ∷ ls) l = chain_more (mark_after mark x) ls l
 
-rows_more : (n : ℕ) (mark : List ℕ) (ls : List (List ℕ)) (l : List ℕ) (k : ℕ) → k ≡ n + length ls
+pub rows_more : (n : ℕ) (mark : List ℕ) (ls : List (List ℕ)) (l : List ℕ) (k : ℕ) → k ≡ n + length ls
     → rows_from n mark (ls ++ l ∷ []) ≡ rows_from n mark ls ++ new_event k l (mark_after (chain_from mark ls) l) ∷ []
 rows_more n mark [] l k is = let same : n ≡ k = omega (arith, is) in ap (λ m. new_event m l (mark_after mark l) ∷ []) same
 rows_more n mark (x ∷ ls) l k is =
@@ -230,7 +230,7 @@ has_number_left a b body day (q ∷ qs) some made = go (cases_Bool (nat_le (next
     go : IsTrue (nat_le (next_number a + length (q ∷ qs)) (2 ^ 32)) ⊎ (nat_le (next_number a + length (q ∷ qs)) (2 ^ 32) ≡ false)
         → next_number a ≤ 4294967295
     go (inl fits) = grind (arith, nat_tests, fits)
-    go (inr full) = absurd (rw full at made)
+    go (inr full) = absurd (let e = rw full at made in cc)
 
 -- ---- a history that explains the archive
 

@@ -1,7 +1,12 @@
 -- A store with a history after a call that only reads.
-use Rattle.std.proofs.Common.{◌≡◌, ap, Result, Ok, Err}
+use Rattle.std.proofs.Common.{◌≡◌, sym, subst, Result, Ok, Err}
+use Rattle.std.specs.Result.{IsErr, IsErrAnd}
+use Rattle.std.proofs.lemmas.Bool.{false≢true}
 use Rattle.sqlite.specs.Store.{Ghosts}
+use Rattle.sqlite.specs.State.{HasCleanDisk}
+use Rattle.sqlite.specs.Held.{state}
 use Rattle.record_archive.specs.Archive.{Archive}
+use Rattle.record_archive.specs.Faults.{WhereRefused}
 use Rattle.record_archive.specs.declared.fault.ArchiveRefusal.{ArchiveRefusal}
 use Rattle.record_store.specs.Faults.{StoreFault}
 use Rattle.record_store.specs.Stores.{StandsFor, StaysStill, Tells, Falls, LeavesAll}
@@ -30,3 +35,13 @@ module _ {S : Type 0} (g : Ghosts S) (old new : NotedStore S) (next : new.next �
     falls = falls;
     crash = crash;
   }
+
+-- what `?` passes on
+pub passed_told : {S X : Type 0} (g : Ghosts S) (old new : NotedStore S) (result : Result X StoreFault) (f : StoreFault)
+    (Answers : Archive → X → Type 0) (Refuses : Archive → ArchiveRefusal → Type 0) → IsErr result → IsErrAnd result (λ x. x ≡ f)
+    → ((a : Archive) → StandsTold g old a → StandsTold g new a × (HasCleanDisk (state g new.store.conn) → WhereRefused (Refuses a) f))
+    → Falls g old.store new.store → LeavesAll g old.store new.store → ReadsTold g old new result Answers Refuses
+passed_told {X = X} g old new (Err e) f Answers Refuses is same tells falls crash =
+    let P : StoreFault → Type 0 = λ x. let r : Result X StoreFault = Err x in TellsTold g old new r Answers Refuses in
+    record { tells = subst P (sym same) tells; falls = falls; crash = crash }
+passed_told g old new (Ok x) f Answers Refuses is same tells falls crash = absurd (false≢true is)

@@ -30,7 +30,8 @@ impl Companion for Founding<'_> {
 
     fn make<S: Alter>(self, tx: &mut Transaction<'_, S>) -> Result<(), Error> {
         lay_events(tx)?;
-        for row in self.rows {
+        let rows = self.rows;
+        for row in rows {
             insert_event(tx, row.number, row.line.as_slice(), row.mark.as_slice())?;
         }
         Ok(())
@@ -50,34 +51,27 @@ fn number_after(count: usize) -> Result<u32, StoreFault>
     Ok(count as u32 + 1)
 }
 
-/// The mark of the last row; empty where there is none.
-fn last_mark(rows: &[EventRow]) -> &[u8]
-    ensures { (ls : List (List ℕ)) → map event_of rows.now ≡ rows_of ls → result.now ≡ chain ls }
-{
-    match rows.last() {
-        Some(last) => last.mark.as_slice(),
-        None => b"",
-    }
-}
-
-/// The rows of lines, each with its mark. Refused with 89 where there are more than 4,294,967,294 (`NoRowid`), or with 99 (no
-/// memory).
-pub(crate) fn rows_of_lines(alloc: Global, lines: &[Vec<u8>]) -> Result<Vec<EventRow>, StoreFault>
-    ensures rows { IfOk result (λ v. map event_of v.items ≡
+/// The rows of lines, each with its mark, and the mark of the last. Refused with 89 where there are more than 4,294,967,294
+/// (`NoRowid`), or with 99 (no memory).
+fn rows_of_lines(alloc: Global, lines: &[Vec<u8>]) -> Result<(Vec<EventRow>, Vec<u8>), StoreFault>
+    ensures rows { IfOk result (λ x. map event_of x.0.items ≡
         rows_of (map (λ l. l.items) lines.now)) }
+    ensures mark { IfOk result (λ x. x.1.items ≡ chain (map (λ l. l.items) lines.now)) }
     ensures trouble { IfErr result (λ f. is_trouble f ≡ true) }
 {
     let mut rows = Vec::with_capacity(alloc, lines.len())?;
+    let mut mark = Vec::new(alloc);
     for line in lines {
-        let mark = next_mark(alloc, last_mark(rows.as_slice()), line.as_slice())?;
+        let number = number_after(rows.len())?;
+        mark = next_mark(alloc, mark.as_slice(), line.as_slice())?.into_bytes();
         let row = EventRow {
-            number: number_after(rows.len())?,
+            number,
             line: Vec::from_slice(alloc, line.as_slice())?,
-            mark: mark.into_bytes(),
+            mark: Vec::from_slice(alloc, mark.as_slice())?,
         };
         rows.push(row)?;
     }
-    Ok(rows)
+    Ok((rows, mark))
 }
 
 /// Lays the table of events with the rows of lines, in one transaction. Answers the number of the next event, and the mark
@@ -95,9 +89,8 @@ pub(crate) fn lay_history<S: Alter>(
     ensures err { OnErr result ((a : Archive) → StandsFor S.Store store.old a →
         StandsFor S.Store store.new a) }
 {
-    let rows = rows_of_lines(alloc, lines)?;
+    let (rows, mark) = rows_of_lines(alloc, lines)?;
     let next = number_after(rows.len())?;
-    let mark = Vec::from_slice(alloc, last_mark(rows.as_slice()))?;
     let founding = Founding {
         rows: rows.as_slice(),
     };

@@ -95,7 +95,6 @@ impl<S: Alter> NotedStore<S> {
         ensures reads { ReadsTold S.Store self.old self.new result (IsScheduleOfRecord number)
             (LacksRecord number) }
         ensures range { IfOk result (λ s. IsInRange s) }
-        ensures plan { self.new.store.plan ≡ self.old.store.plan }
         ensures next { self.new.next ≡ self.old.next }
         ensures open { HasCleanDisk (state S.Store self.new.store.conn)
             → OnOk result (IsTrue (state S.Store self.new.store.conn).is_open) }
@@ -118,7 +117,8 @@ impl<S: Alter> NotedStore<S> {
     pub fn due(&mut self, day: Date) -> Result<Vec<Line>, StoreFault>
         ensures reads { ReadsTold S.Store self.old self.new result
             (λ a v. map line_view v.items ≡ due_list_on a (epoch_day day)) (λ a f. ⊥) }
-        ensures open { HasCleanDisk (state S.Store self.new.store.conn)
+        ensures open { (a : Archive) → StandsTold S.Store self.old a
+            → HasCleanDisk (state S.Store self.new.store.conn)
             → IsTrue (state S.Store self.old.store.conn).is_open
             → OnOk result (IsTrue (state S.Store self.new.store.conn).is_open) }
     {
