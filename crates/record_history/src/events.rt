@@ -1,6 +1,7 @@
 //! Events: what was done to an archive, when, by whom and for what reason.
 
 ghost use Rattle.std.specs.Prelude.{◌≡◌, IfOk};
+ghost use Rattle.record_history.specs.Spelled.{HasSchedules};
 ghost use Rattle.record_history.specs.Views.{listing_view};
 
 use class_plan::{Plan, Schedule};
@@ -31,8 +32,10 @@ pub struct Listing<'a> {
 impl<'a> Listing<'a> {
     /// The listing of a plan. The only refusal is no memory (99).
     pub fn of(alloc: Global, plan: &'a Plan) -> Result<Listing<'a>, AllocError>
-        ensures { IfOk result (λ l. listing_view l ≡ plan.now) }
+        ensures view { IfOk result (λ l. listing_view l ≡ plan.now) }
+        ensures spelled { IfOk result (λ l. HasSchedules (listing_view l)) }
     {
+        let _classes = plan.class_count();
         Ok(Listing {
             root: plan.root(),
             classes: plan.classes(alloc)?,

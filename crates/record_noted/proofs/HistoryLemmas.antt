@@ -1,8 +1,9 @@
 -- A store beside which a history is kept.
-use Rattle.std.proofs.Common.{◌≡◌, ◌≤◌, ◌+◌, ℕ, List, [], ◌∷◌, ◌++◌, length, Ok, Err, Result, true, refl, sym, ap, subst, ◌∙◌, arith, inl, IsTrue}
+use Rattle.std.proofs.Common.{◌≡◌, ◌≤◌, ◌<◌, ◌+◌, ◌^◌, ◌⊎◌, nat_le, ℕ, List, [], ◌∷◌, ◌++◌, length, Ok, Err, Result, true, false, refl, sym, ap, subst, ◌∙◌, arith, inl, inr, IsTrue}
 use Rattle.std.specs.Prelude.{OnOk}
 use Rattle.std.specs.Result.{IsErr, IsErrAnd}
-use Rattle.std.proofs.lemmas.Bool.{false≢true}
+use Rattle.std.proofs.lemmas.Bool.{cases_Bool, false≢true}
+use Rattle.std.proofs.lemmas.Bool.Decides.{nat_tests}
 use Rattle.sqlite.specs.Store.{Ghosts}
 use Rattle.sqlite.specs.Effect.{Database}
 use Rattle.sqlite.specs.State.{State, HasCleanDisk, Survives}
@@ -14,7 +15,7 @@ use Rattle.record_history.specs.Chain.{mark_after, chain, chain_from}
 use Rattle.record_history.specs.Events.{Event, Deed}
 use Rattle.record_history.specs.Lines.{line_of}
 use Rattle.record_history.specs.Laws.{Told, TellsInLines}
-use Rattle.record_archive.specs.Archive.{Archive}
+use Rattle.record_archive.specs.Archive.{Archive, capture, next_number}
 use Rattle.record_archive.specs.Calls.{Makes}
 use Rattle.record_archive.specs.Faults.{WhereRefused, is_trouble}
 use Rattle.record_archive.specs.declared.fault.ArchiveRefusal.{ArchiveRefusal}
@@ -43,11 +44,11 @@ length_more : (ls : List (List ℕ)) (l : List ℕ) → length (ls ++ l ∷ []) 
 length_more [] l = omega arith
 length_more (x ∷ ls) l = omega (arith, length_more ls l)
 
-chain_more : (mark : List ℕ) (ls : List (List ℕ)) (l : List ℕ) → chain_from mark (ls ++ l ∷ []) ≡ mark_after (chain_from mark ls) l
+pub chain_more : (mark : List ℕ) (ls : List (List ℕ)) (l : List ℕ) → chain_from mark (ls ++ l ∷ []) ≡ mark_after (chain_from mark ls) l
 chain_more mark [] l = refl
 chain_more mark (x ∷ ls) l = chain_more (mark_after mark x) ls l
 
-rows_more : (n : ℕ) (mark : List ℕ) (ls : List (List ℕ)) (l : List ℕ) (k : ℕ) → k ≡ n + length ls
+pub rows_more : (n : ℕ) (mark : List ℕ) (ls : List (List ℕ)) (l : List ℕ) (k : ℕ) → k ≡ n + length ls
     → rows_from n mark (ls ++ l ∷ []) ≡ rows_from n mark ls ++ new_event k l (mark_after (chain_from mark ls) l) ∷ []
 rows_more n mark [] l k is = let same : n ≡ k = omega (arith, is) in ap (λ m. new_event m l (mark_after mark l) ∷ []) same
 rows_more n mark (x ∷ ls) l k is =
@@ -220,11 +221,22 @@ notes_unmarked g old result f command Answers line is same trouble = record {
   crash = λ a ls r is_open. survives_itself (state g old.store.conn) _;
 }
 
+-- a capture that succeeds found a number left
+pub has_number_left : (a b : Archive) (body : List ℕ) (day : ℕ) (paths : List (List ℕ)) → 0 < length paths → capture a body day paths ≡ Ok b
+    → next_number a ≤ 4294967295
+has_number_left a b body day [] some made = absurd (omega (arith, some))
+has_number_left a b body day (q ∷ qs) some made = go (cases_Bool (nat_le (next_number a + length (q ∷ qs)) (2 ^ 32)))
+  where
+    go : IsTrue (nat_le (next_number a + length (q ∷ qs)) (2 ^ 32)) ⊎ (nat_le (next_number a + length (q ∷ qs)) (2 ^ 32) ≡ false)
+        → next_number a ≤ 4294967295
+    go (inl fits) = grind (arith, nat_tests, fits)
+    go (inr full) = absurd (let e = rw full at made in cc)
+
 -- ---- a history that explains the archive
 
 pub told : {S X : Type 0} (g : Ghosts S) (old new : NotedStore S) (result : Result X StoreFault)
     (command : Archive → Result Archive ArchiveRefusal) (Answers : Archive → X → Type 0) (line : List ℕ) (deed : Archive → Deed) (e : Event)
-    → line ≡ line_of old.next e → ((a : Archive) → StandsFor g old.store a → e.deed ≡ deed a) → TellsInLines deed command
+    → line ≡ line_of old.next e → ((a b : Archive) → StandsFor g old.store a → command a ≡ Ok b → e.deed ≡ deed a) → TellsInLines deed command
     → Notes g old new result command Answers line → IsTold g old new result command
 told {S} {X} g old new result command Answers line deed e is same tells notes = record {
   does = does result notes.obeys;
@@ -238,7 +250,7 @@ told {S} {X} g old new result command Answers line deed e is same tells notes = 
   where
     one_more : (a b : Archive) (ls : List (List ℕ)) → StandsWith g old a ls → Told a ls → command a ≡ Ok b → Told b (ls ++ line ∷ [])
     one_more a b ls r was made =
-        subst (λ l. Told b (ls ++ l ∷ [])) (sym (is ∙ ap (λ n. line_of n e) r.next)) (tells e a b ls was made (same a r.stands))
+        subst (λ l. Told b (ls ++ l ∷ [])) (sym (is ∙ ap (λ n. line_of n e) r.next)) (tells e a b ls was made (same a b r.stands made))
 
     step : (a : Archive) (ls : List (List ℕ)) → StandsWith g old a ls → Told a ls → (o : Result Archive ArchiveRefusal) → command a ≡ o
         → Becomes g old new o (ls ++ line ∷ []) → Makes (StandsTold g new) o

@@ -1,2 +1,4 @@
+pub mod FoundingLemmas
 pub mod HistoryLemmas
 pub mod OpeningLemmas
+pub mod ReadingLemmas

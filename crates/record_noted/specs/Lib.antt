@@ -1,2 +1,5 @@
+pub mod Foundings
 pub mod Histories
+pub mod Keepers
 pub mod Openings
+pub mod Readings

@@ -1,6 +1,6 @@
 //! Captures, with their events.
 
-ghost use Rattle.std.specs.Prelude.{◌≡◌, ◌<◌, length, map, Option};
+ghost use Rattle.std.specs.Prelude.{◌≡◌, ◌<◌, ◌≤◌, ℕ, length, map, Option};
 ghost use Rattle.class_plan.specs.Calendar.{number_of_day};
 ghost use Rattle.class_plan.specs.Dates.{IsCaptureDay};
 ghost use Rattle.record_archive.specs.Archive as archive;
@@ -52,7 +52,8 @@ impl<S: Alter> NotedStore<S> {
     /// Refused with 87, 89 (`sqlite`, or after 4,294,967,294 events) or 99 (no memory). A refusal changes nothing, and notes
     /// nothing.
     ///
-    /// The caller gives a day of 1970 to 2199, and paths of classes of the plan, one at least.
+    /// The caller gives a day of 1970 to 2199, and paths of classes of the plan, one at least. The line tells the number of
+    /// the first record, where one is left.
     pub fn capture(
         &mut self,
         line: &[u8],
@@ -67,8 +68,9 @@ impl<S: Alter> NotedStore<S> {
             (λ a. archive.capture a body.now (number_of_day day) paths.now)
             (λ a lines. map line_view lines.items ≡
             archive.capture_lines a (number_of_day day) paths.now) line.now }
-        ensures told { (e : Event) (filing : Option Filing)
-            → IsLineOf self.old line.now (Captured self.old.store.next (seal body.now)
+        ensures told { (e : Event) (filing : Option Filing) (first : ℕ)
+            → (self.old.store.next ≤ 4294967295 → first ≡ self.old.store.next)
+            → IsLineOf self.old line.now (Captured first (seal body.now)
             (number_of_day day) filing paths.now) e
             → IsTold S.Store self.old self.new result
             (λ a. archive.capture a body.now (number_of_day day) paths.now) }

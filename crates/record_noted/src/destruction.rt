@@ -35,11 +35,12 @@ impl<S: Alter> NotedStore<S> {
     /// Destroys a record that is due by a day, as `Store::destroy`, and notes it by the line of its event.
     ///
     /// Refused with 80 to 84, 89 (`sqlite`, or after 4,294,967,294 events) or 99 (no memory). A refusal changes nothing, and
-    /// notes nothing.
+    /// notes nothing. By a day before 1970 nothing is destroyed, whatever day the line tells.
     pub fn destroy(&mut self, line: &[u8], number: u32, day: Date) -> Result<(), StoreFault>
         ensures notes { Notes S.Store self.old self.new result
             (λ a. archive.destroy_on a number (epoch_day day)) Quietly line.now }
-        ensures told { (e : Event) (on : ℕ) (schedule : Schedule) → epoch_day day ≡ pos on
+        ensures told { (e : Event) (on : ℕ) (schedule : Schedule)
+            → ((n : ℕ) → epoch_day day ≡ pos n → on ≡ n)
             → IsLineOf self.old line.now (Destroyed number on schedule) e
             → IsTold S.Store self.old self.new result
             (λ a. archive.destroy_on a number (epoch_day day)) }

@@ -5,9 +5,11 @@
 mod captures;
 mod destruction;
 mod events;
+mod founding;
 mod holds;
 mod opening;
 mod plans;
+mod readings;
 mod store;
 
 pub use opening::{OpenFault, Opened};

@@ -1,12 +1,13 @@
 //! The store with its history, and the history's beginning.
 
-ghost use Rattle.std.specs.Prelude.{◌≡◌, ◌<◌, ℕ, List, [], true, IfOk, IfErr, OnOk};
+ghost use Rattle.std.specs.Prelude.{◌≡◌, ◌<◌, ℕ, List, [], map, true, IfOk, IfErr, OnOk};
 ghost use Rattle.record_history.specs.Chain.{mark_after};
 ghost use Rattle.record_archive.specs.Archive.{Archive, empty_archive};
 ghost use Rattle.record_archive.specs.Faults.{is_trouble};
 ghost use Rattle.record_store.specs.Stores.{StandsFor};
 ghost use Rattle.record_noted.specs.Histories.{StandsWith, StandsTold};
 
+use crate::founding::lay_history;
 use record_history::{commands_are_told, next_mark};
 use record_store::{Cause, Store, StoreFault};
 use record_tables::events::Beginning;
@@ -47,6 +48,31 @@ impl<S: Alter> NotedStore<S> {
                 store,
                 next: 1,
                 mark: Vec::new(alloc),
+            }),
+            Err(fault) => Err((fault, store)),
+        }
+    }
+
+    /// Begins the history of a store with lines, in one transaction.
+    ///
+    /// Refused with 89 (`sqlite`, as where there is a table `event`, or more than 4,294,967,293 lines) or with 99 (no memory).
+    /// A refusal returns the store, which stands for the archive that it stood for.
+    pub fn begin_with(
+        alloc: Global,
+        mut store: Store<S>,
+        lines: &[Vec<u8>],
+    ) -> Result<NotedStore<S>, (StoreFault, Store<S>)>
+        ensures ok { IfOk result (λ s. (a : Archive) → StandsFor S.Store store a →
+            StandsWith S.Store s a (map (λ l. l.items) lines.now)) }
+        ensures err { IfErr result (λ e. (a : Archive) → StandsFor S.Store store a →
+            StandsFor S.Store e.1 a) }
+    {
+        match lay_history(alloc, &mut store, lines) {
+            Ok((next, mark)) => Ok(NotedStore {
+                alloc,
+                store,
+                next,
+                mark,
             }),
             Err(fault) => Err((fault, store)),
         }

@@ -27,7 +27,7 @@ makes_one g new (Ok b) h = (b, refl, h)
 makes_one g new (Err r) h = absurd h
 
 -- A store that is found shut after so many faults would have been so before, since only a fault shuts it.
-shut_before : (old new : State) (n : ℕ) → old.faults ≤ new.faults
+pub shut_before : (old new : State) (n : ℕ) → old.faults ≤ new.faults
     → (IsTrue old.is_open → IsTrue new.is_open ⊎ MoreFaults old.faults new.faults)
     → (new.faults ≤ n) × ((new.is_open ≡ false) ⊎ MoreFaults new.faults n)
     → (old.faults ≤ n) × ((old.is_open ≡ false) ⊎ MoreFaults old.faults n)
@@ -41,7 +41,7 @@ shut_before old new n counts closes may = (omega (arith, may.0), go (cases_Bool 
     ])
 
 -- nothing is committed
-met_before : {S : Type 0} (g : Ghosts S) (old new : Store S) → CommitsNothing g old.conn new.conn → HasCleanDisk (state g new.conn)
+pub met_before : {S : Type 0} (g : Ghosts S) (old new : Store S) → CommitsNothing g old.conn new.conn → HasCleanDisk (state g new.conn)
     → (fate : Fate) → MayMeet g new fate → MayMeet g old fate
 met_before g old new survives clean (Left trees) may = elim (survives.crash clean trees may) [ inl before ↦ before | inr none ↦ absurd none ]
 met_before g old new survives clean (ShutAfter n) may =
@@ -113,7 +113,7 @@ module _ {S X : Type 0} (g : Ghosts S) (old mid new : Store S) (command : Archiv
 
   kept_now : HasCleanDisk (state g new.conn) → IsTrue (state g new.conn).is_open → (b : Archive) → StandsFor g new b
       → (fate : Fate) → MayMeet g new fate → FateKeeps fate b
-  kept_now clean on b there (Left trees) may = left clean on b there trees may
+  kept_now clean on b there (Left trees) may = (left clean on b there trees may).0
   kept_now clean on b there (ShutAfter n) may = elim may.1 [
     | inl closed ↦ absurd (false≢true (sym closed ∙ on))
     | inr more ↦ omega (arith, more)

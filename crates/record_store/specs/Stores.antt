@@ -103,10 +103,12 @@ keeper_of g = record {
   keeps = FateKeeps;
 }
 
--- while the connection is open, whatever a crash at this moment leaves keeps the archive that the store represents
+-- while the connection is open, whatever a crash at this moment leaves is the present database, which keeps the archive that
+-- the store represents
 abbrev pub LeavesNow : {S : Type 0} → Ghosts S → Store S → Type 0
 LeavesNow g store = HasCleanDisk (state g store.conn) → IsTrue (state g store.conn).is_open → (a : Archive) →
-    StandsFor g store a → (trees : Trees) → (state g store.conn).may_leave trees → TreesKeep trees a
+    StandsFor g store a → (trees : Trees) → (state g store.conn).may_leave trees →
+    (kept : TreesKeep trees a) × (kept.db ≡ (state g store.conn).now)
 
 -- what a crash in a call on an open connection may leave: what a crash might have left before it, or the command's
 -- archive

@@ -9,7 +9,7 @@ ghost use Rattle.record_store.specs.Dues.{due_records, due_line, is_unheld, IsDa
 ghost use Rattle.record_archive.specs.Lines.{line_view};
 ghost use Rattle.record_archive.specs.Faults.{is_trouble};
 ghost use Rattle.record_store.specs.Faults.{is_own};
-ghost use Rattle.record_store.specs.Stores.{Tells, LeavesAll, Falls, StaysOpenOnOk, IsNeverOwn};
+ghost use Rattle.record_store.specs.Stores.{StaysStill, Tells, LeavesAll, Falls, StaysOpenOnOk, IsNeverOwn};
 
 use crate::fault::{LOST, StoreFault, lost_or};
 use crate::store::Store;
@@ -51,6 +51,7 @@ impl<S: Alter> Store<S> {
     fn due_records(&mut self, day: u32) -> Result<Vec<DueRecordRow>, StoreFault>
         ensures tells { Tells S.Store self.old self.new result
             (λ a rows. map due_record_of rows.items ≡ due_records a day) (λ a f. ⊥) }
+        ensures still { StaysStill S.Store self.old self.new }
         ensures falls { Falls S.Store self.old self.new }
         ensures cause { IsNeverOwn S.Store self.old self.new result }
         ensures open { StaysOpenOnOk S.Store self.old self.new result }
@@ -85,6 +86,7 @@ impl<S: Alter> Store<S> {
     pub fn due(&mut self, day: Date) -> Result<Vec<Line>, StoreFault>
         ensures tells { Tells S.Store self.old self.new result
             (λ a lines. map line_view lines.items ≡ due_list_on a (epoch_day day)) (λ a f. ⊥) }
+        ensures still { StaysStill S.Store self.old self.new }
         ensures falls { Falls S.Store self.old self.new }
         ensures cause { IsNeverOwn S.Store self.old self.new result }
         ensures open { StaysOpenOnOk S.Store self.old self.new result }

@@ -10,7 +10,7 @@ ghost use Rattle.record_adoption.specs.Adoption.{sorted_holds};
 ghost use Rattle.record_choice.specs.Entries.{entry_view, name_list, listed, records_from, entries_from};
 ghost use Rattle.record_store.specs.Entries.{names_at_front, listed_beside, AreHoldsOf, IsPage, IsListableRecord, is_counted};
 ghost use Rattle.record_store.specs.Faults.{is_own};
-ghost use Rattle.record_store.specs.Stores.{StandsFor, Tells, LeavesAll, Falls, IsOpenOnOk, IsNeverOwn};
+ghost use Rattle.record_store.specs.Stores.{StaysStill, StandsFor, Tells, LeavesAll, Falls, IsOpenOnOk, IsNeverOwn};
 
 use crate::fault::{LOST, StoreFault, lost_or};
 use crate::store::Store;
@@ -110,6 +110,7 @@ impl<S: Alter> Store<S> {
     fn rows_from(&mut self, from: u32, most: u32) -> Result<Vec<RecordRow>, StoreFault>
         ensures tells { Tells S.Store self.old self.new result
             (λ a rows. map record_of rows.items ≡ take most (records_from a from)) (λ a f. ⊥) }
+        ensures still { StaysStill S.Store self.old self.new }
         ensures falls { Falls S.Store self.old self.new }
         ensures open { (a : Archive) → StandsFor S.Store self.old a →
             IsOpenOnOk S.Store self.new result }
@@ -127,6 +128,7 @@ impl<S: Alter> Store<S> {
         ensures tells { Tells S.Store self.old self.new result
             (λ a holds. map hold_entry_of holds.items ≡
             filter (is_between first last) (sorted_holds a)) (λ a f. ⊥) }
+        ensures still { StaysStill S.Store self.old self.new }
         ensures falls { Falls S.Store self.old self.new }
         ensures cause { IsNeverOwn S.Store self.old self.new result }
         ensures crash { LeavesAll S.Store self.old self.new }
@@ -143,6 +145,7 @@ impl<S: Alter> Store<S> {
         ensures tells { Tells S.Store self.old self.new result
             (λ a holds. IsPage a from (map record_of rows.now) →
             AreHoldsOf a (map record_of rows.now) (map hold_entry_of holds.items)) (λ a f. ⊥) }
+        ensures still { StaysStill S.Store self.old self.new }
         ensures falls { Falls S.Store self.old self.new }
         ensures cause { IsNeverOwn S.Store self.old self.new result }
         ensures crash { LeavesAll S.Store self.old self.new }
@@ -165,6 +168,7 @@ impl<S: Alter> Store<S> {
         ensures tells { Tells S.Store self.old self.new result
             (λ a entries. map entry_view entries.items ≡ take most (entries_from a from))
             (λ a f. ⊥) }
+        ensures still { StaysStill S.Store self.old self.new }
         ensures falls { Falls S.Store self.old self.new }
         ensures cause { IsNeverOwn S.Store self.old self.new result }
         ensures crash { LeavesAll S.Store self.old self.new }

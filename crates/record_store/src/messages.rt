@@ -6,7 +6,7 @@ ghost use Rattle.sqlite.specs.Held.{state};
 ghost use Rattle.record_archive.specs.Archive as archive;
 ghost use Rattle.record_archive.specs.Archive.{Archive};
 ghost use Rattle.record_store.specs.Messages.{body_in};
-ghost use Rattle.record_store.specs.Stores.{StandsFor, Tells, Behaves, LeavesAll, Falls, IsNeverOwn};
+ghost use Rattle.record_store.specs.Stores.{StaysStill, StandsFor, Tells, Behaves, LeavesAll, Falls, IsNeverOwn};
 
 use crate::fault::{LOST, StoreFault, lost_or};
 use crate::store::Store;
@@ -19,6 +19,7 @@ impl<S: Alter> Store<S> {
     fn live_body(&mut self, number: u32) -> Result<Option<Vec<u8>>, StoreFault>
         ensures tells { Tells S.Store self.old self.new result (λ a b. option_map (λ v. v.items) b ≡
             body_in (archive.message a number)) (λ a f. ⊥) }
+        ensures still { StaysStill S.Store self.old self.new }
         ensures behaves { Behaves S.Store self.old self.new result }
         ensures crash { LeavesAll S.Store self.old self.new }
     {
@@ -34,6 +35,7 @@ impl<S: Alter> Store<S> {
     pub fn message(&mut self, number: u32) -> Result<Vec<u8>, StoreFault>
         ensures tells { Tells S.Store self.old self.new result (λ a body. archive.message a number ≡
             Ok (Some body.items)) (λ a f. archive.message a number ≡ Err f) }
+        ensures still { StaysStill S.Store self.old self.new }
         ensures falls { Falls S.Store self.old self.new }
         ensures cause { IsNeverOwn S.Store self.old self.new result }
         ensures crash { LeavesAll S.Store self.old self.new }

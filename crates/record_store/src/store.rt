@@ -85,6 +85,7 @@ impl<S: Alter> Store<S> {
         ensures stands { (a : Archive) → StandsFor S.Store self.old a →
             StandsFor S.Store self.new a }
         ensures plan { self.new.plan ≡ self.old.plan }
+        ensures still { StaysStill S.Store self.old self.new }
         ensures falls { Falls S.Store self.old self.new }
         ensures open { IsOpenOnOk S.Store self.new result }
         ensures trouble { IfErr result (λ f. is_trouble f ≡ true) }
@@ -108,8 +109,8 @@ impl<S: Alter> Store<S> {
         self.conn.is_autocommit()
     }
 
-    /// The record with a number; refused with 80 where there is none.
-    pub(crate) fn record_at(&mut self, number: u32) -> Result<RecordRow, StoreFault>
+    /// The record with a number. Refused with 80 (no such record), 89 (`sqlite`) or 99 (no memory).
+    pub fn record_at(&mut self, number: u32) -> Result<RecordRow, StoreFault>
         ensures tells { Tells S.Store self.old self.new result
             (λ a r. archive.record_at a number ≡ Some (record_of r)) (LacksRecord number) }
         ensures still { StaysStill S.Store self.old self.new }

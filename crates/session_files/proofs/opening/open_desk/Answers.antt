@@ -60,7 +60,7 @@ returns-in-Ok-new-clause-leaves g c clean a found trees may =
       | inl rows ↦ c.in-Ok.ensures.found early a rows.0 rows.1
       | inr none ↦ subst Stands (sym none.1) (c.in-Ok.ensures.empty early none.0)
     ]) in
-    c.is_idle-idle.ensures.left now (c.in_default.ensures.open now) a there trees (subst MayLeave c.in-Ok-new.ensures.over may)
+    (c.is_idle-idle.ensures.left now (c.in_default.ensures.open now) a there trees (subst MayLeave c.in-Ok-new.ensures.over may)).0
 
 pub returns-in-Ok-new-clause-open : goal.returns-in-Ok-new-clause-open
 returns-in-Ok-new-clause-open g c clean =

@@ -9,6 +9,6 @@ pub returns-clause-told : goal.returns-clause-told
 returns-clause-told g c = λ (e : Event) of.
     let law = c.commands_are_told.ensures in
     told g.S.Store c.args.self.now c.note_hold.new.self c.note_hold.result (λ a. archive.hold a c.args.name.now c.args.number) Quietly c.args.line.now
-    (λ (a : Archive). Held c.args.name.now c.args.number) e of.line_is (λ a s. of.deed_is) (law.lines (λ (a : Archive). Held c.args.name.now
+    (λ (a : Archive). Held c.args.name.now c.args.number) e of.line_is (λ a b s made. of.deed_is) (law.lines (λ (a : Archive). Held c.args.name.now
     c.args.number) (λ a. archive.hold a c.args.name.now c.args.number) (law.holds c.args.name.now c.args.number))
     c.note_hold.ensures

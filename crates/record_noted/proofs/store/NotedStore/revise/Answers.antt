@@ -9,6 +9,6 @@ pub returns-clause-told : goal.returns-clause-told
 returns-clause-told g c = λ (e : Event) of.
     let law = c.commands_are_told.ensures in
     told g.S.Store c.args.self.now c.note_revise.new.self c.note_revise.result (λ a. archive.revise a c.args.plan) Quietly c.args.line.now
-    (λ (a : Archive). PlanReplaced c.args.plan) e of.line_is (λ a s. of.deed_is) (law.lines (λ (a : Archive). PlanReplaced c.args.plan) (λ a.
+    (λ (a : Archive). PlanReplaced c.args.plan) e of.line_is (λ a b s made. of.deed_is) (law.lines (λ (a : Archive). PlanReplaced c.args.plan) (λ a.
     archive.revise a c.args.plan) (law.plans c.args.plan))
     c.note_revise.ensures

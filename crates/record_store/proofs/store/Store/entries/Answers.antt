@@ -6,7 +6,7 @@ use Rattle.record_tables.specs.CodeRows.{record_of, hold_entry_of}
 use Rattle.record_choice.specs.Entries.{entry_of, records_from}
 use Rattle.record_store.specs.Entries.{listed_beside, IsPage, IsListableRecord}
 use Rattle.record_store.proofs.Causes.{passed_cause}
-use Rattle.record_store.proofs.CommandLemmas.{leaves_then}
+use Rattle.record_store.proofs.CommandLemmas.{leaves_then, still_then}
 use Rattle.record_store.proofs.EntryLemmas.{page_is, limited_is}
 use Rattle.record_store.proofs.EntryReads.{page_listable}
 use Rattle.record_store.proofs.store.Store.entries.Goals as goal
@@ -54,3 +54,18 @@ returns-in_err-entries-clause-cause g c =
     c.in_err-entries.ensures.lost (subst (AllByRecursion IsListableRecord)
     (sym ((c.in_ok-rows.ensures.tells a s).1 (c.holds_on.ensures.falls clean)))
     (page_listable a c.args.from c.limit_of.result s.archive)))
+
+pub returns-clause-still : goal.returns-clause-still
+returns-clause-still g c =
+    still_then g.S.Store c.args.self.now c.rows_from.new.self c.holds_on.new.self (λ (a : Archive) s.
+    (c.in_ok-rows.ensures.tells a s).0) c.holds_on.ensures.falls c.rows_from.ensures.still c.holds_on.ensures.still
+
+pub returns-in_err-holds-clause-still : goal.returns-in_err-holds-clause-still
+returns-in_err-holds-clause-still g c =
+    still_then g.S.Store c.args.self.now c.rows_from.new.self c.holds_on.new.self (λ (a : Archive) s.
+    (c.in_ok-rows.ensures.tells a s).0) c.holds_on.ensures.falls c.rows_from.ensures.still c.holds_on.ensures.still
+
+pub returns-in_err-entries-clause-still : goal.returns-in_err-entries-clause-still
+returns-in_err-entries-clause-still g c =
+    still_then g.S.Store c.args.self.now c.rows_from.new.self c.holds_on.new.self (λ (a : Archive) s.
+    (c.in_ok-rows.ensures.tells a s).0) c.holds_on.ensures.falls c.rows_from.ensures.still c.holds_on.ensures.still

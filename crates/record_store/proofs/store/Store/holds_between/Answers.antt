@@ -3,7 +3,7 @@ use Rattle.record_archive.specs.Archive.{Archive}
 use Rattle.record_adoption.specs.Adoption.{sorted_holds}
 use Rattle.record_adoption.proofs.AdoptHolds.{are_named}
 use Rattle.record_store.proofs.Causes.{not_own-lost_or, no_refusal}
-use Rattle.record_store.proofs.CommandLemmas.{stands_looked, leaves_looked}
+use Rattle.record_store.proofs.CommandLemmas.{stands_looked, still_looked, leaves_looked}
 use Rattle.record_store.proofs.EntryReads.{looks_at}
 use Rattle.record_store.proofs.store.Store.holds_between.Goals as goal
 
@@ -18,6 +18,7 @@ returns-in-Ok g c =
             let kept = s.rows (made.falls clean) (c.in-Ok.ensures.frame.was_open clean) in
             c.in-Ok.ensures.all clean kept.tables (sorted_holds a) (are_named kept.tables a kept.keeps.holds s.archive.once) kept.stored kept.keyed,
       );
+      still = still_looked g.S.Store c.args.self.now c.holds_between.new.conn looks;
       falls = made.falls;
       cause = λ a s clean. tt;
       crash = λ (a : Archive) s. leaves_looked g.S.Store c.args.self.now (record c.args.self.now { conn = c.holds_between.new.conn }) a s looks;
@@ -32,6 +33,7 @@ returns-in-Err g c =
         stands_looked g.S.Store c.args.self.now _ a s looks refl refl (λ n. refl) (λ m. refl),
         λ clean. no_refusal _ c.in-Err.fault c.lost_or.ensures,
       );
+      still = still_looked g.S.Store c.args.self.now c.holds_between.new.conn looks;
       falls = made.falls;
       cause = λ (a : Archive) s clean. not_own-lost_or _ c.in-Err.fault c.lost_or.ensures (λ e.
           let kept = s.rows (made.falls clean) (c.in-Err.ensures.seen clean (ap Err e)) in

@@ -1,7 +1,7 @@
 use Rattle.std.proofs.Common.{refl, ap, ◌∙◌, Err, rules}
 use Rattle.record_archive.specs.Archive.{Archive}
 use Rattle.record_store.proofs.Causes.{not_own-lost_or}
-use Rattle.record_store.proofs.CommandLemmas.{stands_looked}
+use Rattle.record_store.proofs.CommandLemmas.{stands_looked, still_looked}
 use Rattle.record_store.proofs.MessageLemmas.{live_told}
 use Rattle.record_store.proofs.store.Store.live_body.Goals as goal
 
@@ -21,3 +21,9 @@ returns-in-Err-clause-behaves g c = record {
       c.in-Err.ensures.none clean (ap Err e) kept.tables kept.stored kept.keyed);
   «open» = search rules;
 }
+
+pub returns-in-Ok-clause-still : goal.returns-in-Ok-clause-still
+returns-in-Ok-clause-still g c = still_looked g.S.Store c.args.self.now c.live_body.new.conn c.live_body.ensures.looks
+
+pub returns-in-Err-clause-still : goal.returns-in-Err-clause-still
+returns-in-Err-clause-still g c = still_looked g.S.Store c.args.self.now c.live_body.new.conn c.live_body.ensures.looks

@@ -1,7 +1,7 @@
 use Rattle.std.proofs.Common.{◌∙◌, Err, refl, ap}
 use Rattle.record_archive.specs.Archive.{Archive}
 use Rattle.record_store.proofs.Causes.{not_own-lost_or, no_refusal, fits_kept}
-use Rattle.record_store.proofs.CommandLemmas.{stands_looked, leaves_looked}
+use Rattle.record_store.proofs.CommandLemmas.{stands_looked, still_looked, leaves_looked}
 use Rattle.record_store.proofs.EntryReads.{looks_at, from_told, page_fits}
 use Rattle.record_store.proofs.store.Store.rows_from.Goals as goal
 
@@ -16,6 +16,7 @@ returns-in-Ok g c =
             let kept = s.rows (made.falls clean) (c.in-Ok.ensures.frame.was_open clean) in
             c.in-Ok.ensures.all clean kept.tables kept.stored kept.keyed ∙ from_told a kept.tables c.args.from c.args.most kept.keeps.records,
       );
+      still = still_looked g.S.Store c.args.self.now c.records_from.new.conn looks;
       falls = made.falls;
       «open» = λ (a : Archive) s clean.
           let kept = s.rows (made.falls clean) (c.in-Ok.ensures.frame.was_open clean) in
@@ -33,6 +34,7 @@ returns-in-Err g c =
         stands_looked g.S.Store c.args.self.now _ a s looks refl refl (λ n. refl) (λ m. refl),
         λ clean. no_refusal _ c.in-Err.fault c.lost_or.ensures,
       );
+      still = still_looked g.S.Store c.args.self.now c.records_from.new.conn looks;
       falls = made.falls;
       «open» = λ a s clean. tt;
       cause = λ (a : Archive) s clean. not_own-lost_or _ c.in-Err.fault c.lost_or.ensures (λ e.
