@@ -3,6 +3,7 @@
 #![tactic(auto)]
 
 mod certificates;
+mod events;
 mod headers;
 mod plans;
 mod records;
@@ -11,6 +12,7 @@ mod rows;
 mod tests;
 
 pub use certificates::{Certificate, certificate_line, moment_text, sum_of, sum_text};
+pub use events::{ListedEvent, ToldCertificate, event_object, history_line, told_certificate};
 pub use headers::{Headers, ListedHeaders, headers_of, undecoded_lines};
 pub use plans::{due_by, plan_of_text, plan_text};
 pub use records::{Row, captured_line, captured_words, json_object, listed_line};

@@ -128,7 +128,7 @@ fn json_holds(alloc: Global, holds: &[Vec<u8>]) -> Result<Value, AllocError> {
 }
 
 /// A member of a JSON object with a text, or null.
-fn add_text(
+pub(crate) fn add_text(
     alloc: Global,
     object: &mut Map<String, Value>,
     name: &str,
@@ -165,7 +165,7 @@ fn add_headers(
 
 /// A JSON text in ASCII: each other character, which can only stand in a string, by its code units of UTF-16 (RFC 8259,
 /// section 7). So a terminal takes none of it for a command.
-fn in_ascii(alloc: Global, json: &str) -> Result<String, AllocError> {
+pub(crate) fn in_ascii(alloc: Global, json: &str) -> Result<String, AllocError> {
     let mut ascii = String::new(alloc);
     for c in json.chars() {
         if c.is_ascii() && !c.is_ascii_control() {

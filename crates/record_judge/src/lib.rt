@@ -5,6 +5,7 @@
 #![tactic(auto)]
 
 mod captures;
+mod contents;
 mod deeds;
 mod destruction;
 mod faults;

@@ -1,2 +1,0 @@
-pub mod CarryLemmas
-pub mod LiftLemmas
