@@ -1,5 +1,6 @@
 -- A history begins with events, one after another.
-use Rattle.std.proofs.Common.{◌≡◌, ◌<◌, ◌≤◌, ◌+◌, ◌++◌, ◌∷◌, [], ℕ, zero, suc, List, map, take, length, get_or, refl, sym, ap, ap₂, subst, ◌∙◌, arith, rules, IsTrue}
+use Rattle.std.proofs.Common.{◌≡◌, ◌<◌, ◌≤◌, ◌+◌, ◌++◌, ◌∷◌, [], ℕ, zero, suc, List, map}
+use Rattle.std.proofs.Common.{take, length, get_or, refl, sym, ap, ap₂, subst, ◌∙◌, arith, rules, IsTrue}
 use Rattle.std.proofs.Common.{Result, Ok, Err, OnOk, OnErr}
 use Rattle.std.proofs.lemmas.List.{length-map, map-append, take_more}
 use Rattle.std.specs.Borrow.{MutBor}

@@ -39,7 +39,8 @@ impl<S: Alter> NotedStore<S> {
 
     /// Finds that the connection is open, as `Store::ensure_open`.
     pub fn ensure_open(&mut self) -> Result<(), StoreFault>
-        ensures stands { (a : Archive) → StandsTold S.Store self.old a → StandsTold S.Store self.new a }
+        ensures stands { (a : Archive) → StandsTold S.Store self.old a
+            → StandsTold S.Store self.new a }
         ensures plan { self.new.store.plan ≡ self.old.store.plan }
         ensures next { self.new.next ≡ self.old.next }
         ensures falls { Falls S.Store self.old.store self.new.store }

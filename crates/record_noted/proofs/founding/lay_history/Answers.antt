@@ -17,7 +17,9 @@ returns-clause-ok g c = λ (a : Archive) s.
     let has : List Event → Type 0 = StoresEvents (state g.S.Store c.do_beside.new.self.conn).now in
     record {
       stands = (c.in_ok-do_beside.ensures.obeys (λ clean is_open. order) a s).0;
-      next_is = omega (arith, c.in_ok-next.ensures.number, c.len.ensures, c.in_ok-rows.rows.ok, rows_counted c.in_ok-rows.rows.items ls c.in_ok-rows.ensures.rows);
+      next_is =
+          let count = rows_counted c.in_ok-rows.rows.items ls c.in_ok-rows.ensures.rows in
+          omega (arith, c.in_ok-next.ensures.number, c.len.ensures, c.in_ok-rows.rows.ok, count);
       mark_is = c.in_ok-rows.ensures.mark;
       lines = λ clean. subst has same (c.in_ok-do_beside.ensures.brought a s (λ clean is_open. order) clean).1;
     }
