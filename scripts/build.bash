@@ -10,6 +10,9 @@
 # shellcheck source=scripts/programs.bash
 declare -F ensure_program > /dev/null || . "$root/scripts/programs.bash" || exit 125
 
+# Who changes archives, as their histories note it.
+export LOGNAME=tess
+
 # The memory counted for a prover, and for each further one, in megabytes.
 readonly PROVER_MEMORY=(1500 3000)
 

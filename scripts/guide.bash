@@ -46,7 +46,7 @@ shown_today() {
 # Types the commands, and reports for each whether it wrote the wanted output.
 play_page() {
     local index
-    export HOME=$work/home
+    export HOME=$work/home LOGNAME=tess
     rm -rf -- "$HOME" && mkdir -p -- "$HOME" || return
     for index in "${!typed[@]}"; do
         eval "${typed[index]}" > "$work/written" 2>&1 < /dev/null

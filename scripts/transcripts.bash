@@ -52,10 +52,11 @@ type_in() {
 
 # A pattern of the wanted lines, in which words in braces stand for what varies.
 pattern_of() {
-    local day='[0-9]{4}-[0-9]{2}-[0-9]{2}' time='[0-9]{2}:[0-9]{2}:[0-9]{2}'
+    local day='[0-9]{4}-[0-9]{2}-[0-9]{2}' time='[0-9]{2}:[0-9]{2}:[0-9]{2}' sum='[0-9a-f]{64}'
     # shellcheck disable=SC2016 # that is no expression
     sed -E -e 's/[][\\.*^$()+?{}|]/\\&/g' -e "s/\\\\\{today\\\\\}/$(date -u +%F)/g" -e "s/\\\\\{day\\\\\}/$day/g" \
-        -e "s/\\\\\{time\\\\\}/$time/g" <<< "$1"
+        -e "s/\\\\\{time\\\\\}/$time/g" \
+        -e "s/\\\\\{sum\\\\\}/$sum/g" <<< "$1"
 }
 
 # Plays the commands of a transcript, and says of each whether what comes is as wanted.
@@ -63,7 +64,7 @@ play_commands() {
     local index answer pattern
     cd -- "$2" || return
     set -o pipefail
-    export PATH=$work/bin:$PATH LC_ALL=C
+    export PATH=$work/bin:$PATH LC_ALL=C LOGNAME=tess
     for index in "${!typed[@]}"; do
         type_in "${typed[index]}"
         pattern=$(pattern_of "${wanted[index]%$'\n'}")

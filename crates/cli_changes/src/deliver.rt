@@ -5,12 +5,12 @@ use crate::moments::{Timing, date_of_clock};
 use crate::rules::FilingRules;
 use crate::time_limit::{TimeLimit, too_slow_words};
 use cli_console::{Failure, Status, is_by, tell, write_text};
+use cli_history::StoreLedger;
 use cli_sources::read_payload;
 use cli_texts::{captured_line, captured_words, undecoded_lines};
 use desk_commands::{Capture, DeskFault, MAX_MESSAGE_OCTETS, Payload};
 use filing_desk::{Delivery, Desk, deliver};
 use record_archive::{Line, Records};
-use record_store::Store;
 use sieve_meaning::RunFault;
 use sqlite::Alter;
 use std::alloc::{AllocError, Global};
@@ -210,7 +210,7 @@ fn deliver_at<A: Records>(
 /// The moment of a delivery to a store.
 fn moment_at<S: Alter>(
     rt: &HostRuntime,
-    archive: &mut Store<S>,
+    archive: &mut StoreLedger<'_, S>,
     timing: Timing,
 ) -> Result<u64, Failure> {
     let mut timing = timing;
@@ -220,13 +220,13 @@ fn moment_at<S: Alter>(
 
 /// Delivers a message to a store by rules, and gives the store back. Where the clock is before the days of the store it
 /// may be done later, `TryAgain`, unless the moment is named.
-pub fn deliver_to<S: Alter>(
+pub fn deliver_to<'a, S: Alter>(
     rt: &HostRuntime,
-    archive: Store<S>,
+    archive: StoreLedger<'a, S>,
     filing: &FilingRules<'_>,
     timing: Timing,
     message: Payload,
-) -> (Store<S>, Result<Delivered, Failure>) {
+) -> (StoreLedger<'a, S>, Result<Delivered, Failure>) {
     let mut archive = archive;
     match moment_at(rt, &mut archive, timing) {
         Ok(moment) => deliver_at(rt, archive, filing, moment, message),

@@ -3,12 +3,13 @@
 use class_plan::{Action, Date, Schedule};
 use cli_choice::{Meant, meant_of};
 use cli_console::{Failure, Status, judge_day, now, tell, tell_words, today, write_text};
+use cli_history::StoreLedger;
 use cli_texts::{Certificate, captured_line, certificate_line, sum_text};
 use command_lines::archives::{Disposal, TypedNumbers};
 use record_choice::{
     Destroyed, DisposeFault, Disposed, End, Reason, Registrar, asked_lines, dispose,
 };
-use record_store::{Store, StoreFault};
+use record_store::StoreFault;
 use sqlite::Alter;
 use std::alloc::{AllocError, Global};
 use tool_texts::{Shown, put};
@@ -140,7 +141,7 @@ fn refused(rt: &HostRuntime, fault: DisposeFault<StoreFault>) -> Failure {
 /// Which records a disposal by a day is about.
 fn meant_by<S: Alter>(
     rt: &HostRuntime,
-    archive: &mut Store<S>,
+    archive: &mut StoreLedger<'_, S>,
     typed: &[TypedNumbers],
     day: Date,
 ) -> Result<Meant, Failure> {
@@ -179,7 +180,7 @@ fn tell_none(rt: &HostRuntime, whose: &'static str, day: Date) -> Result<(), Fai
 /// Destroys the records of some numbers, all that are due where there is no number, with a certificate for each.
 fn destroy_asked<S: Alter>(
     rt: &HostRuntime,
-    archive: &mut Store<S>,
+    archive: &mut StoreLedger<'_, S>,
     numbers: &[u32],
     day: Date,
 ) -> Result<(), Failure> {
@@ -204,7 +205,7 @@ fn destroy_asked<S: Alter>(
 /// Lists the records of some numbers, all that are due where there is no number, a line each.
 fn list_asked<S: Alter>(
     rt: &HostRuntime,
-    archive: &mut Store<S>,
+    archive: &mut StoreLedger<'_, S>,
     numbers: &[u32],
     day: Date,
 ) -> Result<(), Failure> {
@@ -221,7 +222,7 @@ fn list_asked<S: Alter>(
 /// Lists or destroys the records of some numbers, all that are due where there is no number.
 fn dispose_of<S: Alter>(
     rt: &HostRuntime,
-    archive: &mut Store<S>,
+    archive: &mut StoreLedger<'_, S>,
     destroys: bool,
     numbers: &[u32],
     day: Date,
@@ -249,7 +250,7 @@ pub fn day_of_disposal(rt: &HostRuntime, asked: &Disposal) -> Result<Date, Failu
 /// there is none, this is told.
 pub fn dispose_by<S: Alter>(
     rt: &HostRuntime,
-    archive: &mut Store<S>,
+    archive: &mut StoreLedger<'_, S>,
     asked: &Disposal,
     day: Date,
 ) -> Result<(), Failure> {

@@ -2,17 +2,18 @@
 
 use cli_choice::{Change, Questions, is_meant};
 use cli_console::{Failure, Search, Status, Walk, tell, write_text};
+use cli_history::StoreLedger;
 use command_lines::archives::Choice;
 use record_archive::Records;
 use record_choice::Holder;
-use record_store::{RecordEntry, Store, StoreFault};
+use record_store::{RecordEntry, StoreFault};
 use sqlite::Alter;
 use std::alloc::{AllocError, Global};
 use tool_texts::{Shown, put};
 
 /// Changes the hold of a name on a record.
 fn change_one<S: Alter>(
-    archive: &mut Store<S>,
+    archive: &mut StoreLedger<'_, S>,
     change: Change,
     name: &[u8],
     number: u32,
@@ -52,7 +53,7 @@ fn write_change(rt: &HostRuntime, change: Change, name: &str, number: u32) {
 /// of the store is the end.
 fn change_on<S: Alter>(
     rt: &HostRuntime,
-    archive: &mut Store<S>,
+    archive: &mut StoreLedger<'_, S>,
     change: Change,
     name: &str,
     number: u32,
@@ -83,7 +84,7 @@ struct Changed {
 /// Changes the hold of a name on those records of a page that are meant, and adds what becomes of them.
 fn change_page<S: Alter>(
     rt: &HostRuntime,
-    archive: &mut Store<S>,
+    archive: &mut StoreLedger<'_, S>,
     change: Change,
     name: &str,
     choice: &Choice<'_>,
@@ -106,7 +107,7 @@ fn change_page<S: Alter>(
 /// Whether a record has a hold of a name.
 fn is_held_by<S: Alter>(
     rt: &HostRuntime,
-    archive: &mut Store<S>,
+    archive: &mut StoreLedger<'_, S>,
     name: &str,
 ) -> Result<bool, Failure> {
     let mut held = record_choice::Choice::live();
@@ -134,7 +135,7 @@ fn said_of(alloc: Global, name: &str, words: &'static str) -> Result<Shown, Allo
 /// of that name.
 fn end_of_none<S: Alter>(
     rt: &HostRuntime,
-    archive: &mut Store<S>,
+    archive: &mut StoreLedger<'_, S>,
     name: &str,
     is_refused: bool,
 ) -> Result<(), Failure> {
@@ -156,7 +157,7 @@ fn end_of_none<S: Alter>(
 /// none of the records that are found that has it, and none is refused, this is told. `BadData` where the class is none of the plan.
 pub fn change_holds<S: Alter>(
     rt: &HostRuntime,
-    archive: &mut Store<S>,
+    archive: &mut StoreLedger<'_, S>,
     change: Change,
     name: &str,
     choice: &Choice<'_>,

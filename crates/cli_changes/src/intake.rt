@@ -7,11 +7,11 @@ use crate::moments::{Timing, day_of_moment};
 use crate::rules::FilingRules;
 use crate::time_of_day::time_of_day;
 use cli_console::{Failure, Status, now};
+use cli_history::StoreLedger;
 use cli_sources::maildir::{NewMail, has_cur, new_mail, try_move};
 use command_lines::archives::{Filing, Telling};
 use mail_intake::{End, Taking, Tally, take_in};
 use record_archive::Records;
-use record_store::Store;
 use sqlite::Alter;
 use std::io;
 use tool_texts::Shown;
@@ -124,11 +124,11 @@ fn take_timed<A: Records>(
 
 /// Captures the new messages of a Maildir, in the order of their names, and moves them to its folder `cur`. Where the
 /// clock is before the days of the store it may be done later, `TryAgain`, unless the moment is named.
-pub fn take_new<S: Alter>(
+pub fn take_new<'a, S: Alter>(
     rt: &HostRuntime,
-    archive: Store<S>,
+    archive: StoreLedger<'a, S>,
     job: Intake<'_>,
-) -> (Store<S>, Result<(), Failure>) {
+) -> (StoreLedger<'a, S>, Result<(), Failure>) {
     let mut archive = archive;
     let mut timing = job.timing;
     match timing

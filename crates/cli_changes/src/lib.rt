@@ -1,7 +1,8 @@
 //! What `mailfile-store` changes in an archive, for each of its subcommands that do.
 //!
 //! - `plan`: the plan, and another one in its place; `plan_file`: a plan that is read from a file;
-//! - `rules`: the rules by which mail is filed; `rule_checks`: whether they are good;
+//! - `rules`: the rules by which mail is filed; `rules_sum`: what stands for them in a history;
+//!   `rule_checks`: whether they are good;
 //! - `fault_words`: where the run of rules over a message ended in a fault, in words;
 //! - `moments`: when mail is captured; `time_limit`: how long the work on a message may take; `time_of_day`: that of a log;
 //! - `deliver` and `intake`: one message, and those of a Maildir; `intake_room`: the files, the desk and the log of an intake,
@@ -25,6 +26,7 @@ mod plan;
 mod plan_file;
 mod rule_checks;
 mod rules;
+mod rules_sum;
 mod time_limit;
 mod time_of_day;
 

@@ -6,9 +6,8 @@ ghost use Rattle.cli_changes.specs.Moments.{IsMoment, IsRefused, day_of_moment};
 use class_plan::{Date, date_of, day_number};
 use cli_console::{Failure, Status, Walk, now};
 use command_lines::archives::Moment;
-use record_choice::Choice;
-use record_store::{RecordEntry, Store};
-use sqlite::Alter;
+use record_choice::{Choice, Repository};
+use record_store::{RecordEntry, StoreFault};
 use std::alloc::{AllocError, Global};
 use tool_texts::{Shown, put};
 
@@ -126,7 +125,10 @@ fn last_of(last: Option<u32>, entries: &[RecordEntry]) -> Option<u32> {
 
 /// The last day on which a record of a store was captured, in days since 1970-01-01; none where there is no record. The
 /// failure is that of the store.
-fn last_day<S: Alter>(rt: &HostRuntime, archive: &mut Store<S>) -> Result<Option<u32>, Failure> {
+fn last_day<R: Repository<Fault = StoreFault>>(
+    rt: &HostRuntime,
+    archive: &mut R,
+) -> Result<Option<u32>, Failure> {
     let every = Choice::every();
     let mut walk = Walk::from(&every, 1);
     let mut last = None;
@@ -166,10 +168,10 @@ impl Timing {
     }
 
     /// Looks for the last day of a store, where no moment is named. The failure is that of the store.
-    pub fn look<S: Alter>(
+    pub fn look<R: Repository<Fault = StoreFault>>(
         &mut self,
         rt: &HostRuntime,
-        archive: &mut Store<S>,
+        archive: &mut R,
     ) -> Result<(), Failure> {
         if let Moment::Unnamed = self.asked {
             self.last = last_day(rt, archive)?;

@@ -3,9 +3,11 @@
 use crate::plan_file::read_plan;
 use class_plan::{Date, Plan, day_number};
 use cli_console::{Failure, Status, Walk, agrees, is_by, today, write_data, write_text};
+use cli_history::StoreLedger;
 use cli_texts::{due_by, plan_of_text, plan_text};
+use record_archive::Records;
 use record_choice::{Choice, destroys};
-use record_store::{RecordEntry, Store};
+use record_store::RecordEntry;
 use sqlite::Alter;
 use std::alloc::{AllocError, Global};
 use tool_plans::dropped_paths;
@@ -65,7 +67,7 @@ impl Changes {
 /// What a new plan changes in an archive.
 fn changes_by<S: Alter>(
     rt: &HostRuntime,
-    archive: &mut Store<S>,
+    archive: &mut StoreLedger<'_, S>,
     plan: &Plan,
 ) -> Result<Changes, Failure> {
     let today = today(rt)?;
@@ -85,7 +87,7 @@ fn changes_by<S: Alter>(
             break;
         };
         for entry in page.iter() {
-            changes.add(entry, archive.plan(), plan, today);
+            changes.add(entry, archive.plan_kept(), plan, today);
         }
     }
     Ok(changes)
@@ -159,7 +161,7 @@ fn judge_classes(rt: &HostRuntime, present: &Plan, new: &Plan, path: &str) -> Re
 /// where the new plan leaves out a class of the present one, before anything is printed; `Usage` where nobody agrees.
 pub fn replace_plan<S: Alter>(
     rt: &HostRuntime,
-    archive: &mut Store<S>,
+    archive: &mut StoreLedger<'_, S>,
     path: &str,
     is_agreed: bool,
 ) -> Result<(), Failure> {

@@ -1,6 +1,7 @@
 //! The rules by which mail is filed, and what is done where they are at fault.
 
 use crate::fault_words::{Cause, cause_of_fault};
+use crate::rules_sum::sum_of_rules;
 use crate::time_of_day::{as_line, line_start};
 use class_plan::Plan;
 use cli_console::{Failure, Status, tell};
@@ -89,6 +90,14 @@ impl<'a> FilingRules<'a> {
             named(path.as_bytes()) ": warning: " named(main.as_bytes())
             " does not reach this script")?;
         Ok(text)
+    }
+
+    /// The sum of the rules, in hexadecimal digits; none where they are at fault.
+    pub fn sum(&self, alloc: Global) -> Result<Option<String>, AllocError> {
+        match &self.rules {
+            Some(rules) => Ok(Some(sum_of_rules(alloc, rules)?)),
+            None => Ok(None),
+        }
     }
 
     /// Tells of each script of the officer that the program does not reach.

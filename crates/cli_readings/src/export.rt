@@ -6,6 +6,7 @@ use crate::list::row_of;
 use crate::report::record_of;
 use cli_choice::Questions;
 use cli_console::{Failure, Search, message_of, now, write_text};
+use cli_history::{Extract, Subjects};
 use cli_page::{Index, IndexHeading, Order, Page};
 use cli_texts::{Headers, Kept, MANIFEST_HEADER, headers_of, manifest_row, moment_text, sum_of};
 use command_lines::archives::{Choice, Sorting, Target};
@@ -23,6 +24,9 @@ const SUMS: &str = "SHA256SUMS";
 /// The file of an export that lists its records for people.
 const INDEX: &str = "index.html";
 
+/// The file of an export that has the events of its records, where the store keeps a history.
+const HISTORY: &str = "history.txt";
+
 /// An export to a folder, with what lists its files.
 #[derive(Drop)]
 struct Export<'a> {
@@ -30,6 +34,8 @@ struct Export<'a> {
     manifest: ListFile,
     sums: ListFile,
     index: Index,
+    /// Whose events are written.
+    subjects: Subjects,
     /// The message that was written last.
     last: Option<Written>,
     count: Count,
@@ -139,6 +145,7 @@ fn export_record<S: Alter>(
         write_new(rt, archive, export, entry)?;
         row_beside(rt.alloc(), &mut export.index, entry, export.last.as_ref())?
     };
+    export.subjects.add(entry)?;
     export.count.records = export.count.records.saturating_add(1);
     export.manifest.write(rt, export.folder, row.as_slice())
 }
@@ -159,6 +166,26 @@ fn export_records<S: Alter>(
         }
     }
     Ok(())
+}
+
+/// Writes the events of the records to a file, where the store keeps a history. Answers what stands against the history:
+/// `BadData` where the line of an event cannot be read, which is told.
+fn export_history<S: Alter>(
+    rt: &HostRuntime,
+    archive: &mut Store<S>,
+    export: &Export<'_>,
+) -> Result<Result<(), Failure>, Failure> {
+    let Some(mut extract) = Extract::of(rt.alloc(), archive, &export.subjects) else {
+        return Ok(Ok(()));
+    };
+    let mut file = make_file(rt, export.folder, HISTORY)?;
+    for _ in 0..u64::MAX {
+        let Some(lines) = extract.next_lines(rt, archive)? else {
+            break;
+        };
+        write_to(rt, export.folder, &mut file, lines.as_slice())?;
+    }
+    Ok(extract.end())
 }
 
 /// The order of an index.
@@ -239,7 +266,7 @@ pub fn export_to<S: Alter>(
     let mut search = Search::new(rt, archive, choice, questions)?;
     let folder = target.folder;
     make_folder(rt, folder)?;
-    for name in [MANIFEST, SUMS, INDEX] {
+    for name in [MANIFEST, SUMS, INDEX, HISTORY] {
         judge_free(rt, folder, name)?;
     }
     let mut export = Export {
@@ -247,6 +274,7 @@ pub fn export_to<S: Alter>(
         manifest: ListFile::new(MANIFEST, MANIFEST_HEADER),
         sums: ListFile::new(SUMS, ""),
         index: Index::new(rt.alloc()),
+        subjects: Subjects::new(rt.alloc()),
         last: None,
         count: Count {
             records: 0,
@@ -255,11 +283,12 @@ pub fn export_to<S: Alter>(
         },
     };
     export_records(rt, archive, &mut export, &mut search)?;
-    let ended = search.end(rt, archive);
-    if export.count.records == 0 {
-        ended?;
-        return finish(rt, export, file, choice, target);
-    }
+    let ended = match search.end(rt, archive) {
+        Err(failure) if export.count.records == 0 => return Err(failure),
+        ended => ended,
+    };
+    let told = export_history(rt, archive, &export)?;
     finish(rt, export, file, choice, target)?;
-    ended
+    ended?;
+    told
 }

@@ -4,8 +4,10 @@ use crate::archives::{Archives, Work, lend, not_made};
 use crate::drafts::{begin, read_back, settle};
 use class_plan::Plan;
 use cli_console::{Failure, Status, write_text};
+use cli_history::{Lines, open_history};
 use cli_readings::{Summary, summary_of};
 use record_copy::{CopyFault, copy_archive};
+use record_noted::Opened;
 use record_store::Store;
 use sqlite::{Alter, Connection};
 use std::alloc::Global;
@@ -54,13 +56,74 @@ fn copy_failure(alloc: Global, paths: Paths<'_>, fault: CopyFault) -> Failure {
 struct Kept {
     plan: Plan,
     summary: Summary,
+    /// Its history, where it keeps one.
+    history: Option<Lines>,
+}
+
+/// Reads the history of an archive, where it keeps one. The archive is handed back.
+fn history_of<S: Alter>(
+    rt: &HostRuntime,
+    archive: Store<S>,
+) -> (Store<S>, Result<Option<Lines>, Failure>) {
+    match open_history(rt, archive) {
+        Ok(Opened::Noted(noted)) => {
+            let mut noted = noted;
+            match Lines::of(rt, &mut noted) {
+                Ok(lines) => (noted.into_store(), Ok(Some(lines))),
+                Err(failure) => (noted.into_store(), Err(failure)),
+            }
+        }
+        Ok(Opened::Plain(archive)) => (archive, Ok(None)),
+        Err((archive, failure)) => (archive, Err(failure)),
+    }
 }
 
 /// Reads a whole archive before it is copied.
-fn kept_of<S: Alter>(rt: &HostRuntime, archive: &mut Store<S>) -> Result<Kept, Failure> {
+fn kept_of<S: Alter>(
+    rt: &HostRuntime,
+    archive: &mut Store<S>,
+    history: Option<Lines>,
+) -> Result<Kept, Failure> {
     let summary = summary_of(rt, archive)?;
     let plan = archive.plan().copy()?;
-    Ok(Kept { plan, summary })
+    Ok(Kept {
+        plan,
+        summary,
+        history,
+    })
+}
+
+/// Begins the history of a draft with the lines of another.
+#[derive(Drop)]
+struct TakeOver<'l>(&'l Lines);
+
+impl Work for TakeOver<'_> {
+    type Answer = ();
+
+    fn work<S: Alter>(
+        self,
+        rt: &HostRuntime,
+        archive: Store<S>,
+    ) -> (Connection<S>, Result<(), Failure>) {
+        let (archive, begun) = self.0.begin(rt, archive);
+        (archive.into_connection(), begun)
+    }
+}
+
+/// Takes a history over into a draft, where there is one.
+fn take_over<A: Archives>(
+    rt: &HostRuntime,
+    archives: &A,
+    draft: &str,
+    history: Option<&Lines>,
+) -> Result<(), Failure> {
+    let Some(lines) = history else {
+        return Ok(());
+    };
+    match archives.lend(rt, draft, TakeOver(lines)) {
+        Ok((begun, _)) => begun,
+        Err(failure) => Err(not_made(failure)),
+    }
 }
 
 /// Fills the draft of an archive with what the database of a connection has.
@@ -109,8 +172,13 @@ fn copy_all<A: Archives, S: Alter>(
     draft: &str,
     paths: Paths<'_>,
 ) -> (Connection<S>, Result<Summary, Failure>) {
+    let (archive, history) = history_of(rt, archive);
     let mut archive = archive;
-    let kept = match kept_of(rt, &mut archive) {
+    let history = match history {
+        Ok(history) => history,
+        Err(failure) => return (archive.into_connection(), Err(failure)),
+    };
+    let kept = match kept_of(rt, &mut archive, history) {
         Ok(kept) => kept,
         Err(failure) => return (archive.into_connection(), Err(failure)),
     };
@@ -120,7 +188,10 @@ fn copy_all<A: Archives, S: Alter>(
         from: &mut from,
         paths,
     };
-    match fill(rt, archives, draft, work) {
+    if let Err(failure) = fill(rt, archives, draft, work) {
+        return (from, Err(failure));
+    }
+    match take_over(rt, archives, draft, kept.history.as_ref()) {
         Ok(()) => (from, Ok(kept.summary)),
         Err(failure) => (from, Err(failure)),
     }

@@ -1,8 +1,10 @@
 //! New archives, which get their places once they are found whole.
 
 use crate::archives::{Archives, Closed, Work, not_made};
+use crate::beginnings::Begin;
 use class_plan::Plan;
 use cli_console::{Failure, Status};
+use cli_history::Author;
 use cli_readings::{Summary, summary_of};
 use record_store::Store;
 use sqlite::{Alter, Connection};
@@ -67,15 +69,32 @@ pub fn settle<A: Archives, T: Drop>(
     settled
 }
 
-/// Makes an archive with a plan at a path where nothing is.
+/// Begins the history of a draft.
+fn begin_history<A: Archives>(
+    rt: &HostRuntime,
+    archives: &A,
+    draft: &str,
+    author: Author<'_>,
+) -> Result<(), Failure> {
+    let (begun, _closed) = archives.lend(rt, draft, Begin(author)).map_err(not_made)?;
+    begun?;
+    Ok(())
+}
+
+/// Makes an archive with a plan at a path where nothing is. Its history begins with the plan.
 pub fn make<A: Archives>(
     rt: &HostRuntime,
     archives: &A,
     path: &str,
     plan: Plan,
+    author: Author<'_>,
 ) -> Result<(), Failure> {
     let draft = begin(rt, archives, path, plan)?;
-    let found = read_back(rt, archives, draft.as_str());
+    let found = begin_history(rt, archives, draft.as_str(), author).and_then(|()| read_back(
+        rt,
+        archives,
+        draft.as_str(),
+    ));
     settle(rt, archives, draft.as_str(), path, found)?;
     Ok(())
 }

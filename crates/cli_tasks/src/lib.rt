@@ -2,6 +2,7 @@
 //!
 //! - `archives`: where archives are kept, and how one is lent to a work;
 //! - `subcommands`: what each subcommand does;
+//! - `changes`: what is changed in an archive, by whom and why; `beginnings` and `histories`: its history, begun and read;
 //! - `drafts`: new archives, which get their places once they are found whole;
 //! - `copy`: a new archive with all that another one has;
 //! - `reports`: why something was not done, for a person and as a status;
@@ -12,8 +13,11 @@
 #![tactic(auto)]
 
 mod archives;
+mod beginnings;
+mod changes;
 mod copy;
 mod drafts;
+mod histories;
 mod program;
 mod reports;
 mod subcommands;

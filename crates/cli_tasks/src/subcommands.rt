@@ -1,51 +1,35 @@
 //! What each subcommand does.
 
 use crate::archives::{Archives, Work, lend, settled};
+use crate::beginnings::begin;
+use crate::changes::{ChangeBy, Changing, DeliverOne, TakeNew};
 use crate::copy::{Paths, copy_to};
 use crate::drafts::make;
+use crate::histories::{CheckAll, ReadHistory};
 use class_plan::Date;
 use cli_changes::{
-    Delivered, FilingRules, Intake, Timing, change_holds, check_rules, day_of_disposal, deliver_to,
-    dispose_by, logged, read_message, read_plan, replace_plan, report_delivery, take_new,
-    undecoded_in, write_plan,
+    FilingRules, Intake, Timing, check_rules, day_of_disposal, logged, read_message, read_plan,
+    report_delivery, undecoded_in, write_plan,
 };
 use cli_choice::{Change, Questions};
 use cli_console::{Failure, day_or_today};
+use cli_history::Author;
 use cli_readings::{
-    Captured, export_to, judge_choice, message_of_record, read_captured, write_contents,
-    write_list, write_message, write_report, write_why,
+    Captured, export_to, judge_choice, message_of_record, read_captured, write_list, write_message,
+    write_report, write_why,
 };
 use command_lines::archives::{
-    Choice, ChosenTask, Command, CommandLine, Disposal, Filing, RulesChecked, Telling, TypedNumber,
-    Why,
+    Attribution, Choice, ChosenTask, Command, CommandLine, Disposal, Filing, HistoryTask, Listing,
+    RulesChecked, Target, Telling, TypedNumber, Why,
 };
-use desk_commands::Payload;
 use record_store::Store;
 use sqlite::{Alter, Connection};
 
-/// What is read of an archive, or changed in it, with its words written meanwhile.
+/// Writes the plan.
 #[derive(Drop)]
-enum Task<'a> {
-    WritePlan,
-    ReplacePlan { plan: &'a str, is_agreed: bool },
-    Check,
-    /// Lists or destroys what is due by a day.
-    Dispose(Disposal, Date),
-}
+struct WritePlan;
 
-impl Task<'_> {
-    /// Does it.
-    fn perform<S: Alter>(&self, rt: &HostRuntime, archive: &mut Store<S>) -> Result<(), Failure> {
-        match self {
-            Task::WritePlan => write_plan(rt, archive.plan()),
-            Task::ReplacePlan { plan, is_agreed } => replace_plan(rt, archive, *plan, *is_agreed),
-            Task::Check => write_contents(rt, archive),
-            Task::Dispose(asked, day) => dispose_by(rt, archive, asked, *day),
-        }
-    }
-}
-
-impl Work for Task<'_> {
+impl Work for WritePlan {
     type Answer = ();
 
     fn work<S: Alter>(
@@ -53,46 +37,47 @@ impl Work for Task<'_> {
         rt: &HostRuntime,
         archive: Store<S>,
     ) -> (Connection<S>, Result<(), Failure>) {
-        let mut archive = archive;
-        let done = self.perform(rt, &mut archive);
+        let done = write_plan(rt, archive.plan());
         (archive.into_connection(), done)
     }
 }
 
-/// Does something with the records of a choice, and of the questions that are asked of their messages.
+/// What is read of the records of a choice.
+#[derive(Clone, Copy)]
+enum Reading<'a> {
+    List(Listing),
+    Export(Target<'a>),
+    Report { day: Option<Date> },
+}
+
+/// Reads the records of a choice, and of the questions that are asked of their messages.
 #[derive(Drop)]
-struct OnRecords<'a, 't> {
+struct OnRecords<'a> {
     /// The path of the store, which a report and the index of an export name.
     store: &'a str,
     choice: Choice<'a>,
     questions: Questions,
-    task: &'t ChosenTask<'a>,
+    reading: Reading<'a>,
 }
 
-impl OnRecords<'_, '_> {
+impl OnRecords<'_> {
     /// Does it.
     fn perform<S: Alter>(&self, rt: &HostRuntime, archive: &mut Store<S>) -> Result<(), Failure> {
         let (choice, questions) = (&self.choice, &self.questions);
-        match self.task {
-            ChosenTask::List(listing) => write_list(rt, archive, choice, questions, *listing),
-            ChosenTask::Export(target) => {
-                export_to(rt, archive, self.store, choice, questions, *target)
-            }
-            ChosenTask::Hold(name) => {
-                change_holds(rt, archive, Change::Place, *name, choice, questions)
-            }
-            ChosenTask::Release(name) => {
-                change_holds(rt, archive, Change::End, *name, choice, questions)
-            }
-            ChosenTask::Report { day } => {
-                let day = day_or_today(rt, *day)?;
+        match self.reading {
+            Reading::List(listing) => write_list(rt, archive, choice, questions, listing),
+            Reading::Export(target) => {
+                export_to(rt, archive, self.store, choice, questions, target)
+            },
+            Reading::Report { day } => {
+                let day = day_or_today(rt, day)?;
                 write_report(rt, archive, self.store, day, choice, questions)
             }
         }
     }
 }
 
-impl Work for OnRecords<'_, '_> {
+impl Work for OnRecords<'_> {
     type Answer = ();
 
     fn work<S: Alter>(
@@ -142,50 +127,6 @@ impl Work for ReadRecord<'_> {
     }
 }
 
-/// Delivers a message. What became of it is told once the archive is closed.
-#[derive(Drop)]
-struct DeliverOne<'a> {
-    rules: FilingRules<'a>,
-    timing: Timing,
-    message: Payload,
-}
-
-impl Work for DeliverOne<'_> {
-    type Answer = Result<Delivered, Failure>;
-
-    fn work<S: Alter>(
-        self,
-        rt: &HostRuntime,
-        archive: Store<S>,
-    ) -> (Connection<S>, Result<Self::Answer, Failure>) {
-        let DeliverOne {
-            rules,
-            timing,
-            message,
-        } = self;
-        let (archive, delivered) = deliver_to(rt, archive, &rules, timing, message);
-        (archive.into_connection(), Ok(delivered))
-    }
-}
-
-/// Captures the new messages of a Maildir.
-#[derive(Drop)]
-struct TakeNew<'a>(Intake<'a>);
-
-impl Work for TakeNew<'_> {
-    type Answer = ();
-
-    fn work<S: Alter>(
-        self,
-        rt: &HostRuntime,
-        archive: Store<S>,
-    ) -> (Connection<S>, Result<(), Failure>) {
-        let TakeNew(job) = self;
-        let (archive, done) = take_new(rt, archive, job);
-        (archive.into_connection(), done)
-    }
-}
-
 /// Judges rules by the plan of a store.
 #[derive(Drop)]
 struct CheckRules<'a>(RulesChecked<'a>);
@@ -205,18 +146,21 @@ impl Work for CheckRules<'_> {
 
 /// Captures the message on standard input. A store that cannot be had, or that may not keep the message, is a reason to
 /// try again, so that a mail server keeps it.
-fn deliver<A: Archives>(
+fn deliver<'a, A: Archives>(
     rt: &HostRuntime,
     archives: &A,
     store: &str,
-    filing: &Filing<'_>,
+    filing: &Filing<'a>,
+    told: &Attribution<'a>,
 ) -> Result<(), Failure> {
+    let author = Author::or_program(rt, told)?;
     let timing = Timing::new(rt, filing.moment)?;
     let message = read_message(rt)?;
     let undecoded = undecoded_in(rt.alloc(), &message);
     let rules = FilingRules::read(rt, filing, false)?;
     rules.tell_unused(rt);
     let work = DeliverOne {
+        author,
         rules,
         timing,
         message,
@@ -236,9 +180,11 @@ fn take_from<'a, A: Archives>(
     maildir: &'a str,
     filing: &Filing<'a>,
     telling: Telling,
+    told: &Attribution<'a>,
 ) -> Result<(), Failure> {
+    let author = Author::or_program(rt, told)?;
     let job = Intake::read(rt, maildir, filing, telling)?;
-    lend(rt, archives, store, TakeNew(job))
+    lend(rt, archives, store, TakeNew { author, job })
 }
 
 /// Captures the new messages of a Maildir. A failure is a line of its log.
@@ -249,8 +195,9 @@ fn intake<'a, A: Archives>(
     maildir: &'a str,
     filing: &Filing<'a>,
     telling: Telling,
+    told: &Attribution<'a>,
 ) -> Result<(), Failure> {
-    take_from(rt, archives, store, maildir, filing, telling).map_err(|failure| logged(
+    take_from(rt, archives, store, maildir, filing, telling, told).map_err(|failure| logged(
         rt,
         telling.has_times,
         failure,
@@ -280,22 +227,84 @@ fn why<A: Archives>(
     write_why(rt, asked, &captured)
 }
 
-/// Does something with the records of a choice.
-fn on_records<'a, A: Archives>(
+/// Reads the records of a choice.
+fn read_records<'a, A: Archives>(
     rt: &HostRuntime,
     archives: &A,
     store: &'a str,
     choice: Choice<'a>,
-    task: &ChosenTask<'a>,
+    reading: Reading<'a>,
 ) -> Result<(), Failure> {
     let questions = judge_choice(rt, &choice)?;
     let work = OnRecords {
         store,
         choice,
         questions,
-        task,
+        reading,
     };
     lend(rt, archives, store, work)
+}
+
+/// A change of the holds of a name.
+#[derive(Clone, Copy)]
+struct HoldChange<'a> {
+    change: Change,
+    name: &'a str,
+}
+
+/// Places or ends the hold of a name on the records of a choice.
+fn change_holds_of<'a, A: Archives>(
+    rt: &HostRuntime,
+    archives: &A,
+    store: &str,
+    choice: &Choice<'a>,
+    hold: HoldChange<'a>,
+    told: &Attribution<'a>,
+) -> Result<(), Failure> {
+    let questions = judge_choice(rt, choice)?;
+    let holds = Changing::Hold {
+        change: hold.change,
+        name: hold.name,
+        choice,
+        questions: &questions,
+    };
+    change(rt, archives, store, holds, told)
+}
+
+/// Does something with the records of a choice.
+fn on_records<'a, A: Archives>(
+    rt: &HostRuntime,
+    archives: &A,
+    store: &'a str,
+    choice: Choice<'a>,
+    task: ChosenTask<'a>,
+    told: &Attribution<'a>,
+) -> Result<(), Failure> {
+    match task {
+        ChosenTask::List(listing) => {
+            read_records(rt, archives, store, choice, Reading::List(listing))
+        }
+        ChosenTask::Export(target) => {
+            read_records(rt, archives, store, choice, Reading::Export(target))
+        }
+        ChosenTask::Report { day } => {
+            read_records(rt, archives, store, choice, Reading::Report { day })
+        }
+        ChosenTask::Hold(name) => {
+            let hold = HoldChange {
+                change: Change::Place,
+                name,
+            };
+            change_holds_of(rt, archives, store, &choice, hold, told)
+        }
+        ChosenTask::Release(name) => {
+            let hold = HoldChange {
+                change: Change::End,
+                name,
+            };
+            change_holds_of(rt, archives, store, &choice, hold, told)
+        }
+    }
 }
 
 /// Lists what is due and may be destroyed, or destroys it.
@@ -304,9 +313,55 @@ fn dispose<A: Archives>(
     archives: &A,
     store: &str,
     asked: Disposal,
+    told: &Attribution<'_>,
 ) -> Result<(), Failure> {
     let day = day_of_disposal(rt, &asked)?;
-    lend(rt, archives, store, Task::Dispose(asked, day))
+    let author = if asked.destroys {
+        Author::of(rt, told)?
+    } else {
+        Author::or_program(rt, told)?
+    };
+    let change = Changing::Dispose(asked, day);
+    lend(rt, archives, store, ChangeBy { author, change })
+}
+
+/// Makes a store with the plan of a file, and begins its history.
+fn create<A: Archives>(
+    rt: &HostRuntime,
+    archives: &A,
+    store: &str,
+    plan: &str,
+    told: &Attribution<'_>,
+) -> Result<(), Failure> {
+    let author = Author::of(rt, told)?;
+    author.named(rt)?;
+    make(rt, archives, store, read_plan(rt, plan)?, author)
+}
+
+/// Changes an archive.
+fn change<'a, A: Archives>(
+    rt: &HostRuntime,
+    archives: &A,
+    store: &str,
+    change: Changing<'a, '_>,
+    told: &Attribution<'a>,
+) -> Result<(), Failure> {
+    let author = Author::of(rt, told)?;
+    lend(rt, archives, store, ChangeBy { author, change })
+}
+
+/// Begins a history, or prints it.
+fn history<A: Archives>(
+    rt: &HostRuntime,
+    archives: &A,
+    store: &str,
+    task: HistoryTask<'_>,
+    told: &Attribution<'_>,
+) -> Result<(), Failure> {
+    match task {
+        HistoryTask::Begin => begin(rt, archives, store, Author::of(rt, told)?),
+        HistoryTask::Print(asked) => lend(rt, archives, store, ReadHistory::Print(asked)),
+    }
 }
 
 /// Does what a command line asks for.
@@ -315,25 +370,35 @@ pub fn execute<A: Archives>(
     archives: &A,
     line: CommandLine<'_>,
 ) -> Result<(), Failure> {
-    let CommandLine { store, command } = line;
+    let CommandLine {
+        store,
+        attribution,
+        command,
+    } = line;
+    let told = &attribution;
     match command {
-        Command::Create { plan } => make(rt, archives, store, read_plan(rt, plan)?),
-        Command::WritePlan => lend(rt, archives, store, Task::WritePlan),
+        Command::Create { plan } => create(rt, archives, store, plan, told),
+        Command::WritePlan => lend(rt, archives, store, WritePlan),
         Command::ReplacePlan { plan, is_agreed } => {
-            lend(rt, archives, store, Task::ReplacePlan { plan, is_agreed })
+            let new_plan = Changing::ReplacePlan { plan, is_agreed };
+            change(rt, archives, store, new_plan, told)
         }
-        Command::Deliver(filing) => deliver(rt, archives, store, &filing),
+        Command::Deliver(filing) => deliver(rt, archives, store, &filing, told),
         Command::Intake {
             maildir,
             filing,
             telling,
-        } => intake(rt, archives, store, maildir, &filing, telling),
+        } => intake(rt, archives, store, maildir, &filing, telling, told),
         Command::Show { record, fields } => show(rt, archives, store, record, fields),
         Command::Copy { new } => copy_to(rt, archives, Paths { store, new }),
-        Command::Check => lend(rt, archives, store, Task::Check),
+        Command::Check { head } => lend(rt, archives, store, CheckAll { head }),
         Command::CheckRules(asked) => lend(rt, archives, store, CheckRules(asked)),
         Command::Why(asked) => why(rt, archives, store, &asked),
-        Command::Dispose(asked) => dispose(rt, archives, store, asked),
-        Command::Chosen(choice, task) => on_records(rt, archives, store, choice, &task),
+        Command::Dispose(asked) => dispose(rt, archives, store, asked, told),
+        Command::History(task) => history(rt, archives, store, task, told),
+        Command::Certificates { numbers } => {
+            lend(rt, archives, store, ReadHistory::Certificates(numbers))
+        }
+        Command::Chosen(choice, task) => { on_records(rt, archives, store, choice, task, told) }
     }
 }

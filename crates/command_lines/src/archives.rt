@@ -1,5 +1,7 @@
 //! The command line of `mailfile-store`: what it asks for, with each value read and judged.
 
+mod histories;
+mod history_words;
 mod words;
 
 use crate::reading::{NoCommand, day_of, has_flag, read_words, required, value_of, values_of};
@@ -7,6 +9,8 @@ use crate::table::Word;
 use choice_words::{read_numbers, reads_as_numbers, reversed_range};
 pub use choice_words::{Choice, TypedNumbers};
 use clap::ArgMatches;
+pub use histories::{Attribution, DeedKind, HistoryAsked, HistoryTask};
+use histories::{attribution_asked, head_asked, history_asked};
 use jiff::civil::Date;
 use session_words::{is_name, read_number};
 use std::alloc::{AllocError, Global};
@@ -15,6 +19,8 @@ use std::alloc::{AllocError, Global};
 #[derive(Drop)]
 pub struct CommandLine<'a> {
     pub store: &'a str,
+    /// For the history, where the command changes something.
+    pub attribution: Attribution<'a>,
     pub command: Command<'a>,
 }
 
@@ -51,8 +57,16 @@ pub enum Command<'a> {
     Copy {
         new: &'a str,
     },
-    /// Judges the whole store.
-    Check,
+    /// Judges the whole store, and says of a mark whether its history has it.
+    Check {
+        head: Option<&'a str>,
+    },
+    /// Begins the history of the store, or prints it.
+    History(HistoryTask<'a>),
+    /// Prints the certificates of records that were destroyed; of all, where there is no number.
+    Certificates {
+        numbers: Vec<TypedNumbers>,
+    },
     /// Judges rules by the plan of the store.
     CheckRules(RulesChecked<'a>),
     Why(Why<'a>),
@@ -512,7 +526,9 @@ fn check_asked<'a>(alloc: Global, asked: &ArgMatches<'a>) -> Result<Command<'a>,
             alloc,
             "an officer needs the folder of --rules",
         )?)),
-        None => Ok(Command::Check),
+        None => Ok(Command::Check {
+            head: head_asked(alloc, asked)?,
+        }),
     }
 }
 
@@ -557,6 +573,10 @@ fn reading_asked<'a>(
         },
         "copy" => copy_asked(alloc, asked)?,
         "check" => check_asked(alloc, asked)?,
+        "history" => Command::History(history_asked(alloc, asked)?),
+        "certificates" => Command::Certificates {
+            numbers: numbers_asked(alloc, asked)?,
+        },
         "why" => Command::Why(why_asked(alloc, asked)?),
         _ => return Ok(None),
     }))
@@ -616,8 +636,13 @@ fn line_asked<'a>(
     asked: &ArgMatches<'a>,
 ) -> Result<CommandLine<'a>, NoCommand> {
     let store = required(asked, words::STORE)?;
+    let attribution = attribution_asked(alloc, asked)?;
     match command_asked(alloc, name, asked) {
-        Ok(command) => Ok(CommandLine { store, command }),
+        Ok(command) => Ok(CommandLine {
+            store,
+            attribution,
+            command,
+        }),
         Err(none) => Err(none),
     }
 }

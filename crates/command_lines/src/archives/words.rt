@@ -1,5 +1,6 @@
 //! The subcommands of `mailfile-store`, each with its words and an example.
 
+use super::history_words::{BEGIN, BEGIN_REASON, BY, CHOSEN_BY, DEEDS, EVENTS_SINCE, HEAD, REASON};
 use crate::table::{FLAG, Form, Hint, OPTION, PLACE, Program, Subcommand, Word};
 use std::alloc::{AllocError, Global};
 
@@ -49,7 +50,7 @@ const CREATE: Subcommand = Subcommand {
     name: "create",
     about: "Makes a new store with a plan, in a file that only its owner may read and write",
     example: "Example: mailfile-store create --store records.db --plan plan.toml",
-    words: &[STORE, PLAN_FILE],
+    words: &[STORE, PLAN_FILE, BY, REASON],
     has_shared: false,
 };
 
@@ -82,6 +83,8 @@ const PLAN: Subcommand = Subcommand {
             help: Some("Replaces it without asking"),
             ..YES
         },
+        BY,
+        REASON,
     ],
     has_shared: false,
 };
@@ -127,7 +130,16 @@ const DELIVER: Subcommand = Subcommand {
     name: "deliver",
     about: "Captures the message on standard input, and prints its records",
     example: "Example: mailfile-store deliver --store records.db --rules rules ann < mail.eml",
-    words: &[STORE, AT, LIMIT, RULES, UNFILED_ON_FAULT, OFFICER],
+    words: &[
+        STORE,
+        AT,
+        LIMIT,
+        RULES,
+        UNFILED_ON_FAULT,
+        BY,
+        REASON,
+        OFFICER,
+    ],
     has_shared: false,
 };
 
@@ -162,6 +174,8 @@ const INTAKE: Subcommand = Subcommand {
         UNFILED_ON_FAULT,
         QUIET,
         TIMES,
+        BY,
+        REASON,
         OFFICER,
         MAILDIR,
     ],
@@ -373,6 +387,7 @@ const CHECK: Subcommand = Subcommand {
             help: Some("The officer whose rules are checked; all officers if none is given"),
             ..OFFICER
         },
+        HEAD,
     ],
     has_shared: false,
 };
@@ -415,7 +430,7 @@ const HOLD: Subcommand = Subcommand {
     name: "hold",
     about: "Keeps records from destruction by a hold of that name",
     example: "Example: mailfile-store hold --store records.db --until 2026-06-30 audit",
-    words: &[STORE, NAME, NUMBERS],
+    words: &[STORE, BY, REASON, NAME, NUMBERS],
     has_shared: true,
 };
 
@@ -423,7 +438,7 @@ const RELEASE: Subcommand = Subcommand {
     name: "release",
     about: "Ends the hold of that name on records",
     example: "Example: mailfile-store release --store records.db audit 1 5-9",
-    words: &[STORE, NAME, NUMBERS],
+    words: &[STORE, BY, REASON, NAME, NUMBERS],
     has_shared: true,
 };
 
@@ -443,6 +458,8 @@ const DISPOSE: Subcommand = Subcommand {
             help: Some("Destroys the records"),
             ..YES
         },
+        BY,
+        REASON,
         NUMBERS,
     ],
     has_shared: false,
@@ -462,6 +479,34 @@ const REPORT: Subcommand = Subcommand {
         },
     ],
     has_shared: true,
+};
+
+const HISTORY: Subcommand = Subcommand {
+    name: "history",
+    about: "Prints what was done to an archive, a line for each event, as they are hashed; all, or those of the records of some numbers",
+    example: "Example: mailfile-store history --store records.db --deeds destroyed",
+    words: &[
+        STORE,
+        BEGIN,
+        CHOSEN_BY,
+        BEGIN_REASON,
+        EVENTS_SINCE,
+        DEEDS,
+        Word {
+            conflict: None,
+            ..JSON
+        },
+        NUMBERS,
+    ],
+    has_shared: false,
+};
+
+const CERTIFICATES: Subcommand = Subcommand {
+    name: "certificates",
+    about: "Prints a certificate for each record that was destroyed, from the history",
+    example: "Example: mailfile-store certificates --store records.db 17",
+    words: &[STORE, NUMBERS],
+    has_shared: false,
 };
 
 /// The conditions of a choice of records.
@@ -501,6 +546,13 @@ const JUDGING: &[Subcommand] = &[CHECK, WHY];
 /// Those that decide how long records are kept.
 const KEEPING: &[Subcommand] = &[HOLD, RELEASE, DISPOSE, REPORT];
 
+/// Those that tell what was done.
+const TELLING: &[Subcommand] = &[HISTORY, CERTIFICATES];
+
+fn telling() -> &'static [Subcommand] {
+    TELLING
+}
+
 fn capturing() -> &'static [Subcommand] {
     CAPTURING
 }
@@ -526,7 +578,7 @@ pub fn program(alloc: Global) -> Result<Program, AllocError> {
     Ok(Program {
         name: "mailfile-store",
         about: "Runs an archive of e-mail in a file: captures, lists, shows, exports, holds and destroys records",
-        groups: vec![in alloc; capturing(), reading(), judging(), keeping()]?,
+        groups: vec![in alloc; capturing(), reading(), judging(), keeping(), telling()]?,
         shared: conditions(),
         hints: HINTS,
     })

@@ -1,0 +1,142 @@
+//! Which events are asked for.
+
+ghost use Rattle.std.specs.Prelude.{◌≡◌, ◌/◌, int_le, pos};
+ghost use Rattle.std.specs.List.{list_any};
+ghost use Rattle.std.specs.Str.{bytes_eq};
+ghost use Rattle.jiff.specs.Words.{epoch_day};
+ghost use Rattle.record_history.specs.Views.{deed_view, event_view};
+ghost use Rattle.cli_history.specs.Chosen.{asks_for, is_about as is_about_one, is_same_kind, kind_of, meets, subjects, where_asked};
+
+use choice_words::TypedNumbers;
+use class_plan::day_number;
+use command_lines::archives::{DeedKind, HistoryAsked};
+use jiff::civil::Date;
+use record_history::{Deed, Event};
+
+/// How many seconds a day has.
+const DAY: u64 = 86_400;
+
+/// The records that a deed is about, from the first to the last; none where it is about none. A message that is found is
+/// about the record with its number.
+pub fn records_of(deed: &Deed<'_>) -> Option<(u32, u32)>
+    ensures { result ≡ subjects (deed_view deed.now) }
+{
+    match deed {
+        Deed::Captured { first, paths, .. } => {
+            let others = u32::try_from(paths.len().saturating_sub(1)).unwrap_or(u32::MAX);
+            Some((*first, first.saturating_add(others)))
+        }
+        Deed::Held { number, .. }
+        | Deed::Released { number, .. }
+        | Deed::Destroyed { number, .. }
+        | Deed::FoundMessage { number, .. }
+        | Deed::FoundRecord { number, .. }
+        | Deed::FoundHold { number, .. } => Some((*number, *number)),
+        Deed::ClassAdded { .. } | Deed::PlanReplaced(_) | Deed::FoundPlan(_) => None,
+    }
+}
+
+/// Whether a word means one of the numbers from a first to a last.
+fn touches(typed: TypedNumbers, first: u32, last: u32) -> bool
+    ensures { result ≡ meets first last typed }
+{
+    match typed {
+        TypedNumbers::One(number) => first <= number && number <= last,
+        TypedNumbers::Range {
+            first: low,
+            last: high,
+        } => low <= last && first <= high,
+    }
+}
+
+/// Whether numbers that are typed have one from a first to a last.
+fn any_touches(typed: &[TypedNumbers], first: u32, last: u32) -> bool
+    ensures { result ≡ list_any (meets first last) typed.now }
+{
+    typed.iter().any(|numbers| touches(*numbers, first, last))
+}
+
+/// Whether a deed is about a record of one of the numbers that are typed, if there are any.
+pub fn is_about(typed: &[TypedNumbers], deed: &Deed<'_>) -> bool
+    ensures { result ≡ is_about_one typed.now (deed_view deed.now) }
+{
+    if typed.is_empty() {
+        return true;
+    }
+    match records_of(deed) {
+        Some((first, last)) => any_touches(typed, first, last),
+        None => false,
+    }
+}
+
+/// Whether a moment is on a day or later, where one is asked for.
+fn is_since(since: Option<Date>, moment: u64) -> bool
+    ensures { result ≡ where_asked (λ day. int_le (epoch_day day) (pos (moment / 86400))) since }
+{
+    match since {
+        Some(day) => i64::try_from(moment / DAY).is_ok_and(|number| day_number(day) <= number),
+        None => true,
+    }
+}
+
+/// Whether an event is that of a name, where one is asked for.
+fn is_by(name: Option<&str>, who: &[u8]) -> bool
+    ensures { result ≡ where_asked (λ n. bytes_eq n.now who.now) name.entry }
+{
+    match name {
+        Some(name) => name.as_bytes() == who,
+        None => true,
+    }
+}
+
+/// Whether a deed is of a kind.
+fn is_of_kind(kind: DeedKind, deed: &Deed<'_>) -> bool
+    ensures { result ≡ is_same_kind kind (kind_of (deed_view deed.now)) }
+{
+    match kind {
+        DeedKind::Captured => matches!(deed, Deed::Captured { .. }),
+        DeedKind::Held => matches!(deed, Deed::Held { .. }),
+        DeedKind::Released => matches!(deed, Deed::Released { .. }),
+        DeedKind::Destroyed => matches!(deed, Deed::Destroyed { .. }),
+        DeedKind::Added => matches!(deed, Deed::ClassAdded { .. }),
+        DeedKind::Replaced => matches!(deed, Deed::PlanReplaced(_)),
+        DeedKind::Found => matches!(
+            deed,
+            Deed::FoundPlan(_)
+                | Deed::FoundMessage { .. }
+                | Deed::FoundRecord { .. }
+                | Deed::FoundHold { .. }
+        ),
+    }
+}
+
+/// Whether an event is asked for.
+pub fn is_asked(asked: &HistoryAsked<'_>, event: &Event<'_>) -> bool
+    ensures { result ≡ asks_for asked.now (event_view event.now) }
+{
+    is_since(asked.since, event.moment)
+        && is_by(asked.by, event.who)
+        && asked.kind.is_none_or(|kind| is_of_kind(kind, &event.deed))
+        && is_about(asked.numbers.as_slice(), &event.deed)
+}
+
+/// Whether each event is asked for, whatever it is.
+pub fn is_for_all(asked: &HistoryAsked<'_>) -> bool {
+    asked.numbers.is_empty() && asked.since.is_none() && asked.by.is_none() && asked.kind.is_none()
+}
+
+/// The word of a deed.
+pub fn word_of(deed: &Deed<'_>) -> &'static str {
+    match deed {
+        Deed::Captured { .. } => "captured",
+        Deed::Held { .. } => "held",
+        Deed::Released { .. } => "released",
+        Deed::Destroyed { .. } => "destroyed",
+        Deed::ClassAdded { .. } => "added",
+        Deed::PlanReplaced(_) => "replaced",
+        Deed::FoundPlan(_)
+        | Deed::FoundMessage { .. }
+        | Deed::FoundRecord { .. }
+        | Deed::FoundHold { .. } => "found",
+    }
+}

@@ -1,0 +1,318 @@
+//! What a history makes of an archive, beside what the store has.
+
+use crate::chosen::is_about;
+use crate::pages::{Entries, Events, event_of};
+use choice_words::TypedNumbers;
+use class_plan::{Plan, day_number};
+use cli_console::{Failure, tell, tell_words};
+use cli_texts::plan_text;
+use record_history::seal_of;
+use record_judge::{SealedArchive, SealedRecord};
+use record_noted::NotedStore;
+use record_store::{EventRow, RecordEntry};
+use sqlite::Alter;
+use std::alloc::{AllocError, Global};
+use std::collections::BTreeMap;
+use tool_texts::{Shown, put};
+
+/// How many records are named that differ.
+const MAX_NAMED: usize = 20;
+
+/// How a record differs.
+#[derive(Clone, Copy)]
+enum Difference {
+    /// The history has no such record.
+    Untold,
+    /// The store has none any more.
+    Gone,
+    /// Its class, its day, its message, whether it is destroyed, or its holds.
+    Changed,
+    /// Its message is not that of its seal.
+    Unsealed,
+}
+
+/// The records that differ, and what is known of messages and holds.
+#[derive(Drop)]
+struct Comparison<'a> {
+    made: &'a SealedArchive,
+    /// The place of each record that was not met yet, by number.
+    records: BTreeMap<u32, usize>,
+    /// The place of each message, by number.
+    messages: BTreeMap<u32, usize>,
+    /// The names of the holds on each record.
+    held: BTreeMap<u32, Vec<&'a [u8]>>,
+    /// The messages that were compared, and whether each is that of its seal.
+    compared: BTreeMap<u32, bool>,
+    /// The first records that differ.
+    found: Vec<(u32, Difference)>,
+    /// How many more of them there are.
+    more: u64,
+}
+
+/// The place of each record by its number.
+fn places_of_records(
+    alloc: Global,
+    records: &[SealedRecord],
+) -> Result<BTreeMap<u32, usize>, AllocError> {
+    let mut places = BTreeMap::new(alloc);
+    for (place, record) in records.iter().enumerate() {
+        places.insert(record.number, place)?;
+    }
+    Ok(places)
+}
+
+/// The place of each message by its number.
+fn places_of_messages(
+    alloc: Global,
+    made: &SealedArchive,
+) -> Result<BTreeMap<u32, usize>, AllocError> {
+    let mut places = BTreeMap::new(alloc);
+    for (place, message) in made.messages().iter().enumerate() {
+        places.insert(message.number, place)?;
+    }
+    Ok(places)
+}
+
+/// The names of the holds on each record.
+fn holds_of<'a>(
+    alloc: Global,
+    made: &'a SealedArchive,
+) -> Result<BTreeMap<u32, Vec<&'a [u8]>>, AllocError> {
+    let mut held = BTreeMap::new(alloc);
+    for hold in made.holds() {
+        let names = held.entry(hold.number)?.or_insert(Vec::new(alloc));
+        names.push(hold.name.as_slice())?;
+    }
+    Ok(held)
+}
+
+/// Whether the holds on a record, each of which has another name, have the names of a history.
+fn are_holds(holds: &[Vec<u8>], names: &[&[u8]]) -> bool {
+    holds.len() == names.len() && holds.iter().all(|hold| names.contains(&hold.as_slice()))
+}
+
+/// Whether an entry is that of a record, but for its holds.
+fn is_record(entry: &RecordEntry, record: &SealedRecord) -> bool {
+    entry.message == record.message
+        && entry.path.as_slice() == record.path.as_slice()
+        && day_number(entry.day) == i64::from(record.day)
+        && entry.destroyed == record.destroyed
+}
+
+impl<'a> Comparison<'a> {
+    fn new(alloc: Global, made: &'a SealedArchive) -> Result<Comparison<'a>, AllocError> {
+        Ok(Comparison {
+            made,
+            records: places_of_records(alloc, made.records())?,
+            messages: places_of_messages(alloc, made)?,
+            held: holds_of(alloc, made)?,
+            compared: BTreeMap::new(alloc),
+            found: Vec::new(alloc),
+            more: 0,
+        })
+    }
+
+    /// Notes a record that differs.
+    fn note(&mut self, number: u32, difference: Difference) -> Result<(), AllocError> {
+        if self.found.len() < MAX_NAMED {
+            self.found.push((number, difference))?;
+        } else {
+            self.more = self.more.saturating_add(1);
+        }
+        Ok(())
+    }
+
+    /// Whether a record has the holds that the history tells.
+    fn is_held_so(&self, entry: &RecordEntry) -> bool {
+        match self.held.get(&entry.number) {
+            Some(names) => are_holds(entry.holds.as_slice(), names.as_slice()),
+            None => entry.holds.is_empty(),
+        }
+    }
+
+    /// How an entry differs from the record that the history makes, its message left aside.
+    fn difference_of(&self, entry: &RecordEntry) -> Option<Difference> {
+        let Some(place) = self.records.get(&entry.number) else {
+            return Some(Difference::Untold);
+        };
+        match self.made.records().get(*place) {
+            Some(record) if is_record(entry, record) && self.is_held_so(entry) => None,
+            _ => Some(Difference::Changed),
+        }
+    }
+
+    /// Whether a message is that of its seal.
+    fn is_sealed(&self, alloc: Global, message: u32, body: &[u8]) -> Result<bool, AllocError> {
+        let seal = seal_of(alloc, body)?;
+        let place = self.messages.get(&message).copied();
+        let sealed = place.and_then(|place| self.made.messages().get(place));
+        Ok(sealed.is_some_and(|sealed| {
+            sealed.seal.octets == seal.octets && sealed.seal.sum.as_slice() == seal.sum.as_slice()
+        }))
+    }
+
+    /// Whether the message of a live record is that of its seal.
+    fn is_message_sealed<S: Alter>(
+        &mut self,
+        rt: &HostRuntime,
+        noted: &mut NotedStore<S>,
+        entry: &RecordEntry,
+    ) -> Result<bool, Failure> {
+        let known = self.compared.get(&entry.message).copied();
+        if let Some(is_sealed) = known {
+            return Ok(is_sealed);
+        }
+        let body = noted
+            .message(entry.number)
+            .map_err(|fault| Failure::of_store(rt.alloc(), "the store", fault))?;
+        let is_sealed = self.is_sealed(rt.alloc(), entry.message, body.as_slice())?;
+        self.compared.insert(entry.message, is_sealed)?;
+        Ok(is_sealed)
+    }
+
+    /// Compares a record.
+    fn compare_record<S: Alter>(
+        &mut self,
+        rt: &HostRuntime,
+        noted: &mut NotedStore<S>,
+        entry: &RecordEntry,
+    ) -> Result<(), Failure> {
+        let difference = self.difference_of(entry);
+        self.records.remove(&entry.number);
+        if let Some(difference) = difference {
+            return Ok(self.note(entry.number, difference)?);
+        }
+        if !entry.destroyed && !self.is_message_sealed(rt, noted, entry)? {
+            self.note(entry.number, Difference::Unsealed)?;
+        }
+        Ok(())
+    }
+
+    /// Compares the records of a page.
+    fn compare_page<S: Alter>(
+        &mut self,
+        rt: &HostRuntime,
+        noted: &mut NotedStore<S>,
+        page: &[RecordEntry],
+    ) -> Result<(), Failure> {
+        for entry in page {
+            self.compare_record(rt, noted, entry)?;
+        }
+        Ok(())
+    }
+
+    /// Notes the records that the store has no more.
+    fn note_gone(&mut self, alloc: Global) -> Result<(), AllocError> {
+        let mut gone = Vec::new(alloc);
+        for number in self.records.keys() {
+            gone.push(*number)?;
+        }
+        for number in &gone {
+            self.note(*number, Difference::Gone)?;
+        }
+        Ok(())
+    }
+}
+
+/// Whether two plans are the same.
+fn is_same_plan(alloc: Global, one: &Plan, other: &Plan) -> Result<bool, AllocError> {
+    let one = plan_text(alloc, one)?;
+    let other = plan_text(alloc, other)?;
+    Ok(one.as_str() == other.as_str())
+}
+
+/// The last event of a page that is about a record, or the one from before.
+fn last_about(alloc: Global, page: &[EventRow], number: u32, before: Option<u32>) -> Option<u32> {
+    let typed = [TypedNumbers::One(number)];
+    let mut last = before;
+    for row in page {
+        if let Ok(event) = event_of(alloc, row) {
+            if is_about(&typed, &event.deed) {
+                last = Some(row.number);
+            }
+        }
+    }
+    last
+}
+
+/// The last event that is about a record.
+fn last_event_about<S: Alter>(
+    rt: &HostRuntime,
+    noted: &mut NotedStore<S>,
+    number: u32,
+) -> Result<Option<u32>, Failure> {
+    let mut last = None;
+    let mut events = Events::all();
+    for _ in 0..u64::MAX {
+        let Some(page) = events.next_page(rt, noted)? else {
+            break;
+        };
+        last = last_about(rt.alloc(), page.as_slice(), number, last);
+    }
+    Ok(last)
+}
+
+/// How a record differs, in words, and since which event.
+fn difference_line(
+    alloc: Global,
+    number: u32,
+    difference: Difference,
+    since: Option<u32>,
+) -> Result<Shown, AllocError> {
+    let mut line = Shown::new(alloc);
+    put!(line; "record " value(&number) ": ")?;
+    line.words(match difference {
+        Difference::Untold => "no event tells of it",
+        Difference::Gone => "the store has it no more",
+        Difference::Changed => "it is not as the history tells",
+        Difference::Unsealed => "its message is not the one that was captured",
+    })?;
+    if let Some(event) = since {
+        put!(line; "; the last event about it is " value(&event))?;
+    }
+    Ok(line)
+}
+
+/// Tells which records differ.
+fn tell_found<S: Alter>(
+    rt: &HostRuntime,
+    noted: &mut NotedStore<S>,
+    comparison: &Comparison<'_>,
+) -> Result<(), Failure> {
+    for (number, difference) in &comparison.found {
+        let since = last_event_about(rt, noted, *number)?;
+        tell(
+            rt,
+            &difference_line(rt.alloc(), *number, *difference, since)?,
+        );
+    }
+    if comparison.more > 0 {
+        let mut line = Shown::new(rt.alloc());
+        put!(line; "and " value(&comparison.more) " more")?;
+        tell(rt, &line);
+    }
+    Ok(())
+}
+
+/// Compares what a history makes of an archive with what the store has. What differs is told. Answers whether nothing does.
+pub fn compare<S: Alter>(
+    rt: &HostRuntime,
+    noted: &mut NotedStore<S>,
+    made: &SealedArchive,
+) -> Result<bool, Failure> {
+    let mut comparison = Comparison::new(rt.alloc(), made)?;
+    let mut entries = Entries::all();
+    for _ in 0..u64::MAX {
+        let Some(page) = entries.next_page(rt, noted)? else {
+            break;
+        };
+        comparison.compare_page(rt, noted, page.as_slice())?;
+    }
+    comparison.note_gone(rt.alloc())?;
+    let is_planned = is_same_plan(rt.alloc(), made.plan(), noted.plan())?;
+    if !is_planned {
+        tell_words(rt, "the plan is not that of the history");
+    }
+    tell_found(rt, noted, &comparison)?;
+    Ok(is_planned && comparison.found.is_empty())
+}

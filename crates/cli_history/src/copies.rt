@@ -1,0 +1,78 @@
+//! The events of a history, taken over into another store.
+
+use crate::pages::Events;
+use cli_console::{Failure, Status};
+use record_noted::NotedStore;
+use record_store::{EventRow, Store};
+use sqlite::Alter;
+use std::alloc::{AllocError, Global};
+
+/// The lines of a history, and its last mark.
+#[derive(Drop)]
+pub struct Lines {
+    lines: Vec<Vec<u8>>,
+    mark: Vec<u8>,
+}
+
+impl Lines {
+    fn new(alloc: Global) -> Lines {
+        Lines {
+            lines: Vec::new(alloc),
+            mark: Vec::new(alloc),
+        }
+    }
+
+    /// Adds the events of a page.
+    fn add_page(&mut self, page: Vec<EventRow>) -> Result<(), AllocError> {
+        for row in page {
+            let EventRow { line, mark, .. } = row;
+            self.lines.push(line)?;
+            self.mark = mark;
+        }
+        Ok(())
+    }
+
+    /// The lines of a history. The failure is that of the store.
+    pub fn of<S: Alter>(rt: &HostRuntime, noted: &mut NotedStore<S>) -> Result<Lines, Failure> {
+        let mut lines = Lines::new(rt.alloc());
+        let mut events = Events::all();
+        for _ in 0..u64::MAX {
+            let Some(page) = events.next_page(rt, noted)? else {
+                break;
+            };
+            lines.add_page(page)?;
+        }
+        Ok(lines)
+    }
+
+    /// Begins the history of a store that has none with these lines. `BadData` where the last mark is another one then: the
+    /// history from which they are was altered. The store is handed back.
+    pub fn begin<S: Alter>(
+        &self,
+        rt: &HostRuntime,
+        archive: Store<S>,
+    ) -> (Store<S>, Result<(), Failure>) {
+        match NotedStore::begin_with(rt.alloc(), archive, self.lines.as_slice()) {
+            Ok(noted) => {
+                let is_same = noted.mark() == self.mark.as_slice();
+                (noted.into_store(), judged(rt.alloc(), is_same))
+            }
+            Err((fault, archive)) => (
+                archive,
+                Err(Failure::of_store(rt.alloc(), "the history", fault)),
+            ),
+        }
+    }
+}
+
+/// That a history was taken over whole; or the failure where it was not.
+fn judged(alloc: Global, is_same: bool) -> Result<(), Failure> {
+    if is_same {
+        return Ok(());
+    }
+    Err(Failure::told(
+        alloc,
+        Status::BadData,
+        "the marks of the history are not those of its lines; check says where",
+    ))
+}

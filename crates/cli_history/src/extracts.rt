@@ -1,0 +1,141 @@
+//! The events of records that are taken out of a store, each with the marks by which it is checked.
+
+use crate::chosen::records_of;
+use crate::pages::{PAGE, event_of};
+use cli_console::{Failure, Status, tell};
+use record_history::Deed;
+use record_store::{EventLayout, EventRow, RecordEntry, Store};
+use sqlite::Alter;
+use std::alloc::{AllocError, Global};
+use std::collections::BTreeSet;
+
+/// Records that are taken out, and their messages.
+#[derive(Drop)]
+pub struct Subjects {
+    records: BTreeSet<u32>,
+    messages: BTreeSet<u32>,
+}
+
+impl Subjects {
+    pub fn new(alloc: Global) -> Subjects {
+        Subjects {
+            records: BTreeSet::new(alloc),
+            messages: BTreeSet::new(alloc),
+        }
+    }
+
+    /// Adds a record.
+    pub fn add(&mut self, entry: &RecordEntry) -> Result<(), AllocError> {
+        self.records.insert(entry.number)?;
+        self.messages.insert(entry.message)?;
+        Ok(())
+    }
+
+    /// Whether a deed is about one of the records, or tells of the message of one.
+    fn has(&self, deed: &Deed<'_>) -> bool {
+        if let Deed::FoundMessage { number, .. } = deed {
+            return self.messages.contains(number);
+        }
+        match records_of(deed) {
+            Some((first, last)) => (first..=last).any(|number| self.records.contains(&number)),
+            None => false,
+        }
+    }
+}
+
+/// A walk over the events of records.
+#[derive(Drop)]
+pub struct Extract<'s> {
+    subjects: &'s Subjects,
+    /// The number from which it goes on, if it does.
+    from: Option<u32>,
+    /// The mark of the event before; empty before the first.
+    before: Vec<u8>,
+    is_any_unread: bool,
+}
+
+/// Adds the line of an event that is taken out: the mark of the event before it, which is `-` for the first one, its own mark,
+/// and its line as it is hashed.
+fn push_taken(lines: &mut Vec<u8>, before: &[u8], row: &EventRow) -> Result<(), AllocError> {
+    lines.extend_from_slice(if before.is_empty() { b"-" } else { before })?;
+    lines.push(b' ')?;
+    lines.extend_from_slice(row.mark.as_slice())?;
+    lines.push(b' ')?;
+    lines.extend_from_slice(row.line.as_slice())?;
+    lines.push(b'\n')?;
+    Ok(())
+}
+
+impl<'s> Extract<'s> {
+    /// The walk over the events of some records from the first event on; none where the store keeps no history.
+    pub fn of<S: Alter>(
+        alloc: Global,
+        archive: &Store<S>,
+        subjects: &'s Subjects,
+    ) -> Option<Extract<'s>> {
+        match archive.event_layout() {
+            EventLayout::Present => Some(Extract {
+                subjects,
+                from: Some(1),
+                before: Vec::new(alloc),
+                is_any_unread: false,
+            }),
+            EventLayout::Absent | EventLayout::Other => None,
+        }
+    }
+
+    /// Adds the line of an event, where it is one of the records'. One that cannot be read is told.
+    fn take(
+        &mut self,
+        rt: &HostRuntime,
+        row: EventRow,
+        lines: &mut Vec<u8>,
+    ) -> Result<(), Failure> {
+        match event_of(rt.alloc(), &row) {
+            Ok(event) if self.subjects.has(&event.deed) => {
+                push_taken(lines, self.before.as_slice(), &row)?;
+            }
+            Ok(_) => {}
+            Err(Failure::Told(_, words)) => {
+                self.is_any_unread = true;
+                tell(rt, &words);
+            }
+            Err(failure) => return Err(failure),
+        }
+        self.before = row.mark;
+        Ok(())
+    }
+
+    /// The lines of those of the next events that are about the records; `None` at the end. A failure is that of the store.
+    pub fn next_lines<S: Alter>(
+        &mut self,
+        rt: &HostRuntime,
+        archive: &mut Store<S>,
+    ) -> Result<Option<Vec<u8>>, Failure> {
+        let Some(from) = self.from else {
+            return Ok(None);
+        };
+        let page = archive.events_from(from, PAGE).map_err(|fault| Failure::of_store(
+            rt.alloc(),
+            "the history",
+            fault,
+        ))?;
+        self.from = match page.last() {
+            Some(last) => last.number.checked_add(1),
+            None => return Ok(None),
+        };
+        let mut lines = Vec::new(rt.alloc());
+        for row in page {
+            self.take(rt, row, &mut lines)?;
+        }
+        Ok(Some(lines))
+    }
+
+    /// Ends the walk. `BadData` where the line of an event could not be read.
+    pub fn end(self) -> Result<(), Failure> {
+        if self.is_any_unread {
+            return Err(Failure::Reported(Status::BadData));
+        }
+        Ok(())
+    }
+}

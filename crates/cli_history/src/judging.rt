@@ -1,0 +1,215 @@
+//! `check`: whether a history is whole, and explains its archive.
+
+use crate::comparison::compare;
+use crate::pages::{Events, at_event, event_of};
+use cli_console::{Failure, Status, tell, write_text};
+use record_judge::{Flaw, Judge};
+use record_noted::NotedStore;
+use record_store::EventRow;
+use sqlite::Alter;
+use std::alloc::{AllocError, Global};
+use tool_texts::{Shown, put};
+
+/// What was found of a history so far.
+#[derive(Drop)]
+struct Judgement<'h> {
+    judge: Judge,
+    /// A mark that was noted elsewhere.
+    head: Option<&'h str>,
+    /// The number of the event that has that mark, once it was judged.
+    met: Option<u32>,
+    /// Whether something stands against an event, which was told.
+    is_any_wrong: bool,
+    count: u64,
+    /// The mark of the last event, as the database has it.
+    mark: Vec<u8>,
+    /// The moment of the last event.
+    moment: u64,
+}
+
+/// What stands against an event, in words; none where that is no memory.
+fn words_of(flaw: Flaw) -> Option<&'static str> {
+    match flaw {
+        Flaw::OutOfTurn => Some("an event before it is missing"),
+        Flaw::OtherMark => { Some("its mark is not that of its line after the events before it") }
+        Flaw::NotALine => Some("its line is none of an event"),
+        Flaw::OtherNumber => Some("its line has another number"),
+        Flaw::Refused => Some("the archive refuses at that point what it tells"),
+        Flaw::NoPlan => Some("the plan that it tells is none"),
+        Flaw::LateDay => Some("it destroys a record that was captured after 2199"),
+        Flaw::NoMemory => None,
+    }
+}
+
+/// That a mark is that of an event.
+fn met_line(alloc: Global, mark: &str, number: u32) -> Result<Shown, AllocError> {
+    let mut line = Shown::new(alloc);
+    put!(line; "mark " value(&mark) " is that of event " value(&number))?;
+    line.end_line()?;
+    Ok(line)
+}
+
+/// That no event has a mark; of those that were judged, where something stands against one.
+fn unmet_words(alloc: Global, mark: &str, is_any_wrong: bool) -> Result<Shown, AllocError> {
+    let mut words = Shown::new(alloc);
+    put!(words; value(&mark) ": ")?;
+    words.words(if is_any_wrong {
+        "no event before that one has this mark"
+    } else {
+        "no event of the history has this mark"
+    })?;
+    Ok(words)
+}
+
+impl<'h> Judgement<'h> {
+    fn new(alloc: Global, head: Option<&'h str>) -> Result<Judgement<'h>, AllocError> {
+        Ok(Judgement {
+            judge: Judge::new(alloc)?,
+            head,
+            met: None,
+            is_any_wrong: false,
+            count: 0,
+            mark: Vec::new(alloc),
+            moment: 0,
+        })
+    }
+
+    /// Tells what stands against an event.
+    fn tell_flaw(&mut self, rt: &HostRuntime, number: u32, flaw: Flaw) -> Result<(), AllocError> {
+        let Some(words) = words_of(flaw) else {
+            return Err(AllocError);
+        };
+        self.is_any_wrong = true;
+        tell(rt, &at_event(rt.alloc(), number, words)?);
+        Ok(())
+    }
+
+    /// Notes the event whose mark is looked for.
+    fn meet(&mut self, row: &EventRow) {
+        if self
+            .head
+            .is_some_and(|mark| mark.as_bytes() == row.mark.as_slice())
+        {
+            self.met = Some(row.number);
+        }
+    }
+
+    /// Judges an event, unless one before it is at fault: then nothing is known of those that follow.
+    fn judge_row(&mut self, rt: &HostRuntime, row: &EventRow) -> Result<(), AllocError> {
+        if self.is_any_wrong {
+            return Ok(());
+        }
+        let taken = self
+            .judge
+            .take(row.number, row.line.as_slice(), row.mark.as_slice());
+        match taken {
+            Ok(()) => {
+                self.meet(row);
+                Ok(())
+            }
+            Err(flaw) => self.tell_flaw(rt, row.number, flaw),
+        }
+    }
+
+    /// Tells where a clock went back, which is no fault of the history.
+    fn look_at_clock(&mut self, rt: &HostRuntime, row: &EventRow) -> Result<(), Failure> {
+        let Ok(event) = event_of(rt.alloc(), row) else {
+            return Ok(());
+        };
+        if event.moment < self.moment {
+            let words = "its moment is before that of the event before it; the clock went back";
+            tell(rt, &at_event(rt.alloc(), row.number, words)?);
+        }
+        self.moment = event.moment;
+        Ok(())
+    }
+
+    /// Judges the events of a page.
+    fn judge_page(&mut self, rt: &HostRuntime, page: &[EventRow]) -> Result<(), Failure> {
+        for row in page {
+            self.judge_row(rt, row)?;
+            self.look_at_clock(rt, row)?;
+            self.count = self.count.saturating_add(1);
+        }
+        Ok(())
+    }
+
+    /// Keeps the mark of the last event of a page.
+    fn keep_mark(&mut self, page: &[EventRow]) -> Result<(), AllocError> {
+        if let Some(last) = page.last() {
+            self.mark = last.mark.clone()?;
+        }
+        Ok(())
+    }
+
+    /// How many events there are, and the last mark, a line each.
+    fn totals(&self, alloc: Global) -> Result<Shown, AllocError> {
+        let mut text = Shown::new(alloc);
+        put!(text; "events " value(&self.count))?;
+        text.end_line()?;
+        if !self.mark.is_empty() {
+            text.words("mark ")?;
+            text.escaped(self.mark.as_slice())?;
+            text.end_line()?;
+        }
+        Ok(text)
+    }
+
+    /// Says which event has the mark that is looked for, if one is. Answers whether one has.
+    fn say_met(&self, rt: &HostRuntime) -> Result<bool, Failure> {
+        let alloc = rt.alloc();
+        match (self.head, self.met) {
+            (None, _) => Ok(true),
+            (Some(mark), Some(number)) => {
+                write_text(rt, &met_line(alloc, mark, number)?)?;
+                Ok(true)
+            }
+            (Some(mark), None) => {
+                tell(rt, &unmet_words(alloc, mark, self.is_any_wrong)?);
+                Ok(false)
+            }
+        }
+    }
+}
+
+/// Judges the events of a history.
+fn judge_events<'h, S: Alter>(
+    rt: &HostRuntime,
+    noted: &mut NotedStore<S>,
+    head: Option<&'h str>,
+) -> Result<Judgement<'h>, Failure> {
+    let mut judgement = Judgement::new(rt.alloc(), head)?;
+    let mut events = Events::all();
+    for _ in 0..u64::MAX {
+        let Some(page) = events.next_page(rt, noted)? else {
+            break;
+        };
+        judgement.judge_page(rt, page.as_slice())?;
+        judgement.keep_mark(page.as_slice())?;
+    }
+    Ok(judgement)
+}
+
+/// Judges a history: the numbers of its events have no gap, each mark is that of the line after the events before it, each
+/// line is that of an event, and the archive allows each at its point; and what they make is what the store has, each
+/// message by its seal. Prints how many events there are, the last mark, and which event has a mark that was noted elsewhere,
+/// where one is looked for. `BadData` where any of that is not so, which is told.
+pub fn judge_history<S: Alter>(
+    rt: &HostRuntime,
+    noted: &mut NotedStore<S>,
+    head: Option<&str>,
+) -> Result<(), Failure> {
+    let judgement = judge_events(rt, noted, head)?;
+    let is_same = if judgement.is_any_wrong {
+        false
+    } else {
+        compare(rt, noted, judgement.judge.archive())?
+    };
+    write_text(rt, &judgement.totals(rt.alloc())?)?;
+    let is_met = judgement.say_met(rt)?;
+    if is_same && is_met {
+        Ok(())
+    } else {
+        Err(Failure::Reported(Status::BadData))
+    }
+}

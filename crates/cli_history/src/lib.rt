@@ -1,0 +1,33 @@
+//! What `mailfile-store` does with histories.
+//!
+//! - `author`: who changes an archive, and for what reason; `opening`: its ledger, opened on that occasion;
+//! - `beginning`: the first events of a history;
+//! - `pages`: the events of a history, a page at a time;
+//! - `chosen`: which events are asked for; `printing`: these, as lines or as JSON;
+//! - `certificates`: those of records that were destroyed;
+//! - `copies`: a history that another store takes over; `extracts`: the events of records that are exported;
+//! - `judging` and `comparison`: whether a history is whole, has a mark that was noted elsewhere, and explains its archive.
+//!
+//! What it writes, no contract speaks of: tests of the program show it.
+#![tactic(auto)]
+
+mod author;
+mod beginning;
+mod certificates;
+mod chosen;
+mod comparison;
+mod copies;
+mod extracts;
+mod judging;
+mod opening;
+mod pages;
+mod printing;
+
+pub use author::Author;
+pub use beginning::begin_history;
+pub use certificates::write_certificates;
+pub use copies::Lines;
+pub use extracts::{Extract, Subjects};
+pub use judging::judge_history;
+pub use opening::{StoreLedger, open_history, open_ledger};
+pub use printing::write_history;

@@ -1,0 +1,106 @@
+//! The events of a history and the records beside it, a page at a time.
+
+use cli_console::{Failure, Status};
+use record_history::{Event, LineFault, read_line};
+use record_noted::NotedStore;
+use record_store::{EventRow, RecordEntry};
+use sqlite::Alter;
+use std::alloc::{AllocError, Global};
+use tool_texts::{Shown, put};
+
+/// How many events are read in a step.
+pub const PAGE: u32 = 1_000;
+
+/// A walk over the events of a history, by number.
+#[derive(Clone, Copy)]
+pub struct Events {
+    /// The number from which it goes on, if it does.
+    from: Option<u32>,
+}
+
+impl Events {
+    /// A walk from the first event on.
+    pub fn all() -> Events {
+        Events { from: Some(1) }
+    }
+
+    /// The next events; `None` at the end. A failure is that of the store.
+    pub fn next_page<S: Alter>(
+        &mut self,
+        rt: &HostRuntime,
+        noted: &mut NotedStore<S>,
+    ) -> Result<Option<Vec<EventRow>>, Failure> {
+        let Some(from) = self.from else {
+            return Ok(None);
+        };
+        let page = noted.events(from, PAGE).map_err(|fault| Failure::of_store(
+            rt.alloc(),
+            "the history",
+            fault,
+        ))?;
+        self.from = match page.last() {
+            Some(last) => last.number.checked_add(1),
+            None => return Ok(None),
+        };
+        Ok(Some(page))
+    }
+}
+
+/// How many records are read in a step.
+const RECORDS: usize = 4_000;
+
+/// A walk over the records of an archive with a history, by number.
+#[derive(Clone, Copy)]
+pub struct Entries {
+    /// The number from which it goes on, if it does.
+    from: Option<u32>,
+}
+
+impl Entries {
+    /// A walk from the first record on.
+    pub fn all() -> Entries {
+        Entries { from: Some(1) }
+    }
+
+    /// The next records; `None` at the end. A failure is that of the store.
+    pub fn next_page<S: Alter>(
+        &mut self,
+        rt: &HostRuntime,
+        noted: &mut NotedStore<S>,
+    ) -> Result<Option<Vec<RecordEntry>>, Failure> {
+        let Some(from) = self.from else {
+            return Ok(None);
+        };
+        let page = noted
+            .entries(from, RECORDS)
+            .map_err(|fault| Failure::of_store(rt.alloc(), "the store", fault))?;
+        self.from = match page.last() {
+            Some(last) => last.number.checked_add(1),
+            None => return Ok(None),
+        };
+        Ok(Some(page))
+    }
+}
+
+/// What is said of an event, with its number.
+pub fn at_event(alloc: Global, number: u32, words: &'static str) -> Result<Shown, AllocError> {
+    let mut text = Shown::new(alloc);
+    put!(text; "event " value(&number) ": " words(words))?;
+    Ok(text)
+}
+
+/// The event of a row. `BadData` where its line is none, or is that of another number.
+pub fn event_of<'a>(alloc: Global, row: &'a EventRow) -> Result<Event<'a>, Failure> {
+    match read_line(alloc, row.line.as_slice()) {
+        Ok((number, event)) if number == u64::from(row.number) => Ok(event),
+        Ok(_) => Err(Failure::shown(
+            Status::BadData,
+            at_event(alloc, row.number, "its line has another number"),
+        )),
+        Err(LineFault::NotALine) => Err(Failure::shown(
+            Status::BadData,
+            at_event(alloc, row.number, "its line is none of an event"),
+        )),
+        Err(LineFault::NoMemory) => Err(Failure::NoMemory),
+    }
+}

@@ -1,0 +1,162 @@
+//! What is changed in an archive, by whom and for what reason.
+
+use crate::archives::Work;
+use class_plan::Date;
+use cli_changes::{
+    Delivered, FilingRules, Intake, Timing, change_holds, deliver_to, dispose_by, replace_plan,
+    take_new,
+};
+use cli_choice::{Change, Questions};
+use cli_console::Failure;
+use cli_history::{Author, StoreLedger, open_ledger};
+use command_lines::archives::{Choice, Disposal};
+use desk_commands::Payload;
+use record_history::Filing;
+use record_store::Store;
+use sqlite::{Alter, Connection};
+use std::alloc::AllocError;
+
+/// What is changed in an archive by an author.
+#[derive(Drop)]
+pub enum Changing<'a, 't> {
+    ReplacePlan {
+        plan: &'a str,
+        is_agreed: bool,
+    },
+    /// Lists or destroys what is due by a day.
+    Dispose(Disposal, Date),
+    /// Places or ends the hold of a name on records.
+    Hold {
+        change: Change,
+        name: &'a str,
+        choice: &'t Choice<'a>,
+        questions: &'t Questions,
+    },
+}
+
+impl Changing<'_, '_> {
+    /// Does it.
+    fn perform<S: Alter>(
+        &self,
+        rt: &HostRuntime,
+        ledger: &mut StoreLedger<'_, S>,
+    ) -> Result<(), Failure> {
+        match self {
+            Changing::ReplacePlan { plan, is_agreed } => {
+                replace_plan(rt, ledger, *plan, *is_agreed)
+            }
+            Changing::Dispose(asked, day) => dispose_by(rt, ledger, asked, *day),
+            Changing::Hold {
+                change,
+                name,
+                choice,
+                questions,
+            } => change_holds(rt, ledger, *change, *name, *choice, *questions),
+        }
+    }
+}
+
+/// A change of an archive, and who makes it.
+#[derive(Drop)]
+pub struct ChangeBy<'a, 't> {
+    pub author: Author<'a>,
+    pub change: Changing<'a, 't>,
+}
+
+impl Work for ChangeBy<'_, '_> {
+    type Answer = ();
+
+    fn work<S: Alter>(
+        self,
+        rt: &HostRuntime,
+        archive: Store<S>,
+    ) -> (Connection<S>, Result<(), Failure>) {
+        let ChangeBy { author, change } = self;
+        let mut ledger = match open_ledger(rt, archive, &author, None) {
+            Ok(ledger) => ledger,
+            Err((archive, failure)) => return (archive.into_connection(), Err(failure)),
+        };
+        let done = change.perform(rt, &mut ledger);
+        (ledger.into_store().into_connection(), done)
+    }
+}
+
+/// By which rules an officer's messages are filed, for a history; none where the rules are at fault.
+fn filing_of<'a>(officer: &'a str, sum: &'a Option<String>) -> Option<Filing<'a>> {
+    match sum {
+        Some(sum) => Some(Filing {
+            officer: officer.as_bytes(),
+            rules: sum.as_bytes(),
+        }),
+        None => None,
+    }
+}
+
+/// Delivers a message. What became of it is told once the archive is closed.
+#[derive(Drop)]
+pub struct DeliverOne<'a> {
+    pub author: Author<'a>,
+    pub rules: FilingRules<'a>,
+    pub timing: Timing,
+    pub message: Payload,
+}
+
+impl Work for DeliverOne<'_> {
+    type Answer = Result<Delivered, Failure>;
+
+    fn work<S: Alter>(
+        self,
+        rt: &HostRuntime,
+        archive: Store<S>,
+    ) -> (Connection<S>, Result<Self::Answer, Failure>) {
+        let DeliverOne {
+            author,
+            rules,
+            timing,
+            message,
+        } = self;
+        let sum = match rules.sum(rt.alloc()) {
+            Ok(sum) => sum,
+            Err(AllocError) => return (archive.into_connection(), Err(Failure::NoMemory)),
+        };
+        let filing = filing_of(rules.officer, &sum);
+        let ledger = match open_ledger(rt, archive, &author, filing) {
+            Ok(ledger) => ledger,
+            Err((archive, failure)) => {
+                return (archive.into_connection(), Ok(Err(failure.kept())));
+            }
+        };
+        let (ledger, delivered) = deliver_to(rt, ledger, &rules, timing, message);
+        (ledger.into_store().into_connection(), Ok(delivered))
+    }
+}
+
+/// Captures the new messages of a Maildir.
+#[derive(Drop)]
+pub struct TakeNew<'a> {
+    pub author: Author<'a>,
+    pub job: Intake<'a>,
+}
+
+impl Work for TakeNew<'_> {
+    type Answer = ();
+
+    fn work<S: Alter>(
+        self,
+        rt: &HostRuntime,
+        archive: Store<S>,
+    ) -> (Connection<S>, Result<(), Failure>) {
+        let TakeNew { author, job } = self;
+        let sum = match job.rules().sum(rt.alloc()) {
+            Ok(sum) => sum,
+            Err(AllocError) => return (archive.into_connection(), Err(Failure::NoMemory)),
+        };
+        let filing = filing_of(job.rules().officer, &sum);
+        let ledger = match open_ledger(rt, archive, &author, filing) {
+            Ok(ledger) => ledger,
+            Err((archive, failure)) => return (archive.into_connection(), Err(failure)),
+        };
+        let (ledger, done) = take_new(rt, ledger, job);
+        (ledger.into_store().into_connection(), done)
+    }
+}

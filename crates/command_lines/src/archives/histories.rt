@@ -1,0 +1,195 @@
+//! What a command line asks of a history, and what it tells for one.
+
+use super::words::JSON;
+use super::{day_asked, history_words as words, numbers_asked};
+use crate::reading::{NoCommand, has_flag, value_of};
+use choice_words::TypedNumbers;
+use clap::ArgMatches;
+use jiff::civil::Date;
+use session_words::is_name;
+use std::alloc::{AllocError, Global};
+use tool_texts::Shown;
+
+/// Who makes a change, and for what reason, as it is told.
+#[derive(Clone, Copy)]
+pub struct Attribution<'a> {
+    /// 1 to 64 octets from 33 to 126; none where it is not told.
+    pub by: Option<&'a str>,
+    /// At most 500 octets, without a hidden character; empty where it is not told.
+    pub reason: &'a str,
+}
+
+/// A kind of deed.
+#[derive(Clone, Copy)]
+pub enum DeedKind {
+    Captured,
+    Held,
+    Released,
+    Destroyed,
+    /// Classes that were added.
+    Added,
+    /// Plans that were replaced.
+    Replaced,
+    /// What was found when a history began, or after a program that keeps none.
+    Found,
+}
+
+/// Which events are printed, and how.
+#[derive(Drop)]
+pub struct HistoryAsked<'a> {
+    /// Those of records with these numbers; all, where there is none.
+    pub numbers: Vec<TypedNumbers>,
+    /// Those of this day or later.
+    pub since: Option<Date>,
+    /// Those that this name stands for.
+    pub by: Option<&'a str>,
+    pub kind: Option<DeedKind>,
+    /// Whether they are printed as an array of JSON objects.
+    pub is_json: bool,
+}
+
+/// What is done with a history.
+#[derive(Drop)]
+pub enum HistoryTask<'a> {
+    /// It is begun. Who does that is told beside it.
+    Begin,
+    Print(HistoryAsked<'a>),
+}
+
+/// The greatest length of a reason.
+const LONGEST_REASON: usize = 500;
+
+/// Whether a text can be a reason: it is not too long, and is printed as it is.
+fn is_reason(alloc: Global, text: &str) -> Result<bool, AllocError> {
+    if text.len() > LONGEST_REASON {
+        return Ok(false);
+    }
+    let mut shown = Shown::new(alloc);
+    shown.value(&text)?;
+    Ok(shown.as_str() == text)
+}
+
+/// A name for the history, where one is given.
+fn name_told<'a>(alloc: Global, asked: &ArgMatches<'a>) -> Result<Option<&'a str>, NoCommand> {
+    match value_of(asked, words::BY) {
+        Some(name) if !is_name(name.as_bytes()) => {
+            let reason = "who does it is told by 1 to 64 visible ASCII characters, as ann";
+            Err(NoCommand::wrong(alloc, name, reason))
+        }
+        name => Ok(name),
+    }
+}
+
+/// A reason for the history.
+fn reason_told<'a>(alloc: Global, asked: &ArgMatches<'a>) -> Result<&'a str, NoCommand> {
+    let text = value_of(asked, words::REASON).unwrap_or("");
+    if is_reason(alloc, text)? {
+        return Ok(text);
+    }
+    let reason = "a reason has at most 500 octets, and no line end or other hidden character";
+    Err(NoCommand::wrong(alloc, text, reason))
+}
+
+/// Who makes a change, and for what reason, as far as the subcommand has words for that.
+pub(super) fn attribution_asked<'a>(
+    alloc: Global,
+    asked: &ArgMatches<'a>,
+) -> Result<Attribution<'a>, NoCommand> {
+    Ok(Attribution {
+        by: name_told(alloc, asked)?,
+        reason: reason_told(alloc, asked)?,
+    })
+}
+
+/// The words for kinds of deeds.
+const KINDS: [(&str, DeedKind); 7] = [
+    ("captured", DeedKind::Captured),
+    ("held", DeedKind::Held),
+    ("released", DeedKind::Released),
+    ("destroyed", DeedKind::Destroyed),
+    ("added", DeedKind::Added),
+    ("replaced", DeedKind::Replaced),
+    ("found", DeedKind::Found),
+];
+
+/// The kind of a word.
+fn kind_of(word: &str) -> Option<DeedKind> {
+    for (name, kind) in KINDS {
+        if name == word {
+            return Some(kind);
+        }
+    }
+    None
+}
+
+/// A kind of deed, where one is asked for.
+fn kind_asked(alloc: Global, asked: &ArgMatches<'_>) -> Result<Option<DeedKind>, NoCommand> {
+    let Some(word) = value_of(asked, words::DEEDS) else {
+        return Ok(None);
+    };
+    match kind_of(word) {
+        Some(kind) => Ok(Some(kind)),
+        None => {
+            let reason = "none of captured, held, released, destroyed, added, replaced and found";
+            Err(NoCommand::wrong(alloc, word, reason))
+        }
+    }
+}
+
+/// Which events are asked for.
+fn events_asked<'a>(alloc: Global, asked: &ArgMatches<'a>) -> Result<HistoryAsked<'a>, NoCommand> {
+    Ok(HistoryAsked {
+        numbers: numbers_asked(alloc, asked)?,
+        since: day_asked(alloc, asked, words::EVENTS_SINCE)?,
+        by: value_of(asked, words::BY),
+        kind: kind_asked(alloc, asked)?,
+        is_json: has_flag(asked, JSON),
+    })
+}
+
+/// Whether something that is printed is chosen.
+fn is_chosen(events: &HistoryAsked<'_>) -> bool {
+    !events.numbers.is_empty() || events.since.is_some() || events.kind.is_some() || events.is_json
+}
+
+/// What is done with a history. A reason is refused where none is begun, and a choice of events where one is.
+pub(super) fn history_asked<'a>(
+    alloc: Global,
+    asked: &ArgMatches<'a>,
+) -> Result<HistoryTask<'a>, NoCommand> {
+    let events = events_asked(alloc, asked)?;
+    if has_flag(asked, words::BEGIN) {
+        if is_chosen(&events) {
+            let reason = "--begin stands with --by and --reason alone";
+            return Err(NoCommand::Wrong(String::from_str(alloc, reason)?));
+        }
+        return Ok(HistoryTask::Begin);
+    }
+    if value_of(asked, words::REASON).is_some() {
+        let reason = "--reason needs --begin";
+        return Err(NoCommand::Wrong(String::from_str(alloc, reason)?));
+    }
+    Ok(HistoryTask::Print(events))
+}
+
+/// Whether a text is a mark: 64 hexadecimal digits, as they are printed.
+fn is_mark(text: &str) -> bool {
+    text.len() == 64
+        && text
+            .bytes()
+            .all(|octet| matches!(octet, b'0'..=b'9' | b'a'..=b'f'))
+}
+
+/// A mark that is looked for.
+pub(super) fn head_asked<'a>(
+    alloc: Global,
+    asked: &ArgMatches<'a>,
+) -> Result<Option<&'a str>, NoCommand> {
+    match value_of(asked, words::HEAD) {
+        Some(mark) if !is_mark(mark) => {
+            let reason = "a mark is 64 hexadecimal digits, as check prints it";
+            Err(NoCommand::wrong(alloc, mark, reason))
+        }
+        mark => Ok(mark),
+    }
+}

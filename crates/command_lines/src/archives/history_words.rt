@@ -1,0 +1,64 @@
+//! The words of histories: who makes a change and why, and what is asked of the events.
+
+use crate::table::{FLAG, OPTION, Word};
+
+/// Who makes a change.
+pub const BY: Word = Word {
+    name: "by",
+    value: "NAME",
+    help: Some(
+        "Who does this, for the history: 1 to 64 visible ASCII characters; LOGNAME or USER of the environment if none is given",
+    ),
+    ..OPTION
+};
+
+/// For what reason a change is made.
+pub const REASON: Word = Word {
+    name: "reason",
+    value: "TEXT",
+    help: Some("For what reason, for the history: at most 500 octets in one line"),
+    ..OPTION
+};
+
+pub const BEGIN: Word = Word {
+    name: "begin",
+    help: Some(
+        "Begins the history of a store that has none: it states the plan, messages, records and holds that are there",
+    ),
+    ..FLAG
+};
+
+pub const EVENTS_SINCE: Word = Word {
+    name: "since",
+    value: "YYYY-MM-DD",
+    help: Some("Events of this day or later, in UTC"),
+    ..OPTION
+};
+
+/// The name by which events are chosen, or by which a history is begun.
+pub const CHOSEN_BY: Word = Word {
+    help: Some("Events that this name stands for; with --begin, who begins it"),
+    ..BY
+};
+
+pub const BEGIN_REASON: Word = Word {
+    help: Some("For what reason a history is begun, with --begin"),
+    ..REASON
+};
+
+pub const DEEDS: Word = Word {
+    name: "deeds",
+    value: "WORD",
+    help: Some(
+        "Events of this kind: captured, held, released, destroyed, added, replaced or found",
+    ),
+    ..OPTION
+};
+
+pub const HEAD: Word = Word {
+    name: "head",
+    value: "MARK",
+    help: Some("Also says which event of the history has this mark, which was noted elsewhere"),
+    conflict: Some("rules"),
+    ..OPTION
+};
