@@ -12,10 +12,10 @@ use Rattle.record_archive.specs.Archive.{destroys, is_by_any, due_of, without, w
 use Rattle.record_archive.specs.Archive.{without_hold, messages_without, add_class, plan_answer, revise}
 use Rattle.record_archive.specs.declared.fault.ArchiveRefusal.{ArchiveRefusal}
 use Rattle.record_archive.specs.declared.fault.ArchiveRefusal.TheVariants as refusal
-use Rattle.record_history.specs.Events.{Event, Deed}
+use Rattle.record_history.specs.Events.{Event, Deed, ReasonsRequired, ReasonsOptional}
 use Rattle.record_history.specs.Replay.{seal, sealed_message, sealed, made, after, replay}
 use Rattle.record_history.specs.Lines.{line_of, lines_from, seal_text}
-use Rattle.record_history.specs.Laws.{Tells, TellsInLines, CommandsAreTold}
+use Rattle.record_history.specs.Laws.{Tells, TellsInLines, LeavesTold, CommandsAreTold}
 
 -- the command does the same to the sealed archive
 abbrev Same : (here there : Result Archive ArchiveRefusal) → Type 0
@@ -155,6 +155,11 @@ told_in_lines deed command tells e a b ls told done is =
       tells es e a b told.2 done is,
     )
 
+-- a deed that changes nothing
+left_told : (deed : Deed) → ((a : Archive) → after deed a ≡ Some a) → LeavesTold deed
+left_told deed same e a ls was is =
+    told_in_lines (λ a. deed) (λ a. Ok a) (told (λ a. deed) (λ a. Ok a) (λ a. same (sealed a))) e a a ls was refl is
+
 pub all_told : CommandsAreTold
 all_told = record {
   none = refl;
@@ -166,5 +171,7 @@ all_told = record {
   none_before_1970 = λ n k a b. never_before a n k b;
   additions = λ path. told _ (λ a. add_class a path) (λ a. same_addition a path);
   plans = λ p. told _ (λ a. revise a p) (λ a. same_revision a p);
+  reasons_required = left_told ReasonsRequired (λ a. refl);
+  reasons_optional = left_told ReasonsOptional (λ a. refl);
   lines = told_in_lines;
 }

@@ -7,7 +7,7 @@ use Rattle.class_plan.specs.declared.schedules.Unit.TheVariants.{Days, Years}
 use Rattle.class_plan.specs.Plans.{Listing, open_row}
 use Rattle.record_archive.specs.Archive.{empty_archive}
 use Rattle.record_history.specs.Events.{Event, Deed, Seal}
-use Rattle.record_history.specs.Events.{Captured, Held, Released, Destroyed, ClassAdded, PlanReplaced, FoundMessage, FoundRecord}
+use Rattle.record_history.specs.Events.{Captured, Held, Released, Destroyed, ClassAdded, PlanReplaced, ReasonsRequired, ReasonsOptional, FoundMessage, FoundRecord}
 use Rattle.record_history.specs.Lines.{day_text, moment_text, line_of}
 use Rattle.record_history.specs.Replay.{after, replay}
 
@@ -65,6 +65,15 @@ added : written 7 (done (ClassAdded (codes "finance"))) ≡ codes "7 2031-01-01T
 unfolding written
 added = refl
 
+required : written 7 (record (done ReasonsRequired) { reason = codes "order 12/3" })
+    ≡ codes "7 2031-01-01T09:30:00Z ann made reasons required : order 12/3"
+unfolding written
+required = refl
+
+optional : written 8 (done ReasonsOptional) ≡ codes "8 2031-01-01T09:30:00Z ann made reasons optional"
+unfolding written
+optional = refl
+
 found : written 8 (done (FoundRecord (record { number = 5; message = 4; path = codes "rent"; day = 22280; destroyed = true })))
     ≡ codes "8 2031-01-01T09:30:00Z ann found record 5 of message 4 in rent on 2031-01-01 destroyed"
 unfolding written
@@ -73,6 +82,10 @@ found = refl
 found_message : written 9 (done (FoundMessage 4 a_seal)) ≡ codes "9 2031-01-01T09:30:00Z ann found message 4 17 0a"
 unfolding written
 found_message = refl
+
+-- whether reasons are required changes nothing
+nothing_changed : replay (done ReasonsRequired ∷ done ReasonsOptional ∷ []) empty_archive ≡ Some empty_archive
+nothing_changed = refl
 
 -- a hold of a record that is not there is refused, and so is a capture with another first number
 no_record : replay (done (Held (codes "audit") 1) ∷ []) empty_archive ≡ None

@@ -25,6 +25,10 @@ pub data Deed : Type 0 where
   Destroyed : (number day : ℕ) → Schedule → Deed
   ClassAdded : (path : List ℕ) → Deed
   PlanReplaced : Listing → Deed
+  -- From now on a reason is to be given for a hold, a release, a new plan and a destruction; or it need not be given any
+  -- more. These change nothing of the archive.
+  ReasonsRequired : Deed
+  ReasonsOptional : Deed
   -- What was there when the history began, or what a program that keeps none has left: the plan, and then each message,
   -- each record and each hold.
   FoundPlan : Listing → Deed

@@ -5,7 +5,7 @@ use Rattle.class_plan.specs.Plans.{Listing}
 use Rattle.record_archive.specs.Archive.{Archive, empty_archive, next_number, capture, hold, release, destroy, destroy_on, add_class, revise}
 use Rattle.record_archive.specs.declared.fault.ArchiveRefusal.{ArchiveRefusal}
 use Rattle.record_history.specs.Events.{Event, Deed, Filing}
-use Rattle.record_history.specs.Events.{Captured, Held, Released, Destroyed, ClassAdded, PlanReplaced}
+use Rattle.record_history.specs.Events.{Captured, Held, Released, Destroyed, ClassAdded, PlanReplaced, ReasonsRequired, ReasonsOptional}
 use Rattle.record_history.specs.Lines.{line_of, lines_from}
 use Rattle.record_history.specs.Replay.{Explains, seal}
 
@@ -23,6 +23,10 @@ abbrev pub TellsInLines : (Archive → Deed) → (Archive → Result Archive Arc
 TellsInLines deed command = (e : Event) (a b : Archive) (ls : List (List ℕ)) → Told a ls → command a ≡ Ok b → e.deed ≡ deed a →
     Told b (ls ++ line_of (length ls + 1) e ∷ [])
 
+-- a line of this deed more, and the lines still explain the archive
+abbrev pub LeavesTold : Deed → Type 0
+LeavesTold deed = (e : Event) (a : Archive) (ls : List (List ℕ)) → Told a ls → e.deed ≡ deed → Told a (ls ++ line_of (length ls + 1) e ∷ [])
+
 -- THE LAW, a field for each command
 pub record CommandsAreTold : Type 0 where
   -- no events explain the archive in which nothing was captured
@@ -36,4 +40,7 @@ pub record CommandsAreTold : Type 0 where
   pub none_before_1970 : (n k : ℕ) (a b : Archive) → destroy_on a n (negsuc k) ≡ Ok b → ⊥
   pub additions : (path : List ℕ) → Tells (λ a. ClassAdded path) (λ a. add_class a path)
   pub plans : (p : Listing) → Tells (λ a. PlanReplaced p) (λ a. revise a p)
+  -- whether reasons are required is told, and changes nothing of the archive
+  pub reasons_required : LeavesTold ReasonsRequired
+  pub reasons_optional : LeavesTold ReasonsOptional
   pub lines : (deed : Archive → Deed) (command : Archive → Result Archive ArchiveRefusal) → Tells deed command → TellsInLines deed command

@@ -13,6 +13,7 @@ use Rattle.class_plan.specs.Calendar.{Civil, civil}
 use Rattle.record_archive.specs.Archive.{Record}
 use Rattle.record_history.specs.Events.{Event, Deed, Seal, Filing}
 use Rattle.record_history.specs.Events.{Captured, Held, Released, Destroyed, ClassAdded, PlanReplaced, FoundPlan, FoundMessage, FoundRecord, FoundHold}
+use Rattle.record_history.specs.Events.{ReasonsRequired, ReasonsOptional}
 
 -- ---- moments and days
 
@@ -97,6 +98,8 @@ deed_text (Released name n) = codes "released " ++ name ++ codes " " ++ decimal 
 deed_text (Destroyed n day schedule) = destroyed_text n day schedule
 deed_text (ClassAdded path) = codes "added class " ++ path
 deed_text (PlanReplaced p) = codes "replaced plan (" ++ plan_text p ++ codes ")"
+deed_text ReasonsRequired = codes "made reasons required"
+deed_text ReasonsOptional = codes "made reasons optional"
 deed_text (FoundPlan p) = codes "found plan (" ++ plan_text p ++ codes ")"
 deed_text (FoundMessage n seal) = codes "found message " ++ decimal n ++ codes " " ++ seal_text seal
 deed_text (FoundRecord r) = codes "found record " ++ record_text r

@@ -10,6 +10,7 @@ use Rattle.class_plan.specs.Plans.{Listing, Row}
 use Rattle.class_plan.specs.Texts.{◌>>=◌, schedule_of_bytes}
 use Rattle.record_history.specs.Events.{Event, Deed, Seal, Filing}
 use Rattle.record_history.specs.Events.{Captured, Held, Released, Destroyed, ClassAdded, PlanReplaced, FoundPlan, FoundMessage, FoundRecord, FoundHold}
+use Rattle.record_history.specs.Events.{ReasonsRequired, ReasonsOptional}
 use Rattle.record_history.specs.declared.faults.LineFault.{LineFault}
 use Rattle.record_history.specs.declared.faults.LineFault.TheVariants.{NotALine, NoMemory}
 
@@ -241,10 +242,18 @@ found_at t = case (stripped (codes "plan (") t) (plan_deed FoundPlan)
 unfoldable pub added_at : List ℕ → Option (Deed × List ℕ)
 added_at t = Some (ClassAdded (until 32 t), from 32 t)
 
+-- whether reasons are required from now on
+unfoldable pub reasons_at : List ℕ → Option (Deed × List ℕ)
+reasons_at t = case (stripped (codes "required") t) (λ r. Some (ReasonsRequired, r))
+    (case (stripped (codes "optional") t) (λ r. Some (ReasonsOptional, r)) None)
+
+unfoldable pub made_at : List ℕ → Option (Deed × List ℕ)
+made_at t = case (stripped (codes "made reasons ") t) reasons_at None
+
 unfoldable pub plan_change_at : List ℕ → Option (Deed × List ℕ)
 plan_change_at t = case (stripped (codes "added class ") t) added_at
     (case (stripped (codes "replaced plan (") t) (plan_deed PlanReplaced)
-    (case (stripped (codes "found ") t) found_at None))
+    (case (stripped (codes "found ") t) found_at (made_at t)))
 
 unfoldable pub deed_at : List ℕ → Option (Deed × List ℕ)
 deed_at t = case (stripped (codes "captured ") t) captured_at

@@ -217,6 +217,8 @@ pub(crate) fn deed_text(alloc: Global, deed: &Deed<'_>) -> Result<Vec<u8>, Alloc
         } => destroyed_text(alloc, *number, *day, *schedule),
         Deed::ClassAdded { path } => added_text(alloc, path),
         Deed::PlanReplaced(plan) => with_plan(alloc, b"replaced plan ", plan),
+        Deed::ReasonsRequired => Vec::from_slice(alloc, b"made reasons required"),
+        Deed::ReasonsOptional => Vec::from_slice(alloc, b"made reasons optional"),
         Deed::FoundPlan(plan) => with_plan(alloc, b"found plan ", plan),
         Deed::FoundMessage { number, seal } => message_text(alloc, *number, seal),
         Deed::FoundRecord {

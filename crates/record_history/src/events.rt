@@ -77,6 +77,10 @@ pub enum Deed<'a> {
     },
     /// The plan is replaced by this one.
     PlanReplaced(Listing<'a>),
+    /// From now on a reason is to be given for a hold, a release, a new plan and a destruction.
+    ReasonsRequired,
+    /// A reason need not be given any more.
+    ReasonsOptional,
     /// This plan was there. It begins the history, or a finding of what a program that keeps none has left.
     FoundPlan(Listing<'a>),
     /// This message was there.

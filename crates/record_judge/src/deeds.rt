@@ -35,6 +35,7 @@ impl SealedArchive {
             } => self.destroy(number, day),
             Deed::ClassAdded { path } => self.add_class(path),
             Deed::PlanReplaced(plan) => self.replace_plan(&plan),
+            Deed::ReasonsRequired | Deed::ReasonsOptional => Ok(()),
             Deed::FoundPlan(plan) => self.find_plan(&plan),
             Deed::FoundMessage { number, seal } => self.find_message(number, seal),
             Deed::FoundRecord {
