@@ -13,7 +13,7 @@ use Rattle.sqlite.specs.Tree.{Trees}
 use Rattle.sqlite.specs.Held.{state}
 use Rattle.sqlite.proofs.StateLemmas.{survives_weaker}
 use Rattle.record_tables.specs.Events.{new_event, StoresEvents, IsPastEvents, KeepsEvents, NotesEvent}
-use Rattle.record_history.specs.Chain.{mark_after, chain, chain_from}
+use Rattle.record_history.specs.Chain.{mark_after, chain_from}
 use Rattle.record_history.specs.Events.{Event, Deed}
 use Rattle.record_history.specs.Lines.{line_of}
 use Rattle.record_history.specs.Laws.{Told, TellsInLines}
@@ -23,9 +23,8 @@ use Rattle.record_archive.specs.Faults.{WhereRefused, is_trouble}
 use Rattle.record_archive.specs.declared.fault.ArchiveRefusal.{ArchiveRefusal}
 use Rattle.record_store.specs.Faults.{StoreFault}
 use Rattle.record_store.specs.Stores as store
-use Rattle.record_store.specs.Stores.{StandsFor, ObeysRows, TreesKeep, Behaves, Falls}
+use Rattle.record_store.specs.Stores.{StandsFor, ObeysRows, Behaves, Falls}
 use Rattle.record_store.specs.Companions.{IsReady, Brought, FailsStill, LeavesBoth}
-use Rattle.record_store.specs.declared.store.Store.{Store}
 use Rattle.record_noted.specs.Histories.{rows_from, rows_of, MovesOn, StandsWith, StandsTold, Becomes, Obeys, Leaves, Notes, NotesAll}
 use Rattle.record_noted.specs.Histories.{DoesTold, IsTold}
 use Rattle.record_noted.specs.declared.store.NotedStore.{NotedStore}

@@ -1,5 +1,5 @@
 -- Rows of lines, and events that are added one after another.
-use Rattle.std.proofs.Common.{◌≡◌, ◌<◌, ◌+◌, ◌++◌, ◌∷◌, [], ℕ, zero, suc, List, Vec, Global, map}
+use Rattle.std.proofs.Common.{◌≡◌, ◌<◌, ◌+◌, ◌++◌, ◌∷◌, [], ℕ, zero, suc, List, map}
 use Rattle.std.proofs.Common.{take, length, get_or, refl, sym, ap, ap₂, subst, ◌∙◌, arith, rules, IsTrue}
 use Rattle.std.proofs.Common.{Result, Ok, Err, OnOk, OnErr}
 use Rattle.std.proofs.lemmas.List.{append_assoc, append-nil, length-append, map-append, map_more, take_more}
@@ -18,7 +18,7 @@ use Rattle.record_tables.proofs.EventLemmas.{event_is_beside, note_accompanies}
 use Rattle.record_reads.specs.Events.{event_of}
 use Rattle.record_reads.specs.declared.events.EventRow.{EventRow}
 use Rattle.record_history.specs.Chain.{chain_from, mark_after}
-use Rattle.record_noted.specs.Rows.{AreAfter, AreInOrder, Awaits, NotesEvents}
+use Rattle.record_noted.specs.Rows.{AreAfter, AreInOrder, Awaits}
 use Rattle.record_noted.specs.Histories.{MovesOn, rows_from, rows_of}
 use Rattle.record_noted.proofs.HistoryLemmas.{chain_append, rows_append, rows_past, survives_itself}
 

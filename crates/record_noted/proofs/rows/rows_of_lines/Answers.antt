@@ -1,4 +1,4 @@
-use Rattle.std.proofs.Common.{◌≡◌, ◌∙◌, ◌+◌, ◌++◌, ◌∷◌, [], List, Vec, Global, ℕ, map, take, refl, ap, ap₂, subst, arith}
+use Rattle.std.proofs.Common.{◌≡◌, ◌∙◌, ◌+◌, ◌++◌, ◌∷◌, [], List, Vec, Global, ℕ, map, take, ap, ap₂, subst}
 use Rattle.record_reads.specs.Events.{event_of}
 use Rattle.record_history.specs.Chain.{mark_after}
 use Rattle.record_noted.specs.Histories.{MovesOn, rows_from}

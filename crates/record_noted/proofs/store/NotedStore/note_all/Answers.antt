@@ -1,4 +1,4 @@
-use Rattle.std.proofs.Common.{◌≡◌, ◌∙◌, ℕ, List, Vec, Global, map, refl, ap}
+use Rattle.std.proofs.Common.{◌∙◌, ℕ, List, Vec, Global, map, refl, ap}
 use Rattle.record_reads.specs.Events.{event_of}
 use Rattle.record_history.specs.Chain.{chain_from}
 use Rattle.record_noted.specs.Histories.{rows_from}
