@@ -17,7 +17,8 @@ use Rattle.record_store.specs.Faults.{StoreFault}
 use Rattle.record_store.specs.Stores.{StandsFor, Behaves, Falls}
 use Rattle.record_noted.specs.Rows.{AreAfter, Awaits, NotesEvents}
 use Rattle.record_noted.specs.Additions.{EndsWith, Explained, NotesLines}
-use Rattle.record_noted.specs.Histories.{rows_from, rows_of, MovesOn, StandsWith, StandsTold, TreesKeepWith, Obeys, NotesAll, DoesTold, IsTold, IsTrouble}
+use Rattle.record_noted.specs.Histories.{rows_from, rows_of, MovesOn, StandsWith, StandsTold, TreesKeepWith, Obeys, NotesAll}
+use Rattle.record_noted.specs.Histories.{DoesTold, IsTold, IsTrouble}
 use Rattle.record_noted.specs.declared.store.NotedStore.{NotedStore}
 use Rattle.record_noted.proofs.HistoryLemmas.{Lengthens, all_done, all_refused, all_unmarked, rows_of_more}
 use Rattle.record_noted.proofs.RowLemmas.{in_order_after}

@@ -38,8 +38,12 @@ impl<S: Alter> NotedStore<S> {
         ensures { NotesLines S.Store self.old self.new result
             (map (λ l. l.items) lines.now) }
     {
-        let Addition { rows, next, mark } =
-            rows_of_lines(self.alloc, self.next, self.mark.as_slice(), lines)?;
+        let Addition { rows, next, mark } = rows_of_lines(
+            self.alloc,
+            self.next,
+            self.mark.as_slice(),
+            lines,
+        )?;
         let following = Following {
             rows: rows.as_slice(),
         };

@@ -30,10 +30,7 @@ impl<S: Alter> NotedStore<S> {
     ///
     /// Refused with 89 (`sqlite`), as where there is a table `event`, or with 99 (no memory). A refusal returns the
     /// store, which stands for the archive that it stood for.
-    pub fn begin(
-        alloc: Global,
-        store: Store<S>,
-    ) -> Result<NotedStore<S>, (StoreFault, Store<S>)>
+    pub fn begin(alloc: Global, store: Store<S>) -> Result<NotedStore<S>, (StoreFault, Store<S>)>
         ensures ok { IfOk result (λ s. (a : Archive) → StandsFor S.Store store a →
             StandsWith S.Store s a []) }
         ensures told { IfOk result (λ s. StandsFor S.Store store empty_archive →

@@ -40,5 +40,5 @@ returns-clause-ok g c = λ clean inside.
     let new = (state g.S.Store c.loop-row.tx.conn.now).now in
     let whole : take k all ≡ all = take_all k all (omega (arith, length-map c.args.rows.now event_of, c.loop-row-test.false)) in
     let P : List Event → Type 0 = λ fs. Accompanies (Awaits all) (λ (was db : Database). (es : List Event) → StoresEvents was es → AreAfter es all
-        → StoresEvents db (es ++ fs)) old new in
+    → StoresEvents db (es ++ fs)) old new in
     subst P whole (c.loop-row.invariant.ok clean inside)
