@@ -24,6 +24,6 @@ loop-line-preserved c =
           (c.in_ok-from_slice.ensures.items ∙ c.as_slice-in-loop-line-2.ensures.value)
           (c.in_ok-from_slice-2.ensures.items ∙ c.as_slice-in-loop-line-3.ensures.value ∙ mark ∙ ap (λ m. mark_after m l) so_far.mark_is)
           ∙ ap (rows_from first before) more,
-      subst (λ ks. MovesOn first before ks _ _) more
-          (end_next first before ls l c.loop-line.next _ last _ so_far c.in_ok-next.ensures.number mark),
+      subst (λ ks. MovesOn first before ks c.in_ok-next.next c.into_bytes-mark.result.items) more
+          (end_next first before ls l c.loop-line.next c.in_ok-next.next last c.into_bytes-mark.result.items so_far c.in_ok-next.ensures.number mark),
     )
