@@ -1,4 +1,6 @@
+pub mod AdditionLemmas
 pub mod FoundingLemmas
 pub mod HistoryLemmas
 pub mod OpeningLemmas
 pub mod ReadingLemmas
+pub mod RowLemmas

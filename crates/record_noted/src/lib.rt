@@ -2,6 +2,7 @@
 //! transaction.
 #![tactic(auto)]
 
+mod additions;
 mod captures;
 mod destruction;
 mod events;
@@ -10,6 +11,7 @@ mod holds;
 mod opening;
 mod plans;
 mod readings;
+mod rows;
 mod store;
 
 pub use opening::{OpenFault, Opened};

@@ -1,6 +1,6 @@
 //! What is read of the archive beside its history. Each call is the store's own of the same name.
 
-ghost use Rattle.std.specs.Prelude.{◌≡◌, map, min, take, option_map, Some, Ok, Err, false, true, IfOk, IfErr, IsTrue, OnOk};
+ghost use Rattle.std.specs.Prelude.{◌≡◌, map, min, take, option_map, Some, Ok, Err, false, true, IfOk, IsTrue, OnOk};
 ghost use Rattle.jiff.specs.Words.{epoch_day};
 ghost use Rattle.sqlite.specs.State.{HasCleanDisk};
 ghost use Rattle.sqlite.specs.Held.{state};
@@ -8,11 +8,10 @@ ghost use Rattle.class_plan.specs.Schedules.{IsInRange};
 ghost use Rattle.record_tables.specs.Steps.{CommitsNothing};
 ghost use Rattle.record_archive.specs.Archive as archive;
 ghost use Rattle.record_archive.specs.Archive.{Archive, due_list_on};
-ghost use Rattle.record_archive.specs.Faults.{is_trouble};
 ghost use Rattle.record_archive.specs.Lines.{line_view};
 ghost use Rattle.record_choice.specs.Entries.{entries_from, entry_of, entry_view, OfRecord};
 ghost use Rattle.record_store.specs.Stores.{Falls, IsOpenOnOk, LacksRecord};
-ghost use Rattle.record_noted.specs.Histories.{StandsTold};
+ghost use Rattle.record_noted.specs.Histories.{IsTrouble, StandsTold};
 ghost use Rattle.record_noted.specs.Readings.{IsScheduleOfRecord, LeavesToldNow, ReadsTold};
 
 use crate::store::NotedStore;
@@ -45,7 +44,7 @@ impl<S: Alter> NotedStore<S> {
         ensures next { self.new.next ≡ self.old.next }
         ensures falls { Falls S.Store self.old.store self.new.store }
         ensures open { IsOpenOnOk S.Store self.new.store result }
-        ensures trouble { IfErr result (λ f. is_trouble f ≡ true) }
+        ensures trouble { IsTrouble result }
         ensures crash { CommitsNothing S.Store self.old.store.conn self.new.store.conn }
     {
         self.store.ensure_open()

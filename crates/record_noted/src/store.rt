@@ -1,17 +1,17 @@
 //! The store with its history, and the history's beginning.
 
-ghost use Rattle.std.specs.Prelude.{◌≡◌, ◌<◌, ℕ, List, [], map, true, IfOk, IfErr, OnOk};
+ghost use Rattle.std.specs.Prelude.{◌≡◌, ◌<◌, ℕ, List, [], map, IfOk, IfErr, OnOk};
 ghost use Rattle.record_history.specs.Chain.{mark_after};
+ghost use Rattle.record_history.specs.Laws.{Told};
 ghost use Rattle.record_archive.specs.Archive.{Archive, empty_archive};
-ghost use Rattle.record_archive.specs.Faults.{is_trouble};
 ghost use Rattle.record_store.specs.Stores.{StandsFor};
-ghost use Rattle.record_noted.specs.Histories.{StandsWith, StandsTold};
+ghost use Rattle.record_noted.specs.Histories.{IsTrouble, StandsWith, StandsTold};
 
 use crate::founding::lay_history;
+use crate::rows::number_after;
 use record_history::{commands_are_told, next_mark};
-use record_store::{Cause, Store, StoreFault};
-use record_tables::events::Beginning;
-use sqlite::{Alter, Error, ErrorCode};
+use record_store::{Store, StoreFault};
+use sqlite::Alter;
 use std::alloc::Global;
 
 /// A store, and the end of its history.
@@ -30,10 +30,7 @@ impl<S: Alter> NotedStore<S> {
     ///
     /// Refused with 89 (`sqlite`), as where there is a table `event`, or with 99 (no memory). A refusal returns the
     /// store, which stands for the archive that it stood for.
-    pub fn begin(
-        alloc: Global,
-        mut store: Store<S>,
-    ) -> Result<NotedStore<S>, (StoreFault, Store<S>)>
+    pub fn begin(alloc: Global, store: Store<S>) -> Result<NotedStore<S>, (StoreFault, Store<S>)>
         ensures ok { IfOk result (λ s. (a : Archive) → StandsFor S.Store store a →
             StandsWith S.Store s a []) }
         ensures told { IfOk result (λ s. StandsFor S.Store store empty_archive →
@@ -42,20 +39,12 @@ impl<S: Alter> NotedStore<S> {
             StandsFor S.Store e.1 a) }
     {
         commands_are_told();
-        match store.do_beside(Beginning) {
-            Ok(()) => Ok(NotedStore {
-                alloc,
-                store,
-                next: 1,
-                mark: Vec::new(alloc),
-            }),
-            Err(fault) => Err((fault, store)),
-        }
+        NotedStore::begin_with(alloc, store, &[])
     }
 
     /// Begins the history of a store with lines, in one transaction.
     ///
-    /// Refused with 89 (`sqlite`, as where there is a table `event`, or more than 4,294,967,293 lines) or with 99 (no memory).
+    /// Refused with 89 (`sqlite`, as where there is a table `event`, or more than 4,294,967,294 lines) or with 99 (no memory).
     /// A refusal returns the store, which stands for the archive that it stood for.
     pub fn begin_with(
         alloc: Global,
@@ -64,6 +53,8 @@ impl<S: Alter> NotedStore<S> {
     ) -> Result<NotedStore<S>, (StoreFault, Store<S>)>
         ensures ok { IfOk result (λ s. (a : Archive) → StandsFor S.Store store a →
             StandsWith S.Store s a (map (λ l. l.items) lines.now)) }
+        ensures told { IfOk result (λ s. (a : Archive) → StandsFor S.Store store a →
+            Told a (map (λ l. l.items) lines.now) → StandsTold S.Store s a) }
         ensures err { IfErr result (λ e. (a : Archive) → StandsFor S.Store store a →
             StandsFor S.Store e.1 a) }
     {
@@ -98,12 +89,9 @@ impl<S: Alter> NotedStore<S> {
         ensures mark { IfOk result (λ m. m.items ≡
             mark_after self.now.mark.items line.now) }
         ensures room { OnOk result (self.now.next < 4294967295) }
-        ensures trouble { IfErr result (λ f. is_trouble f ≡ true) }
+        ensures trouble { IsTrouble result }
     {
-        if self.next == u32::MAX {
-            let full = Error::SqliteFailure(ErrorCode::NoRowid);
-            return Err(StoreFault::Database(Cause::Sqlite(full)));
-        }
+        number_after(self.next)?;
         let mark = next_mark(self.alloc, self.mark.as_slice(), line)?;
         Ok(mark.into_bytes())
     }

@@ -3,9 +3,9 @@ use Rattle.sqlite.specs.Held.{state}
 use Rattle.record_tables.specs.Events.{Event, StoresEvents}
 use Rattle.record_reads.specs.Events.{event_of}
 use Rattle.record_archive.specs.Archive.{Archive}
-use Rattle.record_noted.specs.Foundings.{AreInOrder}
+use Rattle.record_noted.specs.Rows.{AreInOrder}
 use Rattle.record_noted.specs.Histories.{rows_of}
-use Rattle.record_noted.proofs.FoundingLemmas.{in_order, rows_counted}
+use Rattle.record_noted.proofs.RowLemmas.{in_order}
 use Rattle.record_noted.proofs.founding.lay_history.Goals as goal
 
 pub returns-clause-ok : goal.returns-clause-ok
@@ -17,9 +17,7 @@ returns-clause-ok g c = λ (a : Archive) s.
     let has : List Event → Type 0 = StoresEvents (state g.S.Store c.do_beside.new.self.conn).now in
     record {
       stands = (c.in_ok-do_beside.ensures.obeys (λ clean is_open. order) a s).0;
-      next_is =
-          let count = rows_counted c.in_ok-rows.rows.items ls c.in_ok-rows.ensures.rows in
-          omega (arith, c.in_ok-next.ensures.number, c.len.ensures, c.in_ok-rows.rows.ok, count);
-      mark_is = c.in_ok-rows.ensures.mark;
+      next_is = omega (arith, c.in_ok-rows.ensures.ends.next_is);
+      mark_is = c.in_ok-rows.ensures.ends.mark_is;
       lines = λ clean. subst has same (c.in_ok-do_beside.ensures.brought a s (λ clean is_open. order) clean).1;
     }
