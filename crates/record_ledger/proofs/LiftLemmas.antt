@@ -14,12 +14,12 @@ use Rattle.record_noted.specs.Histories.{StandsTold}
 use Rattle.record_noted.specs.Keepers as noted
 use Rattle.record_noted.specs.declared.store.NotedStore.{NotedStore}
 use Rattle.record_ledger.specs.Ledgers.{store_of, KeptFor, LedgerFate, PlainFate, NotedFate, MayMeetKept, LedgerFateKeeps, keeper_of}
-use Rattle.record_ledger.specs.declared.ledger.Kept.{Kept}
-use Rattle.record_ledger.specs.declared.ledger.Kept.TheVariants.{Plain, Noted}
+use Rattle.record_noted.specs.declared.opening.Opened.{Opened}
+use Rattle.record_noted.specs.declared.opening.Opened.TheVariants.{Plain, Noted}
 use Rattle.record_ledger.specs.declared.ledger.Ledger.{Ledger}
 
 module _ {S X : Type 0} (g : Ghosts S) (command : Archive → Result Archive ArchiveRefusal) (Answers : Archive → X → Type 0) where
-  kept_keeper : Keeper (Kept S) Archive
+  kept_keeper : Keeper (Opened S) Archive
   kept_keeper = record {
     clean = λ k. HasCleanDisk (state g (store_of k).conn);
     stands = KeptFor g;
@@ -105,11 +105,11 @@ module _ {S X : Type 0} (g : Ghosts S) (command : Archive → Result Archive Arc
   pub plain_out : {K : Type 0} (old new : Ledger S K) (s t : Store S) (result : Result X StoreFault) → old.kept ≡ Plain s → new.kept ≡ Plain t
       → CarriesOut (stores.keeper_of g) s t command Answers result → CarriesOut (keeper_of g) old new command Answers result
   plain_out old new s t result was is c =
-      let P : Kept S → Kept S → Type 0 = λ k m. CarriesOut kept_keeper k m command Answers result in
+      let P : Opened S → Opened S → Type 0 = λ k m. CarriesOut kept_keeper k m command Answers result in
       kept_out old new result (subst (λ m. P old.kept m) (sym is) (subst (λ k. P k (Plain t)) (sym was) (plain_kept s t result c)))
 
   pub noted_out : {K : Type 0} (old new : Ledger S K) (s t : NotedStore S) (result : Result X StoreFault) → old.kept ≡ Noted s
       → new.kept ≡ Noted t → CarriesOut (noted.keeper_of g) s t command Answers result → CarriesOut (keeper_of g) old new command Answers result
   noted_out old new s t result was is c =
-      let P : Kept S → Kept S → Type 0 = λ k m. CarriesOut kept_keeper k m command Answers result in
+      let P : Opened S → Opened S → Type 0 = λ k m. CarriesOut kept_keeper k m command Answers result in
       kept_out old new result (subst (λ m. P old.kept m) (sym is) (subst (λ k. P k (Noted t)) (sym was) (noted_kept s t result c)))

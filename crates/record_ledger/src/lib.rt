@@ -9,7 +9,6 @@
 //!   chosen and disposed of.
 //!
 //! In `specs/`, `Ledgers` says which archive a ledger stands for: over a history, one that the history explains.
-#![tactic(auto)]
 
 mod deeds;
 mod findings;
@@ -19,5 +18,5 @@ mod occasion;
 mod records;
 mod repository;
 
-pub use ledger::{Kept, Ledger};
+pub use ledger::Ledger;
 pub use occasion::Occasion;

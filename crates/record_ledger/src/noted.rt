@@ -11,7 +11,7 @@ ghost use Rattle.record_archive.specs.Calls.{CarriesOut, Quietly, unchanged};
 ghost use Rattle.record_archive.specs.Lines.{line_view};
 ghost use Rattle.record_noted.specs.Keepers.{keeper_of};
 
-use crate::deeds::{capture_number, disposal_number, path_list};
+use crate::deeds::{capture_number, number_since_1970, path_list};
 use crate::occasion::Occasion;
 use class_paths::Paths;
 use class_plan::{Date, Plan};
@@ -147,7 +147,7 @@ pub(crate) fn destroy<S: Alter, K: Clock>(
     noted.ensure_open()?;
     let deed = Deed::Destroyed {
         number,
-        day: disposal_number(day),
+        day: number_since_1970(day),
         schedule: noted.schedule_of(number)?,
     };
     let line = occasion.line_of(alloc, noted.next(), deed)?;
