@@ -1,5 +1,5 @@
 -- Calls of a store with a history, as calls on an archive that is kept.
-use Rattle.std.proofs.Common.{◌≡◌, ◌⊎◌, ℕ, List, arith, inl, inr, false, refl, sym, ap, ◌∙◌, subst, IsTrue, Result, Ok, Err, true, true≢false}
+use Rattle.std.proofs.Common.{◌≡◌, ◌⊎◌, ℕ, ℤ, List, [], ◌∷◌, length, arith, inl, inr, false, refl, sym, ap, ◌∙◌, subst, IsTrue, Result, Ok, Err, true, true≢false}
 use Rattle.std.specs.Prelude.{OnOk}
 use Rattle.std.specs.Result.{IsErr, IsErrAnd}
 use Rattle.std.proofs.lemmas.Bool.{false≢true}
@@ -7,13 +7,14 @@ use Rattle.sqlite.specs.Store.{Ghosts}
 use Rattle.sqlite.specs.State.{HasCleanDisk}
 use Rattle.sqlite.specs.Held.{state}
 use Rattle.record_tables.specs.Steps.{CommitsNothing}
-use Rattle.record_archive.specs.Archive.{Archive}
+use Rattle.record_archive.specs.Archive.{Archive, capture, capture_lines, destroy_by, destroy_on, from_1970}
 use Rattle.record_archive.specs.Calls.{CarriesOut, KeepsMade, Makes, unchanged}
 use Rattle.record_archive.specs.Faults.{is_trouble}
+use Rattle.record_archive.specs.declared.fault.ArchiveFault.TheVariants.{NoMemory}
 use Rattle.record_archive.specs.declared.fault.ArchiveRefusal.{ArchiveRefusal}
 use Rattle.record_store.specs.Faults.{StoreFault}
 use Rattle.record_store.specs.declared.fault.Cause.{Cause}
-use Rattle.record_store.specs.Stores.{Falls, Fate, Left, ShutAfter, LeavesAll, MayMeet}
+use Rattle.record_store.specs.Stores.{LacksRecord, Falls, Fate, Left, ShutAfter, LeavesAll, MayMeet}
 use Rattle.record_store.proofs.RecordsLemmas.{met_before, shut_before}
 use Rattle.record_noted.specs.Histories.{IsTold, LeavesTold, Notes, StandsTold}
 use Rattle.record_noted.specs.Keepers.{FateTold, keeper_of}
@@ -133,9 +134,9 @@ module _ {S X : Type 0} (g : Ghosts S) (old mid new : NotedStore S) (found : IsF
 module _ {S X : Type 0} (g : Ghosts S) (old mid : NotedStore S) (found : IsFoundOpen g old mid)
     (command : Archive → Result Archive ArchiveRefusal) (Answers : Archive → X → Type 0) where
   -- since memory runs out
-  pub refused_out : (result : Result X StoreFault) (f : StoreFault) → IsErr result → IsErrAnd result (λ x. x ≡ f) → is_trouble f ≡ true
+  pub refused_out : (result : Result X StoreFault) → IsErr result → IsErrAnd result (λ x. x ≡ NoMemory)
       → CarriesOut (keeper_of g) old mid command Answers result
-  refused_out = stopped g old mid found.same found.fell found.met command Answers
+  refused_out result is e_is = stopped g old mid found.same found.fell found.met command Answers result NoMemory is e_is refl
 
   -- since nothing is to be done
   pub nothing_out : LeavesToldNow g mid → ((a : Archive) → command a ≡ Ok a) → (x : X) → ((a : Archive) → Answers a x)
@@ -205,3 +206,16 @@ read_out g old mid new found Answers left (Err f) reads stays = record {
   crash = λ clean a s fate may. inl (met_now g old mid new found Answers (λ b r. ⊥) (Err f) reads a s clean fate may);
   kept = tt;
 }
+
+-- what is not there is not destroyed
+pub no_record : (n : ℕ) (day : ℤ) (a : Archive) (r : ArchiveRefusal) → LacksRecord n a r → destroy_on a n day ≡ Err r
+no_record n day a r lacks = ap (destroy_by a n (from_1970 day)) lacks.1 ∙ ap (λ f. Err f) (sym lacks.0)
+
+-- without a path nothing is captured
+pub no_paths : (body : List ℕ) (day : ℕ) (paths : List (List ℕ)) → length paths ≡ 0 → (a : Archive) → capture a body day paths ≡ Ok a
+no_paths body day [] none a = refl
+no_paths body day (q ∷ qs) none a = absurd (omega (arith, none))
+
+pub no_lines : (day : ℕ) (paths : List (List ℕ)) → length paths ≡ 0 → (a : Archive) → [] ≡ capture_lines a day paths
+no_lines day [] none a = refl
+no_lines day (q ∷ qs) none a = absurd (omega (arith, none))

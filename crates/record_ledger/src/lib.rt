@@ -9,6 +9,7 @@
 //!   chosen and disposed of.
 //!
 //! In `specs/`, `Ledgers` says which archive a ledger stands for: over a history, one that the history explains.
+#![tactic(auto)]
 
 mod deeds;
 mod findings;

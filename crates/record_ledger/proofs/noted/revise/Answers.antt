@@ -1,7 +1,6 @@
 use Rattle.std.proofs.Common.{ap, ◌∙◌}
 use Rattle.record_archive.specs.Calls.{Quietly}
 use Rattle.record_archive.specs.Archive as archive
-use Rattle.record_archive.specs.Faults.{is_trouble}
 use Rattle.record_history.specs.Lines.{line_of}
 use Rattle.record_history.specs.Events.{PlanReplaced}
 use Rattle.record_ledger.proofs.CarryLemmas.{carried_out, found_open, not_open, refused_out}
@@ -17,15 +16,13 @@ pub returns-in_err-listing : goal.returns-in_err-listing
 returns-in_err-listing g c =
     let opened = c.ensure_open.ensures in
     let found = found_open g.S.Store c.args.noted.now c.ensure_open.new.self opened.stands opened.falls c.in_ok-ensure_open.ensures.open opened.crash in
-    refused_out g.S.Store c.args.noted.now c.ensure_open.new.self found _ _ _ _ c.from_residual-in_err-listing.ensures.0
-    c.from_residual-in_err-listing.ensures.1 (ap is_trouble c.from_residual-in_err-listing.ensures.2)
+    refused_out g.S.Store c.args.noted.now c.ensure_open.new.self found _ _ _ c.from_residual-in_err-listing.ensures.0 c.from_residual-in_err-listing.ensures.1
 
 pub returns-in_err-line : goal.returns-in_err-line
 returns-in_err-line g c =
     let opened = c.ensure_open.ensures in
     let found = found_open g.S.Store c.args.noted.now c.ensure_open.new.self opened.stands opened.falls c.in_ok-ensure_open.ensures.open opened.crash in
-    refused_out g.S.Store c.args.noted.now c.ensure_open.new.self found _ _ _ _ c.from_residual-in_err-line.ensures.0
-    c.from_residual-in_err-line.ensures.1 (ap is_trouble c.from_residual-in_err-line.ensures.2)
+    refused_out g.S.Store c.args.noted.now c.ensure_open.new.self found _ _ _ c.from_residual-in_err-line.ensures.0 c.from_residual-in_err-line.ensures.1
 
 pub returns : goal.returns
 returns g c =
