@@ -29,7 +29,8 @@ module _ {S X : Type 0} (g : Ghosts S) (old new : NotedStore S) (Answers : Archi
   tells_noted (Err f) reads = tt
 
 -- a command that is carried out
-module _ {A X E : Type 0} (k : Keeper A Archive) (old new : A) (command : Archive → Result Archive ArchiveRefusal) (Answers : Archive → X → Type 0) where
+module _ {A X E : Type 0} (k : Keeper A Archive) (old new : A) (command : Archive → Result Archive ArchiveRefusal)
+    (Answers : Archive → X → Type 0) where
   pub carried_done : (result : Result X (ArchiveFault E)) → CarriesOut k old new command Answers result
       → IfOk result (λ x. k.clean new → (a : Archive) → k.stands old a → Makes (k.stands new) (command a))
   carried_done (Ok x) c = λ clean a s. (c.does clean a s).0

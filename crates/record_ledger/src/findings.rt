@@ -30,7 +30,8 @@ impl<K: Clock> Occasion<'_, K> {
         message: u32,
         body: &[u8],
     ) -> Result<Vec<u8>, AllocError>
-        ensures { IfOk result (λ v. TellsOf self.now number (FoundMessage message (seal body.now)) v.items) }
+        ensures { IfOk result (λ v.
+            TellsOf self.now number (FoundMessage message (seal body.now)) v.items) }
     {
         let seal = seal_of(alloc, body)?;
         let deed = Deed::FoundMessage {
@@ -40,8 +41,8 @@ impl<K: Clock> Occasion<'_, K> {
         self.line_of(alloc, number, deed)
     }
 
-    /// The line of the event that a record was found. The day of its capture is told as 1970-01-01 where it is before that, as
-    /// no record of an archive has it. The only refusal is no memory (99).
+    /// The line of the event that a record was found. A day of capture before 1970-01-01, which no
+    /// record of an archive has, is told as 1970-01-01. The only refusal is no memory (99).
     pub fn record_found(
         &self,
         alloc: Global,
@@ -61,7 +62,8 @@ impl<K: Clock> Occasion<'_, K> {
         self.line_of(alloc, number, deed)
     }
 
-    /// The line of the event that a hold of a name on a record was found. The only refusal is no memory (99).
+    /// The line of the event that a hold of a name on a record was found. The only refusal is no
+    /// memory (99).
     pub fn hold_found(
         &self,
         alloc: Global,

@@ -11,8 +11,8 @@ use sqlite::Alter;
 use std::alloc::Global;
 use std::time::Clock;
 
-/// An archive that is changed on an occasion. Where its store keeps a history, each change and the line that tells of it are
-/// one transaction.
+/// An archive that is changed on an occasion. Where its store keeps a history, each change and the
+/// line that tells of it are one transaction.
 #[derive(Drop)]
 pub struct Ledger<'a, S: Alter, K: Clock> {
     pub(crate) alloc: Global,
@@ -22,8 +22,8 @@ pub struct Ledger<'a, S: Alter, K: Clock> {
 }
 
 impl<'a, S: Alter, K: Clock> Ledger<'a, S, K> {
-    /// An archive as it was opened, for changes on an occasion. What was opened is kept as it is, so the ledger stands for what
-    /// that stands for.
+    /// An archive as it was opened, for changes on an occasion. What was opened is kept as it is, so
+    /// the ledger stands for what that stands for.
     pub fn of(alloc: Global, opened: Opened<S>, occasion: Occasion<'a, K>) -> Ledger<'a, S, K>
         ensures kept { result.kept ≡ opened }
         ensures occasion { result.occasion ≡ occasion }

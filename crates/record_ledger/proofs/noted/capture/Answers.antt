@@ -20,25 +20,32 @@ returns-in_err-ensure_open g c =
 pub returns-in_err-seal : goal.returns-in_err-seal
 returns-in_err-seal g c =
     let opened = c.ensure_open.ensures in
-    let found = found_open g.S.Store c.args.noted.now c.ensure_open.new.self opened.stands opened.falls c.in_ok-ensure_open.ensures.open opened.crash in
-    refused_out g.S.Store c.args.noted.now c.ensure_open.new.self found _ _ _ c.from_residual-in_err-seal.ensures.0 c.from_residual-in_err-seal.ensures.1
+    let found = found_open g.S.Store c.args.noted.now c.ensure_open.new.self opened.stands opened.falls
+    c.in_ok-ensure_open.ensures.open opened.crash in
+    refused_out g.S.Store c.args.noted.now c.ensure_open.new.self found _ _ _ c.from_residual-in_err-seal.ensures.0
+    c.from_residual-in_err-seal.ensures.1
 
 pub returns-in_err-list : goal.returns-in_err-list
 returns-in_err-list g c =
     let opened = c.ensure_open.ensures in
-    let found = found_open g.S.Store c.args.noted.now c.ensure_open.new.self opened.stands opened.falls c.in_ok-ensure_open.ensures.open opened.crash in
-    refused_out g.S.Store c.args.noted.now c.ensure_open.new.self found _ _ _ c.from_residual-in_err-list.ensures.0 c.from_residual-in_err-list.ensures.1
+    let found = found_open g.S.Store c.args.noted.now c.ensure_open.new.self opened.stands opened.falls
+    c.in_ok-ensure_open.ensures.open opened.crash in
+    refused_out g.S.Store c.args.noted.now c.ensure_open.new.self found _ _ _ c.from_residual-in_err-list.ensures.0
+    c.from_residual-in_err-list.ensures.1
 
 pub returns-in_err-line : goal.returns-in_err-line
 returns-in_err-line g c =
     let opened = c.ensure_open.ensures in
-    let found = found_open g.S.Store c.args.noted.now c.ensure_open.new.self opened.stands opened.falls c.in_ok-ensure_open.ensures.open opened.crash in
-    refused_out g.S.Store c.args.noted.now c.ensure_open.new.self found _ _ _ c.from_residual-in_err-line.ensures.0 c.from_residual-in_err-line.ensures.1
+    let found = found_open g.S.Store c.args.noted.now c.ensure_open.new.self opened.stands opened.falls
+    c.in_ok-ensure_open.ensures.open opened.crash in
+    refused_out g.S.Store c.args.noted.now c.ensure_open.new.self found _ _ _ c.from_residual-in_err-line.ensures.0
+    c.from_residual-in_err-line.ensures.1
 
 pub returns : goal.returns
 returns g c =
     let opened = c.ensure_open.ensures in
-    let found = found_open g.S.Store c.args.noted.now c.ensure_open.new.self opened.stands opened.falls c.in_ok-ensure_open.ensures.open opened.crash in
+    let found = found_open g.S.Store c.args.noted.now c.ensure_open.new.self opened.stands opened.falls
+    c.in_ok-ensure_open.ensures.open opened.crash in
     let note = c.in_ok-line.ensures in
     let done = c.capture-lines.ensures in
     let filing = option_map filing_view c.args.occasion.now.filing in
@@ -56,7 +63,8 @@ returns g c =
 pub returns-then-is_empty : goal.returns-then-is_empty
 returns-then-is_empty g c =
     let opened = c.ensure_open.ensures in
-    let found = found_open g.S.Store c.args.noted.now c.ensure_open.new.self opened.stands opened.falls c.in_ok-ensure_open.ensures.open opened.crash in
+    let found = found_open g.S.Store c.args.noted.now c.ensure_open.new.self opened.stands opened.falls
+    c.in_ok-ensure_open.ensures.open opened.crash in
     let none : length c.args.paths.now ≡ 0 = grind (arith, nat_tests, ap length c.as_slice.ensures, c.is_empty.ensures, c.if-is_empty.true) in
     nothing_out g.S.Store c.args.noted.now c.ensure_open.new.self found
     (λ a. archive.capture a c.args.body.now (number_of_day c.args.day) c.args.paths.now)

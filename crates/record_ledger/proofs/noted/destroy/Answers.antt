@@ -20,7 +20,8 @@ returns-in_err-ensure_open g c =
 pub returns-in_err-schedule : goal.returns-in_err-schedule
 returns-in_err-schedule g c =
     let opened = c.ensure_open.ensures in
-    let found = found_open g.S.Store c.args.noted.now c.ensure_open.new.self opened.stands opened.falls c.in_ok-ensure_open.ensures.open opened.crash in
+    let found = found_open g.S.Store c.args.noted.now c.ensure_open.new.self opened.stands opened.falls
+    c.in_ok-ensure_open.ensures.open opened.crash in
     refused_by g.S.Store c.args.noted.now c.ensure_open.new.self c.schedule_of.new.self found (IsScheduleOfRecord c.args.number)
     (LacksRecord c.args.number) c.in_err-schedule.field-0.0 c.in_err-schedule.ensures.reads
     (λ a. archive.destroy_on a c.args.number (epoch_day c.args.day)) (no_record c.args.number (epoch_day c.args.day)) Quietly _
@@ -29,16 +30,19 @@ returns-in_err-schedule g c =
 pub returns-in_err-line : goal.returns-in_err-line
 returns-in_err-line g c =
     let opened = c.ensure_open.ensures in
-    let found = found_open g.S.Store c.args.noted.now c.ensure_open.new.self opened.stands opened.falls c.in_ok-ensure_open.ensures.open opened.crash in
+    let found = found_open g.S.Store c.args.noted.now c.ensure_open.new.self opened.stands opened.falls
+    c.in_ok-ensure_open.ensures.open opened.crash in
     let still =
     open_still g.S.Store c.args.noted.now c.ensure_open.new.self c.schedule_of.new.self found (IsScheduleOfRecord c.args.number)
     (LacksRecord c.args.number) c.schedule_of.result c.schedule_of.ensures.reads c.in_ok-schedule.ensures.open in
-    refused_out g.S.Store c.args.noted.now c.schedule_of.new.self still _ _ _ c.from_residual-in_err-line.ensures.0 c.from_residual-in_err-line.ensures.1
+    refused_out g.S.Store c.args.noted.now c.schedule_of.new.self still _ _ _ c.from_residual-in_err-line.ensures.0
+    c.from_residual-in_err-line.ensures.1
 
 pub returns : goal.returns
 returns g c =
     let opened = c.ensure_open.ensures in
-    let found = found_open g.S.Store c.args.noted.now c.ensure_open.new.self opened.stands opened.falls c.in_ok-ensure_open.ensures.open opened.crash in
+    let found = found_open g.S.Store c.args.noted.now c.ensure_open.new.self opened.stands opened.falls
+    c.in_ok-ensure_open.ensures.open opened.crash in
     let still =
     open_still g.S.Store c.args.noted.now c.ensure_open.new.self c.schedule_of.new.self found (IsScheduleOfRecord c.args.number)
     (LacksRecord c.args.number) c.schedule_of.result c.schedule_of.ensures.reads c.in_ok-schedule.ensures.open in

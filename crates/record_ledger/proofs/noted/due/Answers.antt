@@ -14,7 +14,8 @@ returns-in_err-ensure_open g c =
 pub returns : goal.returns
 returns g c =
     let opened = c.ensure_open.ensures in
-    let found = found_open g.S.Store c.args.noted.now c.ensure_open.new.self opened.stands opened.falls c.in_ok-ensure_open.ensures.open opened.crash in
+    let found = found_open g.S.Store c.args.noted.now c.ensure_open.new.self opened.stands opened.falls
+    c.in_ok-ensure_open.ensures.open opened.crash in
     read_out g.S.Store c.args.noted.now c.ensure_open.new.self c.due-lines.new.self found
     (λ a lines. map line_view lines.items ≡ due_list_on a (epoch_day c.args.day)) c.is_idle-idle.ensures.left c.due-lines.result
     c.due-lines.ensures.reads c.due-lines.ensures.open

@@ -15,22 +15,28 @@ returns-in_err-ensure_open g c =
 pub returns-in_err-listing : goal.returns-in_err-listing
 returns-in_err-listing g c =
     let opened = c.ensure_open.ensures in
-    let found = found_open g.S.Store c.args.noted.now c.ensure_open.new.self opened.stands opened.falls c.in_ok-ensure_open.ensures.open opened.crash in
-    refused_out g.S.Store c.args.noted.now c.ensure_open.new.self found _ _ _ c.from_residual-in_err-listing.ensures.0 c.from_residual-in_err-listing.ensures.1
+    let found = found_open g.S.Store c.args.noted.now c.ensure_open.new.self opened.stands opened.falls
+    c.in_ok-ensure_open.ensures.open opened.crash in
+    refused_out g.S.Store c.args.noted.now c.ensure_open.new.self found _ _ _ c.from_residual-in_err-listing.ensures.0
+    c.from_residual-in_err-listing.ensures.1
 
 pub returns-in_err-line : goal.returns-in_err-line
 returns-in_err-line g c =
     let opened = c.ensure_open.ensures in
-    let found = found_open g.S.Store c.args.noted.now c.ensure_open.new.self opened.stands opened.falls c.in_ok-ensure_open.ensures.open opened.crash in
-    refused_out g.S.Store c.args.noted.now c.ensure_open.new.self found _ _ _ c.from_residual-in_err-line.ensures.0 c.from_residual-in_err-line.ensures.1
+    let found = found_open g.S.Store c.args.noted.now c.ensure_open.new.self opened.stands opened.falls
+    c.in_ok-ensure_open.ensures.open opened.crash in
+    refused_out g.S.Store c.args.noted.now c.ensure_open.new.self found _ _ _ c.from_residual-in_err-line.ensures.0
+    c.from_residual-in_err-line.ensures.1
 
 pub returns : goal.returns
 returns g c =
     let opened = c.ensure_open.ensures in
-    let found = found_open g.S.Store c.args.noted.now c.ensure_open.new.self opened.stands opened.falls c.in_ok-ensure_open.ensures.open opened.crash in
+    let found = found_open g.S.Store c.args.noted.now c.ensure_open.new.self opened.stands opened.falls
+    c.in_ok-ensure_open.ensures.open opened.crash in
     let note = c.in_ok-line.ensures in
     let done = c.revise-done.ensures in
-    carried_out g.S.Store c.args.noted.now c.ensure_open.new.self c.revise-done.new.self found (λ a. archive.revise a c.args.plan) Quietly c.as_slice.result.now
+    carried_out g.S.Store c.args.noted.now c.ensure_open.new.self c.revise-done.new.self found (λ a. archive.revise a c.args.plan)
+    Quietly c.as_slice.result.now
     c.is_idle-idle.ensures.left c.revise-done.result done.notes
     (done.told note.event (record {
       line_is = c.as_slice.ensures.value ∙ note.line_is ∙ ap (λ n. line_of n note.event) c.next.ensures;

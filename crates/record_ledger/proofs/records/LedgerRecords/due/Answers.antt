@@ -10,11 +10,13 @@ use Rattle.record_ledger.proofs.records.LedgerRecords.due.Goals as goal
 pub returns-in-Plain : goal.returns-in-Plain
 returns-in-Plain g c =
     plain_out g.S.Store unchanged
-    (λ a lines. map line_view lines.items ≡ due_list_on a (epoch_day c.args.day)) c.args.self.now (record c.args.self.now { kept = Plain c.due.new.self }) _ c.due.new.self
+    (λ a lines. map line_view lines.items ≡ due_list_on a (epoch_day c.args.day))
+    c.args.self.now (record c.args.self.now { kept = Plain c.due.new.self }) _ c.due.new.self
     c.due.result c.in-Plain.is refl c.due.ensures
 
 pub returns-in-Noted : goal.returns-in-Noted
 returns-in-Noted g c =
     noted_out g.S.Store unchanged
-    (λ a lines. map line_view lines.items ≡ due_list_on a (epoch_day c.args.day)) c.args.self.now (record c.args.self.now { kept = Noted c.due-in-Noted.new.noted }) _ c.due-in-Noted.new.noted
+    (λ a lines. map line_view lines.items ≡ due_list_on a (epoch_day c.args.day))
+    c.args.self.now (record c.args.self.now { kept = Noted c.due-in-Noted.new.noted }) _ c.due-in-Noted.new.noted
     c.due-in-Noted.result c.in-Noted.is refl c.due-in-Noted.ensures

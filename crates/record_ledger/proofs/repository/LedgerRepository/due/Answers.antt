@@ -16,4 +16,5 @@ returns-in-Noted-clause-reads g c =
     record { stands = rw c.in-Noted.is reads.stands; falls = rw c.in-Noted.is reads.falls }
 
 pub returns-in-Noted-clause-told : goal.returns-in-Noted-clause-told
-returns-in-Noted-clause-told g c = rw c.in-Noted.is (tells_noted g.S.Store _ c.due-in-Noted.new.self _ _ c.due-in-Noted.result c.due-in-Noted.ensures.reads)
+returns-in-Noted-clause-told g c = rw c.in-Noted.is (tells_noted g.S.Store _ c.due-in-Noted.new.self _ _
+    c.due-in-Noted.result c.due-in-Noted.ensures.reads)

@@ -16,4 +16,5 @@ returns-in-Noted-clause-reads g c =
     record { stands = rw c.in-Noted.is reads.stands; falls = rw c.in-Noted.is reads.falls }
 
 pub returns-in-Noted-clause-told : goal.returns-in-Noted-clause-told
-returns-in-Noted-clause-told g c = rw c.in-Noted.is (tells_noted g.S.Store _ c.entry-in-Noted.new.self _ _ c.entry-in-Noted.result c.entry-in-Noted.ensures)
+returns-in-Noted-clause-told g c = rw c.in-Noted.is (tells_noted g.S.Store _ c.entry-in-Noted.new.self _ _
+    c.entry-in-Noted.result c.entry-in-Noted.ensures)

@@ -6,4 +6,5 @@ use Rattle.record_ledger.proofs.repository.LedgerRepository.is_shared.Goals as g
 
 pub returns : goal.returns
 returns g c = λ (a : Archive) (r : Record) s found live same.
-    c.is_shared.ensures a r (subst (λ x. StandsFor g.S.Store x a) (sym c.store.ensures) (kept_stands g.S.Store c.args.self.now.kept a s)) found live same
+    c.is_shared.ensures a r (subst (λ x. StandsFor g.S.Store x a) (sym c.store.ensures) (kept_stands g.S.Store c.args.self.now.kept a s))
+    found live same
