@@ -26,7 +26,7 @@ impl<'a, S: Alter, K: Clock> Ledger<'a, S, K> {
     /// the ledger stands for what that stands for.
     pub fn of(alloc: Global, opened: Opened<S>, occasion: Occasion<'a, K>) -> Ledger<'a, S, K>
         ensures kept { result.kept ≡ opened }
-        ensures occasion { result.occasion ≡ occasion }
+        ensures occasion { result.occasion ≡ occasion.entry }
     {
         Ledger {
             alloc,

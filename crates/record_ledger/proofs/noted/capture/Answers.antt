@@ -1,13 +1,12 @@
-use Rattle.std.proofs.Common.{◌≡◌, ◌∙◌, ap, sym, refl, arith, ℕ, List, [], map, Ok, Option, option_map}
+use Rattle.std.proofs.Common.{◌≡◌, ◌∙◌, ap, arith, map, option_map}
 use Rattle.std.proofs.Common.{length}
 use Rattle.std.proofs.lemmas.Bool.Decides.{nat_tests}
 use Rattle.class_plan.specs.Calendar.{number_of_day}
 use Rattle.record_archive.specs.Archive as archive
-use Rattle.record_archive.specs.Archive.{Archive}
 use Rattle.record_archive.specs.Lines.{line_view}
-use Rattle.record_history.specs.Events.{Captured, Seal}
+use Rattle.record_history.specs.Events.{Captured}
 use Rattle.record_history.specs.Lines.{line_of}
-use Rattle.record_history.specs.Views.{filing_view, seal_view}
+use Rattle.record_history.specs.Views.{filing_view}
 use Rattle.record_ledger.proofs.CarryLemmas.{carried_out, found_open, not_open, nothing_out, refused_out, no_paths, no_lines}
 use Rattle.record_ledger.proofs.noted.capture.Goals as goal
 
@@ -70,4 +69,4 @@ returns-then-is_empty g c =
     (λ a. archive.capture a c.args.body.now (number_of_day c.args.day) c.args.paths.now)
     (λ a lines. map line_view lines.items ≡ archive.capture_lines a (number_of_day c.args.day) c.args.paths.now)
     c.is_idle-idle.ensures.left (no_paths c.args.body.now (number_of_day c.args.day) c.args.paths.now none) c.new.result
-    (λ a. ap (map line_view) c.new.ensures ∙ no_lines (number_of_day c.args.day) c.args.paths.now none a)
+    (λ a. ap (map line_view) c.new.ensures.items ∙ no_lines (number_of_day c.args.day) c.args.paths.now none a)

@@ -1,10 +1,9 @@
-use Rattle.std.proofs.Common.{◌≡◌, ◌∙◌, ap, sym, None, Err}
+use Rattle.std.proofs.Common.{◌∙◌, ap}
 use Rattle.std.specs.Option.{unwrap_or}
 use Rattle.jiff.specs.Words.{epoch_day}
 use Rattle.record_archive.specs.Archive as archive
-use Rattle.record_archive.specs.Archive.{Archive, from_1970}
+use Rattle.record_archive.specs.Archive.{from_1970}
 use Rattle.record_archive.specs.Calls.{Quietly}
-use Rattle.record_archive.specs.declared.fault.ArchiveRefusal.{ArchiveRefusal}
 use Rattle.record_history.specs.Lines.{line_of}
 use Rattle.record_store.specs.Stores.{LacksRecord}
 use Rattle.record_noted.specs.Readings.{IsScheduleOfRecord}

@@ -1,5 +1,5 @@
 use Rattle.std.proofs.Common.{◌≡◌, ◌∙◌, ap, refl, ℕ, List, [], Result, Ok, Err, IfOk}
-use Rattle.record_history.specs.Events.{Deed, Event}
+use Rattle.record_history.specs.Events.{Event}
 use Rattle.record_history.specs.Lines as lines
 use Rattle.record_history.specs.Spelled.{IsSpelled}
 use Rattle.record_history.specs.Views.{deed_view}

@@ -1,4 +1,4 @@
-use Rattle.std.proofs.Common.{◌≡◌, sym, subst}
+use Rattle.std.proofs.Common.{sym, subst}
 use Rattle.record_archive.specs.Archive.{Archive, Record}
 use Rattle.record_store.specs.Stores.{StandsFor}
 use Rattle.record_ledger.specs.Ledgers.{kept_stands}
