@@ -1,5 +1,5 @@
 -- What the store of a ledger does, with or without a history, the ledger does.
-use Rattle.std.proofs.Common.{◌≡◌, ◌⊎◌, inl, inr, sym, subst, Result, Ok, Err}
+use Rattle.std.proofs.Common.{◌≡◌, ◌⊎◌, sym, subst, Result, Ok, Err}
 use Rattle.sqlite.specs.Store.{Ghosts}
 use Rattle.sqlite.specs.State.{HasCleanDisk}
 use Rattle.sqlite.specs.Held.{state}
@@ -14,23 +14,24 @@ use Rattle.record_noted.specs.Histories.{StandsTold}
 use Rattle.record_noted.specs.Keepers as noted
 use Rattle.record_noted.specs.declared.store.NotedStore.{NotedStore}
 use Rattle.record_ledger.specs.Ledgers.{store_of, KeptFor, LedgerFate, PlainFate, NotedFate, MayMeetKept, LedgerFateKeeps, keeper_of}
-use Rattle.record_ledger.specs.declared.ledger.Kept.{Kept}
-use Rattle.record_ledger.specs.declared.ledger.Kept.TheVariants.{Plain, Noted}
+use Rattle.record_noted.specs.declared.opening.Opened.{Opened}
+use Rattle.record_noted.specs.declared.opening.Opened.TheVariants.{Plain, Noted}
 use Rattle.record_ledger.specs.declared.ledger.Ledger.{Ledger}
 
-module _ {S X : Type 0} (g : Ghosts S) (command : Archive → Result Archive ArchiveRefusal) (Answers : Archive → X → Type 0) where
-  kept_keeper : Keeper (Kept S) Archive
-  kept_keeper = record {
-    clean = λ k. HasCleanDisk (state g (store_of k).conn);
-    stands = KeptFor g;
-    remains = LedgerFate;
-    may_leave = MayMeetKept g;
-    keeps = LedgerFateKeeps;
-  }
+-- how what is opened keeps an archive
+abbrev kept_keeper : {S : Type 0} → Ghosts S → Keeper (Opened S) Archive
+kept_keeper g = record {
+  clean = λ k. HasCleanDisk (state g (store_of k).conn);
+  stands = KeptFor g;
+  remains = LedgerFate;
+  may_leave = MayMeetKept g;
+  keeps = LedgerFateKeeps;
+}
 
+module _ {S X : Type 0} (g : Ghosts S) (command : Archive → Result Archive ArchiveRefusal) (Answers : Archive → X → Type 0) where
   -- without a history
   plain_kept : (s t : Store S) (result : Result X StoreFault) → CarriesOut (stores.keeper_of g) s t command Answers result
-      → CarriesOut kept_keeper (Plain s) (Plain t) command Answers result
+      → CarriesOut (kept_keeper g) (Plain s) (Plain t) command Answers result
   plain_kept s t result done = go result done
     where
       crash : ((a : Archive) → HasCleanDisk (state g t.conn) → stores.StandsFor g s a → (f : Fate) → MayMeetKept g (Plain t) (PlainFate f)
@@ -48,7 +49,7 @@ module _ {S X : Type 0} (g : Ghosts S) (command : Archive → Result Archive Arc
       kept h clean a there (NotedFate f) may = absurd may
 
       go : (r : Result X StoreFault) → CarriesOut (stores.keeper_of g) s t command Answers r
-          → CarriesOut kept_keeper (Plain s) (Plain t) command Answers r
+          → CarriesOut (kept_keeper g) (Plain s) (Plain t) command Answers r
       go (Ok x) c = record {
         was_clean = c.was_clean;
         does = c.does;
@@ -64,7 +65,7 @@ module _ {S X : Type 0} (g : Ghosts S) (command : Archive → Result Archive Arc
 
   -- with a history
   noted_kept : (s t : NotedStore S) (result : Result X StoreFault) → CarriesOut (noted.keeper_of g) s t command Answers result
-      → CarriesOut kept_keeper (Noted s) (Noted t) command Answers result
+      → CarriesOut (kept_keeper g) (Noted s) (Noted t) command Answers result
   noted_kept s t result done = go result done
     where
       crash : ((a : Archive) → HasCleanDisk (state g t.store.conn) → StandsTold g s a → (f : Fate) → MayMeetKept g (Noted t) (NotedFate f)
@@ -82,7 +83,7 @@ module _ {S X : Type 0} (g : Ghosts S) (command : Archive → Result Archive Arc
       kept h clean a there (PlainFate f) may = absurd may
 
       go : (r : Result X StoreFault) → CarriesOut (noted.keeper_of g) s t command Answers r
-          → CarriesOut kept_keeper (Noted s) (Noted t) command Answers r
+          → CarriesOut (kept_keeper g) (Noted s) (Noted t) command Answers r
       go (Ok x) c = record {
         was_clean = c.was_clean;
         does = c.does;
@@ -97,7 +98,7 @@ module _ {S X : Type 0} (g : Ghosts S) (command : Archive → Result Archive Arc
       }
 
   -- the ledger beside its occasion
-  kept_out : {K : Type 0} (old new : Ledger S K) (result : Result X StoreFault) → CarriesOut kept_keeper old.kept new.kept command Answers result
+  kept_out : {K : Type 0} (old new : Ledger S K) (result : Result X StoreFault) → CarriesOut (kept_keeper g) old.kept new.kept command Answers result
       → CarriesOut (keeper_of g) old new command Answers result
   kept_out old new (Ok x) c = record { was_clean = c.was_clean; does = c.does; crash = c.crash; kept = c.kept }
   kept_out old new (Err e) c = record { was_clean = c.was_clean; does = c.does; crash = c.crash; kept = tt }
@@ -105,11 +106,11 @@ module _ {S X : Type 0} (g : Ghosts S) (command : Archive → Result Archive Arc
   pub plain_out : {K : Type 0} (old new : Ledger S K) (s t : Store S) (result : Result X StoreFault) → old.kept ≡ Plain s → new.kept ≡ Plain t
       → CarriesOut (stores.keeper_of g) s t command Answers result → CarriesOut (keeper_of g) old new command Answers result
   plain_out old new s t result was is c =
-      let P : Kept S → Kept S → Type 0 = λ k m. CarriesOut kept_keeper k m command Answers result in
+      let P : Opened S → Opened S → Type 0 = λ k m. CarriesOut (kept_keeper g) k m command Answers result in
       kept_out old new result (subst (λ m. P old.kept m) (sym is) (subst (λ k. P k (Plain t)) (sym was) (plain_kept s t result c)))
 
   pub noted_out : {K : Type 0} (old new : Ledger S K) (s t : NotedStore S) (result : Result X StoreFault) → old.kept ≡ Noted s
       → new.kept ≡ Noted t → CarriesOut (noted.keeper_of g) s t command Answers result → CarriesOut (keeper_of g) old new command Answers result
   noted_out old new s t result was is c =
-      let P : Kept S → Kept S → Type 0 = λ k m. CarriesOut kept_keeper k m command Answers result in
+      let P : Opened S → Opened S → Type 0 = λ k m. CarriesOut (kept_keeper g) k m command Answers result in
       kept_out old new result (subst (λ m. P old.kept m) (sym is) (subst (λ k. P k (Noted t)) (sym was) (noted_kept s t result c)))

@@ -9,21 +9,21 @@ use Rattle.record_store.specs.Stores.{StandsFor, Fate, FateKeeps, MayMeet}
 use Rattle.record_store.specs.declared.store.Store.{Store}
 use Rattle.record_noted.specs.Histories.{StandsTold}
 use Rattle.record_noted.specs.Keepers.{FateTold}
-use Rattle.record_ledger.specs.declared.ledger.Kept.{Kept}
-use Rattle.record_ledger.specs.declared.ledger.Kept.TheVariants.{Plain, Noted}
+use Rattle.record_noted.specs.declared.opening.Opened.{Opened}
+use Rattle.record_noted.specs.declared.opening.Opened.TheVariants.{Plain, Noted}
 use Rattle.record_ledger.specs.declared.ledger.Ledger.{Ledger}
 
-abbrev pub store_of : {S : Type 0} → Kept S → Store S
+abbrev pub store_of : {S : Type 0} → Opened S → Store S
 store_of (Plain s) = s
 store_of (Noted n) = n.store
 
-abbrev pub keeps_history : {S : Type 0} → Kept S → Bool
+abbrev pub keeps_history : {S : Type 0} → Opened S → Bool
 keeps_history (Plain s) = false
 keeps_history (Noted n) = true
 
 -- A ledger without a history stands for what its store stands for. One with a history stands for an archive that the history
 -- explains.
-abbrev pub KeptFor : {S : Type 0} → Ghosts S → Kept S → Archive → Type 0
+abbrev pub KeptFor : {S : Type 0} → Ghosts S → Opened S → Archive → Type 0
 KeptFor g (Plain s) a = StandsFor g s a
 KeptFor g (Noted n) a = StandsTold g n a
 
@@ -32,7 +32,7 @@ pub data LedgerFate : Type 0 where
   PlainFate : Fate → LedgerFate
   NotedFate : Fate → LedgerFate
 
-abbrev pub MayMeetKept : {S : Type 0} → Ghosts S → Kept S → LedgerFate → Type 0
+abbrev pub MayMeetKept : {S : Type 0} → Ghosts S → Opened S → LedgerFate → Type 0
 MayMeetKept g (Plain s) (PlainFate f) = MayMeet g s f
 MayMeetKept g (Noted n) (NotedFate f) = MayMeet g n.store f
 MayMeetKept g (Plain s) (NotedFate f) = ⊥
@@ -53,11 +53,14 @@ keeper_of g = record {
   keeps = LedgerFateKeeps;
 }
 
--- the plan beside the records is the archive's
-pub kept_plan : {S : Type 0} (g : Ghosts S) (k : Kept S) (a : Archive) → KeptFor g k a → (store_of k).plan ≡ a.plan
-kept_plan g (Plain s) a stands = stands.plan
-kept_plan g (Noted n) a stands = stands.1.stands.plan
+-- the store itself stands for the archive
+pub kept_stands : {S : Type 0} (g : Ghosts S) (k : Opened S) (a : Archive) → KeptFor g k a → StandsFor g (store_of k) a
+kept_stands g (Plain s) a stands = stands
+kept_stands g (Noted n) a stands = stands.1.stands
 
-pub kept_archive : {S : Type 0} (g : Ghosts S) (k : Kept S) (a : Archive) → KeptFor g k a → IsArchive a
-kept_archive g (Plain s) a stands = stands.archive
-kept_archive g (Noted n) a stands = stands.1.stands.archive
+-- the plan beside the records is the archive's
+pub kept_plan : {S : Type 0} (g : Ghosts S) (k : Opened S) (a : Archive) → KeptFor g k a → (store_of k).plan ≡ a.plan
+kept_plan g k a kept = (kept_stands g k a kept).plan
+
+pub kept_archive : {S : Type 0} (g : Ghosts S) (k : Opened S) (a : Archive) → KeptFor g k a → IsArchive a
+kept_archive g k a kept = (kept_stands g k a kept).archive

@@ -1,9 +1,9 @@
 //! The deeds that changes are noted by.
 
-ghost use Rattle.std.specs.Prelude.{◌≡◌, ◌≤◌, ℕ, pos, map, IfOk};
-ghost use Rattle.jiff.specs.Words.{epoch_day};
+ghost use Rattle.std.specs.Prelude.{◌≡◌, ◌≤◌, map, IfOk};
 ghost use Rattle.class_plan.specs.Calendar.{number_of_day};
 ghost use Rattle.class_plan.specs.Dates.{IsCaptureDay};
+ghost use Rattle.record_ledger.specs.Notes.{number_since_1970 as number_since};
 
 use class_paths::Paths;
 use class_plan::{Date, day_number};
@@ -19,8 +19,8 @@ pub(crate) fn capture_number(day: Date) -> u32
 }
 
 /// The number of a day from 1970-01-01 on; 0 for a day before it, by which nothing is destroyed.
-pub(crate) fn disposal_number(day: Date) -> u32
-    ensures number { (n : ℕ) → epoch_day day ≡ pos n → result ≡ n }
+pub(crate) fn number_since_1970(day: Date) -> u32
+    ensures number { result ≡ number_since day }
     ensures small { result ≤ 2932896 }
 {
     let number = day_number(day);

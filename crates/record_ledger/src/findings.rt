@@ -1,29 +1,22 @@
 //! The lines of what is found where a history begins.
 
-ghost use Rattle.std.specs.Prelude.{◌≡◌, ◌≤◌, IfOk};
-ghost use Rattle.record_history.specs.Events as plain;
-ghost use Rattle.record_history.specs.Lines.{line_of};
+ghost use Rattle.std.specs.Prelude.{IfOk};
+ghost use Rattle.record_history.specs.Events.{FoundHold, FoundMessage, FoundPlan, FoundRecord};
 ghost use Rattle.record_history.specs.Replay.{seal};
+ghost use Rattle.record_ledger.specs.Notes.{TellsOf, found_record};
 
+use crate::deeds::number_since_1970;
 use crate::occasion::Occasion;
-use class_plan::{Date, Plan, day_number};
+use class_plan::Plan;
 use record_choice::RecordEntry;
-use record_history::{Deed, LAST_DAY, Listing, seal_of};
+use record_history::{Deed, Listing, seal_of};
 use std::alloc::{AllocError, Global};
 use std::time::Clock;
-
-/// The number of a day of 1970 to 9999, from 1970-01-01 on; of any other day, that of the nearest one of these.
-fn number_found(day: Date) -> u32
-    ensures { result ≤ 2932896 }
-{
-    u32::try_from(day_number(day)).unwrap_or(0).min(LAST_DAY)
-}
 
 impl<K: Clock> Occasion<'_, K> {
     /// The line of the event that a plan was found. The only refusal is no memory (99).
     pub fn plan_found(&self, alloc: Global, number: u32, plan: &Plan) -> Result<Vec<u8>, AllocError>
-        ensures { IfOk result (λ v. (e : plain.Event) × (v.items ≡ line_of number e)
-            × (e.deed ≡ plain.FoundPlan plan.now)) }
+        ensures { IfOk result (λ v. TellsOf self.now number (FoundPlan plan.now) v.items) }
     {
         let listing = Listing::of(alloc, plan)?;
         self.line_of(alloc, number, Deed::FoundPlan(listing))
@@ -37,8 +30,8 @@ impl<K: Clock> Occasion<'_, K> {
         message: u32,
         body: &[u8],
     ) -> Result<Vec<u8>, AllocError>
-        ensures { IfOk result (λ v. (e : plain.Event) × (v.items ≡ line_of number e)
-            × (e.deed ≡ plain.FoundMessage message (seal body.now))) }
+        ensures { IfOk result (λ v.
+            TellsOf self.now number (FoundMessage message (seal body.now)) v.items) }
     {
         let seal = seal_of(alloc, body)?;
         let deed = Deed::FoundMessage {
@@ -48,24 +41,29 @@ impl<K: Clock> Occasion<'_, K> {
         self.line_of(alloc, number, deed)
     }
 
-    /// The line of the event that a record was found. The only refusal is no memory (99).
+    /// The line of the event that a record was found. A day of capture before 1970-01-01, which no
+    /// record of an archive has, is told as 1970-01-01. The only refusal is no memory (99).
     pub fn record_found(
         &self,
         alloc: Global,
         number: u32,
         entry: &RecordEntry,
-    ) -> Result<Vec<u8>, AllocError> {
+    ) -> Result<Vec<u8>, AllocError>
+        ensures { IfOk result (λ v.
+            TellsOf self.now number (FoundRecord (found_record entry.now)) v.items) }
+    {
         let deed = Deed::FoundRecord {
             number: entry.number,
             message: entry.message,
             path: entry.path.as_slice(),
-            day: number_found(entry.day),
+            day: number_since_1970(entry.day),
             destroyed: entry.destroyed,
         };
         self.line_of(alloc, number, deed)
     }
 
-    /// The line of the event that a hold of a name on a record was found. The only refusal is no memory (99).
+    /// The line of the event that a hold of a name on a record was found. The only refusal is no
+    /// memory (99).
     pub fn hold_found(
         &self,
         alloc: Global,
@@ -73,8 +71,7 @@ impl<K: Clock> Occasion<'_, K> {
         name: &[u8],
         on: u32,
     ) -> Result<Vec<u8>, AllocError>
-        ensures { IfOk result (λ v. (e : plain.Event) × (v.items ≡ line_of number e)
-            × (e.deed ≡ plain.FoundHold name.now on)) }
+        ensures { IfOk result (λ v. TellsOf self.now number (FoundHold name.now on) v.items) }
     {
         let deed = Deed::FoundHold { name, number: on };
         self.line_of(alloc, number, deed)

@@ -19,5 +19,5 @@ mod occasion;
 mod records;
 mod repository;
 
-pub use ledger::{Kept, Ledger};
+pub use ledger::Ledger;
 pub use occasion::Occasion;

@@ -11,7 +11,7 @@ ghost use Rattle.record_archive.specs.Calls.{CarriesOut, Quietly, unchanged};
 ghost use Rattle.record_archive.specs.Lines.{line_view};
 ghost use Rattle.record_noted.specs.Keepers.{keeper_of};
 
-use crate::deeds::{capture_number, disposal_number, path_list};
+use crate::deeds::{capture_number, number_since_1970, path_list};
 use crate::occasion::Occasion;
 use class_paths::Paths;
 use class_plan::{Date, Plan};
@@ -111,12 +111,14 @@ pub(crate) fn capture<S: Alter, K: Clock>(
         let _idle = noted.is_idle();
         return Ok(Vec::new(alloc));
     }
+    let seal = seal_of(alloc, body)?;
+    let list = path_list(alloc, paths)?;
     let deed = Deed::Captured {
         first: noted.next_record(),
-        seal: seal_of(alloc, body)?,
+        seal,
         day: capture_number(day),
         filing: occasion.filing,
-        paths: path_list(alloc, paths)?,
+        paths: list,
     };
     let line = occasion.line_of(alloc, noted.next(), deed)?;
     let lines = noted.capture(line.as_slice(), body, day, paths);
@@ -145,10 +147,11 @@ pub(crate) fn destroy<S: Alter, K: Clock>(
         (λ a. archive.destroy_on a number (epoch_day day)) Quietly result }
 {
     noted.ensure_open()?;
+    let schedule = noted.schedule_of(number)?;
     let deed = Deed::Destroyed {
         number,
-        day: disposal_number(day),
-        schedule: noted.schedule_of(number)?,
+        day: number_since_1970(day),
+        schedule,
     };
     let line = occasion.line_of(alloc, noted.next(), deed)?;
     let done = noted.destroy(line.as_slice(), number, day);

@@ -1,10 +1,9 @@
 //! Occasions of changes.
 
-ghost use Rattle.std.specs.Prelude.{◌≡◌, ◌≤◌, IfOk};
-ghost use Rattle.record_history.specs.Events as plain;
-ghost use Rattle.record_history.specs.Lines.{line_of};
-ghost use Rattle.record_history.specs.Spelled.{IsSpelledDeed};
+ghost use Rattle.std.specs.Prelude.{IfOk};
+ghost use Rattle.record_history.specs.Spelled.{IsMoment, IsSpelledDeed};
 ghost use Rattle.record_history.specs.Views.{deed_view};
+ghost use Rattle.record_ledger.specs.Notes.{TellsOf};
 
 use record_history::{Deed, Event, Filing, LAST_MOMENT, event_line};
 use std::alloc::{AllocError, Global};
@@ -36,7 +35,7 @@ fn moment_of<K: Clock>(clock: &K) -> Option<u64> {
 impl<K: Clock> Occasion<'_, K> {
     /// The moment of a change that is made now, at most 9999-12-31T23:59:59Z.
     fn moment(&self) -> u64
-        ensures { result ≤ 253402300799 }
+        ensures { IsMoment result }
     {
         moment_of(self.clock).unwrap_or(self.begun).min(LAST_MOMENT)
     }
@@ -49,8 +48,7 @@ impl<K: Clock> Occasion<'_, K> {
         deed: Deed<'_>,
     ) -> Result<Vec<u8>, AllocError>
         requires { IsSpelledDeed (deed_view deed) }
-        ensures { IfOk result (λ v. (e : plain.Event) × (v.items ≡ line_of number e)
-            × (e.deed ≡ deed_view deed.entry)) }
+        ensures { IfOk result (λ v. TellsOf self.now number (deed_view deed.entry) v.items) }
     {
         let event = Event {
             moment: self.moment(),

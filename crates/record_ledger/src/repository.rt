@@ -4,11 +4,11 @@ ghost use Rattle.sqlite.specs.State.{HasCleanDisk};
 ghost use Rattle.sqlite.specs.Held.{state};
 ghost use Rattle.record_ledger.specs.Ledgers.{KeptFor, store_of, kept_archive};
 
-use crate::ledger::{Kept, Ledger};
-use crate::noted;
+use crate::ledger::Ledger;
 use class_plan::{Date, Plan};
-use record_archive::Line;
+use record_archive::{Line, Records};
 use record_choice::{RecordEntry, Repository};
+use record_noted::Opened;
 use record_store::StoreFault;
 use sqlite::Alter;
 use std::time::Clock;
@@ -30,37 +30,34 @@ impl<S: Alter, K: Clock> Repository for Ledger<'_, S, K> {
 
     fn entries(&mut self, from: u32, most: usize) -> Result<Vec<RecordEntry>, StoreFault> {
         match &mut self.kept {
-            Kept::Plain(store) => store.entries(from, most),
-            Kept::Noted(noted) => noted.entries(from, most),
+            Opened::Plain(store) => Repository::entries(store, from, most),
+            Opened::Noted(noted) => noted.entries(from, most),
         }
     }
 
     fn entry(&mut self, number: u32) -> Result<RecordEntry, StoreFault> {
         match &mut self.kept {
-            Kept::Plain(store) => store.entry(number),
-            Kept::Noted(noted) => noted.entry(number),
+            Opened::Plain(store) => Repository::entry(store, number),
+            Opened::Noted(noted) => noted.entry(number),
         }
     }
 
     fn message(&mut self, number: u32) -> Result<Vec<u8>, StoreFault> {
         match &mut self.kept {
-            Kept::Plain(store) => store.message(number),
-            Kept::Noted(noted) => noted.message(number),
+            Opened::Plain(store) => Repository::message(store, number),
+            Opened::Noted(noted) => noted.message(number),
         }
     }
 
     fn due(&mut self, day: Date) -> Result<Vec<Line>, StoreFault> {
         match &mut self.kept {
-            Kept::Plain(store) => store.due(day),
-            Kept::Noted(noted) => noted.due(day),
+            Opened::Plain(store) => Repository::due(store, day),
+            Opened::Noted(noted) => noted.due(day),
         }
     }
 
     fn destroy(&mut self, number: u32, day: Date) -> Result<(), StoreFault> {
-        match &mut self.kept {
-            Kept::Plain(store) => store.destroy(number, day),
-            Kept::Noted(noted) => noted::destroy(self.alloc, noted, &self.occasion, number, day),
-        }
+        Records::destroy(self, number, day)
     }
 
     ghost is_archive = { λ l a stands. kept_archive S.Store l.kept a stands };

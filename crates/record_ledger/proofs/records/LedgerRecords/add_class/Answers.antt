@@ -1,0 +1,18 @@
+use Rattle.std.proofs.Common.{refl}
+use Rattle.record_archive.specs.Archive as archive
+use Rattle.record_archive.specs.Calls.{Quietly}
+use Rattle.record_noted.specs.declared.opening.Opened.TheVariants.{Noted, Plain}
+use Rattle.record_ledger.proofs.LiftLemmas.{noted_out, plain_out}
+use Rattle.record_ledger.proofs.records.LedgerRecords.add_class.Goals as goal
+
+pub returns-in-Plain : goal.returns-in-Plain
+returns-in-Plain g c =
+    plain_out g.S.Store (λ a. archive.add_class a c.args.path.now)
+    Quietly c.args.self.now (record c.args.self.now { kept = Plain c.add_class.new.self }) _ c.add_class.new.self
+    c.add_class.result c.in-Plain.is refl c.add_class.ensures
+
+pub returns-in-Noted : goal.returns-in-Noted
+returns-in-Noted g c =
+    noted_out g.S.Store (λ a. archive.add_class a c.args.path.now)
+    Quietly c.args.self.now (record c.args.self.now { kept = Noted c.add_class-in-Noted.new.noted }) _ c.add_class-in-Noted.new.noted
+    c.add_class-in-Noted.result c.in-Noted.is refl c.add_class-in-Noted.ensures

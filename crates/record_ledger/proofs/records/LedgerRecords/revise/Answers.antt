@@ -1,0 +1,18 @@
+use Rattle.std.proofs.Common.{refl}
+use Rattle.record_archive.specs.Archive as archive
+use Rattle.record_archive.specs.Calls.{Quietly}
+use Rattle.record_noted.specs.declared.opening.Opened.TheVariants.{Noted, Plain}
+use Rattle.record_ledger.proofs.LiftLemmas.{noted_out, plain_out}
+use Rattle.record_ledger.proofs.records.LedgerRecords.revise.Goals as goal
+
+pub returns-in-Plain : goal.returns-in-Plain
+returns-in-Plain g c =
+    plain_out g.S.Store (λ a. archive.revise a c.args.plan)
+    Quietly c.args.self.now (record c.args.self.now { kept = Plain c.revise.new.self }) _ c.revise.new.self
+    c.revise.result c.in-Plain.is refl c.revise.ensures
+
+pub returns-in-Noted : goal.returns-in-Noted
+returns-in-Noted g c =
+    noted_out g.S.Store (λ a. archive.revise a c.args.plan)
+    Quietly c.args.self.now (record c.args.self.now { kept = Noted c.revise-in-Noted.new.noted }) _ c.revise-in-Noted.new.noted
+    c.revise-in-Noted.result c.in-Noted.is refl c.revise-in-Noted.ensures

@@ -1,0 +1,20 @@
+use Rattle.record_ledger.proofs.RepositoryLemmas.{reads_noted, tells_noted}
+use Rattle.record_ledger.proofs.repository.LedgerRepository.entry.Goals as goal
+
+pub returns-in-Plain-clause-reads : goal.returns-in-Plain-clause-reads
+returns-in-Plain-clause-reads g c = record {
+  stands = rw c.in-Plain.is c.entry.ensures.reads.stands;
+  falls = rw c.in-Plain.is c.entry.ensures.reads.falls;
+}
+
+pub returns-in-Plain-clause-told : goal.returns-in-Plain-clause-told
+returns-in-Plain-clause-told g c = rw c.in-Plain.is c.entry.ensures.told
+
+pub returns-in-Noted-clause-reads : goal.returns-in-Noted-clause-reads
+returns-in-Noted-clause-reads g c =
+    let reads = reads_noted g.S.Store _ c.entry-in-Noted.new.self _ _ c.entry-in-Noted.result c.entry-in-Noted.ensures in
+    record { stands = rw c.in-Noted.is reads.stands; falls = rw c.in-Noted.is reads.falls }
+
+pub returns-in-Noted-clause-told : goal.returns-in-Noted-clause-told
+returns-in-Noted-clause-told g c = rw c.in-Noted.is (tells_noted g.S.Store _ c.entry-in-Noted.new.self _ _
+    c.entry-in-Noted.result c.entry-in-Noted.ensures)
