@@ -1,5 +1,34 @@
 -- The scripts of a walk are exactly those that the program reaches.
-use Rattle.std.proofs.Common.{◌≡◌, ◌⊎◌, inl, inr, ℕ, Bool, true, false, cond, List, [], ◌∷◌, ◌++◌, Option, Some, None, Vec, map, filter, refl, sym, ap, ◌∙◌, subst, append_assoc, arith, length, ◌<◌}
+use Rattle.std.proofs.Common.{
+  ◌≡◌,
+  ◌⊎◌,
+  inl,
+  inr,
+  ℕ,
+  Bool,
+  true,
+  false,
+  cond,
+  List,
+  [],
+  ◌∷◌,
+  ◌++◌,
+  Option,
+  Some,
+  None,
+  Vec,
+  map,
+  filter,
+  refl,
+  sym,
+  ap,
+  ◌∙◌,
+  subst,
+  append_assoc,
+  arith,
+  length,
+  ◌<◌,
+}
 use Rattle.std.specs.declared.alloc.Global.{Global}
 use Rattle.std.specs.List.{AllByRecursion, Contains}
 use Rattle.std.specs.Option.{IsSome}
@@ -10,7 +39,23 @@ use Rattle.tool_findings.specs.declared.circles.Edge.{Edge}
 use Rattle.tool_findings.specs.Commands.{Include}
 use Rattle.rule_folders.specs.Includes.{Leads}
 use Rattle.rule_folders.specs.Reading.{Entry, Read, octets_of}
-use Rattle.rule_folders.specs.Reached.{Answers, AreEdges, AreExactly, AreFollowed, AreLedTo, Follows, IsEdge, IsFollowed, IsMissing, IsMissingAt, IsReached, included, is_found, itself, read_of}
+use Rattle.rule_folders.specs.Reached.{
+  Answers,
+  AreEdges,
+  AreExactly,
+  AreFollowed,
+  AreLedTo,
+  Follows,
+  IsEdge,
+  IsFollowed,
+  IsMissing,
+  IsMissingAt,
+  IsReached,
+  included,
+  is_found,
+  itself,
+  read_of,
+}
 use Rattle.rule_folders.proofs.Scans.{one_leads}
 
 at_in : {X : Type 0} (P : X → Type 0) (xs : List X) (x : X) → AllByRecursion P xs → Contains xs x → P x
@@ -133,7 +178,8 @@ exactly place program reads scripts edges files w is_text h =
     let fine : AllByRecursion (IsFine place files program.path) scripts =
     subst (AllByRecursion (IsFine place files program.path)) (sym walk.first)
     (reach place files program.path (program ∷ []) walk.others ((itself, is_text), tt) found walk.led) in
-    let first : Contains scripts program = subst (λ l. Contains l program) (sym walk.first) (0, (let lt : 0 < length (program ∷ walk.others) = omega arith in lt), refl) in
+    let first : Contains scripts program = subst (λ l. Contains l program) (sym walk.first)
+    (0, (let lt : 0 < length (program ∷ walk.others) = omega arith in lt), refl) in
     record {
       texts = all;
       paths = λ path. (

@@ -1,5 +1,30 @@
 -- The numbers of scripts by their paths.
-use Rattle.std.proofs.Common.{◌≡◌, ℕ, suc, zero, Bool, true, false, cond, ◌||◌, List, [], ◌∷◌, ◌++◌, length, map, Option, Some, None, option_map, refl, sym, ap, ◌∙◌, subst}
+use Rattle.std.proofs.Common.{
+  ◌≡◌,
+  ℕ,
+  suc,
+  zero,
+  Bool,
+  true,
+  false,
+  cond,
+  ◌||◌,
+  List,
+  [],
+  ◌∷◌,
+  ◌++◌,
+  length,
+  map,
+  Option,
+  Some,
+  None,
+  option_map,
+  refl,
+  sym,
+  ap,
+  ◌∙◌,
+  subst,
+}
 use Rattle.std.proofs.lemmas.Bool.{false≢true}
 use Rattle.std.proofs.lemmas.Slice.Eq.{bytes_eq-Decides}
 use Rattle.std.specs.Cmp.Lexicographic.{nat_list_eq_equiv}
@@ -7,7 +32,8 @@ use Rattle.std.specs.List.{list_any, slice_get}
 use Rattle.std.specs.Str.{bytes_eq}
 use Rattle.rule_folders.specs.Reading.{Entry, number_at}
 
-apart_step : (b : Bool) (o : Option ℕ) (rest : Bool) → cond b (Some zero) (option_map (λ n. suc n) o) ≡ None → (o ≡ None → rest ≡ false) → (b || rest) ≡ false
+apart_step : (b : Bool) (o : Option ℕ) (rest : Bool) → cond b (Some zero) (option_map (λ n. suc n) o) ≡ None →
+    (o ≡ None → rest ≡ false) → (b || rest) ≡ false
 apart_step true o rest h k = absurd cc
 apart_step false None rest h k = k refl
 apart_step false (Some n) rest h k = absurd cc

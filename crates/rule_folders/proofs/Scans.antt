@@ -2,7 +2,15 @@
 use Rattle.std.proofs.Common.{◌≡◌, inl, inr, ℕ, List, [], ◌∷◌, Some, Ok, refl, sym, ap, ◌∙◌, subst, arith}
 use Rattle.sieve_syntax.specs.declared.token.Token.{Token}
 use Rattle.sieve_text.specs.declared.fault.ScanRefusal.{ScanRefusal}
-use Rattle.sieve_text.specs.declared.fault.ScanRefusal.TheVariants.{NotUtf8, NoToken, StringNotClosed, CommentNotClosed, NumberTooLarge, ScriptTooLong, StringTooLong}
+use Rattle.sieve_text.specs.declared.fault.ScanRefusal.TheVariants.{
+  NotUtf8,
+  NoToken,
+  StringNotClosed,
+  CommentNotClosed,
+  NumberTooLarge,
+  ScriptTooLong,
+  StringTooLong,
+}
 use Rattle.sieve_text.specs.Tokens.{IsFaulty, IsScan, IsSound, IsUnsound, Reads, token_at}
 use Rattle.tool_findings.specs.Commands.{Include, includes_among}
 use Rattle.rule_folders.specs.Includes.{AreTokensOf, Leads}

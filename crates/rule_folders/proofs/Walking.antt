@@ -1,5 +1,33 @@
 -- What a walk keeps at each step.
-use Rattle.std.proofs.Common.{◌≡◌, ◌<◌, ◌+◌, arith, length, take, get_or, inl, inr, ℕ, Bool, List, [], ◌∷◌, ◌++◌, Option, Some, None, Vec, map, filter, refl, sym, ap, ◌∙◌, subst, append_assoc}
+use Rattle.std.proofs.Common.{
+  ◌≡◌,
+  ◌<◌,
+  ◌+◌,
+  arith,
+  length,
+  take,
+  get_or,
+  inl,
+  inr,
+  ℕ,
+  Bool,
+  List,
+  [],
+  ◌∷◌,
+  ◌++◌,
+  Option,
+  Some,
+  None,
+  Vec,
+  map,
+  filter,
+  refl,
+  sym,
+  ap,
+  ◌∙◌,
+  subst,
+  append_assoc,
+}
 use Rattle.std.specs.declared.alloc.Global.{Global}
 use Rattle.std.specs.List.{AllByRecursion, Contains, IsDistinct}
 use Rattle.std.specs.Str.{bytes_eq}
@@ -10,7 +38,21 @@ use Rattle.std.proofs.lemmas.Map.Keys.{IsDistinct-push}
 use Rattle.tool_findings.specs.declared.circles.Edge.{Edge}
 use Rattle.tool_findings.specs.Commands.{Include}
 use Rattle.rule_folders.specs.Reading.{Entry, Makes, Read, number_at, octets}
-use Rattle.rule_folders.specs.Reached.{AreEdges, AreFollowed, AreLedTo, HasInclude, Includes, IsAskedBy, IsEdge, IsFollowed, IsMissing, IsMissingAt, IsWalk, is_found, read_of}
+use Rattle.rule_folders.specs.Reached.{
+  AreEdges,
+  AreFollowed,
+  AreLedTo,
+  HasInclude,
+  Includes,
+  IsAskedBy,
+  IsEdge,
+  IsFollowed,
+  IsMissing,
+  IsMissingAt,
+  IsWalk,
+  is_found,
+  read_of,
+}
 use Rattle.rule_folders.specs.Steps.{Goes, IsEdgeOf, with_edge}
 use Rattle.rule_folders.proofs.Numbers.{apart, at_more}
 
@@ -116,7 +158,8 @@ module _ (place : List ℕ → Bool → Option (List ℕ)) where
   edges_after rs more es (i ∷ xs) (e ∷ edges) (inl h) = inl (missing_right rs more i h.0, edges_after rs more es xs (e ∷ edges) h.1)
   edges_after rs more es (i ∷ xs) (e ∷ edges) (inr h) = inr (h.0, edges_after rs more es xs edges h.1)
 
-  edge_of_at : (o : Option Edge) (rs more : List Read) (es : List Entry) (i : Include) → IsEdgeOf place more es i o → IsEdgeOf place (rs ++ more) es i o
+  edge_of_at : (o : Option Edge) (rs more : List Read) (es : List Entry) (i : Include) → IsEdgeOf place more es i o →
+      IsEdgeOf place (rs ++ more) es i o
   edge_of_at None rs more es i h = missing_right rs more i h
   edge_of_at (Some e) rs more es i h = h
 

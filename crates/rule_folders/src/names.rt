@@ -110,7 +110,8 @@ fn join(alloc: Global, folder: &str, name: &str) -> Result<String, AllocError>
 
 /// The path of a script in a folder, by its name; none where no file can have it.
 pub fn path_in(alloc: Global, folder: &str, name: &[u8]) -> Result<Option<String>, AllocError>
-    ensures { IfOk result (λ path. option_map string_bytes path ≡ path_of_name folder.now name.now) }
+    ensures { IfOk result (λ path.
+        option_map string_bytes path ≡ path_of_name folder.now name.now) }
 {
     if !is_script_name(name) {
         return Ok(None);

@@ -293,7 +293,8 @@ impl Reached {
         includes: &[Included],
     ) -> Result<Vec<Edge>, S::Fault>
         ensures { IfOk result (λ edges. (reads : List Read)
-            × AreEdges (S.place scripts.old) reads self.new (map include_of includes.now) edges.items
+            × AreEdges (S.place scripts.old) reads self.new
+            (map include_of includes.now) edges.items
             × Goes S.made S.place scripts.old scripts.new self.old self.new
             (λ (s : Entry). (i : Include) → Contains (map include_of includes.now) i
             → HasInclude (octets s) i) reads) }

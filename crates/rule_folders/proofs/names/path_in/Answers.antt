@@ -31,4 +31,5 @@ pub returns-in-Err : goal.returns-in-Err
 returns-in-Err c =
     let name = c.args.name.now in
     let no : is_utf8 name ≡ true → ⊥ = λ e. c.in-Err.ensures.cases.0 (IsUtf8-from_is_utf8 name e) in
-    sym (not_both (is_name_of_script name) (is_utf8 name) (Some (path_under (without_slash c.args.folder.now) name)) (false_from_ne_true (is_utf8 name) no))
+    sym (not_both (is_name_of_script name) (is_utf8 name) (Some (path_under (without_slash c.args.folder.now) name))
+    (false_from_ne_true (is_utf8 name) no))

@@ -14,8 +14,10 @@ invariant_of-self-in-Ok c = λ path.
     let key = string_bytes c.in_ok-path.path in
     let same : key ≡ string_bytes c.args.script.path = search rules in
     let number : c.len-number.result ≡ length es = grind (arith, common_steps) in
-    let pushed : map entry_of c.push.new.self.items ≡ es ++ entry_of c.args.script ∷ [] = ap (map entry_of) c.in_ok-push.ensures.items ∙ map_push entry_of c.self.inside.scripts.items c.args.script in
-    let new : number_at (string_bytes c.args.script.path) es ≡ None = subst (λ l. number_at (string_bytes c.args.script.path) l ≡ None) (sym c.self.view_is) c.requires in
+    let pushed : map entry_of c.push.new.self.items ≡ es ++ entry_of c.args.script ∷ [] =
+    ap (map entry_of) c.in_ok-push.ensures.items ∙ map_push entry_of c.self.inside.scripts.items c.args.script in
+    let new : number_at (string_bytes c.args.script.path) es ≡ None =
+    subst (λ l. number_at (string_bytes c.args.script.path) l ≡ None) (sym c.self.view_is) c.requires in
     btree_map_updates_text key c.self.inside.numbers c.insert.new.self (Some c.len-number.result) c.in-Ok.ensures.updates path
     ∙ ap (λ l. cond (bytes_eq l path) (Some c.len-number.result) (get_by_text c.self.inside.numbers path)) same
     ∙ ap (λ n. cond (bytes_eq (string_bytes c.args.script.path) path) (Some n) (get_by_text c.self.inside.numbers path)) number

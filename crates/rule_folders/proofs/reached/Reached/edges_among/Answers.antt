@@ -39,17 +39,20 @@ loop-included-preserved g c =
     let old_edges = c.loop-included.edges.items in
     let edge = c.in_ok-edge.edge in
     let within : k < length includes = c.loop-included-test.true in
-    let more : take (k + 1) includes ≡ take k includes ++ item ∷ [] = take_more includes k item within ∙ ap (λ x. take k includes ++ x ∷ []) (sym c.included-item.is) in
+    let more : take (k + 1) includes ≡ take k includes ++ item ∷ [] =
+    take_more includes k item within ∙ ap (λ x. take k includes ++ x ∷ []) (sym c.included-item.is) in
     let here : IsEdgeOf (place start) one.0 (es ++ one.2.added) (include_of item) edge =
     subst (λ f. IsEdgeOf f one.0 (es ++ one.2.added) (include_of item) edge) inv.2.places
     (subst (λ l. IsEdgeOf (place c.loop-included.scripts) one.0 l (include_of item) edge) one.2.more one.1) in
-    let edges = edges_then (place start) edge inv.0 one.0 es one.2.added (map include_of (take k includes)) old_edges (include_of item) inv.1 here in (
+    let edges = edges_then (place start) edge inv.0 one.0 es one.2.added (map include_of (take k includes)) old_edges
+    (include_of item) inv.1 here in (
       inv.0 ++ one.0,
       subst (λ l. AreEdges (place start) (inv.0 ++ one.0) new l c.add_edge.new.edges.items)
           (sym (ap (map include_of) more ∙ map_push include_of (take k includes) item))
           (subst (AreEdges (place start) (inv.0 ++ one.0) new (map include_of (take k includes) ++ include_of item ∷ []))
           (sym c.in-Ok.ensures)
-          (subst (λ l. AreEdges (place start) (inv.0 ++ one.0) l (map include_of (take k includes) ++ include_of item ∷ []) (with_edge old_edges edge))
+          (subst (λ l. AreEdges (place start) (inv.0 ++ one.0) l (map include_of (take k includes) ++ include_of item ∷ [])
+          (with_edge old_edges edge))
           (sym one.2.more) edges)),
       goes_then made place start c.loop-included.scripts c.edge_of.new.scripts c.args.self.now es new
           (λ (s : Entry). (i : Include) → Contains all i → HasInclude (octets s) i)
