@@ -92,7 +92,8 @@ impl Seals {
         message: u32,
         body: &[u8],
     ) -> Result<Fidelity, AllocError>
-        ensures { IfOk result (λ f. f ≡ fidelity_to (known self.now message) (seal_of_octets body.now)) }
+        ensures { IfOk result (λ f. f ≡
+            fidelity_to (known self.now message) (seal_of_octets body.now)) }
     {
         if !self.told.contains_key(&message) {
             return Ok(Fidelity::Unsealed);
