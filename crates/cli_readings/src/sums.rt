@@ -25,6 +25,8 @@ struct Summing<'s> {
     added: BTreeMap<u32, Fidelity>,
     /// The live records whose messages are not the ones that were captured.
     altered: Altered,
+    /// How many of the messages have no seal.
+    unsealed: u64,
 }
 
 /// How much an archive keeps, and a sum over all of it. Archives with the same sum are the same.
@@ -46,6 +48,8 @@ pub struct Judged {
     pub summary: Summary,
     /// The live records with these messages.
     pub altered: Altered,
+    /// How many messages have no seal, so that nothing is known of them.
+    pub unsealed: u64,
 }
 
 impl<'s> Summing<'s> {
@@ -59,6 +63,7 @@ impl<'s> Summing<'s> {
             octets: 0,
             added: BTreeMap::new(rt.alloc()),
             altered: Altered::none(rt.alloc()),
+            unsealed: 0,
         }
     }
 
@@ -100,6 +105,9 @@ impl<'s> Summing<'s> {
         self.add_octets(octets);
         let fidelity = self.seals.is_captured(rt.alloc(), message, octets)?;
         self.added.insert(message, fidelity)?;
+        if let Fidelity::Unsealed = fidelity {
+            self.unsealed = self.unsealed.saturating_add(1);
+        }
         Ok(fidelity)
     }
 
@@ -166,6 +174,7 @@ pub fn judged_summary<S: Alter>(
         messages,
         octets,
         altered,
+        unsealed,
         ..
     } = summing;
     let summary = Summary {
@@ -174,7 +183,11 @@ pub fn judged_summary<S: Alter>(
         octets,
         sum: hasher.finalize(),
     };
-    Ok(Judged { summary, altered })
+    Ok(Judged {
+        summary,
+        altered,
+        unsealed,
+    })
 }
 
 /// Reads a whole archive: its plan, its records with their holds, and its messages. A failure is that of the store.

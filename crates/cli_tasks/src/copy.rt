@@ -95,7 +95,11 @@ fn judged_by_seals<S: Alter>(
     damage: Damage,
 ) -> Result<Summary, Failure> {
     let seals = Seals::of(rt, archive)?;
-    let Judged { summary, altered } = judged_summary(rt, archive, &seals)?;
+    let Judged {
+        summary,
+        altered,
+        ..
+    } = judged_summary(rt, archive, &seals)?;
     altered.tell(rt)?;
     match damage {
         Damage::Refused if !altered.is_empty() => Err(Failure::told(
