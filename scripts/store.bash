@@ -283,7 +283,7 @@ make_damaged_archive() {
         "$(program_of mailfile_store)" deliver --store "$here/records.db" --rules "$here/rules" --at 1700265600 ann < "$here/long.eml" \
             > "$work/captured" && cp -- "$here/records.db" "$here/whole.db" || return
     place=$(LC_ALL=C grep -abo 'the end of that message' "$here/records.db" | cut -d : -f 1)
-    [[ $place =~ ^[0-9]+$ && ! -s $here/records.db-wal ]] &&
+    [[ $place =~ ^[0-9]+$ ]] &&
         dd if=/dev/zero of="$here/records.db" bs=4096 seek=$((place / 4096)) count=1 conv=notrunc status=none &&
         ! cmp -s -- "$here/records.db" "$here/whole.db"
 }
@@ -330,17 +330,27 @@ leaves_a_damaged_message_out() {
 # How many changes are killed.
 readonly CHANGES=100
 
-# Captures a message, holds its record, ends that, and destroys what is due, one after the other, until it is killed. Each program is
-# started in its own place, so that a kill of the group ends it too.
-change_over_and_over() {
-    local store=$1 number
+# Captures a message, holds its record, ends that, and destroys what is due.
+change_once() {
     local -x LOGNAME=tess
-    for ((number = 1; ; number++)); do
-        "$keeper_program" deliver --store "$store" --rules "$here/rules" --at 0 ann < "$here/mail/bill.eml"
-        "$keeper_program" hold --store "$store" audit --live --class finance
-        "$keeper_program" release --store "$store" audit --live --class finance
-        "$keeper_program" dispose --store "$store" --yes
+    "$keeper_program" deliver --store "$1" --rules "$here/rules" --at 0 ann < "$here/mail/bill.eml" &&
+        "$keeper_program" hold --store "$1" audit --live --class finance &&
+        "$keeper_program" release --store "$1" audit --live --class finance && "$keeper_program" dispose --store "$1" --yes
+}
+
+# Does so over and over, until it is killed.
+change_over_and_over() {
+    while true; do
+        change_once "$1"
     done > "$work/changed" 2>&1
+}
+
+# The time of one turn of changes, in microseconds.
+change_span() {
+    local began
+    began=$(date +%s%N)
+    change_once "$1" > "$work/changed" 2>&1 || return
+    echo $((($(date +%s%N) - began) / 1000))
 }
 
 # Kills the changes of a store a number of seconds after their start. Whatever was done then has its event, and each event is of something
@@ -361,14 +371,15 @@ keeps_its_history() {
     sed -n 's/^events //p' "$work/said" >> "$work/events"
 }
 
-# Kills changes at random moments of up to a quarter of a second.
+# Kills changes at random moments of two turns.
 changes_are_killed() {
-    local number keeper_program
+    local number span keeper_program
     keeper_program=$(program_of mailfile_store)
     : > "$work/events"
-    archive_after create/new "$here" || return
+    archive_after create/new "$here" && span=$(change_span "$here/records.db") || return
     for ((number = 1; number <= CHANGES; number++)); do
-        count "changes that are killed, $number" keeps_its_history "$(awk -v by="$RANDOM" 'BEGIN { printf "%.4f", 0.01 + by / 131072 }')"
+        count "changes that are killed, $number" keeps_its_history \
+            "$(awk -v span="$span" -v by="$RANDOM" 'BEGIN { printf "%.6f", span * by / 16384 / 1e6 }')"
     done
     count "events were noted between the kills" test "$(sort -n -u "$work/events" | wc -l)" -gt $((CHANGES / 2))
     echo "events after a kill: $(head -n 1 "$work/events") to $(tail -n 1 "$work/events")"
