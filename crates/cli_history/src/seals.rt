@@ -51,14 +51,38 @@ fn deed_of(alloc: Global, row: &EventRow) -> Result<Option<Deed<'_>>, AllocError
     }
 }
 
-/// Whether the line of an event can tell the seal of a message of this number, as `7`: by the words after the number of the
-/// event, its moment and who did it.
-fn may_tell(line: &[u8], message: &[u8]) -> bool {
-    let mut words = line.split(|octet| *octet == b' ').skip(3);
-    match (words.next(), words.next()) {
-        (Some(b"captured"), Some(number)) => number == message,
-        (Some(b"found"), Some(b"message")) => words.next() == Some(message),
-        _ => false,
+/// How the deeds begin that tell the seal of one message.
+#[derive(Drop)]
+struct Beginnings {
+    captured: String,
+    found: String,
+}
+
+/// What follows the first blank of a text; nothing where there is none.
+fn after_blank(text: &[u8]) -> &[u8] {
+    let blank = text
+        .iter()
+        .position(|octet| *octet == b' ')
+        .unwrap_or(text.len());
+    match text[blank..].split_first() {
+        Some((_, rest)) => rest,
+        None => b"",
+    }
+}
+
+impl Beginnings {
+    /// Those of the deeds that tell the seal of the message with a number.
+    fn of(alloc: Global, message: u32) -> Result<Beginnings, AllocError> {
+        Ok(Beginnings {
+            captured: format!(in alloc; "captured {message} ")?,
+            found: format!(in alloc; "found message {message} ")?,
+        })
+    }
+
+    /// Whether the line of an event can tell that seal: by what follows the number of the event, its moment and who did it.
+    fn are_those_of(&self, line: &[u8]) -> bool {
+        let deed = after_blank(after_blank(after_blank(line)));
+        deed.starts_with(self.captured.as_bytes()) || deed.starts_with(self.found.as_bytes())
     }
 }
 
@@ -128,7 +152,7 @@ impl Seals {
     /// Notes the seal that a deed tells, if it tells one. The only refusal is no memory.
     fn take(&mut self, event: u32, deed: Deed<'_>) -> Result<(), AllocError>
         ensures { OnOk result ((n : ℕ) → known self.new n ≡
-            later (sealed_by event (deed_view deed) n) (known self.old n)) }
+            later (sealed_by event (deed_view deed.entry) n) (known self.old n)) }
     {
         match deed {
             Deed::Captured { first, seal, .. } => self.note(first, seal, event),
@@ -137,15 +161,15 @@ impl Seals {
         }
     }
 
-    /// Notes the seals that the events of a page tell: of all messages, or of the one with this number.
+    /// Notes the seals that the events of a page tell: of all messages, or of the one whose deeds begin so.
     fn take_page(
         &mut self,
         alloc: Global,
         page: &[EventRow],
-        only: Option<&[u8]>,
+        only: Option<&Beginnings>,
     ) -> Result<(), AllocError> {
         for row in page {
-            if only.is_some_and(|message| !may_tell(row.line.as_slice(), message)) {
+            if only.is_some_and(|deeds| !deeds.are_those_of(row.line.as_slice())) {
                 continue;
             }
             if let Some(deed) = deed_of(alloc, row)? {
@@ -160,7 +184,7 @@ impl Seals {
         &mut self,
         rt: &HostRuntime,
         archive: &mut Store<S>,
-        only: Option<&[u8]>,
+        only: Option<&Beginnings>,
     ) -> Result<(), Failure> {
         let mut from = Some(1);
         for _ in 0..u64::MAX {
@@ -181,11 +205,11 @@ impl Seals {
         Ok(())
     }
 
-    /// The seals that the history of a store tells, of all messages or of the one with this number.
+    /// The seals that the history of a store tells, of all messages or of the one whose deeds begin so.
     fn read<S: Alter>(
         rt: &HostRuntime,
         archive: &mut Store<S>,
-        only: Option<&[u8]>,
+        only: Option<&Beginnings>,
     ) -> Result<Seals, Failure> {
         let mut seals = Seals::none(rt.alloc());
         match archive.event_layout() {
@@ -207,8 +231,8 @@ impl Seals {
         archive: &mut Store<S>,
         message: u32,
     ) -> Result<Seals, Failure> {
-        let number = message.to_string(rt.alloc())?;
-        Seals::read(rt, archive, Some(number.as_bytes()))
+        let deeds = Beginnings::of(rt.alloc(), message)?;
+        Seals::read(rt, archive, Some(&deeds))
     }
 }
 
