@@ -95,7 +95,7 @@ is_between() {
 # The sums of the messages in the archive, by their numbers.
 sums_there() {
     mkdir -- "$work/out" && give "$work/out" && on_store export "$work/out" > "$work/exported" && (cd -- "$work/out" && sha256sum --quiet -c SHA256SUMS) &&
-        cut -d ' ' -f 1 "$work/out/SHA256SUMS"
+        sed -n 's/  [0-9]*\.eml$//p' "$work/out/SHA256SUMS"
 }
 
 # Whether each message is in the archive, in the order of their names, once the rest is taken over, and none twice but the one that is

@@ -1,7 +1,7 @@
 #!/usr/bin/env bash
 # shellcheck disable=SC2317,SC2015 # count calls its checks by their names, and `|| shows_run` only reports
 # Tests what ./mailfile-store does where no transcript can say it: for a user who may not read or write, by a wrong clock, on a disk that
-# fails, and where files change while it runs. ./test sources this file after transcripts.bash; run by itself, it plays these tests.
+# fails, where files change while it runs, where a message is damaged in the file, and where it is killed at random moments. ./test sources this file after transcripts.bash; run by itself, it plays these tests.
 
 : "${root:=$(dirname -- "$(dirname -- "$(readlink -f -- "$0")")")}" "${work:=$(mktemp -d)}" "${self:=store}"
 
@@ -266,6 +266,125 @@ refuses_a_log_of_another_user() {
     ((status == 66)) && [[ $(< "$work/error") == *'is open to others than the file'* ]] || shows_run
 }
 
+# ---- a message that is damaged in the file
+
+# A message of 9,018 octets, the last of which are in two pages of their own.
+long_message() {
+    printf 'Subject: long\n\n'
+    head -c 8978 /dev/zero | tr '\0' 'x'
+    printf '\nthe end of that message\n'
+}
+
+# Makes an archive with a history, in which such a message is the fourth, and puts a page of zeros in the place of its last page in the
+# file. The check sum of such a page, which is zero too, is right.
+make_damaged_archive() {
+    local place
+    archive_after captured "$here" && long_message > "$here/long.eml" && [[ $(stat -c %s "$here/long.eml") -eq 9018 ]] &&
+        "$(program_of mailfile_store)" deliver --store "$here/records.db" --rules "$here/rules" --at 1700265600 ann < "$here/long.eml" \
+            > "$work/captured" && cp -- "$here/records.db" "$here/whole.db" || return
+    place=$(LC_ALL=C grep -abo 'the end of that message' "$here/records.db" | cut -d : -f 1)
+    [[ $place =~ ^[0-9]+$ ]] &&
+        dd if=/dev/zero of="$here/records.db" bs=4096 seek=$((place / 4096)) count=1 conv=notrunc status=none &&
+        ! cmp -s -- "$here/records.db" "$here/whole.db"
+}
+
+# Whether it ends by a status, writes these lines, and then these on standard error.
+ends_with() {
+    ((status == $1)) && [[ $(< "$work/said") == "$2" && $(< "$work/error") == "$3" ]] || shows_run
+}
+
+# Such a message is named by a check, and neither shown nor exported nor copied; all others are. The words for each are those of a text.
+finds_a_damaged_message() {
+    local it='its message is not the one that was captured' store=$here/records.db
+    make_damaged_archive || return
+    run check --store "$store"
+    ((status == 65)) && [[ $(< "$work/error") == "mailfile-store: record 5: $it; the last event about it is 5" ]] || shows_run || return
+    run show --store "$store" 5
+    ends_with 65 '' "mailfile-store: record 5: $it (event 5)" || return
+    run why --store "$store" --rules "$here/rules" ann 5
+    ends_with 65 '' "mailfile-store: record 5: $it (event 5)" || return
+    run show --store "$store" 1
+    ((status == 0)) && cmp -- "$work/said" "$here/mail/bill.eml" || shows_run || return
+    run copy --store "$store" "$here/new.db"
+    ((status == 65)) && [[ ! -s $work/said && $(head -n 1 "$work/error") == "mailfile-store: record 5: $it" ]] || shows_run || return
+    [[ -z $(find "$here" -name 'new.db*') ]]
+}
+
+# An export leaves it out, and has all else. A copy takes it along as it is where that is asked for.
+leaves_a_damaged_message_out() {
+    local it='its message is not the one that was captured' store=$here/records.db
+    make_damaged_archive || return
+    run export --store "$store" "$here/out"
+    ends_with 65 "exported records 5 messages 3 octets 139 to $here/out" "mailfile-store: record 5: $it" || return
+    [[ ! -e $here/out/5.eml ]] && (cd -- "$here/out" && sha256sum --quiet --strict -c SHA256SUMS) &&
+        [[ $(tail -n 1 "$here/out/manifest.csv") == "5,unfiled,2023-11-18,never,,,9018,$(sha256sum < "$here/long.eml" | cut -d ' ' -f 1),,," ]] ||
+        return
+    run copy --store "$store" --damaged "$here/new.db"
+    ends_with 0 'copied records 5 messages 4 octets 9157' "mailfile-store: record 5: $it" || return
+    run show --store "$here/new.db" 5
+    ends_with 65 '' "mailfile-store: record 5: $it (event 5)"
+}
+
+# ---- kills
+
+# How many changes are killed.
+readonly CHANGES=100
+
+# Captures a message, holds its record, ends that, and destroys what is due.
+change_once() {
+    local -x LOGNAME=tess
+    "$keeper_program" deliver --store "$1" --rules "$here/rules" --at 0 ann < "$here/mail/bill.eml" &&
+        "$keeper_program" hold --store "$1" audit --live --class finance &&
+        "$keeper_program" release --store "$1" audit --live --class finance && "$keeper_program" dispose --store "$1" --yes
+}
+
+# Does so over and over, until it is killed.
+change_over_and_over() {
+    while true; do
+        change_once "$1"
+    done > "$work/changed" 2>&1
+}
+
+# The time of one turn of changes, in microseconds.
+change_span() {
+    local began
+    began=$(date +%s%N)
+    change_once "$1" > "$work/changed" 2>&1 || return
+    echo $((($(date +%s%N) - began) / 1000))
+}
+
+# Kills the changes of a store a number of seconds after their start. Whatever was done then has its event, and each event is of something
+# that was done: a check finds nothing. The store goes on.
+keeps_its_history() {
+    local process
+    set -m
+    change_over_and_over "$here/records.db" &
+    process=$!
+    set +m
+    sleep "$1"
+    {
+        kill -KILL -- "-$process"
+        wait "$process"
+    } 2> "$work/error"
+    run check --store "$here/records.db"
+    ((status == 0)) && [[ ! -s $work/error ]] || shows_run || return
+    sed -n 's/^events //p' "$work/said" >> "$work/events"
+}
+
+# Kills changes at random moments of two turns.
+changes_are_killed() {
+    local number span keeper_program
+    keeper_program=$(program_of mailfile_store)
+    : > "$work/events"
+    archive_after create/new "$here" && span=$(change_span "$here/records.db") || return
+    for ((number = 1; number <= CHANGES; number++)); do
+        count "changes that are killed, $number" keeps_its_history \
+            "$(awk -v span="$span" -v by="$RANDOM" 'BEGIN { printf "%.6f", span * by / 16384 / 1e6 }')"
+    done
+    count "events were noted between the kills" test "$(sort -n -u "$work/events" | wc -l)" -gt $((CHANGES / 2))
+    echo "events after a kill: $(head -n 1 "$work/events") to $(tail -n 1 "$work/events")"
+}
+
 store() {
     local status here=$work/archive
     if ((EUID > 0)) || command -v setpriv > "$work/found"; then
@@ -289,6 +408,10 @@ store() {
         count "a pipe in the place of a script" waits_for_no_pipe_in_the_place_of_a_script
     fi
     group "mailfile-store without permissions, by a wrong clock, on a disk that fails, and where files change"
+    count "a message that is damaged in the file" finds_a_damaged_message
+    count "a damaged message among others" leaves_a_damaged_message_out
+    changes_are_killed
+    group "mailfile-store with a damaged message, and killed in the midst of changes"
 }
 
 if [[ ${BASH_SOURCE[0]} == "$0" ]]; then

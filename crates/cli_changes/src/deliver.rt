@@ -1,5 +1,8 @@
 //! `deliver`: one message from standard input.
 
+ghost use Rattle.std.specs.Prelude.{◌≡◌, is_ok};
+ghost use Rattle.cli_changes.specs.Deliveries.{is_captured};
+
 use crate::fault_words::{Cause, fault_words, given_up_words};
 use crate::moments::{Timing, date_of_clock};
 use crate::rules::FilingRules;
@@ -234,14 +237,17 @@ pub fn deliver_to<'a, S: Alter>(
     }
 }
 
-/// Writes the records of a delivery to standard output, and tells of its undecoded words and of a fault. Where its message
-/// was given up, also since it took longer than `limit` seconds, that is a failure.
+/// Writes the records of a delivery to standard output, and tells of its undecoded words and of a fault. It is a success where the
+/// message was captured or discarded, and only there; where it was given up, also since it took longer than `limit` seconds,
+/// that is a failure, `TryAgain`.
 pub fn report_delivery(
     rt: &HostRuntime,
     delivered: &Delivered,
     limit: u64,
     undecoded: &[Shown],
-) -> Result<(), Failure> {
+) -> Result<(), Failure>
+    ensures { is_ok result ≡ is_captured delivered.now.outcome }
+{
     let cause = delivered.cause.as_ref();
     match &delivered.outcome {
         Delivery::Captured(capture) => {

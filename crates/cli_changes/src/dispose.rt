@@ -3,7 +3,7 @@
 use class_plan::{Action, Date, Schedule};
 use cli_choice::{Meant, meant_of};
 use cli_console::{Failure, Status, judge_day, now, tell, tell_words, today, write_text};
-use cli_history::StoreLedger;
+use cli_history::{Fidelity, Seals, StoreLedger};
 use cli_texts::{Certificate, captured_line, certificate_line, sum_text};
 use command_lines::archives::{Disposal, TypedNumbers};
 use record_choice::{
@@ -18,6 +18,8 @@ use tool_texts::{Shown, put};
 #[derive(Drop)]
 struct Certificates<'a> {
     rt: &'a HostRuntime,
+    /// The seals of the messages, as the history has them.
+    seals: &'a Seals,
     /// Whether a message is gone with a record.
     is_any_gone: bool,
 }
@@ -30,9 +32,15 @@ struct Draft {
     is_gone: bool,
 }
 
-/// The certificate of a record that is about to be destroyed.
-fn certificate_of(rt: &HostRuntime, destroyed: &Destroyed) -> Result<Shown, Failure> {
+/// The certificate of a record that is about to be destroyed. It says where the message is not the one that was captured.
+fn certificate_of(
+    rt: &HostRuntime,
+    seals: &Seals,
+    destroyed: &Destroyed,
+) -> Result<Shown, Failure> {
     let sum = sum_text(rt.alloc(), destroyed.sum.as_slice())?;
+    let octets = destroyed.octets as u64;
+    let fidelity = seals.fidelity(destroyed.entry.message, octets, sum.as_bytes());
     let facts = Certificate {
         number: destroyed.entry.number,
         path: destroyed.entry.path.as_slice(),
@@ -41,6 +49,7 @@ fn certificate_of(rt: &HostRuntime, destroyed: &Destroyed) -> Result<Shown, Fail
         sum: sum.as_str(),
         moment: now(rt)?,
         kept_by: destroyed.kept_by,
+        is_altered: matches!(fidelity, Fidelity::Altered(_)),
     };
     Ok(certificate_line(rt.alloc(), &facts)?)
 }
@@ -70,7 +79,7 @@ impl Registrar for Certificates<'_> {
 
     fn draft(&self, destroyed: &Destroyed) -> Result<Draft, Failure> {
         Ok(Draft {
-            text: certificate_of(self.rt, destroyed)?,
+            text: certificate_of(self.rt, self.seals, destroyed)?,
             is_gone: destroyed.kept_by.is_none(),
         })
     }
@@ -181,11 +190,13 @@ fn tell_none(rt: &HostRuntime, whose: &'static str, day: Date) -> Result<(), Fai
 fn destroy_asked<S: Alter>(
     rt: &HostRuntime,
     archive: &mut StoreLedger<'_, S>,
+    seals: &Seals,
     numbers: &[u32],
     day: Date,
 ) -> Result<(), Failure> {
     let mut certificates = Certificates {
         rt,
+        seals,
         is_any_gone: false,
     };
     let Disposed { count, end } = dispose(
@@ -219,18 +230,26 @@ fn list_asked<S: Alter>(
     Ok(())
 }
 
+/// What is done with records that are due.
+#[derive(Clone, Copy)]
+enum Fate<'s> {
+    /// They are listed.
+    Listed,
+    /// They are destroyed, and their messages are judged by these seals.
+    Destroyed(&'s Seals),
+}
+
 /// Lists or destroys the records of some numbers, all that are due where there is no number.
 fn dispose_of<S: Alter>(
     rt: &HostRuntime,
     archive: &mut StoreLedger<'_, S>,
-    destroys: bool,
+    fate: Fate<'_>,
     numbers: &[u32],
     day: Date,
 ) -> Result<(), Failure> {
-    if destroys {
-        destroy_asked(rt, archive, numbers, day)
-    } else {
-        list_asked(rt, archive, numbers, day)
+    match fate {
+        Fate::Listed => list_asked(rt, archive, numbers, day),
+        Fate::Destroyed(seals) => destroy_asked(rt, archive, seals, numbers, day),
     }
 }
 
@@ -247,18 +266,22 @@ pub fn day_of_disposal(rt: &HostRuntime, asked: &Disposal) -> Result<Date, Failu
 
 /// Writes what is due by a day and may be destroyed, or destroys it; where numbers are typed, these records alone. A range
 /// passes over what may not be destroyed; `BadData` with the reason where that is a record whose number is typed by itself. Where
-/// there is none, this is told.
+/// there is none, this is told. The seals of the history are those by which certificates judge messages.
 pub fn dispose_by<S: Alter>(
     rt: &HostRuntime,
     archive: &mut StoreLedger<'_, S>,
     asked: &Disposal,
     day: Date,
+    seals: &Seals,
 ) -> Result<(), Failure> {
+    let fate = if asked.destroys {
+        Fate::Destroyed(seals)
+    } else {
+        Fate::Listed
+    };
     match meant_by(rt, archive, asked.numbers.as_slice(), day)? {
-        Meant::All => dispose_of(rt, archive, asked.destroys, &[], day),
+        Meant::All => dispose_of(rt, archive, fate, &[], day),
         Meant::Nothing => tell_none(rt, "none of these records", day),
-        Meant::Numbers(numbers) => {
-            dispose_of(rt, archive, asked.destroys, numbers.as_slice(), day)
-        }
+        Meant::Numbers(numbers) => dispose_of(rt, archive, fate, numbers.as_slice(), day),
     }
 }

@@ -5,6 +5,7 @@
 //! - `pages`: the events of a history, a page at a time;
 //! - `chosen`: which events are asked for; `printing`: these, as lines or as JSON;
 //! - `certificates`: those of records that were destroyed;
+//! - `seals`: of messages, as events tell them, and what a message is beside the one that was captured;
 //! - `copies`: a history that another store takes over; `extracts`: the events of records that are exported;
 //! - `judging` and `comparison`: whether a history is whole, has a mark that was noted elsewhere, and explains its archive.
 //!
@@ -22,6 +23,7 @@ mod judging;
 mod opening;
 mod pages;
 mod printing;
+mod seals;
 
 pub use author::Author;
 pub use beginning::begin_history;
@@ -31,3 +33,4 @@ pub use extracts::{Extract, Subjects};
 pub use judging::judge_history;
 pub use opening::{StoreLedger, open_history, open_ledger};
 pub use printing::write_history;
+pub use seals::{Fidelity, Seals, altered_words};

@@ -1,16 +1,21 @@
 //! `export`: records as files, with lists of them.
 
+use crate::altered::Altered;
 use crate::conditions::conditions_of;
 use crate::folder::{ListFile, judge_free, make_file, make_folder, write_to};
 use crate::list::row_of;
 use crate::report::record_of;
 use cli_choice::Questions;
 use cli_console::{Failure, Search, message_of, now, write_text};
-use cli_history::{Extract, Subjects};
+use cli_history::{Extract, Fidelity, Seals, Subjects};
 use cli_page::{Index, IndexHeading, Order, Page};
-use cli_texts::{Headers, Kept, MANIFEST_HEADER, headers_of, manifest_row, moment_text, sum_of};
+use cli_texts::{
+    Exported, Headers, Kept, MANIFEST_HEADER, headers_of, manifest_row, moment_text, sum_of,
+    sum_text,
+};
 use command_lines::archives::{Choice, Sorting, Target};
 use record_store::{RecordEntry, Store};
+use sha2::{Digest, Sha256};
 use sqlite::Alter;
 use std::alloc::{AllocError, Global};
 use tool_texts::{Shown, put};
@@ -36,9 +41,34 @@ struct Export<'a> {
     index: Index,
     /// Whose events are written.
     subjects: Subjects,
-    /// The message that was written last.
-    last: Option<Written>,
+    /// By which messages are judged.
+    seals: Seals,
+    /// The message that was met last.
+    last: Option<Met>,
+    /// Those whose messages are not written, since they are not the ones that were captured.
+    altered: Altered,
     count: Count,
+}
+
+impl<'a> Export<'a> {
+    /// An export of nothing yet.
+    fn new(alloc: Global, folder: &'a str, seals: Seals) -> Export<'a> {
+        Export {
+            folder,
+            manifest: ListFile::new(MANIFEST, MANIFEST_HEADER),
+            sums: ListFile::new(SUMS, ""),
+            index: Index::new(alloc),
+            subjects: Subjects::new(alloc),
+            seals,
+            last: None,
+            altered: Altered::none(alloc),
+            count: Count {
+                records: 0,
+                messages: 0,
+                octets: 0,
+            },
+        }
+    }
 }
 
 /// How much an export has.
@@ -79,6 +109,35 @@ impl Written {
     }
 }
 
+/// A message that an export has met.
+#[derive(Drop)]
+enum Met {
+    Written(Written),
+    /// The one of this number is not the one that was captured.
+    Altered(u32),
+}
+
+impl Met {
+    /// The number of the message.
+    fn message(&self) -> u32 {
+        match self {
+            Met::Written(written) => written.message,
+            Met::Altered(message) => *message,
+        }
+    }
+}
+
+/// Writes the line of a file to the list of sums.
+fn write_sum(
+    rt: &HostRuntime,
+    export: &mut Export<'_>,
+    name: &str,
+    sum: &str,
+) -> Result<(), Failure> {
+    let line = format!(in rt.alloc(); "{sum}  {name}\n")?;
+    export.sums.write(rt, export.folder, line.as_bytes())
+}
+
 /// Writes a message to a new file that is named by its number.
 fn write_message(
     rt: &HostRuntime,
@@ -91,8 +150,7 @@ fn write_message(
     let mut file = make_file(rt, export.folder, name.as_str())?;
     write_to(rt, export.folder, &mut file, octets)?;
     let sum = sum_of(alloc, octets)?;
-    let line = format!(in alloc; "{sum}  {name}\n")?;
-    export.sums.write(rt, export.folder, line.as_bytes())?;
+    write_sum(rt, export, name.as_str(), sum.as_str())?;
     Ok(Written {
         message: number,
         file: name,
@@ -102,7 +160,24 @@ fn write_message(
     })
 }
 
-/// Writes the message of a record, unless it was written for the record before.
+/// Writes a message, if it is the one that was captured, as far as that is known.
+fn write_judged(
+    rt: &HostRuntime,
+    export: &mut Export<'_>,
+    number: u32,
+    octets: &[u8],
+) -> Result<Met, Failure> {
+    match export.seals.is_captured(rt.alloc(), number, octets)? {
+        Fidelity::Altered(_) => Ok(Met::Altered(number)),
+        Fidelity::Unsealed | Fidelity::Same => {
+            let written = write_message(rt, export, number, octets)?;
+            export.count.add_message(octets.len());
+            Ok(Met::Written(written))
+        }
+    }
+}
+
+/// Writes the message of a record, unless it was met at the record before.
 fn write_new<S: Alter>(
     rt: &HostRuntime,
     archive: &mut Store<S>,
@@ -110,26 +185,43 @@ fn write_new<S: Alter>(
     entry: &RecordEntry,
 ) -> Result<(), Failure> {
     let last = export.last.as_ref();
-    if last.is_some_and(|last| last.message == entry.message) {
+    if last.is_some_and(|last| last.message() == entry.message) {
         return Ok(());
     }
     let octets = message_of(rt, archive, entry)?;
-    export.last = Some(write_message(rt, export, entry.message, octets.as_slice())?);
-    export.count.add_message(octets.len());
+    export.last = Some(write_judged(rt, export, entry.message, octets.as_slice())?);
     Ok(())
 }
 
-/// Adds a record to an index, and answers its row for the manifest. Its message, if it has one, is the one that was written
-/// last.
+/// The row of a record without a message in the manifest, which the index has too.
+fn row_alone(
+    alloc: Global,
+    export: &mut Export<'_>,
+    entry: &RecordEntry,
+) -> Result<Vec<u8>, AllocError> {
+    export.index.add(&record_of(entry), None)?;
+    manifest_row(alloc, &row_of(entry), &Exported::Destroyed)
+}
+
+/// The row of a record in the manifest. Its message is the one that was met last. The index has it too where the message was
+/// written; where it was not, the record is noted.
 fn row_beside(
     alloc: Global,
-    index: &mut Index,
+    export: &mut Export<'_>,
     entry: &RecordEntry,
-    written: Option<&Written>,
 ) -> Result<Vec<u8>, AllocError> {
-    let letter = written.map(|written| (written.message, &written.headers));
-    index.add(&record_of(entry), letter)?;
-    manifest_row(alloc, &row_of(entry), written.map(|written| written.kept()))
+    match &export.last {
+        Some(Met::Written(written)) => {
+            let letter = Some((written.message, &written.headers));
+            export.index.add(&record_of(entry), letter)?;
+            manifest_row(alloc, &row_of(entry), &Exported::Written(written.kept()))
+        }
+        Some(Met::Altered(_)) | None => {
+            export.altered.add(entry.number)?;
+            let captured = export.seals.length_and_sum(entry.message);
+            manifest_row(alloc, &row_of(entry), &Exported::Altered(captured))
+        }
+    }
 }
 
 /// Exports a record: its message, unless it is destroyed, and its row.
@@ -140,10 +232,10 @@ fn export_record<S: Alter>(
     entry: &RecordEntry,
 ) -> Result<(), Failure> {
     let row = if entry.destroyed {
-        row_beside(rt.alloc(), &mut export.index, entry, None)?
+        row_alone(rt.alloc(), export, entry)?
     } else {
         write_new(rt, archive, export, entry)?;
-        row_beside(rt.alloc(), &mut export.index, entry, export.last.as_ref())?
+        row_beside(rt.alloc(), export, entry)?
     };
     export.subjects.add(entry)?;
     export.count.records = export.count.records.saturating_add(1);
@@ -168,24 +260,40 @@ fn export_records<S: Alter>(
     Ok(())
 }
 
-/// Writes the events of the records to a file, where the store keeps a history. Answers what stands against the history:
-/// `BadData` where the line of an event cannot be read, which is told.
-fn export_history<S: Alter>(
+/// Writes events to a new file of a folder, and answers its SHA-256.
+fn write_events<S: Alter>(
     rt: &HostRuntime,
     archive: &mut Store<S>,
-    export: &Export<'_>,
-) -> Result<Result<(), Failure>, Failure> {
-    let Some(mut extract) = Extract::of(rt.alloc(), archive, &export.subjects) else {
-        return Ok(Ok(()));
-    };
-    let mut file = make_file(rt, export.folder, HISTORY)?;
+    folder: &str,
+    extract: &mut Extract<'_>,
+) -> Result<[u8; 32], Failure> {
+    let mut file = make_file(rt, folder, HISTORY)?;
+    let mut hasher = Sha256::new();
     for _ in 0..u64::MAX {
         let Some(lines) = extract.next_lines(rt, archive)? else {
             break;
         };
-        write_to(rt, export.folder, &mut file, lines.as_slice())?;
+        write_to(rt, folder, &mut file, lines.as_slice())?;
+        hasher.update(lines.as_slice());
     }
-    Ok(extract.end())
+    Ok(hasher.finalize())
+}
+
+/// Writes the events of the records to a file, where the store keeps a history, and its sum to the list of sums. Answers what
+/// stands against the history: `BadData` where the line of an event cannot be read, which is told.
+fn export_history<S: Alter>(
+    rt: &HostRuntime,
+    archive: &mut Store<S>,
+    export: &mut Export<'_>,
+) -> Result<Result<(), Failure>, Failure> {
+    let Some(mut extract) = Extract::of(rt.alloc(), archive, &export.subjects) else {
+        return Ok(Ok(()));
+    };
+    let sum = write_events(rt, archive, export.folder, &mut extract)?;
+    let told = extract.end();
+    let sum = sum_text(rt.alloc(), sum.as_slice())?;
+    write_sum(rt, export, HISTORY, sum.as_str())?;
+    Ok(told)
 }
 
 /// The order of an index.
@@ -254,7 +362,8 @@ fn exported_line(alloc: Global, count: Count, folder: &str) -> Result<Shown, All
 /// Exports the records that meet a choice, and whose messages have what is asked of them, to a folder in which none of the
 /// files is yet, and writes how much that is. The index is written after the messages, with the file of the store and what
 /// was asked for: where it is missing, the export was cut off. `BadData` where the class is none of the plan, and where a
-/// number that is typed by itself is not found; where nothing else is, no list is left.
+/// number that is typed by itself is not found; where nothing else is, no list is left. `BadData` too where a message is not the
+/// one that was captured: it is not written, which is told, and the others are.
 pub fn export_to<S: Alter>(
     rt: &HostRuntime,
     archive: &mut Store<S>,
@@ -269,26 +378,17 @@ pub fn export_to<S: Alter>(
     for name in [MANIFEST, SUMS, INDEX, HISTORY] {
         judge_free(rt, folder, name)?;
     }
-    let mut export = Export {
-        folder,
-        manifest: ListFile::new(MANIFEST, MANIFEST_HEADER),
-        sums: ListFile::new(SUMS, ""),
-        index: Index::new(rt.alloc()),
-        subjects: Subjects::new(rt.alloc()),
-        last: None,
-        count: Count {
-            records: 0,
-            messages: 0,
-            octets: 0,
-        },
-    };
+    let mut export = Export::new(rt.alloc(), folder, Seals::of(rt, archive)?);
     export_records(rt, archive, &mut export, &mut search)?;
     let ended = match search.end(rt, archive) {
         Err(failure) if export.count.records == 0 => return Err(failure),
         ended => ended,
     };
-    let told = export_history(rt, archive, &export)?;
+    export.altered.tell(rt)?;
+    let judged = export.altered.end();
+    let told = export_history(rt, archive, &mut export)?;
     finish(rt, export, file, choice, target)?;
     ended?;
-    told
+    told?;
+    judged
 }

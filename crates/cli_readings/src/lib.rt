@@ -2,12 +2,14 @@
 //!
 //! - `choice`: what is asked of the records that a command is about; `conditions`: the same as it can be typed;
 //! - `list`, `show`, `export`, `judge` (for `check`), `why` and `report`: these subcommands;
+//! - `altered`: records whose messages are not the ones that were captured;
 //! - `folder`: the files of an export;
 //! - `sums`: what a copy is compared by.
 //!
 //! Each works on a store that is lent to it. What it writes, no contract speaks of: tests of the program show it.
 #![tactic(auto)]
 
+mod altered;
 mod choice;
 mod conditions;
 mod export;
@@ -19,11 +21,12 @@ mod show;
 mod sums;
 mod why;
 
+pub use altered::Altered;
 pub use choice::judge_choice;
 pub use export::export_to;
 pub use judge::write_contents;
 pub use list::write_list;
 pub use report::write_report;
 pub use show::{message_of_record, write_message};
-pub use sums::{Summary, summary_of};
+pub use sums::{Judged, Summary, judged_summary, summary_of};
 pub use why::{Captured, read_captured, write_why};

@@ -1,7 +1,7 @@
 //! `why`: why a record is in its class, and whether the rules of today would file its message there again.
 
 use crate::list::row_of;
-use crate::show::message_of_record;
+use crate::show::{entry_of, message_of_entry};
 use class_plan::{Date, Plan, day_number};
 use cli_console::{Failure, Status, write_data, write_text};
 use cli_sources::{Script, read_rules};
@@ -20,9 +20,6 @@ use tool_texts::{Shown, put};
 
 /// The seconds of a day.
 const DAY: u64 = 86_400;
-
-/// The number of the refusal of a record that is not there.
-const NO_RECORD: u8 = 80;
 
 /// The number of the refusal of scripts whose image is too long.
 const FULL: u8 = 96;
@@ -106,22 +103,8 @@ fn read_scripts(rt: &HostRuntime, folder: &str, officer: &str) -> Result<Scripts
     Scripts::new(alloc, main, others).map_err(|fault| failure_of(rt, fault))
 }
 
-/// The entry of a record. `BadData` where there is none of its number.
-fn entry_of<S: Alter>(
-    rt: &HostRuntime,
-    archive: &mut Store<S>,
-    record: TypedNumber<'_>,
-) -> Result<RecordEntry, Failure> {
-    let mut page = archive
-        .entries(record.number, 1)
-        .map_err(|fault| Failure::of_store(rt.alloc(), record.word, fault))?;
-    match page.pop() {
-        Some(entry) if entry.number == record.number => Ok(entry),
-        _ => Err(Failure::numbered(rt.alloc(), Status::BadData, record.word, NO_RECORD)),
-    }
-}
-
-/// A record of an archive as it was captured, with the plan of today. `BadData` where there is none of its number.
+/// A record of an archive as it was captured, with the plan of today. `BadData` where there is none of its number, and where
+/// its message is not the one that was captured.
 pub fn read_captured<S: Alter>(
     rt: &HostRuntime,
     archive: &mut Store<S>,
@@ -132,7 +115,7 @@ pub fn read_captured<S: Alter>(
     let message = if entry.destroyed {
         None
     } else {
-        Some(message_of_record(rt, archive, record)?)
+        Some(message_of_entry(rt, archive, record, &entry)?)
     };
     Ok(Captured {
         entry,

@@ -8,7 +8,7 @@ use cli_changes::{
 };
 use cli_choice::{Change, Questions};
 use cli_console::Failure;
-use cli_history::{Author, StoreLedger, open_ledger};
+use cli_history::{Author, Seals, StoreLedger, open_ledger};
 use command_lines::archives::{Choice, Disposal};
 use desk_commands::Payload;
 use record_history::Filing;
@@ -35,17 +35,26 @@ pub enum Changing<'a, 't> {
 }
 
 impl Changing<'_, '_> {
+    /// The seals by which messages are judged that are destroyed.
+    fn seals<S: Alter>(&self, rt: &HostRuntime, archive: &mut Store<S>) -> Result<Seals, Failure> {
+        match self {
+            Changing::Dispose(asked, _) if asked.destroys => Seals::of(rt, archive),
+            _ => Ok(Seals::none(rt.alloc())),
+        }
+    }
+
     /// Does it.
     fn perform<S: Alter>(
         &self,
         rt: &HostRuntime,
         ledger: &mut StoreLedger<'_, S>,
+        seals: &Seals,
     ) -> Result<(), Failure> {
         match self {
             Changing::ReplacePlan { plan, is_agreed } => {
                 replace_plan(rt, ledger, *plan, *is_agreed)
             }
-            Changing::Dispose(asked, day) => dispose_by(rt, ledger, asked, *day),
+            Changing::Dispose(asked, day) => dispose_by(rt, ledger, asked, *day, seals),
             Changing::Hold {
                 change,
                 name,
@@ -72,11 +81,16 @@ impl Work for ChangeBy<'_, '_> {
         archive: Store<S>,
     ) -> (Connection<S>, Result<(), Failure>) {
         let ChangeBy { author, change } = self;
+        let mut archive = archive;
+        let seals = match change.seals(rt, &mut archive) {
+            Ok(seals) => seals,
+            Err(failure) => return (archive.into_connection(), Err(failure)),
+        };
         let mut ledger = match open_ledger(rt, archive, &author, None) {
             Ok(ledger) => ledger,
             Err((archive, failure)) => return (archive.into_connection(), Err(failure)),
         };
-        let done = change.perform(rt, &mut ledger);
+        let done = change.perform(rt, &mut ledger, &seals);
         (ledger.into_store().into_connection(), done)
     }
 }

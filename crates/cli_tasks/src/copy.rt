@@ -4,8 +4,8 @@ use crate::archives::{Archives, Work, lend, not_made};
 use crate::drafts::{begin, read_back, settle};
 use class_plan::Plan;
 use cli_console::{Failure, Status, write_text};
-use cli_history::{Lines, open_history};
-use cli_readings::{Summary, summary_of};
+use cli_history::{Lines, Seals, open_history};
+use cli_readings::{Judged, Summary, judged_summary};
 use record_copy::{CopyFault, copy_archive};
 use record_noted::Opened;
 use record_store::Store;
@@ -78,19 +78,65 @@ fn history_of<S: Alter>(
     }
 }
 
+/// What is done where messages are not the ones that were captured.
+#[derive(Clone, Copy)]
+enum Damage {
+    /// Nothing is copied.
+    Refused,
+    /// They are copied as they are.
+    Copied,
+}
+
+/// How much an archive keeps. The records whose messages are not the ones that were captured are told; `BadData` where such
+/// a message may not be copied.
+fn judged_by_seals<S: Alter>(
+    rt: &HostRuntime,
+    archive: &mut Store<S>,
+    damage: Damage,
+) -> Result<Summary, Failure> {
+    let seals = Seals::of(rt, archive)?;
+    let Judged {
+        summary,
+        altered,
+        ..
+    } = judged_summary(rt, archive, &seals)?;
+    altered.tell(rt)?;
+    match damage {
+        Damage::Refused if !altered.is_empty() => Err(Failure::told(
+            rt.alloc(),
+            Status::BadData,
+            "nothing is copied; with --damaged all is copied as it is in the store",
+        )),
+        Damage::Refused | Damage::Copied => Ok(summary),
+    }
+}
+
 /// Reads a whole archive before it is copied.
 fn kept_of<S: Alter>(
     rt: &HostRuntime,
     archive: &mut Store<S>,
     history: Option<Lines>,
+    damage: Damage,
 ) -> Result<Kept, Failure> {
-    let summary = summary_of(rt, archive)?;
+    let summary = judged_by_seals(rt, archive, damage)?;
     let plan = archive.plan().copy()?;
     Ok(Kept {
         plan,
         summary,
         history,
     })
+}
+
+/// Reads a whole archive, its history too, before it is copied. The archive is handed back.
+fn read_all<S: Alter>(
+    rt: &HostRuntime,
+    archive: Store<S>,
+    damage: Damage,
+) -> (Store<S>, Result<Kept, Failure>) {
+    let (archive, history) = history_of(rt, archive);
+    let mut archive = archive;
+    let kept = history.and_then(|history| kept_of(rt, &mut archive, history, damage));
+    (archive, kept)
 }
 
 /// Begins the history of a draft with the lines of another.
@@ -164,37 +210,23 @@ fn fill<A: Archives, S: Alter>(
     }
 }
 
-/// Copies an archive to a draft, and answers what was copied.
+/// Copies an archive that was read to a draft, and answers what was copied.
 fn copy_all<A: Archives, S: Alter>(
     rt: &HostRuntime,
     archives: &A,
-    archive: Store<S>,
+    from: &mut Connection<S>,
+    kept: &Kept,
     draft: &str,
     paths: Paths<'_>,
-) -> (Connection<S>, Result<Summary, Failure>) {
-    let (archive, history) = history_of(rt, archive);
-    let mut archive = archive;
-    let history = match history {
-        Ok(history) => history,
-        Err(failure) => return (archive.into_connection(), Err(failure)),
-    };
-    let kept = match kept_of(rt, &mut archive, history) {
-        Ok(kept) => kept,
-        Err(failure) => return (archive.into_connection(), Err(failure)),
-    };
-    let mut from = archive.into_connection();
+) -> Result<Summary, Failure> {
     let work = FillDraft {
         plan: &kept.plan,
-        from: &mut from,
+        from,
         paths,
     };
-    if let Err(failure) = fill(rt, archives, draft, work) {
-        return (from, Err(failure));
-    }
-    match take_over(rt, archives, draft, kept.history.as_ref()) {
-        Ok(()) => (from, Ok(kept.summary)),
-        Err(failure) => (from, Err(failure)),
-    }
+    fill(rt, archives, draft, work)?;
+    take_over(rt, archives, draft, kept.history.as_ref())?;
+    Ok(kept.summary)
 }
 
 /// Reads the draft of an archive back, and compares it with what was copied.
@@ -233,14 +265,17 @@ fn finish<A: Archives>(
     write_text(rt, &text)
 }
 
-/// Makes the draft of a new archive with the plan of another one.
-fn begin_alike<A: Archives, S: Alter>(
+/// Makes a new archive with what was read of another one. Where that fails, no new one is left.
+fn make_copy<A: Archives, S: Alter>(
     rt: &HostRuntime,
     archives: &A,
-    archive: &Store<S>,
-    new: &str,
-) -> Result<String, Failure> {
-    begin(rt, archives, new, archive.plan().copy()?)
+    from: &mut Connection<S>,
+    kept: &Kept,
+    paths: Paths<'_>,
+) -> Result<(), Failure> {
+    let draft = begin(rt, archives, paths.new, kept.plan.copy()?)?;
+    let copied = copy_all(rt, archives, from, kept, draft.as_str(), paths);
+    finish(rt, archives, copied, draft.as_str(), paths.new)
 }
 
 /// Makes a new archive with all that another one has. Where that fails, no new one is left.
@@ -248,6 +283,7 @@ fn begin_alike<A: Archives, S: Alter>(
 struct Copying<'a, A> {
     archives: &'a A,
     paths: Paths<'a>,
+    damage: Damage,
 }
 
 impl<A: Archives> Work for Copying<'_, A> {
@@ -258,24 +294,35 @@ impl<A: Archives> Work for Copying<'_, A> {
         rt: &HostRuntime,
         archive: Store<S>,
     ) -> (Connection<S>, Result<(), Failure>) {
-        let Copying { archives, paths } = self;
-        let draft = match begin_alike(rt, archives, &archive, paths.new) {
-            Ok(draft) => draft,
-            Err(failure) => return (archive.into_connection(), Err(failure)),
-        };
-        let (from, copied) = copy_all(rt, archives, archive, draft.as_str(), paths);
-        (
-            from,
-            finish(rt, archives, copied, draft.as_str(), paths.new),
-        )
+        let Copying {
+            archives,
+            paths,
+            damage,
+        } = self;
+        let (archive, read) = read_all(rt, archive, damage);
+        let mut from = archive.into_connection();
+        let made = read.and_then(|kept| make_copy(rt, archives, &mut from, &kept, paths));
+        (from, made)
     }
 }
 
-/// Makes a new archive with all that another one has. Where that fails, no new one is left.
+/// Makes a new archive with all that another one has. Where that fails, no new one is left. `BadData` where a message is not
+/// the one that was captured, unless such messages are to be copied too, as they are; the records that have them are told.
 pub fn copy_to<A: Archives>(
     rt: &HostRuntime,
     archives: &A,
     paths: Paths<'_>,
+    is_damaged: bool,
 ) -> Result<(), Failure> {
-    lend(rt, archives, paths.store, Copying { archives, paths })
+    let damage = if is_damaged {
+        Damage::Copied
+    } else {
+        Damage::Refused
+    };
+    let work = Copying {
+        archives,
+        paths,
+        damage,
+    };
+    lend(rt, archives, paths.store, work)
 }

@@ -390,7 +390,12 @@ pub fn execute<A: Archives>(
             telling,
         } => intake(rt, archives, store, maildir, &filing, telling, told),
         Command::Show { record, fields } => show(rt, archives, store, record, fields),
-        Command::Copy { new } => copy_to(rt, archives, Paths { store, new }),
+        Command::Copy { new, is_damaged } => copy_to(
+            rt,
+            archives,
+            Paths { store, new },
+            is_damaged,
+        ),
         Command::Check { head } => lend(rt, archives, store, CheckAll { head }),
         Command::CheckRules(asked) => lend(rt, archives, store, CheckRules(asked)),
         Command::Why(asked) => why(rt, archives, store, &asked),

@@ -24,6 +24,8 @@ pub struct Certificate<'a> {
     pub moment: u64,
     /// A live record that keeps the same message, if there is one.
     pub kept_by: Option<u32>,
+    /// Whether its message was not the one that was captured.
+    pub is_altered: bool,
 }
 
 /// The SHA-256 of octets, in hexadecimal digits.
@@ -61,6 +63,9 @@ pub fn certificate_line(alloc: Global, it: &Certificate<'_>) -> Result<Shown, Al
     put!(line; " octets " value(&it.octets) " sha256 " value(&it.sum) " at " value(&moment))?;
     if let Some(keeper) = it.kept_by {
         put!(line; " message kept by record " value(&keeper))?;
+    }
+    if it.is_altered {
+        line.words("; its message was not the one captured")?;
     }
     line.end_line()?;
     Ok(line)

@@ -17,5 +17,6 @@ pub use headers::{Headers, ListedHeaders, headers_of, undecoded_lines};
 pub use plans::{due_by, plan_of_text, plan_text};
 pub use records::{Row, captured_line, captured_words, json_object, listed_line};
 pub use rows::{
-    Kept, LIST_HEADER, LIST_HEADER_WITH_TEXTS, MANIFEST_HEADER, csv_row, listed_row, manifest_row,
+    Exported, Kept, LIST_HEADER, LIST_HEADER_WITH_TEXTS, MANIFEST_HEADER, csv_row, listed_row,
+    manifest_row,
 };

@@ -30,6 +30,16 @@ pub struct Kept<'a> {
     pub headers: &'a Headers,
 }
 
+/// What an export has of a record's message.
+#[derive(Clone, Copy)]
+pub enum Exported<'a> {
+    /// Nothing: it is destroyed.
+    Destroyed,
+    /// Nothing, since it is not the one that was captured: how many octets that one had and its SHA-256, where they are known.
+    Altered(Option<(u64, &'a [u8])>),
+    Written(Kept<'a>),
+}
+
 /// The signs that begin a formula in a spreadsheet, also in the full-width forms of East Asian ones.
 const FORMULA_SIGNS: [&str; 8] = [
     "=", "+", "-", "@", "\u{ff1d}", "\u{ff0b}", "\u{ff0d}", "\u{ff20}",
@@ -134,22 +144,46 @@ pub fn listed_row(
     }
 }
 
-/// The row of a record in a manifest. Without a message, which a destroyed record has no more, the last six fields are
-/// empty.
+/// The cells of a message in a manifest: the name of its file, how many octets it has, and its SHA-256.
+fn message_cells(alloc: Global, message: &Exported<'_>) -> Result<[String; 3], AllocError> {
+    Ok(match message {
+        Exported::Destroyed | Exported::Altered(None) => {
+            [String::new(alloc), String::new(alloc), String::new(alloc)]
+        }
+        Exported::Altered(Some((octets, sum))) => [
+            String::new(alloc),
+            format!(in alloc; "{octets}")?,
+            shown(alloc, *sum)?,
+        ],
+        Exported::Written(kept) => {
+            let octets = kept.octets;
+            [
+                String::from_str(alloc, kept.file)?,
+                format!(in alloc; "{octets}")?,
+                String::from_str(alloc, kept.sum)?,
+            ]
+        }
+    })
+}
+
+/// What the header of a message says that was written.
+fn headers_written<'a>(message: &Exported<'a>) -> Option<&'a Headers> {
+    match message {
+        Exported::Written(kept) => Some(kept.headers),
+        Exported::Destroyed | Exported::Altered(_) => None,
+    }
+}
+
+/// The row of a record in a manifest. Where its message is destroyed, the last six fields are empty; where it is not the one
+/// that was captured, only the length and the sum of that one are there.
 pub fn manifest_row(
     alloc: Global,
     row: &Row<'_>,
-    kept: Option<Kept<'_>>,
+    message: &Exported<'_>,
 ) -> Result<Vec<u8>, AllocError> {
     let [number, day, due, holds] = first_cells(alloc, row)?;
-    let (file, octets, sum) = match &kept {
-        Some(kept) => {
-            let octets = kept.octets;
-            (kept.file, format!(in alloc; "{octets}")?, kept.sum)
-        }
-        None => ("", String::new(alloc), ""),
-    };
-    let [sender, subject, date] = header_cells(alloc, kept.map(|kept| kept.headers))?;
+    let [file, octets, sum] = message_cells(alloc, message)?;
+    let [sender, subject, date] = header_cells(alloc, headers_written(message))?;
     csv_row(
         alloc,
         &[

@@ -56,6 +56,8 @@ pub enum Command<'a> {
     /// Makes a copy in a new file at a path.
     Copy {
         new: &'a str,
+        /// Whether messages are copied too that are not the ones that were captured.
+        is_damaged: bool,
     },
     /// Judges the whole store, and says of a mark whether its history has it.
     Check {
@@ -443,7 +445,10 @@ const FILE_FORGOTTEN: &str =
 fn copy_asked<'a>(alloc: Global, asked: &ArgMatches<'a>) -> Result<Command<'a>, NoCommand> {
     let new = required(asked, words::NEW)?;
     judge_place(alloc, new, FILE_FORGOTTEN)?;
-    Ok(Command::Copy { new })
+    Ok(Command::Copy {
+        new,
+        is_damaged: has_flag(asked, words::DAMAGED),
+    })
 }
 
 /// What is done with the plan. `--yes` is refused where there is no plan to agree to.

@@ -361,11 +361,17 @@ pub const NEW: Word = Word {
     ..PLACE
 };
 
+pub const DAMAGED: Word = Word {
+    name: "damaged",
+    help: Some("Copies messages too that are not the ones that were captured, as they are"),
+    ..FLAG
+};
+
 const COPY: Subcommand = Subcommand {
     name: "copy",
     about: "Makes a new store with the same archive, without the octets of what was destroyed",
     example: "Example: mailfile-store copy --store records.db backup.db",
-    words: &[STORE, NEW],
+    words: &[STORE, DAMAGED, NEW],
     has_shared: false,
 };
 

@@ -1,0 +1,252 @@
+//! The seals of messages, by which one that was altered in the file is known.
+
+ghost use Rattle.std.specs.Prelude.{◌≡◌, ◌==◌, ℕ, None, Some, IfOk, OnOk, if◌then◌else◌, option_map};
+ghost use Rattle.record_history.specs.Replay.{seal as seal_of_octets};
+ghost use Rattle.record_history.specs.Views.{deed_view, seal_view};
+ghost use Rattle.cli_history.specs.Seals.{fidelity as fidelity_to, is_seal, known, later, length_and_sum as length_and_sum_of, sealed_by};
+
+use crate::pages::PAGE;
+use cli_console::Failure;
+use record_history::{Deed, Event, LineFault, Seal, read_line, seal_of};
+use record_store::{EventLayout, EventRow, Store};
+use sqlite::Alter;
+use std::alloc::{AllocError, Global};
+use std::collections::BTreeMap;
+use tool_texts::{Shown, put};
+
+/// A seal, and the event that tells it.
+#[derive(Drop)]
+pub struct Told {
+    seal: Seal,
+    event: u32,
+}
+
+/// The seals of messages, as the events of a history tell them. Of several events about one message the last one counts.
+#[derive(Drop)]
+pub struct Seals {
+    /// By the numbers of messages.
+    told: BTreeMap<u32, Told>,
+}
+
+/// What a message is, beside the one that was captured.
+#[derive(Clone, Copy)]
+pub enum Fidelity {
+    /// No seal of it is known.
+    Unsealed,
+    /// It has the length and the SHA-256 of its seal.
+    Same,
+    /// It has not, and the event of this number tells the seal.
+    Altered(u32),
+}
+
+/// The deed of an event; none where its line cannot be read, or is that of another number. The only refusal is no memory.
+fn deed_of(alloc: Global, row: &EventRow) -> Result<Option<Deed<'_>>, AllocError> {
+    match read_line(alloc, row.line.as_slice()) {
+        Ok((number, event)) if number == u64::from(row.number) => {
+            let Event { deed, .. } = event;
+            Ok(Some(deed))
+        }
+        Ok(_) | Err(LineFault::NotALine) => Ok(None),
+        Err(LineFault::NoMemory) => Err(AllocError),
+    }
+}
+
+/// How the deeds begin that tell the seal of one message.
+#[derive(Drop)]
+struct Beginnings {
+    captured: String,
+    found: String,
+}
+
+/// What follows the first blank of a text; nothing where there is none.
+fn after_blank(text: &[u8]) -> &[u8] {
+    let blank = text
+        .iter()
+        .position(|octet| *octet == b' ')
+        .unwrap_or(text.len());
+    match text[blank..].split_first() {
+        Some((_, rest)) => rest,
+        None => b"",
+    }
+}
+
+impl Beginnings {
+    /// Those of the deeds that tell the seal of the message with a number.
+    fn of(alloc: Global, message: u32) -> Result<Beginnings, AllocError> {
+        Ok(Beginnings {
+            captured: format!(in alloc; "captured {message} ")?,
+            found: format!(in alloc; "found message {message} ")?,
+        })
+    }
+
+    /// Whether the line of an event can tell that seal: by what follows the number of the event, its moment and who did it.
+    fn are_those_of(&self, line: &[u8]) -> bool {
+        let deed = after_blank(after_blank(after_blank(line)));
+        deed.starts_with(self.captured.as_bytes()) || deed.starts_with(self.found.as_bytes())
+    }
+}
+
+impl Seals {
+    /// No seal of any message, as of a store without a history.
+    pub fn none(alloc: Global) -> Seals
+        ensures { (n : ℕ) → known result n ≡ None }
+    {
+        Seals {
+            told: BTreeMap::new(alloc),
+        }
+    }
+
+    /// What a message of so many octets with this SHA-256, in hexadecimal digits, is beside the one that was captured under its
+    /// number: the same where a seal is known and has this length and this sum, and altered where a seal is known and has not.
+    pub fn fidelity(&self, message: u32, octets: u64, sum: &[u8]) -> Fidelity
+        ensures { result ≡ fidelity_to (known self.now message)
+            (record { octets = octets; sum = sum.now }) }
+    {
+        match self.told.get(&message) {
+            Some(told) if is_seal_of(&told.seal, octets, sum) => Fidelity::Same,
+            Some(told) => Fidelity::Altered(told.event),
+            None => Fidelity::Unsealed,
+        }
+    }
+
+    /// What the octets of a message are, beside those that were captured under its number. The only refusal is no memory.
+    pub fn is_captured(
+        &self,
+        alloc: Global,
+        message: u32,
+        body: &[u8],
+    ) -> Result<Fidelity, AllocError>
+        ensures { IfOk result (λ f. f ≡
+            fidelity_to (known self.now message) (seal_of_octets body.now)) }
+    {
+        if !self.told.contains_key(&message) {
+            return Ok(Fidelity::Unsealed);
+        }
+        let seal = seal_of(alloc, body)?;
+        Ok(self.fidelity(message, seal.octets, seal.sum.as_slice()))
+    }
+
+    /// How many octets the message of a number had as it was captured, and its SHA-256 as an event tells it; none where no
+    /// seal of it is known.
+    pub fn length_and_sum(&self, message: u32) -> Option<(u64, &[u8])>
+        ensures { option_map (λ x. (x.0, x.1.now)) result ≡
+            option_map length_and_sum_of (known self.now message) }
+    {
+        match self.told.get(&message) {
+            Some(told) => Some((told.seal.octets, told.seal.sum.as_slice())),
+            None => None,
+        }
+    }
+
+    /// Notes the seal of a message. The only refusal is no memory.
+    fn note(&mut self, message: u32, seal: Seal, event: u32) -> Result<(), AllocError>
+        ensures { OnOk result ((n : ℕ) → known self.new n ≡
+            (if n == message then Some (seal_view seal, event) else known self.old n)) }
+    {
+        match self.told.insert(message, Told { seal, event }) {
+            Ok(_) => Ok(()),
+            Err(_) => Err(AllocError),
+        }
+    }
+
+    /// Notes the seal that a deed tells, if it tells one. The only refusal is no memory.
+    fn take(&mut self, event: u32, deed: Deed<'_>) -> Result<(), AllocError>
+        ensures { OnOk result ((n : ℕ) → known self.new n ≡
+            later (sealed_by event (deed_view deed.entry) n) (known self.old n)) }
+    {
+        match deed {
+            Deed::Captured { first, seal, .. } => self.note(first, seal, event),
+            Deed::FoundMessage { number, seal } => self.note(number, seal, event),
+            _ => Ok(()),
+        }
+    }
+
+    /// Notes the seals that the events of a page tell: of all messages, or of the one whose deeds begin so.
+    fn take_page(
+        &mut self,
+        alloc: Global,
+        page: &[EventRow],
+        only: Option<&Beginnings>,
+    ) -> Result<(), AllocError> {
+        for row in page {
+            if only.is_some_and(|deeds| !deeds.are_those_of(row.line.as_slice())) {
+                continue;
+            }
+            if let Some(deed) = deed_of(alloc, row)? {
+                self.take(row.number, deed)?;
+            }
+        }
+        Ok(())
+    }
+
+    /// Notes the seals that the events of a history tell, a page at a time.
+    fn take_all<S: Alter>(
+        &mut self,
+        rt: &HostRuntime,
+        archive: &mut Store<S>,
+        only: Option<&Beginnings>,
+    ) -> Result<(), Failure> {
+        let mut from = Some(1);
+        for _ in 0..u64::MAX {
+            let Some(first) = from else {
+                break;
+            };
+            let page = archive.events_from(first, PAGE).map_err(|fault| Failure::of_store(
+                rt.alloc(),
+                "the history",
+                fault,
+            ))?;
+            let Some(last) = page.last() else {
+                break;
+            };
+            from = last.number.checked_add(1);
+            self.take_page(rt.alloc(), page.as_slice(), only)?;
+        }
+        Ok(())
+    }
+
+    /// The seals that the history of a store tells, of all messages or of the one whose deeds begin so.
+    fn read<S: Alter>(
+        rt: &HostRuntime,
+        archive: &mut Store<S>,
+        only: Option<&Beginnings>,
+    ) -> Result<Seals, Failure> {
+        let mut seals = Seals::none(rt.alloc());
+        match archive.event_layout() {
+            EventLayout::Present => seals.take_all(rt, archive, only)?,
+            EventLayout::Absent | EventLayout::Other => {}
+        }
+        Ok(seals)
+    }
+
+    /// The seals that the history of a store tells; none where the store keeps no history. An event whose line cannot be
+    /// read tells none. A failure is that of the store.
+    pub fn of<S: Alter>(rt: &HostRuntime, archive: &mut Store<S>) -> Result<Seals, Failure> {
+        Seals::read(rt, archive, None)
+    }
+
+    /// The same, of one message alone.
+    pub fn of_message<S: Alter>(
+        rt: &HostRuntime,
+        archive: &mut Store<S>,
+        message: u32,
+    ) -> Result<Seals, Failure> {
+        let deeds = Beginnings::of(rt.alloc(), message)?;
+        Seals::read(rt, archive, Some(&deeds))
+    }
+}
+
+/// Whether a seal is that of a message of so many octets with this sum.
+fn is_seal_of(seal: &Seal, octets: u64, sum: &[u8]) -> bool
+    ensures { result ≡ is_seal (seal_view seal.now) (record { octets = octets; sum = sum.now }) }
+{
+    seal.octets == octets && seal.sum.as_slice() == sum
+}
+
+/// That the message of a record is not the one whose seal an event tells.
+pub fn altered_words(alloc: Global, record: u32, event: u32) -> Result<Shown, AllocError> {
+    let mut words = Shown::new(alloc);
+    put!(words; "record " value(&record) ": its message is not the one that was captured (event "
+        value(&event) ")")?;
+    Ok(words)
+}
