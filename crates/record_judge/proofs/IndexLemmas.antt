@@ -142,18 +142,18 @@ less false false true s t h = let k : s + 1 ≡ t + 1 = h in omega (arith, k)
 less false false false s t h = let k : s + 0 ≡ t + 0 = h in omega (arith, k)
 
 -- the index after one record is marked
-pub mark_kept : (old new : RecordIndex) (rows after : List SealedRecord) (i n gone : ℕ) (d : SealedRecord) → i < length rows
+pub mark_kept : (old new : RecordIndex) (rows after : List SealedRecord) (i n : ℕ) (d : SealedRecord) → i < length rows
     → new.first ≡ old.first → new.numbers ≡ old.numbers
-    → gone ≡ (if (get_or rows i d).number == n && not (get_or rows i d).destroyed then 1 else 0)
-    → ((q : ℕ) → count_at new.lives q ≡ count_at old.lives q - only_at (get_or rows i d).message gone q)
+    → ((q : ℕ) → count_at new.lives q ≡ count_at old.lives q
+    - only_at (get_or rows i d).message (if (get_or rows i d).number == n && not (get_or rows i d).destroyed then 1 else 0) q)
     → after ≡ set rows i (marked n (get_or rows i d)) → IsRecordIndex old rows → IsRecordIndex new after
-mark_kept old new rows after i n gone d lt first numbers weight lives is kept =
+mark_kept old new rows after i n d lt first numbers lives is kept =
     let r : SealedRecord = get_or rows i d in
     subst (IsRecordIndex new) (sym is) (record {
       first = λ q. ap (λ m. get nat_cmp m q) first ∙ kept.first q
           ∙ sym (first_set (has_the_number q) rows i (marked n r) d lt (ap (λ k. k == q) (marked_number n r)));
       numbers = λ q. ap (λ m. count_at m q) numbers ∙ kept.numbers q ∙ same_count q;
-      lives = λ q. lives q ∙ ap (λ w. count_at old.lives q - only_at r.message w q) weight ∙ ap (λ t. t - only_at r.message (if r.number == n && not r.destroyed then 1 else 0) q) (kept.lives q)
+      lives = λ q. lives q ∙ ap (λ t. t - only_at r.message (if r.number == n && not r.destroyed then 1 else 0) q) (kept.lives q)
           ∙ ap (λ b. tally (has_live q) rows - cond {A = ℕ} b (if r.number == n && not r.destroyed then 1 else 0) 0) (same_sides q r.message)
           ∙ less (r.number == n) r.destroyed (r.message == q) (tally (has_live q) (set rows i (marked n r))) (tally (has_live q) rows)
           (tally_set (has_live q) rows i (marked n r) d lt

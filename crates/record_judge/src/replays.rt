@@ -70,7 +70,7 @@ impl SealedArchive {
     }
 
     /// Puts a hold behind the others.
-    #[tactic(auto, using(crate::proofs::SealedLemmas::hold_more, crate::proofs::SealedLemmas::kept_held))]
+    #[tactic(auto, using(crate::proofs::SealedLemmas::hold_more))]
     pub(crate) fn find_hold(&mut self, name: &[u8], number: u32) -> Result<(), Misdeed>
         ensures done { IsDone (plain.FoundHold name.now number)
             (archive_view self.old) (archive_view self.new) result }
