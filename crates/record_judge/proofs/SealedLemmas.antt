@@ -1,22 +1,29 @@
 -- Lists of a sealed archive, seen as those of an archive.
 use Rattle.std.proofs.Common.{◌≡◌, ◌≤◌, ◌<◌, ◌+◌, ◌==◌, ◌&&◌, ◌||◌, ℕ, zero, suc, max, Bool, true}
 use Rattle.std.proofs.Common.{false, not, cond, if◌then◌else◌, List, [], ◌∷◌, ◌++◌, map, filter, find, length, take, Option}
-use Rattle.std.proofs.Common.{Some, None, option_map, refl, sym, ap, subst, ◌∙◌, arith, drop, set, get_or}
+use Rattle.std.proofs.Common.{Some, None, option_map, option_and_then, refl, sym, ap, subst, ◌∙◌, arith, drop, set, get_or}
 use denote.Ref.{Bor}
 use Rattle.std.proofs.lemmas.List.{map-append, take_more, length-map, length-take-le}
 use Rattle.std.specs.List.{list_any}
-use Rattle.std.specs.Prelude.{Vec, Result, Ok, Err, OnOk, IfErr, bytes_eq}
-use Rattle.std.specs.declared.alloc.Global.{Global}
-use Rattle.record_archive.specs.Archive.{Archive, Message, Record, Hold, record_at, is_held_by, is_hold}
+use Rattle.std.specs.Ordering.{nat_cmp}
+use Rattle.std.specs.BTreeMap.{get}
+use Rattle.std.specs.Prelude.{slice_get, nat_lt, Result, Ok, Err, OnOk, IfErr}
+use Rattle.record_archive.specs.Archive.{Archive, Message, Record, Hold, record_at, is_held, is_held_by, is_hold}
 use Rattle.record_archive.specs.Archive.{records_of, past_all, has_number, destruction_of, is_live, is_shared, messages_without, without}
 use Rattle.record_history.specs.Events.{FoundRecord, FoundMessage, FoundHold, Released, Captured, Seal, Filing}
 use Rattle.record_history.specs.Replay.{after}
 use Rattle.record_history.specs.Views.{seal_view}
 use Rattle.record_judge.specs.Sealed.{record_view, message_view, hold_view, archive_view, marked}
 use Rattle.record_judge.specs.Sealed.{AddsMessage, IsDone, IsKept, IsMisdeed, PushesRecord, PushesRecords}
+use Rattle.record_judge.specs.Counts.{count_at}
+use Rattle.record_judge.specs.Holds.{Key, IsHoldIndex, IsHoldNoted, is_hold_of, is_hold_on, named_at}
+use Rattle.record_judge.specs.Indexes.{IsMessageIndex, IsMessageNoted, IsNoted, IsRecordIndex, has_the_number}
 use Rattle.record_judge.specs.declared.faults.Misdeed.{Misdeed}
 use Rattle.record_judge.specs.declared.faults.Misdeed.TheVariants as misdeed
-use Rattle.record_judge.proofs.DeedLemmas.{released_done, captured_done}
+use Rattle.record_judge.proofs.DeedLemmas.{released_done, captured_done, captured_elsewhere, captured_full, captured_nothing}
+use Rattle.record_judge.proofs.IndexLemmas.{any_tally, found_first, has_other, noted}
+use Rattle.record_judge.proofs.MessageLemmas.{message_noted}
+use Rattle.record_judge.proofs.HoldLemmas.{hold_noted}
 use Rattle.record_judge.specs.declared.sealed.NamedHold.{NamedHold}
 use Rattle.record_judge.specs.declared.sealed.SealedArchive.{SealedArchive}
 use Rattle.record_judge.specs.declared.sealed.SealedMessage.{SealedMessage}
@@ -92,6 +99,59 @@ pub seen_in : {A B : Type 0} (f : A → B) (o : Option (Bor A)) (p : Option A) �
 seen_in f None p is = ap (option_map f) is
 seen_in f (Some r) p is = ap (option_map f) is
 
+-- the same question of the records and of their views
+pub shared_view : (n m : ℕ) (rows : List SealedRecord) → list_any (has_other n m) rows
+    ≡ list_any (λ (x : Record). is_live x && ((x.message == m) && not (x.number == n))) (map record_view rows)
+shared_view n m rows = sym (any_map (λ (x : Record). is_live x && ((x.message == m) && not (x.number == n))) record_view rows)
+
+-- nothing is there
+pub kept_new : (s : SealedArchive) → s.next ≡ 1 → s.records.items ≡ [] → IsRecordIndex s.record_index [] → s.messages.items ≡ []
+    → IsMessageIndex s.message_index [] → s.holds.items ≡ [] → IsHoldIndex s.hold_index [] → IsKept s
+kept_new s next records record_index messages message_index holds hold_index = record {
+  next = next ∙ ap (λ rs. past_all 1 (map record_view rs)) (sym records);
+  records = subst (IsRecordIndex s.record_index) (sym records) record_index;
+  messages = subst (IsMessageIndex s.message_index) (sym messages) message_index;
+  holds = subst (IsHoldIndex s.hold_index) (sym holds) hold_index;
+}
+
+-- ---- captures, by the number that is kept
+
+pub capture_elsewhere : (s : SealedArchive) (first : ℕ) (seal : Seal) (day : ℕ) (filing : Option Filing) (paths : List (List ℕ))
+    → (first ≡ s.next → ⊥) → IsKept s → after (Captured first seal day filing paths) (archive_view s) ≡ None
+capture_elsewhere s first seal day filing paths other kept =
+    captured_elsewhere (archive_view s) first seal day filing paths (λ is. other (is ∙ sym kept.next))
+
+pub capture_nothing : (s : SealedArchive) (first : ℕ) (seal : Seal) (day : ℕ) (filing : Option Filing) → first ≡ s.next → IsKept s
+    → after (Captured first seal day filing []) (archive_view s) ≡ Some (archive_view s)
+capture_nothing s first seal day filing is kept = captured_nothing (archive_view s) first seal day filing (is ∙ kept.next)
+
+pub capture_full : (s : SealedArchive) (first : ℕ) (seal : Seal) (day : ℕ) (filing : Option Filing) (paths : List (List ℕ)) → first ≡ s.next
+    → 0 < length paths → 4294967296 < s.next + length paths → IsKept s → after (Captured first seal day filing paths) (archive_view s) ≡ None
+capture_full s first seal day filing paths is some full kept =
+    captured_full (archive_view s) first seal day filing paths (is ∙ kept.next) some
+    (subst (λ n. 4294967296 < n + length paths) kept.next full)
+
+-- ---- the record with a number
+
+record_found : (s : SealedArchive) (n : ℕ) → IsKept s → record_at (archive_view s) n
+    ≡ option_map record_view (option_and_then (slice_get s.records.items) (get nat_cmp s.record_index.first n))
+record_found s n kept =
+    find_map (has_number n) record_view s.records.items
+    ∙ ap (option_map record_view) (found_first (has_the_number n) s.records.items
+    ∙ ap (option_and_then (slice_get s.records.items)) (sym (kept.records.first n)))
+
+pub record_nowhere : (s : SealedArchive) (n : ℕ) → get nat_cmp s.record_index.first n ≡ None → IsKept s
+    → None ≡ record_at (archive_view s) n
+record_nowhere s n is kept =
+    sym (record_found s n kept ∙ ap (λ o. option_map record_view (option_and_then (slice_get s.records.items) o)) is)
+
+pub record_there : (s : SealedArchive) (n i : ℕ) (o : Option (Bor SealedRecord)) → get nat_cmp s.record_index.first n ≡ Some i
+    → option_map (λ (r : Bor SealedRecord). r.now) o ≡ slice_get s.records.items i → IsKept s
+    → option_map (λ (r : Bor SealedRecord). record_view r.now) o ≡ record_at (archive_view s) n
+record_there s n i o is at kept =
+    seen_in record_view o (slice_get s.records.items i) at
+    ∙ sym (record_found s n kept ∙ ap (λ p. option_map record_view (option_and_then (slice_get s.records.items) p)) is)
+
 -- ---- one row more
 
 pub pushes_record : (old new : SealedArchive) (row : SealedRecord) → new.records.items ≡ old.records.items ++ row ∷ []
@@ -139,12 +199,63 @@ pushes_next rs r old mid new one two = record {
   others = two.others ∙ ap (λ (a : Archive). record a { records = map record_view new.records.items }) one.others;
 }
 
+-- ---- what a deed leaves of the indexes
+
+same_holds : (old new : SealedArchive) → new.holds ≡ old.holds → new.hold_index ≡ old.hold_index → IsKept old
+    → IsHoldIndex new.hold_index new.holds.items
+same_holds old new holds index kept =
+    let at : IsHoldIndex new.hold_index old.holds.items = subst (λ i. IsHoldIndex i old.holds.items) (sym index) kept.holds in
+    subst (λ v. IsHoldIndex new.hold_index v.items) (sym holds) at
+
+-- the holds and their index alone are new
+kept_with : (old new : SealedArchive) → IsHoldIndex new.hold_index new.holds.items → new.records ≡ old.records
+    → new.record_index ≡ old.record_index → new.messages ≡ old.messages → new.message_index ≡ old.message_index → new.next ≡ old.next
+    → IsKept old → IsKept new
+kept_with old new holds records record_index messages message_index next kept = record {
+  next = next ∙ kept.next ∙ ap (λ v. past_all 1 (map record_view v.items)) (sym records);
+  records = let at : IsRecordIndex new.record_index old.records.items = subst (λ i. IsRecordIndex i old.records.items) (sym record_index) kept.records in
+      subst (λ v. IsRecordIndex new.record_index v.items) (sym records) at;
+  messages = let at : IsMessageIndex new.message_index old.messages.items = subst (λ i. IsMessageIndex i old.messages.items) (sym message_index) kept.messages in
+      subst (λ v. IsMessageIndex new.message_index v.items) (sym messages) at;
+  holds = holds;
+}
+
+pub kept_held : (old new : SealedArchive) (h : NamedHold) (key : Key) → new.holds.items ≡ old.holds.items ++ h ∷ []
+    → key.0.items ≡ h.name.items → key.1 ≡ h.number → IsHoldNoted key old.hold_index new.hold_index → new.records ≡ old.records
+    → new.record_index ≡ old.record_index → new.messages ≡ old.messages → new.message_index ≡ old.message_index → new.next ≡ old.next
+    → IsKept old → IsKept new
+kept_held old new h key more name number note records record_index messages message_index next kept =
+    kept_with old new (subst (IsHoldIndex new.hold_index) (sym more) (hold_noted old.hold_index new.hold_index old.holds.items h key name number
+    note kept.holds)) records record_index messages message_index next kept
+
+pub kept_released : (old new : SealedArchive) → (IsHoldIndex old.hold_index old.holds.items → IsHoldIndex new.hold_index new.holds.items)
+    → new.records ≡ old.records → new.record_index ≡ old.record_index → new.messages ≡ old.messages
+    → new.message_index ≡ old.message_index → new.next ≡ old.next → IsKept old → IsKept new
+kept_released old new left records record_index messages message_index next kept =
+    kept_with old new (left kept.holds) records record_index messages message_index next kept
+
+pub held_by_name : (s : SealedArchive) (key : Key) (name : List ℕ) (n : ℕ) → key.0.items ≡ name → key.1 ≡ n → IsKept s
+    → nat_lt 0 (named_at s.hold_index.names key) ≡ is_held_by (archive_view s) name n
+held_by_name s key name n is number kept =
+    ap (nat_lt 0) (kept.holds.names key) ∙ sym (any_tally (is_hold_of key.0.items key.1) s.holds.items)
+    ∙ (λ i. list_any (is_hold_of (is i) (number i)) s.holds.items) ∙ sym (any_map (is_hold name n) hold_view s.holds.items)
+
+pub held_by_any : (s : SealedArchive) (n : ℕ) → IsKept s → nat_lt 0 (count_at s.hold_index.records n) ≡ is_held (archive_view s) n
+held_by_any s n kept =
+    ap (nat_lt 0) (kept.holds.records n) ∙ sym (any_tally (is_hold_on n) s.holds.items)
+    ∙ sym (any_map (λ (h : Hold). h.number == n) hold_view s.holds.items)
+
 -- ---- a record is removed
 
 pub kept_marked : (n : ℕ) (old new : SealedArchive) → new.records.items ≡ map (marked n) old.records.items → new.next ≡ old.next
-    → IsKept old → IsKept new
-kept_marked n old new marks next kept =
-    next ∙ kept ∙ sym (past_marked 1 n old.records.items) ∙ ap (λ rs. past_all 1 (map record_view rs)) (sym marks)
+    → IsRecordIndex new.record_index new.records.items → IsMessageIndex new.message_index new.messages.items
+    → new.holds ≡ old.holds → new.hold_index ≡ old.hold_index → IsKept old → IsKept new
+kept_marked n old new marks next index left holds hold_index kept = record {
+  holds = same_holds old new holds hold_index kept;
+  messages = left;
+  next = next ∙ kept.next ∙ sym (past_marked 1 n old.records.items) ∙ ap (λ rs. past_all 1 (map record_view rs)) (sym marks);
+  records = index;
+}
 
 -- the message goes with its last live record
 gone_with : (old new : SealedArchive) (r : Record) (shared : Bool) → shared ≡ is_shared (archive_view old) r
@@ -201,15 +312,21 @@ one_more f xs ys i v d is lt at =
     ∙ replaced f xs i d lt
     ∙ ap (λ n. map f (take n xs) ++ drop n xs) next
 
+pub one_more_any : {A : Type 0} (f : A → A) (xs ys new : List A) (i : ℕ) → ys ≡ map f (take i xs) ++ drop i xs → i < length xs
+    → ((d : A) → new ≡ set ys i (f (get_or ys i d))) → new ≡ map f (take (i + 1) xs) ++ drop (i + 1) xs
+one_more_any f [] ys new i is lt at = absurd (omega (arith, lt))
+one_more_any f (x ∷ xs) ys new i is lt at = at x ∙ one_more f (x ∷ xs) ys i (f (get_or ys i x)) x is lt refl
+
 -- ---- the same, as the code comes to them
 
-pub released_from : (old : SealedArchive) (hs : Vec NamedHold Global) (name : List ℕ) (n : ℕ) (r : Record) → record_at (archive_view old) n ≡ Some r
-    → is_held_by (archive_view old) name n ≡ true → hs.items ≡ filter (λ h. not (bytes_eq h.name.items name && (h.number == n))) old.holds.items
-    → after (Released name n) (archive_view old) ≡ Some (archive_view (record old { holds = hs }))
-released_from old hs name n r found there left =
+pub released_from : (old : SealedArchive) (hs : List NamedHold) (key : Key) (name : List ℕ) (n : ℕ) (r : Record)
+    → record_at (archive_view old) n ≡ Some r → is_held_by (archive_view old) name n ≡ true → key.0.items ≡ name → key.1 ≡ n
+    → hs ≡ filter (λ h. not (is_hold_of key.0.items key.1 h)) old.holds.items
+    → after (Released name n) (archive_view old) ≡ Some (record (archive_view old) { holds = map hold_view hs })
+released_from old hs key name n r found there is number left =
     released_done (archive_view old) name n r found there
     ∙ ap (λ l. Some (record (archive_view old) { holds = l })) (filter_map (λ (h : Hold). not (is_hold name n h)) hold_view old.holds.items
-    ∙ ap (map hold_view) (sym left))
+    ∙ ap (map hold_view) (sym (left ∙ (λ i. filter (λ h. not (is_hold_of (is i) (number i) h)) old.holds.items))))
 
 pub found_as : {X : Type 0} (old new : SealedArchive) (r : Record) (result : Result X Misdeed) → OnOk result (PushesRecord r old new)
     → IfErr result (λ m. m ≡ misdeed.NoMemory) → IsDone (FoundRecord r) (archive_view old) (archive_view new) result
@@ -217,12 +334,29 @@ found_as old new r (Ok x) pushed cause =
     sym (ap (λ x. Some x) (pushed.others ∙ ap (λ rs. record (archive_view old) { records = rs }) pushed.records))
 found_as old new r (Err m) pushed cause = subst (IsMisdeed (FoundRecord r) (archive_view old)) (sym cause) tt
 
-pub kept_as : {X : Type 0} (old new : SealedArchive) (r : Record) (result : Result X Misdeed) → OnOk result (PushesRecord r old new)
-    → OnOk result (IsKept old → IsKept new)
-kept_as old new r (Ok x) pushed = λ kept.
-    pushed.next ∙ ap (λ n. max n (r.number + 1)) kept ∙ sym (past_snoc 1 (map record_view old.records.items) r)
-    ∙ ap (past_all 1) (sym pushed.records)
-kept_as old new r (Err m) pushed = tt
+pub kept_pushed : (old new : SealedArchive) (row : SealedRecord) (place : ℕ) → new.records.items ≡ old.records.items ++ row ∷ []
+    → new.next ≡ max old.next (row.number + 1) → length old.records.items ≡ place → IsNoted row place old.record_index new.record_index
+    → new.messages ≡ old.messages → new.message_index ≡ old.message_index → new.holds ≡ old.holds → new.hold_index ≡ old.hold_index
+    → IsKept old → IsKept new
+kept_pushed old new row place more next long note messages index holds hold_index kept = record {
+  holds = same_holds old new holds hold_index kept;
+  messages = let at : IsMessageIndex new.message_index old.messages.items = subst (λ i. IsMessageIndex i old.messages.items) (sym index) kept.messages in
+      subst (λ v. IsMessageIndex new.message_index v.items) (sym messages) at;
+  next = next ∙ ap (λ n. max n (row.number + 1)) kept.next ∙ sym (past_snoc 1 (map record_view old.records.items) (record_view row))
+      ∙ ap (past_all 1) (sym (ap (map record_view) more ∙ map-append record_view old.records.items (row ∷ [])));
+  records = subst (IsRecordIndex new.record_index) (sym more) (noted old.record_index new.record_index old.records.items row place long note kept.records);
+}
+
+pub kept_messages : (old new : SealedArchive) (m : SealedMessage) → new.messages.items ≡ old.messages.items ++ m ∷ []
+    → IsMessageNoted m.number old.message_index new.message_index → new.records ≡ old.records → new.record_index ≡ old.record_index
+    → new.next ≡ old.next → new.holds ≡ old.holds → new.hold_index ≡ old.hold_index → IsKept old → IsKept new
+kept_messages old new m more note records index next holds hold_index kept = record {
+  holds = same_holds old new holds hold_index kept;
+  next = next ∙ kept.next ∙ ap (λ v. past_all 1 (map record_view v.items)) (sym records);
+  records = let at : IsRecordIndex new.record_index old.records.items = subst (λ i. IsRecordIndex i old.records.items) (sym index) kept.records in
+      subst (λ v. IsRecordIndex new.record_index v.items) (sym records) at;
+  messages = subst (IsMessageIndex new.message_index) (sym more) (message_noted old.message_index new.message_index old.messages.items m note kept.messages);
+}
 
 pub adds_message : (old new : SealedArchive) (m : SealedMessage) → new.messages.items ≡ old.messages.items ++ m ∷ [] → new.plan ≡ old.plan
     → new.records ≡ old.records → new.holds ≡ old.holds → new.next ≡ old.next → AddsMessage m.number (seal_view m.seal) old new
@@ -257,8 +391,8 @@ pub captured_as : {X : Type 0} (old mid new : SealedArchive) (first day : ℕ) (
     → AddsMessage first seal old mid → OnOk result (PushesRecords (records_of first first day paths) mid new)
     → IfErr result (λ m. m ≡ misdeed.NoMemory) → IsDone (Captured first seal day filing paths) (archive_view old) (archive_view new) result
 captured_as old mid new first day seal filing paths (Ok x) kept is some room added pushed cause =
-    captured_done (archive_view old) (archive_view new) first seal day filing paths (is ∙ kept) some
-    (subst (λ n. n + length paths ≤ 4294967296) kept room)
+    captured_done (archive_view old) (archive_view new) first seal day filing paths (is ∙ kept.next) some
+    (subst (λ n. n + length paths ≤ 4294967296) kept.next room)
     (pushed.others ∙ ap (λ rs. record (archive_view mid) { records = rs }) pushed.records
     ∙ ap (λ (a : Archive). record a { records = a.records ++ records_of first first day paths }) added.messages)
 captured_as old mid new first day seal filing paths (Err m) kept is some room added pushed cause =

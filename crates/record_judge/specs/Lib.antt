@@ -1,3 +1,6 @@
+pub mod Counts
+pub mod Indexes
+pub mod Holds
 pub mod Sealed
 pub mod Judging
 pub mod Findings

@@ -7,6 +7,8 @@ use Rattle.record_history.specs.Events.{Deed, Seal, PlanReplaced, FoundPlan, Des
 use Rattle.record_history.specs.Lines.{seal_text}
 use Rattle.record_history.specs.Replay.{after, made, with_message}
 use Rattle.record_history.specs.Views.{seal_view}
+use Rattle.record_judge.specs.Holds.{IsHoldIndex}
+use Rattle.record_judge.specs.Indexes.{IsRecordIndex, IsMessageIndex}
 use Rattle.record_judge.specs.declared.sealed.SealedMessage.{SealedMessage}
 use Rattle.record_judge.specs.declared.sealed.SealedRecord.{SealedRecord}
 use Rattle.record_judge.specs.declared.sealed.NamedHold.{NamedHold}
@@ -31,9 +33,12 @@ archive_view s = record {
   holds = map hold_view s.holds.items;
 }
 
--- the number that is kept beside the records is that of the next one
-abbrev pub IsKept : SealedArchive → Type 0
-IsKept s = s.next ≡ past_all 1 (map record_view s.records.items)
+-- WHAT IS KEPT BESIDE THE LISTS: the number of the next record, and an index of each list
+pub record IsKept (s : SealedArchive) : Type 0 where
+  pub next : s.next ≡ past_all 1 (map record_view s.records.items)
+  pub records : IsRecordIndex s.record_index s.records.items
+  pub messages : IsMessageIndex s.message_index s.messages.items
+  pub holds : IsHoldIndex s.hold_index s.holds.items
 
 -- the deed tells of this plan
 abbrev pub HasPlan : Deed → Listing → Type 0

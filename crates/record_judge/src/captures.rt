@@ -18,10 +18,11 @@ impl SealedArchive {
     pub(crate) fn find_message(&mut self, number: u32, seal: Seal) -> Result<(), Misdeed>
         ensures done { IsDone (plain.FoundMessage number (seal_view seal))
             (archive_view self.old) (archive_view self.new) result }
-        ensures kept { IsKept self.old → IsKept self.new }
+        ensures kept { OnOk result (IsKept self.old → IsKept self.new) }
         ensures added { OnOk result (AddsMessage number (seal_view seal) self.old self.new) }
         ensures cause { IfErr result (λ m. m ≡ Misdeed.NoMemory) }
     {
+        self.message_index.note(number)?;
         self.messages.push(SealedMessage { number, seal })?;
         Ok(())
     }
@@ -30,16 +31,18 @@ impl SealedArchive {
     #[tactic(auto, using(crate::proofs::SealedLemmas::pushes_record))]
     fn put_record(&mut self, row: SealedRecord) -> Result<(), Misdeed>
         ensures pushed { OnOk result (PushesRecord (record_view row) self.old self.new) }
+        ensures kept { OnOk result (IsKept self.old → IsKept self.new) }
         ensures cause { IfErr result (λ m. m ≡ Misdeed.NoMemory) }
     {
         let after = u64::from(row.number) + 1;
+        self.record_index.note(self.records.len(), &row)?;
         self.records.push(row)?;
         self.next = self.next.max(after);
         Ok(())
     }
 
     /// The same, as a finding.
-    #[tactic(auto, using(crate::proofs::SealedLemmas::found_as, crate::proofs::SealedLemmas::kept_as))]
+    #[tactic(auto, using(crate::proofs::SealedLemmas::found_as))]
     pub(crate) fn find_record(&mut self, row: SealedRecord) -> Result<(), Misdeed>
         ensures done { IsDone (plain.FoundRecord (record_view row))
             (archive_view self.old) (archive_view self.new) result }
@@ -74,7 +77,7 @@ impl SealedArchive {
         Ok(())
     }
 
-    #[tactic(auto, using(crate::proofs::DeedLemmas::captured_elsewhere, crate::proofs::DeedLemmas::captured_nothing, crate::proofs::DeedLemmas::captured_full, crate::proofs::SealedLemmas::captured_as))]
+    #[tactic(auto, using(crate::proofs::SealedLemmas::capture_elsewhere, crate::proofs::SealedLemmas::capture_nothing, crate::proofs::SealedLemmas::capture_full, crate::proofs::SealedLemmas::captured_as))]
     pub(crate) fn capture(
         &mut self,
         first: u32,

@@ -1,15 +1,17 @@
 //! Destructions that are done again.
 
-ghost use Rattle.std.specs.Prelude.{◌≡◌, ◌≤◌, ◌==◌, not, if◌then◌else◌, filter, map, Some, IfOk, IfErr};
+ghost use Rattle.std.specs.Prelude.{◌≡◌, ◌≤◌, Some, IfOk, IfErr};
 ghost use Rattle.class_plan.specs.Calendar.{due_on};
 ghost use Rattle.class_plan.specs.declared.schedules.Schedule.{Schedule};
 ghost use Rattle.record_archive.specs.Archive as archive;
 ghost use Rattle.record_archive.specs.Archive.{Record};
 ghost use Rattle.record_history.specs.Events as plain;
-ghost use Rattle.record_judge.specs.Sealed.{IsDone, IsKept, MayGo, MayNotGo, archive_view, marked};
+ghost use Rattle.record_judge.specs.Sealed.{IsDone, IsKept, MayGo, MayNotGo, archive_view};
 
 use crate::faults::Misdeed;
-use crate::sealed::{SealedArchive, SealedMessage, SealedRecord};
+use crate::message_index::leave_message;
+use crate::record_index::mark_destroyed;
+use crate::sealed::SealedArchive;
 use class_plan::{Action, Plan, Schedule, date_of, day_number};
 
 /// The last capture day, 2199-12-31, in days since 1970-01-01.
@@ -49,45 +51,12 @@ fn is_due(plan: &Plan, path: &[u8], captured: u32, day: u32) -> bool
     }
 }
 
-fn mark_one(row: &mut SealedRecord, number: u32)
-    ensures { row.new ≡ marked number row.old }
-{
-    if row.number == number {
-        row.destroyed = true;
-    }
-}
-
-/// Marks the record with a number as destroyed.
-fn mark_destroyed(records: &mut [SealedRecord], number: u32)
-    ensures { records.new ≡ map (marked number) records.old }
-{
-    for row in records.iter_mut() {
-        mark_one(row, number);
-    }
-}
-
-fn remove_message(messages: &mut Vec<SealedMessage>, number: u32)
-    ensures { messages.new.items ≡ filter (λ m. not (m.number == number)) messages.old.items }
-{
-    messages.retain(|message| message.number != number);
-}
-
-/// Removes a message, unless it is shared.
-fn leave_message(messages: &mut Vec<SealedMessage>, shared: bool, number: u32)
-    ensures { messages.new.items ≡ (if shared then messages.old.items
-        else filter (λ m. not (m.number == number)) messages.old.items) }
-{
-    if !shared {
-        remove_message(messages, number);
-    }
-}
-
 impl SealedArchive {
     /// The message of a record, if the record may be destroyed by a day.
     #[tactic(auto, using(crate::proofs::DeedLemmas::gone_nowhere, crate::proofs::DeedLemmas::gone_destroyed, crate::proofs::DeedLemmas::gone_held, crate::proofs::DeedLemmas::gone_kept, crate::proofs::DeedLemmas::gone_later, crate::proofs::DeedLemmas::may_go))]
     fn judge_destruction(&self, number: u32, day: u32) -> Result<u32, Misdeed>
-        ensures ok { IfOk result (MayGo (archive_view self.now) number day) }
-        ensures err { IfErr result (MayNotGo (archive_view self.now) number day) }
+        ensures ok { IsKept self.now → IfOk result (MayGo (archive_view self.now) number day) }
+        ensures err { IsKept self.now → IfErr result (MayNotGo (archive_view self.now) number day) }
     {
         let Some(record) = self.record_at(number) else {
             return Err(Misdeed::Refused);
@@ -114,18 +83,18 @@ impl SealedArchive {
     /// Marks a record as destroyed, and removes its message with the last live record.
     #[tactic(auto, using(crate::proofs::SealedLemmas::removed, crate::proofs::SealedLemmas::kept_marked))]
     fn remove(&mut self, number: u32, message: u32)
-        ensures archive { (r : Record) → r.number ≡ number → r.message ≡ message →
-            archive_view self.new ≡ archive.without (archive_view self.old) r }
+        ensures archive { IsKept self.old → (r : Record) → r.number ≡ number →
+            r.message ≡ message → archive_view self.new ≡ archive.without (archive_view self.old) r }
         ensures kept { IsKept self.old → IsKept self.new }
     {
-        let shared = self.is_shared(message, number);
-        leave_message(&mut self.messages, shared, message);
-        mark_destroyed(self.records.as_mut_slice(), number);
+        mark_destroyed(self.records.as_mut_slice(), &mut self.record_index, number);
+        let shared = self.record_index.has_live(message);
+        leave_message(&mut self.messages, &mut self.message_index, shared, message);
     }
 
     pub(crate) fn destroy(&mut self, number: u32, day: u32) -> Result<(), Misdeed>
-        ensures done { (schedule : Schedule) → IsDone (plain.Destroyed number day schedule)
-            (archive_view self.old) (archive_view self.new) result }
+        ensures done { IsKept self.old → (schedule : Schedule) →
+            IsDone (plain.Destroyed number day schedule) (archive_view self.old) (archive_view self.new) result }
         ensures kept { IsKept self.old → IsKept self.new }
     {
         let message = self.judge_destruction(number, day)?;

@@ -1,17 +1,23 @@
 //! The judge of a history: it does the events again, one by one, to an archive with the seal of each message in its place, and
 //! says whether they explain what is stored.
 //!
-//! In `specs/`, `Sealed` says which archive a sealed one is and what a deed makes of it, and `Judging` what the judge has seen.
+//! In `specs/`, `Sealed` says which archive a sealed one is and what a deed makes of it, `Indexes` and `Holds` what is kept beside its lists, and `Judging` what the judge has seen.
 #![tactic(auto)]
 
 mod captures;
 mod contents;
+mod counts;
 mod deeds;
 mod destruction;
 mod faults;
 mod findings;
+mod hold_counts;
+mod hold_index;
 mod judge;
 mod listings;
+mod message_index;
+mod places;
+mod record_index;
 mod replays;
 mod sealed;
 #[cfg(test)]

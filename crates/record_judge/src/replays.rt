@@ -1,88 +1,61 @@
 //! Deeds that are done again to a sealed archive.
 
-ghost use Rattle.std.specs.Prelude.{◌≡◌, ◌==◌, ◌&&◌, not, OnOk, IfErr, filter, find, option_map};
-ghost use Rattle.std.specs.List.{list_any};
-ghost use Rattle.std.specs.Str.{bytes_eq};
+ghost use Rattle.std.specs.Prelude.{◌≡◌, OnOk, IfOk, IfErr, option_map, slice_get};
 ghost use Rattle.record_archive.specs.Archive as archive;
-ghost use Rattle.record_archive.specs.Archive.{Record, is_live};
 ghost use Rattle.record_history.specs.Events as plain;
 ghost use Rattle.record_history.specs.Views.{listing_view};
 ghost use Rattle.record_judge.specs.Sealed.{IsDone, IsKept, archive_view, record_view};
 
 use crate::faults::Misdeed;
+use crate::hold_counts::hold_key;
+use crate::hold_index::{HoldIndex, remove_holds};
 use crate::listings::plan_of;
+use crate::message_index::MessageIndex;
+use crate::record_index::RecordIndex;
 use crate::sealed::{NamedHold, SealedArchive, SealedRecord};
 use class_plan::PlanFault;
 use record_history::Listing;
+use std::alloc::AllocError;
 
-fn numbered(records: &[SealedRecord], number: u32) -> Option<&SealedRecord>
-    ensures { option_map (λ r. r.now) result ≡ find (λ r. r.number == number) records.now }
+fn row_at(rows: &[SealedRecord], place: usize) -> Option<&SealedRecord>
+    ensures { option_map (λ r. r.now) result ≡ slice_get rows.now place }
 {
-    records.iter().find(|record| record.number == number)
-}
-
-fn has_hold(holds: &[NamedHold], name: &[u8], number: u32) -> bool
-    ensures { result ≡
-        list_any (λ h. bytes_eq h.name.items name.now && (h.number == number)) holds.now }
-{
-    holds.iter().any(|hold| hold.name.as_slice() == name && hold.number == number)
-}
-
-fn has_any_hold(holds: &[NamedHold], number: u32) -> bool
-    ensures { result ≡ list_any (λ h. h.number == number) holds.now }
-{
-    holds.iter().any(|hold| hold.number == number)
-}
-
-fn has_another(records: &[SealedRecord], message: u32, number: u32) -> bool
-    ensures { result ≡ list_any (λ r. not r.destroyed &&
-        ((r.message == message) && not (r.number == number))) records.now }
-{
-    records.iter().any(|record| {
-        !record.destroyed && record.message == message && record.number != number
-    })
-}
-
-fn remove_hold(holds: &mut Vec<NamedHold>, name: &[u8], number: u32)
-    ensures { holds.new.items ≡
-        filter (λ h. not (bytes_eq h.name.items name.now && (h.number == number))) holds.old.items }
-{
-    holds.retain(|hold| !(hold.name.as_slice() == name && hold.number == number));
+    rows.get(place)
 }
 
 impl SealedArchive {
+    #[tactic(auto, using(crate::proofs::SealedLemmas::record_nowhere, crate::proofs::SealedLemmas::record_there))]
     pub(crate) fn record_at(&self, number: u32) -> Option<&SealedRecord>
-        ensures { option_map (λ r. record_view r.now) result
+        ensures { IsKept self.now → option_map (λ r. record_view r.now) result
             ≡ archive.record_at (archive_view self.now) number }
     {
-        numbered(self.records.as_slice(), number)
+        match self.record_index.first.get(&number) {
+            Some(place) => row_at(self.records.as_slice(), *place),
+            None => None,
+        }
     }
 
-    fn is_held_by(&self, name: &[u8], number: u32) -> bool
-        ensures { result ≡ archive.is_held_by (archive_view self.now) name.now number }
+    #[tactic(auto, using(crate::proofs::SealedLemmas::held_by_name))]
+    fn is_held_by(&self, name: &[u8], number: u32) -> Result<bool, AllocError>
+        ensures { IfOk result (λ b. IsKept self.now →
+            b ≡ archive.is_held_by (archive_view self.now) name.now number) }
     {
-        has_hold(self.holds.as_slice(), name, number)
+        let key = hold_key(self.alloc, name, number)?;
+        Ok(self.hold_index.names.count(&key) > 0)
     }
 
+    #[tactic(auto, using(crate::proofs::SealedLemmas::held_by_any))]
     pub(crate) fn is_held(&self, number: u32) -> bool
-        ensures { result ≡ archive.is_held (archive_view self.now) number }
+        ensures { IsKept self.now → result ≡ archive.is_held (archive_view self.now) number }
     {
-        has_any_hold(self.holds.as_slice(), number)
-    }
-
-    /// Whether another live record has the message of a record.
-    pub(crate) fn is_shared(&self, message: u32, number: u32) -> bool
-        ensures { result ≡ list_any (λ (x : Record). is_live x && ((x.message == message) &&
-            not (x.number == number))) (archive_view self.now).records }
-    {
-        has_another(self.records.as_slice(), message, number)
+        self.hold_index.records.count(number) > 0
     }
 
     #[tactic(auto, using(crate::proofs::DeedLemmas::held_nowhere, crate::proofs::DeedLemmas::held_destroyed, crate::proofs::DeedLemmas::held_twice, crate::proofs::DeedLemmas::held_as_found))]
     pub(crate) fn hold(&mut self, name: &[u8], number: u32) -> Result<(), Misdeed>
-        ensures done { IsDone (plain.Held name.now number)
+        ensures done { IsKept self.old → IsDone (plain.Held name.now number)
             (archive_view self.old) (archive_view self.new) result }
-        ensures kept { IsKept self.old → IsKept self.new }
+        ensures kept { OnOk result (IsKept self.old → IsKept self.new) }
     {
         let Some(record) = self.record_at(number) else {
             return Err(Misdeed::Refused);
@@ -90,7 +63,7 @@ impl SealedArchive {
         if record.destroyed {
             return Err(Misdeed::Refused);
         }
-        if self.is_held_by(name, number) {
+        if self.is_held_by(name, number)? {
             return Err(Misdeed::Refused);
         }
         self.find_hold(name, number)
@@ -101,27 +74,31 @@ impl SealedArchive {
     pub(crate) fn find_hold(&mut self, name: &[u8], number: u32) -> Result<(), Misdeed>
         ensures done { IsDone (plain.FoundHold name.now number)
             (archive_view self.old) (archive_view self.new) result }
-        ensures kept { IsKept self.old → IsKept self.new }
+        ensures kept { OnOk result (IsKept self.old → IsKept self.new) }
         ensures cause { IfErr result (λ m. m ≡ Misdeed.NoMemory) }
     {
+        let key = hold_key(self.alloc, name, number)?;
+        let copy = hold_key(self.alloc, name, number)?;
+        self.hold_index.note(key, copy)?;
         let name = Vec::from_slice(self.alloc, name)?;
         self.holds.push(NamedHold { name, number })?;
         Ok(())
     }
 
-    #[tactic(auto, using(crate::proofs::DeedLemmas::released_nowhere, crate::proofs::DeedLemmas::released_free, crate::proofs::SealedLemmas::released_from))]
+    #[tactic(auto, using(crate::proofs::DeedLemmas::released_nowhere, crate::proofs::DeedLemmas::released_free, crate::proofs::SealedLemmas::kept_released))]
     pub(crate) fn release(&mut self, name: &[u8], number: u32) -> Result<(), Misdeed>
-        ensures done { IsDone (plain.Released name.now number)
+        ensures done { IsKept self.old → IsDone (plain.Released name.now number)
             (archive_view self.old) (archive_view self.new) result }
         ensures kept { IsKept self.old → IsKept self.new }
     {
         let Some(_) = self.record_at(number) else {
             return Err(Misdeed::Refused);
         };
-        if !self.is_held_by(name, number) {
+        if !self.is_held_by(name, number)? {
             return Err(Misdeed::Refused);
         }
-        remove_hold(&mut self.holds, name, number);
+        let key = hold_key(self.alloc, name, number)?;
+        remove_holds(&mut self.holds, &mut self.hold_index, &key);
         Ok(())
     }
 
@@ -152,7 +129,7 @@ impl SealedArchive {
     }
 
     /// Begins anew with a plan.
-    #[tactic(auto, using(crate::proofs::DeedLemmas::plan_unfound))]
+    #[tactic(auto, using(crate::proofs::DeedLemmas::plan_unfound, crate::proofs::SealedLemmas::kept_new))]
     pub(crate) fn find_plan(&mut self, listing: &Listing<'_>) -> Result<(), Misdeed>
         ensures done { IsDone (plain.FoundPlan (listing_view listing.now))
             (archive_view self.old) (archive_view self.new) result }
@@ -160,8 +137,11 @@ impl SealedArchive {
     {
         self.plan = plan_of(self.alloc, listing)?;
         self.messages.clear();
+        self.message_index = MessageIndex::new(self.alloc);
         self.records.clear();
+        self.record_index = RecordIndex::new(self.alloc);
         self.holds.clear();
+        self.hold_index = HoldIndex::new(self.alloc);
         self.next = 1;
         Ok(())
     }

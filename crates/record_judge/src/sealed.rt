@@ -5,6 +5,9 @@ ghost use Rattle.std.specs.Prelude.{◌≡◌, IfOk};
 ghost use Rattle.record_archive.specs.Archive.{empty_archive};
 ghost use Rattle.record_judge.specs.Sealed.{IsKept, archive_view};
 
+use crate::hold_index::HoldIndex;
+use crate::message_index::MessageIndex;
+use crate::record_index::RecordIndex;
 use class_plan::Plan;
 use record_history::Seal;
 use std::alloc::{AllocError, Global};
@@ -42,15 +45,19 @@ pub struct SealedArchive {
     pub(crate) alloc: Global,
     pub(crate) plan: Plan,
     pub(crate) messages: Vec<SealedMessage>,
+    pub(crate) message_index: MessageIndex,
     pub(crate) records: Vec<SealedRecord>,
+    pub(crate) record_index: RecordIndex,
     /// In the order in which they were placed.
     pub(crate) holds: Vec<NamedHold>,
+    pub(crate) hold_index: HoldIndex,
     /// The number of the next record.
     pub(crate) next: u64,
 }
 
 impl SealedArchive {
     /// The archive in which nothing was captured. The only refusal is no memory (99).
+    #[tactic(auto, using(crate::proofs::SealedLemmas::kept_new))]
     pub fn new(alloc: Global) -> Result<SealedArchive, AllocError>
         ensures empty { IfOk result (λ s. archive_view s ≡ empty_archive) }
         ensures kept { IfOk result IsKept }
@@ -59,8 +66,11 @@ impl SealedArchive {
             alloc,
             plan: Plan::new(alloc)?,
             messages: Vec::new(alloc),
+            message_index: MessageIndex::new(alloc),
             records: Vec::new(alloc),
+            record_index: RecordIndex::new(alloc),
             holds: Vec::new(alloc),
+            hold_index: HoldIndex::new(alloc),
             next: 1,
         })
     }

@@ -42,6 +42,14 @@ fn lawful_rows_are_taken(rt: HostRuntime) {
             b"df573997db837fae3241ccb661a3100cdfc87129e0ca38949b1048c451549162".as_slice(),
         ),
         (
+            b"3 2031-01-01T09:30:00Z ann made reasons required : order 12/3".as_slice(),
+            b"b39d9b5d3dd291adab5647a6184b0356f872e1857a5c2ca74de3f0b2a8d2f192".as_slice(),
+        ),
+        (
+            b"3 2031-01-01T09:30:00Z ann made reasons optional".as_slice(),
+            b"34dc505ed46f383b753c19e736d92d26e3f78b0759d90db02920a425ebaa874a".as_slice(),
+        ),
+        (
             b"3 2031-01-01T09:30:00Z ann found plan (root permanent; unfiled)".as_slice(),
             b"0bd9e90a4ad19b78119f3d44d00fd0c8bd043d7adfd75be6af004e5de97a282b".as_slice(),
         ),

@@ -17,4 +17,4 @@ returns-in-Captured-clause-done c = λ kept.
 pub returns-in-Destroyed-clause-done : goal.returns-in-Destroyed-clause-done
 returns-in-Destroyed-clause-done c = λ kept.
     subst (λ deed. IsDone (deed_view deed) (archive_view c.args.self.now) (archive_view c.destroy.new.self) c.destroy.result)
-    (sym c.in-Destroyed.is) (c.destroy.ensures.done c.in-Destroyed.schedule)
+    (sym c.in-Destroyed.is) (c.destroy.ensures.done kept c.in-Destroyed.schedule)
