@@ -74,7 +74,7 @@ impl<S: Alter, K: Clock> Records for Ledger<'_, S, K> {
         }
     }
 
-    ghost plan_is = { λ l a stands. kept_plan S.Store l.kept a stands };
+    ghost plan_is = { λ l a stands. kept_plan _ l.kept a stands };
 
-    ghost is_archive = { λ l a stands. kept_archive S.Store l.kept a stands };
+    ghost is_archive = { λ l a stands. kept_archive _ l.kept a stands };
 }

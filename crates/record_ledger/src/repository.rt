@@ -60,5 +60,5 @@ impl<S: Alter, K: Clock> Repository for Ledger<'_, S, K> {
         Records::destroy(self, number, day)
     }
 
-    ghost is_archive = { λ l a stands. kept_archive S.Store l.kept a stands };
+    ghost is_archive = { λ l a stands. kept_archive _ l.kept a stands };
 }
