@@ -1,9 +1,10 @@
 //! `check`: whether a history is whole, and explains its archive.
 
-use crate::comparison::compare;
+use crate::comparison::{Depth, compare, tell_differences};
+use crate::flaws::words_of;
 use crate::pages::{Events, at_event, event_of};
 use cli_console::{Failure, Status, tell, write_text};
-use record_judge::{Flaw, Judge};
+use record_judge::{Flaw, Judge, SealedArchive};
 use record_noted::NotedStore;
 use record_store::EventRow;
 use sqlite::Alter;
@@ -25,20 +26,6 @@ struct Judgement<'h> {
     mark: Vec<u8>,
     /// The moment of the last event.
     moment: u64,
-}
-
-/// What stands against an event, in words; none where that is no memory.
-fn words_of(flaw: Flaw) -> Option<&'static str> {
-    match flaw {
-        Flaw::OutOfTurn => Some("an event before it is missing"),
-        Flaw::OtherMark => { Some("its mark is not that of its line after the events before it") }
-        Flaw::NotALine => Some("its line is none of an event"),
-        Flaw::OtherNumber => Some("its line has another number"),
-        Flaw::Refused => Some("the archive refuses at that point what it tells"),
-        Flaw::NoPlan => Some("the plan that it tells is none"),
-        Flaw::LateDay => Some("it destroys a record that was captured after 2199"),
-        Flaw::NoMemory => None,
-    }
 }
 
 /// That a mark is that of an event.
@@ -190,6 +177,17 @@ fn judge_events<'h, S: Alter>(
     Ok(judgement)
 }
 
+/// Whether the store has what a history makes, each message by its seal. What differs is told.
+fn is_explained<S: Alter>(
+    rt: &HostRuntime,
+    noted: &mut NotedStore<S>,
+    made: &SealedArchive,
+) -> Result<bool, Failure> {
+    let comparison = compare(rt, noted, made, Depth::Messages)?;
+    tell_differences(rt, noted, &comparison)?;
+    Ok(comparison.is_same())
+}
+
 /// Judges a history: the numbers of its events have no gap, each mark is that of the line after the events before it, each
 /// line is that of an event, and the archive allows each at its point; and what they make is what the store has, each
 /// message by its seal. Prints how many events there are, the last mark, and which event has a mark that was noted elsewhere,
@@ -203,7 +201,7 @@ pub fn judge_history<S: Alter>(
     let is_same = if judgement.is_any_wrong {
         false
     } else {
-        compare(rt, noted, judgement.judge.archive())?
+        is_explained(rt, noted, judgement.judge.archive())?
     };
     write_text(rt, &judgement.totals(rt.alloc())?)?;
     let is_met = judgement.say_met(rt)?;

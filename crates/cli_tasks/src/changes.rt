@@ -8,7 +8,7 @@ use cli_changes::{
 };
 use cli_choice::{Change, Questions};
 use cli_console::Failure;
-use cli_history::{Author, StoreLedger, open_ledger};
+use cli_history::{Author, Purpose, StoreLedger, open_ledger};
 use command_lines::archives::{Choice, Disposal};
 use desk_commands::Payload;
 use record_history::Filing;
@@ -35,6 +35,16 @@ pub enum Changing<'a, 't> {
 }
 
 impl Changing<'_, '_> {
+    /// For what the archive's ledger is opened.
+    fn purpose(&self) -> Purpose {
+        match self {
+            Changing::Dispose(asked, _) if !asked.destroys => Purpose::Listing,
+            Changing::ReplacePlan { .. } | Changing::Dispose(..) | Changing::Hold { .. } => {
+                Purpose::Deciding
+            }
+        }
+    }
+
     /// Does it.
     fn perform<S: Alter>(
         &self,
@@ -72,7 +82,7 @@ impl Work for ChangeBy<'_, '_> {
         archive: Store<S>,
     ) -> (Connection<S>, Result<(), Failure>) {
         let ChangeBy { author, change } = self;
-        let mut ledger = match open_ledger(rt, archive, &author, None) {
+        let mut ledger = match open_ledger(rt, archive, &author, None, change.purpose()) {
             Ok(ledger) => ledger,
             Err((archive, failure)) => return (archive.into_connection(), Err(failure)),
         };
@@ -120,7 +130,7 @@ impl Work for DeliverOne<'_> {
             Err(AllocError) => return (archive.into_connection(), Err(Failure::NoMemory)),
         };
         let filing = filing_of(rules.officer, &sum);
-        let ledger = match open_ledger(rt, archive, &author, filing) {
+        let ledger = match open_ledger(rt, archive, &author, filing, Purpose::Capturing) {
             Ok(ledger) => ledger,
             Err((archive, failure)) => {
                 return (archive.into_connection(), Ok(Err(failure.kept())));
@@ -152,7 +162,7 @@ impl Work for TakeNew<'_> {
             Err(AllocError) => return (archive.into_connection(), Err(Failure::NoMemory)),
         };
         let filing = filing_of(job.rules().officer, &sum);
-        let ledger = match open_ledger(rt, archive, &author, filing) {
+        let ledger = match open_ledger(rt, archive, &author, filing, Purpose::Capturing) {
             Ok(ledger) => ledger,
             Err((archive, failure)) => return (archive.into_connection(), Err(failure)),
         };
