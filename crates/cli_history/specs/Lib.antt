@@ -1,3 +1,4 @@
 pub mod Chosen
 pub mod Compared
+pub mod Marks
 pub mod Reasons

@@ -7,7 +7,7 @@ use crate::author::Author;
 use crate::opening::occasion_of;
 use cli_console::{Failure, Walk, message_of, now};
 use record_choice::Choice;
-use record_history::{Deed, Event, LAST_MOMENT, Seal, event_line, seal_of};
+use record_history::{Deed, Event, LAST_MOMENT, Seal, event_line};
 use record_judge::SealedArchive;
 use record_ledger::Occasion;
 use record_noted::NotedStore;
@@ -39,21 +39,15 @@ impl<'a> Known<'a> {
         Ok(known)
     }
 
-    /// The seal of the message of a live record: the one that is known, or else that of its octets.
-    fn seal<S: Alter>(
-        &self,
-        rt: &HostRuntime,
-        archive: &mut Store<S>,
-        entry: &RecordEntry,
-    ) -> Result<Seal, Failure> {
-        if let Some(seal) = self.seals.get(&entry.message) {
-            return Ok(Seal {
+    /// The seal of a message, where it is known.
+    fn seal(&self, message: u32) -> Result<Option<Seal>, AllocError> {
+        match self.seals.get(&message) {
+            Some(seal) => Ok(Some(Seal {
                 octets: seal.octets,
                 sum: seal.sum.clone()?,
-            });
+            })),
+            None => Ok(None),
         }
-        let body = message_of(rt, archive, entry)?;
-        Ok(seal_of(rt.alloc(), body.as_slice())?)
     }
 }
 
@@ -103,6 +97,27 @@ impl<'k> Findings<'k> {
         self.first.saturating_add(count)
     }
 
+    /// The line of the message of a live record: by the seal that is known, or else by that of its octets.
+    fn message_line<S: Alter>(
+        &self,
+        rt: &HostRuntime,
+        archive: &mut Store<S>,
+        occasion: &Occasion<'_, HostRuntime>,
+        entry: &RecordEntry,
+    ) -> Result<Vec<u8>, Failure> {
+        let number = entry.message;
+        if let Some(seal) = self.known.seal(number)? {
+            return line_now(
+                rt,
+                occasion,
+                self.next(),
+                Deed::FoundMessage { number, seal },
+            );
+        }
+        let body = message_of(rt, archive, entry)?;
+        Ok(occasion.message_found(rt.alloc(), self.next(), number, body.as_slice())?)
+    }
+
     /// Adds the message of a live record, unless it was found before.
     fn add_message<S: Alter>(
         &mut self,
@@ -114,11 +129,7 @@ impl<'k> Findings<'k> {
         if entry.destroyed || !self.messages.insert(entry.message)? {
             return Ok(());
         }
-        let deed = Deed::FoundMessage {
-            number: entry.message,
-            seal: self.known.seal(rt, archive, entry)?,
-        };
-        let line = line_now(rt, occasion, self.next(), deed)?;
+        let line = self.message_line(rt, archive, occasion, entry)?;
         Ok(self.lines.push(line)?)
     }
 
