@@ -1,6 +1,7 @@
 //! What is there in a store, as it is noted: the first events of a history, and what another program has left.
 
-ghost use Rattle.record_history.specs.Spelled.{IsSpelledDeed};
+ghost use Rattle.std.specs.Prelude.{IfOk};
+ghost use Rattle.record_history.specs.Spelled.{IsMoment, IsSpelledDeed};
 ghost use Rattle.record_history.specs.Views.{deed_view};
 
 use crate::author::Author;
@@ -51,6 +52,13 @@ impl<'a> Known<'a> {
     }
 }
 
+/// The moment of the clock, at most the last one that a line can have. `TryAgain` where there is no clock.
+fn moment_now(rt: &HostRuntime) -> Result<u64, Failure>
+    ensures { IfOk result (λ m. IsMoment m) }
+{
+    Ok(now(rt)?.min(LAST_MOMENT))
+}
+
 /// The line of the event of a deed, on an occasion, at the moment of the clock. `TryAgain` where there is no clock.
 pub fn line_now(
     rt: &HostRuntime,
@@ -61,7 +69,7 @@ pub fn line_now(
     requires { IsSpelledDeed (deed_view deed) }
 {
     let event = Event {
-        moment: now(rt)?.min(LAST_MOMENT),
+        moment: moment_now(rt)?,
         who: occasion.who,
         deed,
         notes: b"",

@@ -1,5 +1,8 @@
 //! The ledger of an archive.
 
+ghost use Rattle.std.specs.Prelude.{◌≡◌};
+ghost use Rattle.cli_history.specs.Reasons.{changes as is_changed_for, decides as is_decided_for};
+
 use crate::author::Author;
 use crate::restating::prepared;
 use cli_console::{Failure, Status, now};
@@ -38,12 +41,16 @@ pub enum Purpose {
 
 impl Purpose {
     /// Whether the archive is changed.
-    fn changes(self) -> bool {
+    fn changes(self) -> bool
+        ensures { result ≡ is_changed_for self }
+    {
         matches!(self, Purpose::Capturing | Purpose::Deciding)
     }
 
     /// Whether a history may require a reason.
-    pub fn decides(self) -> bool {
+    pub fn decides(self) -> bool
+        ensures { result ≡ is_decided_for self }
+    {
         matches!(self, Purpose::Deciding)
     }
 }

@@ -1,5 +1,8 @@
 //! What another program has changed, noted as found.
 
+ghost use Rattle.std.specs.Prelude.{◌≡◌};
+ghost use Rattle.cli_history.specs.Reasons.{lacks_reason as is_reason_lacking};
+
 use crate::author::Author;
 use crate::beginning::{Known, findings_in};
 use crate::comparison::{Depth, compare, tell_differences};
@@ -15,6 +18,13 @@ use std::alloc::Global;
 /// For what reason it is noted.
 const FOUND: &str = "another program has changed the archive without its history";
 
+/// Whether a reason is lacking.
+fn lacks_reason(purpose: Purpose, is_required: bool, reason: &str) -> bool
+    ensures { result ≡ is_reason_lacking purpose is_required reason.now }
+{
+    purpose.decides() && is_required && reason.is_empty()
+}
+
 /// Finds that there is a reason for what is decided, where the history requires one: else `Usage`.
 fn judge_reason(
     alloc: Global,
@@ -22,7 +32,7 @@ fn judge_reason(
     author: &Author<'_>,
     purpose: Purpose,
 ) -> Result<(), Failure> {
-    if purpose.decides() && replayed.requires_reasons() && author.reason().is_empty() {
+    if lacks_reason(purpose, replayed.requires_reasons(), author.reason()) {
         return Err(Failure::told(
             alloc,
             Status::Usage,
