@@ -1,7 +1,9 @@
 //! What a history makes of an archive, beside what the store has.
 
-ghost use Rattle.std.specs.Prelude.{◌≡◌, ◌↔◌, IsTrue, map};
-ghost use Rattle.cli_history.specs.Compared.{have_names, is_among as is_name_among, row_had, row_told};
+ghost use Rattle.std.specs.Prelude.{◌≡◌, ◌↔◌, ◌==◌, ◌&&◌, IsTrue, length};
+ghost use Rattle.std.specs.List.{list_all, list_any};
+ghost use Rattle.std.specs.Str.{bytes_eq};
+ghost use Rattle.cli_history.specs.Compared.{row_had, row_told};
 
 use crate::chosen::is_about;
 use crate::pages::{Entries, Events, event_of};
@@ -103,14 +105,15 @@ fn holds_of<'a>(
 
 /// Whether a name is among these.
 fn is_among(names: &[&[u8]], hold: &[u8]) -> bool
-    ensures { result ≡ is_name_among (map (λ n. n.now) names.now) hold.now }
+    ensures { result ≡ list_any (λ n. bytes_eq hold.now n.now) names.now }
 {
     names.iter().any(|name| hold == *name)
 }
 
 /// Whether the holds on a record, each of which has another name, have the names of a history.
 fn are_holds(holds: &[Vec<u8>], names: &[&[u8]]) -> bool
-    ensures { result ≡ have_names (map (λ n. n.now) names.now) (map (λ h. h.items) holds.now) }
+    ensures { result ≡ (length holds.now == length names.now)
+        && list_all (λ h. list_any (λ n. bytes_eq h.items n.now) names.now) holds.now }
 {
     holds.len() == names.len() && holds.iter().all(|hold| is_among(names, hold.as_slice()))
 }
