@@ -8,7 +8,7 @@ use Rattle.choice_words.specs.declared.numbers.TypedNumbers.TheVariants as typed
 use Rattle.command_lines.specs.declared.archives.histories.DeedKind.{DeedKind}
 use Rattle.command_lines.specs.declared.archives.histories.DeedKind.TheVariants as kind
 use Rattle.command_lines.specs.declared.archives.histories.HistoryAsked.{HistoryAsked}
-use Rattle.record_history.specs.Events.{Deed, Event, Captured, Held, Released, Destroyed, ClassAdded, PlanReplaced, FoundPlan, FoundMessage, FoundRecord, FoundHold}
+use Rattle.record_history.specs.Events.{Deed, Event, Captured, Held, Released, Destroyed, ClassAdded, PlanReplaced, ReasonsRequired, ReasonsOptional, FoundPlan, FoundMessage, FoundRecord, FoundHold}
 
 -- what is asked of something, if anything is
 abbrev pub where_asked : {X : Type 0} → (X → Bool) → Option X → Bool
@@ -23,6 +23,8 @@ subjects (Released name n) = Some (n, n)
 subjects (Destroyed n day schedule) = Some (n, n)
 subjects (ClassAdded path) = None
 subjects (PlanReplaced plan) = None
+subjects ReasonsRequired = None
+subjects ReasonsOptional = None
 subjects (FoundPlan plan) = None
 subjects (FoundMessage n seal) = Some (n, n)
 subjects (FoundRecord r) = Some (r.number, r.number)
@@ -49,6 +51,8 @@ kind_of (Released name n) = kind.Released
 kind_of (Destroyed n day schedule) = kind.Destroyed
 kind_of (ClassAdded path) = kind.Added
 kind_of (PlanReplaced plan) = kind.Replaced
+kind_of ReasonsRequired = kind.Made
+kind_of ReasonsOptional = kind.Made
 kind_of (FoundPlan plan) = kind.Found
 kind_of (FoundMessage n seal) = kind.Found
 kind_of (FoundRecord r) = kind.Found
@@ -61,6 +65,7 @@ is_same_kind kind.Released kind.Released = true
 is_same_kind kind.Destroyed kind.Destroyed = true
 is_same_kind kind.Added kind.Added = true
 is_same_kind kind.Replaced kind.Replaced = true
+is_same_kind kind.Made kind.Made = true
 is_same_kind kind.Found kind.Found = true
 is_same_kind k l = false
 

@@ -1,2 +1,5 @@
 pub mod Chosen
 pub mod Seals
+pub mod Compared
+pub mod Marks
+pub mod Reasons

@@ -1,35 +1,129 @@
-//! The first events of a history: what is there when it begins.
+//! What is there in a store, as it is noted: the first events of a history, and what another program has left.
+
+ghost use Rattle.std.specs.Prelude.{IfOk};
+ghost use Rattle.record_history.specs.Spelled.{IsMoment, IsSpelledDeed};
+ghost use Rattle.record_history.specs.Views.{deed_view};
 
 use crate::author::Author;
 use crate::opening::occasion_of;
-use cli_console::{Failure, Walk, message_of};
+use cli_console::{Failure, Walk, message_of, now};
 use record_choice::Choice;
+use record_history::{Deed, Event, LAST_MOMENT, Seal, event_line};
+use record_judge::SealedArchive;
 use record_ledger::Occasion;
 use record_noted::NotedStore;
 use record_store::{RecordEntry, Store};
 use sqlite::Alter;
 use std::alloc::{AllocError, Global};
-use std::collections::BTreeSet;
+use std::collections::{BTreeMap, BTreeSet};
+
+/// The seals that a history has of messages.
+#[derive(Drop)]
+pub struct Known<'a> {
+    seals: BTreeMap<u32, &'a Seal>,
+}
+
+impl<'a> Known<'a> {
+    /// None, where a history begins.
+    fn none(alloc: Global) -> Known<'a> {
+        Known {
+            seals: BTreeMap::new(alloc),
+        }
+    }
+
+    /// Those of what a history makes.
+    pub fn of(alloc: Global, made: &'a SealedArchive) -> Result<Known<'a>, AllocError> {
+        let mut known = Known::none(alloc);
+        for message in made.messages() {
+            known.seals.insert(message.number, &message.seal)?;
+        }
+        Ok(known)
+    }
+
+    /// The seal of a message, where it is known.
+    fn seal(&self, message: u32) -> Result<Option<Seal>, AllocError> {
+        match self.seals.get(&message) {
+            Some(seal) => Ok(Some(Seal {
+                octets: seal.octets,
+                sum: seal.sum.clone()?,
+            })),
+            None => Ok(None),
+        }
+    }
+}
+
+/// The moment of the clock, at most the last one that a line can have. `TryAgain` where there is no clock.
+fn moment_now(rt: &HostRuntime) -> Result<u64, Failure>
+    ensures { IfOk result (λ m. IsMoment m) }
+{
+    Ok(now(rt)?.min(LAST_MOMENT))
+}
+
+/// The line of the event of a deed, on an occasion, at the moment of the clock. `TryAgain` where there is no clock.
+pub fn line_now(
+    rt: &HostRuntime,
+    occasion: &Occasion<'_, HostRuntime>,
+    number: u32,
+    deed: Deed<'_>,
+) -> Result<Vec<u8>, Failure>
+    requires { IsSpelledDeed (deed_view deed) }
+{
+    let event = Event {
+        moment: moment_now(rt)?,
+        who: occasion.who,
+        deed,
+        notes: b"",
+        reason: occasion.reason,
+    };
+    Ok(event_line(rt.alloc(), u64::from(number), &event)?)
+}
 
 /// The lines of what is found, in the order in which they are to be noted.
 #[derive(Drop)]
-struct Findings {
+struct Findings<'k> {
+    /// The number of the first of these events.
+    first: u32,
     lines: Vec<Vec<u8>>,
+    known: &'k Known<'k>,
     /// The messages that were found.
     messages: BTreeSet<u32>,
 }
 
-impl Findings {
-    fn new(alloc: Global) -> Findings {
+impl<'k> Findings<'k> {
+    fn new(alloc: Global, first: u32, known: &'k Known<'k>) -> Findings<'k> {
         Findings {
+            first,
             lines: Vec::new(alloc),
+            known,
             messages: BTreeSet::new(alloc),
         }
     }
 
     /// The number of the next event.
     fn next(&self) -> u32 {
-        u32::try_from(self.lines.len().saturating_add(1)).unwrap_or(u32::MAX)
+        let count = u32::try_from(self.lines.len()).unwrap_or(u32::MAX);
+        self.first.saturating_add(count)
+    }
+
+    /// The line of the message of a live record: by the seal that is known, or else by that of its octets.
+    fn message_line<S: Alter>(
+        &self,
+        rt: &HostRuntime,
+        archive: &mut Store<S>,
+        occasion: &Occasion<'_, HostRuntime>,
+        entry: &RecordEntry,
+    ) -> Result<Vec<u8>, Failure> {
+        let number = entry.message;
+        if let Some(seal) = self.known.seal(number)? {
+            return line_now(
+                rt,
+                occasion,
+                self.next(),
+                Deed::FoundMessage { number, seal },
+            );
+        }
+        let body = message_of(rt, archive, entry)?;
+        Ok(occasion.message_found(rt.alloc(), self.next(), number, body.as_slice())?)
     }
 
     /// Adds the message of a live record, unless it was found before.
@@ -43,8 +137,7 @@ impl Findings {
         if entry.destroyed || !self.messages.insert(entry.message)? {
             return Ok(());
         }
-        let body = message_of(rt, archive, entry)?;
-        let line = occasion.message_found(rt.alloc(), self.next(), entry.message, body.as_slice())?;
+        let line = self.message_line(rt, archive, occasion, entry)?;
         Ok(self.lines.push(line)?)
     }
 
@@ -80,13 +173,15 @@ impl Findings {
     }
 }
 
-/// What is found in a store: its plan, and each message, record and hold.
-fn findings_in<S: Alter>(
+/// The lines of what is found in a store, from the event of a number on: its plan, and each message, record and hold.
+pub fn findings_in<S: Alter>(
     rt: &HostRuntime,
     archive: &mut Store<S>,
     occasion: &Occasion<'_, HostRuntime>,
-) -> Result<Findings, Failure> {
-    let mut findings = Findings::new(rt.alloc());
+    first: u32,
+    known: &Known<'_>,
+) -> Result<Vec<Vec<u8>>, Failure> {
+    let mut findings = Findings::new(rt.alloc(), first, known);
     let line = occasion.plan_found(rt.alloc(), findings.next(), archive.plan())?;
     findings.lines.push(line)?;
     let every = Choice::every();
@@ -97,18 +192,18 @@ fn findings_in<S: Alter>(
         };
         findings.add_page(rt, archive, occasion, page.as_slice())?;
     }
-    Ok(findings)
+    Ok(findings.lines)
 }
 
-/// What is found in a store by an author. `Usage` where it is not known who that is.
-fn findings_by<'q, S: Alter>(
-    rt: &'q HostRuntime,
+/// The lines that a history begins with. `Usage` where it is not known who begins it.
+fn first_lines<S: Alter>(
+    rt: &HostRuntime,
     archive: &mut Store<S>,
-    author: &'q Author<'_>,
-) -> Result<Findings, Failure> {
+    author: &Author<'_>,
+) -> Result<Vec<Vec<u8>>, Failure> {
     author.named(rt)?;
     let occasion = occasion_of(rt, author, None)?;
-    findings_in(rt, archive, &occasion)
+    findings_in(rt, archive, &occasion, 1, &Known::none(rt.alloc()))
 }
 
 /// Begins the history of a store that has none with what is found there, and answers how many events that are. `Usage`
@@ -119,12 +214,12 @@ pub fn begin_history<S: Alter>(
     author: &Author<'_>,
 ) -> (Store<S>, Result<u64, Failure>) {
     let mut archive = archive;
-    let findings = match findings_by(rt, &mut archive, author) {
-        Ok(findings) => findings,
+    let lines = match first_lines(rt, &mut archive, author) {
+        Ok(lines) => lines,
         Err(failure) => return (archive, Err(failure)),
     };
-    let count = findings.lines.len() as u64;
-    match NotedStore::begin_with(rt.alloc(), archive, findings.lines.as_slice()) {
+    let count = lines.len() as u64;
+    match NotedStore::begin_with(rt.alloc(), archive, lines.as_slice()) {
         Ok(noted) => (noted.into_store(), Ok(count)),
         Err((fault, archive)) => (
             archive,

@@ -32,20 +32,24 @@ pub fn records_of(deed: &Deed<'_>) -> Option<(u32, u32)>
         | Deed::FoundMessage { number, .. }
         | Deed::FoundRecord { number, .. }
         | Deed::FoundHold { number, .. } => Some((*number, *number)),
-        Deed::ClassAdded { .. } | Deed::PlanReplaced(_) | Deed::FoundPlan(_) => None,
+        Deed::ClassAdded { .. }
+        | Deed::PlanReplaced(_)
+        | Deed::ReasonsRequired
+        | Deed::ReasonsOptional
+        | Deed::FoundPlan(_) => None,
     }
 }
 
 /// Whether a word means one of the numbers from a first to a last.
-fn touches(typed: TypedNumbers, first: u32, last: u32) -> bool
-    ensures { result ≡ meets first last typed }
+fn touches(typed: &TypedNumbers, first: u32, last: u32) -> bool
+    ensures { result ≡ meets first last typed.now }
 {
     match typed {
-        TypedNumbers::One(number) => first <= number && number <= last,
+        TypedNumbers::One(number) => first <= *number && *number <= last,
         TypedNumbers::Range {
             first: low,
             last: high,
-        } => low <= last && first <= high,
+        } => *low <= last && first <= *high,
     }
 }
 
@@ -53,7 +57,7 @@ fn touches(typed: TypedNumbers, first: u32, last: u32) -> bool
 fn any_touches(typed: &[TypedNumbers], first: u32, last: u32) -> bool
     ensures { result ≡ list_any (meets first last) typed.now }
 {
-    typed.iter().any(|numbers| touches(*numbers, first, last))
+    typed.iter().any(|numbers| touches(numbers, first, last))
 }
 
 /// Whether a deed is about a record of one of the numbers that are typed, if there are any.
@@ -79,12 +83,19 @@ fn is_since(since: Option<Date>, moment: u64) -> bool
     }
 }
 
-/// Whether an event is that of a name, where one is asked for.
-fn is_by(name: Option<&str>, who: &[u8]) -> bool
-    ensures { result ≡ where_asked (λ n. bytes_eq n.now who.now) name.entry }
+/// Whether two names are the same.
+fn is_same_name(name: &str, who: &[u8]) -> bool
+    ensures { result ≡ bytes_eq name.now who.now }
 {
-    match name {
-        Some(name) => name.as_bytes() == who,
+    name.as_bytes() == who
+}
+
+/// Whether an event is that of a name, where one is asked for.
+fn is_by(asked: &HistoryAsked<'_>, who: &[u8]) -> bool
+    ensures { result ≡ where_asked (λ n. bytes_eq n.now who.now) asked.now.by }
+{
+    match asked.by {
+        Some(name) => is_same_name(name, who),
         None => true,
     }
 }
@@ -100,6 +111,7 @@ fn is_of_kind(kind: DeedKind, deed: &Deed<'_>) -> bool
         DeedKind::Destroyed => matches!(deed, Deed::Destroyed { .. }),
         DeedKind::Added => matches!(deed, Deed::ClassAdded { .. }),
         DeedKind::Replaced => matches!(deed, Deed::PlanReplaced(_)),
+        DeedKind::Made => matches!(deed, Deed::ReasonsRequired | Deed::ReasonsOptional),
         DeedKind::Found => matches!(
             deed,
             Deed::FoundPlan(_)
@@ -110,13 +122,23 @@ fn is_of_kind(kind: DeedKind, deed: &Deed<'_>) -> bool
     }
 }
 
+/// Whether a deed is of a kind, where one is asked for.
+fn is_of_kind_asked(kind: Option<DeedKind>, deed: &Deed<'_>) -> bool
+    ensures { result ≡ where_asked (λ k. is_same_kind k (kind_of (deed_view deed.now))) kind }
+{
+    match kind {
+        Some(kind) => is_of_kind(kind, deed),
+        None => true,
+    }
+}
+
 /// Whether an event is asked for.
 pub fn is_asked(asked: &HistoryAsked<'_>, event: &Event<'_>) -> bool
     ensures { result ≡ asks_for asked.now (event_view event.now) }
 {
     is_since(asked.since, event.moment)
-        && is_by(asked.by, event.who)
-        && asked.kind.is_none_or(|kind| is_of_kind(kind, &event.deed))
+        && is_by(asked, event.who)
+        && is_of_kind_asked(asked.kind, &event.deed)
         && is_about(asked.numbers.as_slice(), &event.deed)
 }
 
@@ -134,6 +156,7 @@ pub fn word_of(deed: &Deed<'_>) -> &'static str {
         Deed::Destroyed { .. } => "destroyed",
         Deed::ClassAdded { .. } => "added",
         Deed::PlanReplaced(_) => "replaced",
+        Deed::ReasonsRequired | Deed::ReasonsOptional => "made",
         Deed::FoundPlan(_)
         | Deed::FoundMessage { .. }
         | Deed::FoundRecord { .. }

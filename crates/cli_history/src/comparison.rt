@@ -1,5 +1,10 @@
 //! What a history makes of an archive, beside what the store has.
 
+ghost use Rattle.std.specs.Prelude.{◌≡◌, ◌↔◌, ◌==◌, ◌&&◌, IsTrue, length};
+ghost use Rattle.std.specs.List.{list_all, list_any};
+ghost use Rattle.std.specs.Str.{bytes_eq};
+ghost use Rattle.cli_history.specs.Compared.{row_had, row_told};
+
 use crate::chosen::is_about;
 use crate::pages::{Entries, Events, event_of};
 use choice_words::TypedNumbers;
@@ -18,6 +23,15 @@ use tool_texts::{Shown, put};
 /// How many records are named that differ.
 const MAX_NAMED: usize = 20;
 
+/// How much of an archive is compared.
+#[derive(Clone, Copy)]
+pub enum Depth {
+    /// The plan, and of each record its row and its holds.
+    Rows,
+    /// The messages too, by their seals.
+    Messages,
+}
+
 /// How a record differs.
 #[derive(Clone, Copy)]
 enum Difference {
@@ -33,8 +47,11 @@ enum Difference {
 
 /// The records that differ, and what is known of messages and holds.
 #[derive(Drop)]
-struct Comparison<'a> {
+pub struct Comparison<'a> {
     made: &'a SealedArchive,
+    depth: Depth,
+    /// Whether the plan is that of the history.
+    is_planned: bool,
     /// The place of each record that was not met yet, by number.
     records: BTreeMap<u32, usize>,
     /// The place of each message, by number.
@@ -86,13 +103,25 @@ fn holds_of<'a>(
     Ok(held)
 }
 
+/// Whether a name is among these.
+fn is_among(names: &[&[u8]], hold: &[u8]) -> bool
+    ensures { result ≡ list_any (λ n. bytes_eq hold.now n.now) names.now }
+{
+    names.iter().any(|name| hold == *name)
+}
+
 /// Whether the holds on a record, each of which has another name, have the names of a history.
-fn are_holds(holds: &[Vec<u8>], names: &[&[u8]]) -> bool {
-    holds.len() == names.len() && holds.iter().all(|hold| names.contains(&hold.as_slice()))
+fn are_holds(holds: &[Vec<u8>], names: &[&[u8]]) -> bool
+    ensures { result ≡ (length holds.now == length names.now)
+        && list_all (λ h. list_any (λ n. bytes_eq h.items n.now) names.now) holds.now }
+{
+    holds.len() == names.len() && holds.iter().all(|hold| is_among(names, hold.as_slice()))
 }
 
 /// Whether an entry is that of a record, but for its holds.
-fn is_record(entry: &RecordEntry, record: &SealedRecord) -> bool {
+fn is_record(entry: &RecordEntry, record: &SealedRecord) -> bool
+    ensures { IsTrue result ↔ (row_had entry.now ≡ row_told record.now) }
+{
     entry.message == record.message
         && entry.path.as_slice() == record.path.as_slice()
         && day_number(entry.day) == i64::from(record.day)
@@ -100,9 +129,16 @@ fn is_record(entry: &RecordEntry, record: &SealedRecord) -> bool {
 }
 
 impl<'a> Comparison<'a> {
-    fn new(alloc: Global, made: &'a SealedArchive) -> Result<Comparison<'a>, AllocError> {
+    fn new(
+        alloc: Global,
+        made: &'a SealedArchive,
+        plan: &Plan,
+        depth: Depth,
+    ) -> Result<Comparison<'a>, AllocError> {
         Ok(Comparison {
             made,
+            depth,
+            is_planned: is_same_plan(alloc, made.plan(), plan)?,
             records: places_of_records(alloc, made.records())?,
             messages: places_of_messages(alloc, made)?,
             held: holds_of(alloc, made)?,
@@ -170,6 +206,11 @@ impl<'a> Comparison<'a> {
         Ok(is_sealed)
     }
 
+    /// Whether the message of a record is compared: its record is live.
+    fn looks_into(&self, entry: &RecordEntry) -> bool {
+        matches!(self.depth, Depth::Messages) && !entry.destroyed
+    }
+
     /// Compares a record.
     fn compare_record<S: Alter>(
         &mut self,
@@ -182,7 +223,7 @@ impl<'a> Comparison<'a> {
         if let Some(difference) = difference {
             return Ok(self.note(entry.number, difference)?);
         }
-        if !entry.destroyed && !self.is_message_sealed(rt, noted, entry)? {
+        if self.looks_into(entry) && !self.is_message_sealed(rt, noted, entry)? {
             self.note(entry.number, Difference::Unsealed)?;
         }
         Ok(())
@@ -211,6 +252,11 @@ impl<'a> Comparison<'a> {
             self.note(*number, Difference::Gone)?;
         }
         Ok(())
+    }
+
+    /// Whether nothing differs.
+    pub fn is_same(&self) -> bool {
+        self.is_planned && self.found.is_empty()
     }
 }
 
@@ -273,12 +319,15 @@ fn difference_line(
     Ok(line)
 }
 
-/// Tells which records differ.
-fn tell_found<S: Alter>(
+/// Tells whether the plan differs, and which records do.
+pub fn tell_differences<S: Alter>(
     rt: &HostRuntime,
     noted: &mut NotedStore<S>,
     comparison: &Comparison<'_>,
 ) -> Result<(), Failure> {
+    if !comparison.is_planned {
+        tell_words(rt, "the plan is not that of the history");
+    }
     for (number, difference) in &comparison.found {
         let since = last_event_about(rt, noted, *number)?;
         tell(
@@ -294,13 +343,14 @@ fn tell_found<S: Alter>(
     Ok(())
 }
 
-/// Compares what a history makes of an archive with what the store has. What differs is told. Answers whether nothing does.
-pub fn compare<S: Alter>(
+/// Compares what a history makes of an archive with what the store has.
+pub fn compare<'a, S: Alter>(
     rt: &HostRuntime,
     noted: &mut NotedStore<S>,
-    made: &SealedArchive,
-) -> Result<bool, Failure> {
-    let mut comparison = Comparison::new(rt.alloc(), made)?;
+    made: &'a SealedArchive,
+    depth: Depth,
+) -> Result<Comparison<'a>, Failure> {
+    let mut comparison = Comparison::new(rt.alloc(), made, noted.plan(), depth)?;
     let mut entries = Entries::all();
     for _ in 0..u64::MAX {
         let Some(page) = entries.next_page(rt, noted)? else {
@@ -309,10 +359,5 @@ pub fn compare<S: Alter>(
         comparison.compare_page(rt, noted, page.as_slice())?;
     }
     comparison.note_gone(rt.alloc())?;
-    let is_planned = is_same_plan(rt.alloc(), made.plan(), noted.plan())?;
-    if !is_planned {
-        tell_words(rt, "the plan is not that of the history");
-    }
-    tell_found(rt, noted, &comparison)?;
-    Ok(is_planned && comparison.found.is_empty())
+    Ok(comparison)
 }

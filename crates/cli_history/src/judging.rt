@@ -1,9 +1,14 @@
 //! `check`: whether a history is whole, and explains its archive.
 
-use crate::comparison::compare;
+ghost use Rattle.std.specs.Prelude.{◌≡◌, ◌&&◌, ◌||◌, is_none, is_some, is_ok};
+ghost use Rattle.std.specs.Str.{bytes_eq};
+ghost use Rattle.cli_history.specs.Marks.{is_sought as is_mark_sought, met_after};
+
+use crate::comparison::{Depth, compare, tell_differences};
+use crate::flaws::words_of;
 use crate::pages::{Events, at_event, event_of};
 use cli_console::{Failure, Status, tell, write_text};
-use record_judge::{Flaw, Judge};
+use record_judge::{Flaw, Judge, SealedArchive};
 use record_noted::NotedStore;
 use record_store::EventRow;
 use sqlite::Alter;
@@ -25,20 +30,6 @@ struct Judgement<'h> {
     mark: Vec<u8>,
     /// The moment of the last event.
     moment: u64,
-}
-
-/// What stands against an event, in words; none where that is no memory.
-fn words_of(flaw: Flaw) -> Option<&'static str> {
-    match flaw {
-        Flaw::OutOfTurn => Some("an event before it is missing"),
-        Flaw::OtherMark => { Some("its mark is not that of its line after the events before it") }
-        Flaw::NotALine => Some("its line is none of an event"),
-        Flaw::OtherNumber => Some("its line has another number"),
-        Flaw::Refused => Some("the archive refuses at that point what it tells"),
-        Flaw::NoPlan => Some("the plan that it tells is none"),
-        Flaw::LateDay => Some("it destroys a record that was captured after 2199"),
-        Flaw::NoMemory => None,
-    }
 }
 
 /// That a mark is that of an event.
@@ -84,12 +75,23 @@ impl<'h> Judgement<'h> {
         Ok(())
     }
 
+    /// Whether an event has the mark that is looked for.
+    fn is_sought(&self, row: &EventRow) -> bool
+        ensures { result ≡ is_mark_sought (λ m. bytes_eq m.now row.now.mark.items) self.now.head }
+    {
+        match self.head {
+            Some(mark) => mark.as_bytes() == row.mark.as_slice(),
+            None => false,
+        }
+    }
+
     /// Notes the event whose mark is looked for.
-    fn meet(&mut self, row: &EventRow) {
-        if self
-            .head
-            .is_some_and(|mark| mark.as_bytes() == row.mark.as_slice())
-        {
+    fn meet(&mut self, row: &EventRow)
+        ensures { self.new.met ≡ met_after
+            (is_mark_sought (λ m. bytes_eq m.now row.now.mark.items) self.old.head)
+            row.now.number self.old.met }
+    {
+        if self.is_sought(row) {
             self.met = Some(row.number);
         }
     }
@@ -155,18 +157,22 @@ impl<'h> Judgement<'h> {
         Ok(text)
     }
 
-    /// Says which event has the mark that is looked for, if one is. Answers whether one has.
-    fn say_met(&self, rt: &HostRuntime) -> Result<bool, Failure> {
+    /// Whether an event has the mark that is looked for, if one is.
+    fn is_met(&self) -> bool
+        ensures { result ≡ is_none self.now.head || is_some self.now.met }
+    {
+        self.head.is_none() || self.met.is_some()
+    }
+
+    /// Says which event has the mark that is looked for, or that none has.
+    fn say_met(&self, rt: &HostRuntime) -> Result<(), Failure> {
         let alloc = rt.alloc();
         match (self.head, self.met) {
-            (None, _) => Ok(true),
-            (Some(mark), Some(number)) => {
-                write_text(rt, &met_line(alloc, mark, number)?)?;
-                Ok(true)
-            }
+            (None, _) => Ok(()),
+            (Some(mark), Some(number)) => write_text(rt, &met_line(alloc, mark, number)?),
             (Some(mark), None) => {
                 tell(rt, &unmet_words(alloc, mark, self.is_any_wrong)?);
-                Ok(false)
+                Ok(())
             }
         }
     }
@@ -190,6 +196,29 @@ fn judge_events<'h, S: Alter>(
     Ok(judgement)
 }
 
+/// Whether the store has what a history makes, each message by its seal. What differs is told.
+fn is_explained<S: Alter>(
+    rt: &HostRuntime,
+    noted: &mut NotedStore<S>,
+    made: &SealedArchive,
+) -> Result<bool, Failure> {
+    let comparison = compare(rt, noted, made, Depth::Messages)?;
+    tell_differences(rt, noted, &comparison)?;
+    Ok(comparison.is_same())
+}
+
+/// What a judgement comes to: `BadData` where the store has not what the history makes, or where no event has the mark that
+/// is looked for. Both were told.
+fn verdict(is_same: bool, is_met: bool) -> Result<(), Failure>
+    ensures { is_ok result ≡ is_same && is_met }
+{
+    if is_same && is_met {
+        Ok(())
+    } else {
+        Err(Failure::Reported(Status::BadData))
+    }
+}
+
 /// Judges a history: the numbers of its events have no gap, each mark is that of the line after the events before it, each
 /// line is that of an event, and the archive allows each at its point; and what they make is what the store has, each
 /// message by its seal. Prints how many events there are, the last mark, and which event has a mark that was noted elsewhere,
@@ -203,13 +232,9 @@ pub fn judge_history<S: Alter>(
     let is_same = if judgement.is_any_wrong {
         false
     } else {
-        compare(rt, noted, judgement.judge.archive())?
+        is_explained(rt, noted, judgement.judge.archive())?
     };
     write_text(rt, &judgement.totals(rt.alloc())?)?;
-    let is_met = judgement.say_met(rt)?;
-    if is_same && is_met {
-        Ok(())
-    } else {
-        Err(Failure::Reported(Status::BadData))
-    }
+    judgement.say_met(rt)?;
+    verdict(is_same, judgement.is_met())
 }

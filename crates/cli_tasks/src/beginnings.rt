@@ -1,8 +1,9 @@
-//! Histories that begin.
+//! Histories that begin, and that come to require reasons.
 
 use crate::archives::{Archives, Work, lend};
 use cli_console::{Failure, Status, write_text};
-use cli_history::{Author, begin_history, open_history};
+use cli_history::{Author, begin_history, note_reasons, open_history, open_noted};
+use command_lines::archives::Reasons;
 use record_noted::Opened;
 use record_store::Store;
 use sqlite::{Alter, Connection};
@@ -11,9 +12,9 @@ use tool_texts::{Shown, put};
 
 /// Begins the history of an archive. Answers how many events it begins with.
 #[derive(Drop)]
-pub struct Begin<'a>(pub Author<'a>);
+pub struct BeginHistory<'a>(pub Author<'a>);
 
-impl Work for Begin<'_> {
+impl Work for BeginHistory<'_> {
     type Answer = u64;
 
     fn work<S: Alter>(
@@ -58,6 +59,56 @@ pub fn begin<A: Archives>(
     author: Author<'_>,
 ) -> Result<(), Failure> {
     author.named(rt)?;
-    let count = lend(rt, archives, store, Begin(author))?;
+    let count = lend(rt, archives, store, BeginHistory(author))?;
     write_text(rt, &begun_line(rt.alloc(), count)?)
+}
+
+/// Notes in the history of an archive whether reasons are required. Answers the number of the event.
+#[derive(Drop)]
+struct NoteReasons<'a> {
+    author: Author<'a>,
+    reasons: Reasons,
+}
+
+impl Work for NoteReasons<'_> {
+    type Answer = u32;
+
+    fn work<S: Alter>(
+        self,
+        rt: &HostRuntime,
+        archive: Store<S>,
+    ) -> (Connection<S>, Result<u32, Failure>) {
+        match open_noted(rt, archive) {
+            Ok(noted) => {
+                let (archive, done) = note_reasons(rt, noted, &self.author, self.reasons);
+                (archive.into_connection(), done)
+            }
+            Err((archive, failure)) => (archive.into_connection(), Err(failure)),
+        }
+    }
+}
+
+/// From which event on reasons are required, or are not.
+fn reasons_line(alloc: Global, reasons: Reasons, number: u32) -> Result<Shown, AllocError> {
+    let mut line = Shown::new(alloc);
+    line.words(match reasons {
+        Reasons::Required => "reasons required",
+        Reasons::Optional => "reasons optional",
+    })?;
+    put!(line; " event " value(&number))?;
+    line.end_line()?;
+    Ok(line)
+}
+
+/// Notes whether those who decide have to give a reason. `BadData` where the store has no history.
+pub fn require_reasons<A: Archives>(
+    rt: &HostRuntime,
+    archives: &A,
+    store: &str,
+    author: Author<'_>,
+    reasons: Reasons,
+) -> Result<(), Failure> {
+    author.named(rt)?;
+    let number = lend(rt, archives, store, NoteReasons { author, reasons })?;
+    write_text(rt, &reasons_line(rt.alloc(), reasons, number)?)
 }

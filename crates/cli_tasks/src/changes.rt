@@ -8,7 +8,7 @@ use cli_changes::{
 };
 use cli_choice::{Change, Questions};
 use cli_console::Failure;
-use cli_history::{Author, Seals, StoreLedger, open_ledger};
+use cli_history::{Author, Purpose, Seals, StoreLedger, open_ledger};
 use command_lines::archives::{Choice, Disposal};
 use desk_commands::Payload;
 use record_history::Filing;
@@ -40,6 +40,16 @@ impl Changing<'_, '_> {
         match self {
             Changing::Dispose(asked, _) if asked.destroys => Seals::of(rt, archive),
             _ => Ok(Seals::none(rt.alloc())),
+        }
+    }
+
+    /// For what the archive's ledger is opened.
+    fn purpose(&self) -> Purpose {
+        match self {
+            Changing::Dispose(asked, _) if !asked.destroys => Purpose::Listing,
+            Changing::ReplacePlan { .. } | Changing::Dispose(..) | Changing::Hold { .. } => {
+                Purpose::Deciding
+            }
         }
     }
 
@@ -86,7 +96,7 @@ impl Work for ChangeBy<'_, '_> {
             Ok(seals) => seals,
             Err(failure) => return (archive.into_connection(), Err(failure)),
         };
-        let mut ledger = match open_ledger(rt, archive, &author, None) {
+        let mut ledger = match open_ledger(rt, archive, &author, None, change.purpose()) {
             Ok(ledger) => ledger,
             Err((archive, failure)) => return (archive.into_connection(), Err(failure)),
         };
@@ -134,7 +144,7 @@ impl Work for DeliverOne<'_> {
             Err(AllocError) => return (archive.into_connection(), Err(Failure::NoMemory)),
         };
         let filing = filing_of(rules.officer, &sum);
-        let ledger = match open_ledger(rt, archive, &author, filing) {
+        let ledger = match open_ledger(rt, archive, &author, filing, Purpose::Capturing) {
             Ok(ledger) => ledger,
             Err((archive, failure)) => {
                 return (archive.into_connection(), Ok(Err(failure.kept())));
@@ -166,7 +176,7 @@ impl Work for TakeNew<'_> {
             Err(AllocError) => return (archive.into_connection(), Err(Failure::NoMemory)),
         };
         let filing = filing_of(job.rules().officer, &sum);
-        let ledger = match open_ledger(rt, archive, &author, filing) {
+        let ledger = match open_ledger(rt, archive, &author, filing, Purpose::Capturing) {
             Ok(ledger) => ledger,
             Err((archive, failure)) => return (archive.into_connection(), Err(failure)),
         };

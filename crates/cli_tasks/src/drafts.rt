@@ -1,7 +1,7 @@
 //! New archives, which get their places once they are found whole.
 
 use crate::archives::{Archives, Closed, Work, not_made};
-use crate::beginnings::Begin;
+use crate::beginnings::BeginHistory;
 use class_plan::Plan;
 use cli_console::{Failure, Status};
 use cli_history::Author;
@@ -76,7 +76,9 @@ fn begin_history<A: Archives>(
     draft: &str,
     author: Author<'_>,
 ) -> Result<(), Failure> {
-    let (begun, _closed) = archives.lend(rt, draft, Begin(author)).map_err(not_made)?;
+    let (begun, _closed) = archives
+        .lend(rt, draft, BeginHistory(author))
+        .map_err(not_made)?;
     begun?;
     Ok(())
 }

@@ -1,23 +1,13 @@
 //! What is read of histories.
 
 use crate::archives::Work;
-use cli_console::{Failure, Status};
-use cli_history::{judge_history, open_history, write_certificates, write_history};
+use cli_console::Failure;
+use cli_history::{judge_history, open_history, open_noted, write_certificates, write_history};
 use cli_readings::write_contents;
 use command_lines::archives::{HistoryAsked, TypedNumbers};
 use record_noted::{NotedStore, Opened};
 use record_store::Store;
 use sqlite::{Alter, Connection};
-use std::alloc::Global;
-
-/// The failure of a question about the history of a store that has none.
-fn without_history(alloc: Global) -> Failure {
-    Failure::told(
-        alloc,
-        Status::BadData,
-        "the store has no history; history --begin begins one",
-    )
-}
 
 /// What is read of a history.
 #[derive(Drop)]
@@ -48,18 +38,29 @@ impl Work for ReadHistory<'_> {
         rt: &HostRuntime,
         archive: Store<S>,
     ) -> (Connection<S>, Result<(), Failure>) {
-        let opened = match open_history(rt, archive) {
-            Ok(opened) => opened,
-            Err((archive, failure)) => return (archive.into_connection(), Err(failure)),
-        };
-        match opened {
-            Opened::Noted(noted) => {
+        match open_noted(rt, archive) {
+            Ok(noted) => {
                 let mut noted = noted;
                 let done = self.perform(rt, &mut noted);
                 (noted.into_store().into_connection(), done)
             }
-            Opened::Plain(archive) => (archive.into_connection(), Err(without_history(rt.alloc()))),
+            Err((archive, failure)) => (archive.into_connection(), Err(failure)),
         }
+    }
+}
+
+/// Opens the history of a store, if it keeps one; where a mark is looked for, it has to.
+fn open_for<S: Alter>(
+    rt: &HostRuntime,
+    archive: Store<S>,
+    head: Option<&str>,
+) -> Result<Opened<S>, (Store<S>, Failure)> {
+    if head.is_none() {
+        return open_history(rt, archive);
+    }
+    match open_noted(rt, archive) {
+        Ok(noted) => Ok(Opened::Noted(noted)),
+        Err(refusal) => Err(refusal),
     }
 }
 
@@ -82,20 +83,14 @@ impl Work for CheckAll<'_> {
         if let Err(failure) = write_contents(rt, &mut archive) {
             return (archive.into_connection(), Err(failure));
         }
-        let opened = match open_history(rt, archive) {
-            Ok(opened) => opened,
-            Err((archive, failure)) => return (archive.into_connection(), Err(failure)),
-        };
-        match opened {
-            Opened::Noted(noted) => {
+        match open_for(rt, archive, self.head) {
+            Ok(Opened::Noted(noted)) => {
                 let mut noted = noted;
                 let done = judge_history(rt, &mut noted, self.head);
                 (noted.into_store().into_connection(), done)
             }
-            Opened::Plain(archive) if self.head.is_some() => {
-                (archive.into_connection(), Err(without_history(rt.alloc())))
-            }
-            Opened::Plain(archive) => (archive.into_connection(), Ok(())),
+            Ok(Opened::Plain(archive)) => (archive.into_connection(), Ok(())),
+            Err((archive, failure)) => (archive.into_connection(), Err(failure)),
         }
     }
 }

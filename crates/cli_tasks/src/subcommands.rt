@@ -1,7 +1,7 @@
 //! What each subcommand does.
 
 use crate::archives::{Archives, Work, lend, settled};
-use crate::beginnings::begin;
+use crate::beginnings::{begin, require_reasons};
 use crate::changes::{ChangeBy, Changing, DeliverOne, TakeNew};
 use crate::copy::{Paths, copy_to};
 use crate::drafts::make;
@@ -350,7 +350,7 @@ fn change<'a, A: Archives>(
     lend(rt, archives, store, ChangeBy { author, change })
 }
 
-/// Begins a history, or prints it.
+/// Begins a history, notes whether it requires reasons, or prints it.
 fn history<A: Archives>(
     rt: &HostRuntime,
     archives: &A,
@@ -360,6 +360,9 @@ fn history<A: Archives>(
 ) -> Result<(), Failure> {
     match task {
         HistoryTask::Begin => begin(rt, archives, store, Author::of(rt, told)?),
+        HistoryTask::Reasons(reasons) => {
+            require_reasons(rt, archives, store, Author::of(rt, told)?, reasons)
+        }
         HistoryTask::Print(asked) => lend(rt, archives, store, ReadHistory::Print(asked)),
     }
 }

@@ -9,7 +9,7 @@ use crate::table::Word;
 use choice_words::{read_numbers, reads_as_numbers, reversed_range};
 pub use choice_words::{Choice, TypedNumbers};
 use clap::ArgMatches;
-pub use histories::{Attribution, DeedKind, HistoryAsked, HistoryTask};
+pub use histories::{Attribution, DeedKind, HistoryAsked, HistoryTask, Reasons};
 use histories::{attribution_asked, head_asked, history_asked};
 use jiff::civil::Date;
 use session_words::{is_name, read_number};

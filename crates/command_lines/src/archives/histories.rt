@@ -30,6 +30,8 @@ pub enum DeedKind {
     Added,
     /// Plans that were replaced.
     Replaced,
+    /// That reasons were made required, or optional.
+    Made,
     /// What was found when a history began, or after a program that keeps none.
     Found,
 }
@@ -48,11 +50,20 @@ pub struct HistoryAsked<'a> {
     pub is_json: bool,
 }
 
+/// Whether those who decide which records are kept, and how long, have to give a reason.
+#[derive(Clone, Copy)]
+pub enum Reasons {
+    Required,
+    Optional,
+}
+
 /// What is done with a history.
 #[derive(Drop)]
 pub enum HistoryTask<'a> {
     /// It is begun. Who does that is told beside it.
     Begin,
+    /// It is noted whether reasons are required. Who does that is told beside it.
+    Reasons(Reasons),
     Print(HistoryAsked<'a>),
 }
 
@@ -102,13 +113,14 @@ pub(super) fn attribution_asked<'a>(
 }
 
 /// The words for kinds of deeds.
-const KINDS: [(&str, DeedKind); 7] = [
+const KINDS: [(&str, DeedKind); 8] = [
     ("captured", DeedKind::Captured),
     ("held", DeedKind::Held),
     ("released", DeedKind::Released),
     ("destroyed", DeedKind::Destroyed),
     ("added", DeedKind::Added),
     ("replaced", DeedKind::Replaced),
+    ("made", DeedKind::Made),
     ("found", DeedKind::Found),
 ];
 
@@ -130,7 +142,8 @@ fn kind_asked(alloc: Global, asked: &ArgMatches<'_>) -> Result<Option<DeedKind>,
     match kind_of(word) {
         Some(kind) => Ok(Some(kind)),
         None => {
-            let reason = "none of captured, held, released, destroyed, added, replaced and found";
+            let reason =
+                "none of captured, held, released, destroyed, added, replaced, made and found";
             Err(NoCommand::wrong(alloc, word, reason))
         }
     }
@@ -152,21 +165,42 @@ fn is_chosen(events: &HistoryAsked<'_>) -> bool {
     !events.numbers.is_empty() || events.since.is_some() || events.kind.is_some() || events.is_json
 }
 
-/// What is done with a history. A reason is refused where none is begun, and a choice of events where one is.
+/// The change of a history that is asked for, if one is; no two of them stand together.
+fn change_asked<'a>(
+    alloc: Global,
+    asked: &ArgMatches<'a>,
+) -> Result<Option<HistoryTask<'a>>, NoCommand> {
+    let begins = has_flag(asked, words::BEGIN);
+    let demands = has_flag(asked, words::REQUIRE_REASON);
+    let waives = has_flag(asked, words::WAIVE_REASON);
+    match (begins, demands, waives) {
+        (false, false, false) => Ok(None),
+        (true, false, false) => Ok(Some(HistoryTask::Begin)),
+        (false, true, false) => Ok(Some(HistoryTask::Reasons(Reasons::Required))),
+        (false, false, true) => Ok(Some(HistoryTask::Reasons(Reasons::Optional))),
+        _ => {
+            let reason = "of --begin, --require-reason and --waive-reason one stands alone";
+            Err(NoCommand::Wrong(String::from_str(alloc, reason)?))
+        }
+    }
+}
+
+/// What is done with a history. A reason is refused where it is not changed, and a choice of events where it is.
 pub(super) fn history_asked<'a>(
     alloc: Global,
     asked: &ArgMatches<'a>,
 ) -> Result<HistoryTask<'a>, NoCommand> {
     let events = events_asked(alloc, asked)?;
-    if has_flag(asked, words::BEGIN) {
+    if let Some(task) = change_asked(alloc, asked)? {
         if is_chosen(&events) {
-            let reason = "--begin stands with --by and --reason alone";
+            let reason =
+                "--begin, --require-reason and --waive-reason stand with --by and --reason alone";
             return Err(NoCommand::Wrong(String::from_str(alloc, reason)?));
         }
-        return Ok(HistoryTask::Begin);
+        return Ok(task);
     }
     if value_of(asked, words::REASON).is_some() {
-        let reason = "--reason needs --begin";
+        let reason = "--reason needs --begin, --require-reason or --waive-reason";
         return Err(NoCommand::Wrong(String::from_str(alloc, reason)?));
     }
     Ok(HistoryTask::Print(events))

@@ -28,6 +28,18 @@ pub const BEGIN: Word = Word {
     ..FLAG
 };
 
+pub const REQUIRE_REASON: Word = Word {
+    name: "require-reason",
+    help: Some("Requires --reason of hold, release, dispose --yes and plan --set from now on"),
+    ..FLAG
+};
+
+pub const WAIVE_REASON: Word = Word {
+    name: "waive-reason",
+    help: Some("Requires it no more"),
+    ..FLAG
+};
+
 pub const EVENTS_SINCE: Word = Word {
     name: "since",
     value: "YYYY-MM-DD",
@@ -35,14 +47,16 @@ pub const EVENTS_SINCE: Word = Word {
     ..OPTION
 };
 
-/// The name by which events are chosen, or by which a history is begun.
+/// The name by which events are chosen, or of who changes what a history is.
 pub const CHOSEN_BY: Word = Word {
-    help: Some("Events that this name stands for; with --begin, who begins it"),
+    help: Some(
+        "Events that this name stands for; with --begin, --require-reason or --waive-reason, who does it",
+    ),
     ..BY
 };
 
 pub const BEGIN_REASON: Word = Word {
-    help: Some("For what reason a history is begun, with --begin"),
+    help: Some("For what reason, with --begin, --require-reason or --waive-reason"),
     ..REASON
 };
 
@@ -50,7 +64,7 @@ pub const DEEDS: Word = Word {
     name: "deeds",
     value: "WORD",
     help: Some(
-        "Events of this kind: captured, held, released, destroyed, added, replaced or found",
+        "Events of this kind: captured, held, released, destroyed, added, replaced, made or found",
     ),
     ..OPTION
 };

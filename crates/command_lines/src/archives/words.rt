@@ -1,6 +1,9 @@
 //! The subcommands of `mailfile-store`, each with its words and an example.
 
-use super::history_words::{BEGIN, BEGIN_REASON, BY, CHOSEN_BY, DEEDS, EVENTS_SINCE, HEAD, REASON};
+use super::history_words::{
+    BEGIN, BEGIN_REASON, BY, CHOSEN_BY, DEEDS, EVENTS_SINCE, HEAD, REASON, REQUIRE_REASON,
+    WAIVE_REASON,
+};
 use crate::table::{FLAG, Form, Hint, OPTION, PLACE, Program, Subcommand, Word};
 use std::alloc::{AllocError, Global};
 
@@ -494,6 +497,8 @@ const HISTORY: Subcommand = Subcommand {
     words: &[
         STORE,
         BEGIN,
+        REQUIRE_REASON,
+        WAIVE_REASON,
         CHOSEN_BY,
         BEGIN_REASON,
         EVENTS_SINCE,

@@ -1,0 +1,20 @@
+-- What a record of a store has, beside the one that a history makes.
+use Rattle.std.specs.Prelude.{ℕ, ℤ, pos, Bool, List}
+use Rattle.jiff.specs.Words.{epoch_day}
+use Rattle.record_choice.specs.declared.entry.RecordEntry.{RecordEntry}
+use Rattle.record_judge.specs.declared.sealed.SealedRecord.{SealedRecord}
+
+-- A RECORD BUT FOR ITS HOLDS: the number of its message, the path of its class, the day of its capture, and whether it is
+-- destroyed
+pub record Row : Type 0 where
+  pub message : ℕ
+  pub path : List ℕ
+  pub day : ℤ
+  pub destroyed : Bool
+
+-- as the store has it, and as a history tells it
+abbrev pub row_had : RecordEntry → Row
+row_had e = record { message = e.message; path = e.path.items; day = epoch_day e.day; destroyed = e.destroyed }
+
+abbrev pub row_told : SealedRecord → Row
+row_told r = record { message = r.message; path = r.path.items; day = pos r.day; destroyed = r.destroyed }
