@@ -144,30 +144,42 @@ pub fn listed_row(
     }
 }
 
-/// The cells of a message in a manifest: the name of its file, how many octets it has, and its SHA-256.
-fn message_cells(alloc: Global, message: &Exported<'_>) -> Result<[String; 3], AllocError> {
-    Ok(match message {
-        Exported::Destroyed | Exported::Altered(None) => {
-            [String::new(alloc), String::new(alloc), String::new(alloc)]
-        }
-        Exported::Altered(Some((octets, sum))) => [
+/// The cells of a message that was captured as another one: the length and the sum of that one, where they are known.
+fn captured_cells(
+    alloc: Global,
+    captured: Option<(u64, &[u8])>,
+) -> Result<[String; 3], AllocError> {
+    match captured {
+        Some((octets, sum)) => Ok([
             String::new(alloc),
             format!(in alloc; "{octets}")?,
-            shown(alloc, *sum)?,
-        ],
-        Exported::Written(kept) => {
-            let octets = kept.octets;
-            [
-                String::from_str(alloc, kept.file)?,
-                format!(in alloc; "{octets}")?,
-                String::from_str(alloc, kept.sum)?,
-            ]
-        }
-    })
+            shown(alloc, sum)?,
+        ]),
+        None => Ok([String::new(alloc), String::new(alloc), String::new(alloc)]),
+    }
+}
+
+/// The cells of a message that is in a file.
+fn kept_cells(alloc: Global, kept: Kept<'_>) -> Result<[String; 3], AllocError> {
+    let octets = kept.octets;
+    Ok([
+        String::from_str(alloc, kept.file)?,
+        format!(in alloc; "{octets}")?,
+        String::from_str(alloc, kept.sum)?,
+    ])
+}
+
+/// The cells of a message in a manifest: the name of its file, how many octets it has, and its SHA-256.
+fn message_cells(alloc: Global, message: Exported<'_>) -> Result<[String; 3], AllocError> {
+    match message {
+        Exported::Destroyed => captured_cells(alloc, None),
+        Exported::Altered(captured) => captured_cells(alloc, captured),
+        Exported::Written(kept) => kept_cells(alloc, kept),
+    }
 }
 
 /// What the header of a message says that was written.
-fn headers_written<'a>(message: &Exported<'a>) -> Option<&'a Headers> {
+fn headers_written<'a>(message: Exported<'a>) -> Option<&'a Headers> {
     match message {
         Exported::Written(kept) => Some(kept.headers),
         Exported::Destroyed | Exported::Altered(_) => None,
@@ -179,7 +191,7 @@ fn headers_written<'a>(message: &Exported<'a>) -> Option<&'a Headers> {
 pub fn manifest_row(
     alloc: Global,
     row: &Row<'_>,
-    message: &Exported<'_>,
+    message: Exported<'_>,
 ) -> Result<Vec<u8>, AllocError> {
     let [number, day, due, holds] = first_cells(alloc, row)?;
     let [file, octets, sum] = message_cells(alloc, message)?;
