@@ -16,10 +16,10 @@ use tool_texts::{Shown, put};
 
 /// Writes certificates to standard output.
 #[derive(Drop)]
-struct Certificates<'a> {
-    rt: &'a HostRuntime,
+struct Certificates<'r, 's> {
+    rt: &'r HostRuntime,
     /// The seals of the messages, as the history has them.
-    seals: &'a Seals,
+    seals: &'s Seals,
     /// Whether a message is gone with a record.
     is_any_gone: bool,
 }
@@ -66,7 +66,7 @@ fn write_certificate(rt: &HostRuntime, text: &Shown) -> Result<(), Failure> {
     })
 }
 
-impl Registrar for Certificates<'_> {
+impl Registrar for Certificates<'_, '_> {
     type Fault = Failure;
 
     type Draft = Draft;

@@ -38,5 +38,5 @@ pub use moments::{MomentFault, Timing, judge_moment};
 pub use plan::{replace_plan, write_plan};
 pub use plan_file::read_plan;
 pub use rule_checks::check_rules;
-pub use rules::FilingRules;
+pub use rules::{FilingRules, NamedRules};
 pub use time_of_day::logged;

@@ -27,6 +27,14 @@ pub struct FilingRules<'a> {
     rules: Option<Rules>,
 }
 
+/// Rules as a history names them.
+#[derive(Drop)]
+pub struct NamedRules {
+    pub officer: String,
+    /// In hexadecimal digits.
+    pub sum: String,
+}
+
 /// What is told of a fault of the rules in a folder. Of an officer who is not there it says who is.
 fn fault_text(rt: &HostRuntime, folder: &str, fault: &RulesFault) -> Result<Shown, AllocError> {
     let mut text = fault.text(rt.alloc())?;
@@ -92,10 +100,13 @@ impl<'a> FilingRules<'a> {
         Ok(text)
     }
 
-    /// The sum of the rules, in hexadecimal digits; none where they are at fault.
-    pub fn sum(&self, alloc: Global) -> Result<Option<String>, AllocError> {
+    /// Whose rules they are, and their sum; none where they are at fault.
+    pub fn named(&self, alloc: Global) -> Result<Option<NamedRules>, AllocError> {
         match &self.rules {
-            Some(rules) => Ok(Some(sum_of_rules(alloc, rules)?)),
+            Some(rules) => Ok(Some(NamedRules {
+                officer: rules.officer.clone()?,
+                sum: sum_of_rules(alloc, rules)?,
+            })),
             None => Ok(None),
         }
     }

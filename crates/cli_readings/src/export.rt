@@ -125,6 +125,22 @@ impl Met {
             Met::Altered(message) => *message,
         }
     }
+
+    /// Where it was written; none where it was not.
+    fn written(&self) -> Option<&Written> {
+        match self {
+            Met::Written(written) => Some(written),
+            Met::Altered(_) => None,
+        }
+    }
+}
+
+/// The message that was met last, where it was written.
+fn written_last(last: &Option<Met>) -> Option<&Written> {
+    match last {
+        Some(met) => met.written(),
+        None => None,
+    }
 }
 
 /// Writes the line of a file to the list of sums.
@@ -194,33 +210,44 @@ fn write_new<S: Alter>(
 }
 
 /// The row of a record without a message in the manifest, which the index has too.
-fn row_alone(
-    alloc: Global,
-    export: &mut Export<'_>,
-    entry: &RecordEntry,
-) -> Result<Vec<u8>, AllocError> {
-    export.index.add(&record_of(entry), None)?;
-    manifest_row(alloc, &row_of(entry), &Exported::Destroyed)
+fn row_alone(alloc: Global, index: &mut Index, entry: &RecordEntry) -> Result<Vec<u8>, AllocError> {
+    index.add(&record_of(entry), None)?;
+    manifest_row(alloc, &row_of(entry), Exported::Destroyed)
 }
 
-/// The row of a record in the manifest. Its message is the one that was met last. The index has it too where the message was
-/// written; where it was not, the record is noted.
+/// The row of a record in the manifest whose message was written, which the index has too.
 fn row_beside(
+    alloc: Global,
+    index: &mut Index,
+    entry: &RecordEntry,
+    written: &Written,
+) -> Result<Vec<u8>, AllocError> {
+    let letter = Some((written.message, &written.headers));
+    index.add(&record_of(entry), letter)?;
+    manifest_row(alloc, &row_of(entry), Exported::Written(written.kept()))
+}
+
+/// The row of a record in the manifest whose message is not the one that was captured. The record is noted.
+fn row_of_altered(
+    alloc: Global,
+    altered: &mut Altered,
+    seals: &Seals,
+    entry: &RecordEntry,
+) -> Result<Vec<u8>, AllocError> {
+    altered.add(entry.number)?;
+    let captured = seals.length_and_sum(entry.message);
+    manifest_row(alloc, &row_of(entry), Exported::Altered(captured))
+}
+
+/// The row of a record in the manifest. Its message is the one that was met last.
+fn row_with_last(
     alloc: Global,
     export: &mut Export<'_>,
     entry: &RecordEntry,
 ) -> Result<Vec<u8>, AllocError> {
-    match &export.last {
-        Some(Met::Written(written)) => {
-            let letter = Some((written.message, &written.headers));
-            export.index.add(&record_of(entry), letter)?;
-            manifest_row(alloc, &row_of(entry), &Exported::Written(written.kept()))
-        }
-        Some(Met::Altered(_)) | None => {
-            export.altered.add(entry.number)?;
-            let captured = export.seals.length_and_sum(entry.message);
-            manifest_row(alloc, &row_of(entry), &Exported::Altered(captured))
-        }
+    match written_last(&export.last) {
+        Some(written) => row_beside(alloc, &mut export.index, entry, written),
+        None => row_of_altered(alloc, &mut export.altered, &export.seals, entry),
     }
 }
 
@@ -232,10 +259,10 @@ fn export_record<S: Alter>(
     entry: &RecordEntry,
 ) -> Result<(), Failure> {
     let row = if entry.destroyed {
-        row_alone(rt.alloc(), export, entry)?
+        row_alone(rt.alloc(), &mut export.index, entry)?
     } else {
         write_new(rt, archive, export, entry)?;
-        row_beside(rt.alloc(), export, entry)?
+        row_with_last(rt.alloc(), export, entry)?
     };
     export.subjects.add(entry)?;
     export.count.records = export.count.records.saturating_add(1);
@@ -279,6 +306,31 @@ fn write_events<S: Alter>(
     Ok(hasher.finalize())
 }
 
+/// The file of a history that was written.
+#[derive(Drop)]
+struct HistoryFile {
+    /// Its SHA-256.
+    sum: [u8; 32],
+    /// What stands against the history: `BadData` where the line of an event cannot be read, which was told.
+    told: Result<(), Failure>,
+}
+
+/// Writes the events of some records to a new file of a folder, where the store keeps a history.
+fn write_history<S: Alter>(
+    rt: &HostRuntime,
+    archive: &mut Store<S>,
+    folder: &str,
+    subjects: &Subjects,
+) -> Result<Option<HistoryFile>, Failure> {
+    let Some(extract) = Extract::of(rt.alloc(), archive, subjects) else {
+        return Ok(None);
+    };
+    let mut extract = extract;
+    let sum = write_events(rt, archive, folder, &mut extract)?;
+    let told = extract.end();
+    Ok(Some(HistoryFile { sum, told }))
+}
+
 /// Writes the events of the records to a file, where the store keeps a history, and its sum to the list of sums. Answers what
 /// stands against the history: `BadData` where the line of an event cannot be read, which is told.
 fn export_history<S: Alter>(
@@ -286,11 +338,10 @@ fn export_history<S: Alter>(
     archive: &mut Store<S>,
     export: &mut Export<'_>,
 ) -> Result<Result<(), Failure>, Failure> {
-    let Some(mut extract) = Extract::of(rt.alloc(), archive, &export.subjects) else {
+    let Some(written) = write_history(rt, archive, export.folder, &export.subjects)? else {
         return Ok(Ok(()));
     };
-    let sum = write_events(rt, archive, export.folder, &mut extract)?;
-    let told = extract.end();
+    let HistoryFile { sum, told } = written;
     let sum = sum_text(rt.alloc(), sum.as_slice())?;
     write_sum(rt, export, HISTORY, sum.as_str())?;
     Ok(told)

@@ -3,8 +3,8 @@
 use crate::archives::Work;
 use class_plan::Date;
 use cli_changes::{
-    Delivered, FilingRules, Intake, Timing, change_holds, deliver_to, dispose_by, replace_plan,
-    take_new,
+    Delivered, FilingRules, Intake, NamedRules, Timing, change_holds, deliver_to, dispose_by,
+    replace_plan, take_new,
 };
 use cli_choice::{Change, Questions};
 use cli_console::Failure;
@@ -30,7 +30,7 @@ pub enum Changing<'a, 't> {
         change: Change,
         name: &'a str,
         choice: &'t Choice<'a>,
-        questions: &'t Questions,
+        questions: Questions,
     },
 }
 
@@ -70,7 +70,7 @@ impl Changing<'_, '_> {
                 name,
                 choice,
                 questions,
-            } => change_holds(rt, ledger, *change, *name, *choice, *questions),
+            } => change_holds(rt, ledger, *change, *name, *choice, questions),
         }
     }
 }
@@ -106,11 +106,11 @@ impl Work for ChangeBy<'_, '_> {
 }
 
 /// By which rules an officer's messages are filed, for a history; none where the rules are at fault.
-fn filing_of<'a>(officer: &'a str, sum: &'a Option<String>) -> Option<Filing<'a>> {
-    match sum {
-        Some(sum) => Some(Filing {
-            officer: officer.as_bytes(),
-            rules: sum.as_bytes(),
+fn filing_of(rules: &Option<NamedRules>) -> Option<Filing<'_>> {
+    match rules {
+        Some(rules) => Some(Filing {
+            officer: rules.officer.as_bytes(),
+            rules: rules.sum.as_bytes(),
         }),
         None => None,
     }
@@ -139,11 +139,11 @@ impl Work for DeliverOne<'_> {
             timing,
             message,
         } = self;
-        let sum = match rules.sum(rt.alloc()) {
-            Ok(sum) => sum,
+        let named = match rules.named(rt.alloc()) {
+            Ok(named) => named,
             Err(AllocError) => return (archive.into_connection(), Err(Failure::NoMemory)),
         };
-        let filing = filing_of(rules.officer, &sum);
+        let filing = filing_of(&named);
         let ledger = match open_ledger(rt, archive, &author, filing, Purpose::Capturing) {
             Ok(ledger) => ledger,
             Err((archive, failure)) => {
@@ -171,11 +171,11 @@ impl Work for TakeNew<'_> {
         archive: Store<S>,
     ) -> (Connection<S>, Result<(), Failure>) {
         let TakeNew { author, job } = self;
-        let sum = match job.rules().sum(rt.alloc()) {
-            Ok(sum) => sum,
+        let named = match job.rules().named(rt.alloc()) {
+            Ok(named) => named,
             Err(AllocError) => return (archive.into_connection(), Err(Failure::NoMemory)),
         };
-        let filing = filing_of(job.rules().officer, &sum);
+        let filing = filing_of(&named);
         let ledger = match open_ledger(rt, archive, &author, filing, Purpose::Capturing) {
             Ok(ledger) => ledger,
             Err((archive, failure)) => return (archive.into_connection(), Err(failure)),

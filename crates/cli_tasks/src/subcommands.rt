@@ -266,7 +266,7 @@ fn change_holds_of<'a, A: Archives>(
         change: hold.change,
         name: hold.name,
         choice,
-        questions: &questions,
+        questions,
     };
     change(rt, archives, store, holds, told)
 }
