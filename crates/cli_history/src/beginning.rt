@@ -80,17 +80,17 @@ pub fn line_now(
 
 /// The lines of what is found, in the order in which they are to be noted.
 #[derive(Drop)]
-struct Findings<'k> {
+struct Findings<'k, 's> {
     /// The number of the first of these events.
     first: u32,
     lines: Vec<Vec<u8>>,
-    known: &'k Known<'k>,
+    known: &'k Known<'s>,
     /// The messages that were found.
     messages: BTreeSet<u32>,
 }
 
-impl<'k> Findings<'k> {
-    fn new(alloc: Global, first: u32, known: &'k Known<'k>) -> Findings<'k> {
+impl<'k, 's> Findings<'k, 's> {
+    fn new(alloc: Global, first: u32, known: &'k Known<'s>) -> Findings<'k, 's> {
         Findings {
             first,
             lines: Vec::new(alloc),
@@ -196,10 +196,10 @@ pub fn findings_in<S: Alter>(
 }
 
 /// The lines that a history begins with. `Usage` where it is not known who begins it.
-fn first_lines<S: Alter>(
-    rt: &HostRuntime,
+fn first_lines<'a, S: Alter>(
+    rt: &'a HostRuntime,
     archive: &mut Store<S>,
-    author: &Author<'_>,
+    author: &'a Author<'_>,
 ) -> Result<Vec<Vec<u8>>, Failure> {
     author.named(rt)?;
     let occasion = occasion_of(rt, author, None)?;

@@ -110,12 +110,23 @@ fn is_among(names: &[&[u8]], hold: &[u8]) -> bool
     names.iter().any(|name| hold == *name)
 }
 
+/// Whether each of these holds has a name that is among those.
+fn are_all_among(holds: &[Vec<u8>], names: &[&[u8]]) -> bool
+    ensures { result ≡
+        list_all (λ h. list_any (λ n. bytes_eq h.items n.now) names.now) holds.now }
+{
+    holds.iter().all(|hold| is_among(names, hold.as_slice()))
+}
+
 /// Whether the holds on a record, each of which has another name, have the names of a history.
 fn are_holds(holds: &[Vec<u8>], names: &[&[u8]]) -> bool
     ensures { result ≡ (length holds.now == length names.now)
         && list_all (λ h. list_any (λ n. bytes_eq h.items n.now) names.now) holds.now }
 {
-    holds.len() == names.len() && holds.iter().all(|hold| is_among(names, hold.as_slice()))
+    if holds.len() != names.len() {
+        return false;
+    }
+    are_all_among(holds, names)
 }
 
 /// Whether an entry is that of a record, but for its holds.

@@ -20,10 +20,10 @@ fn deed_of(reasons: Reasons) -> Deed<'static> {
 }
 
 /// Notes the next event of a history: whether reasons are required.
-fn note_next<S: Alter>(
-    rt: &HostRuntime,
+fn note_next<'a, S: Alter>(
+    rt: &'a HostRuntime,
     noted: &mut NotedStore<S>,
-    author: &Author<'_>,
+    author: &'a Author<'_>,
     reasons: Reasons,
 ) -> Result<u32, Failure> {
     let number = noted.next();

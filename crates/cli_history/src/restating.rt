@@ -80,10 +80,10 @@ fn replayed_apart<S: Alter>(
 
 /// The lines of all that is there in a store, from the event of a number on. A message that the history knows keeps the seal
 /// that it has there.
-fn lines_found<S: Alter>(
-    rt: &HostRuntime,
+fn lines_found<'a, S: Alter>(
+    rt: &'a HostRuntime,
     archive: &mut Store<S>,
-    author: &Author<'_>,
+    author: &'a Author<'_>,
     next: u32,
     replayed: &Replayed,
 ) -> Result<Vec<Vec<u8>>, Failure> {
