@@ -1,5 +1,8 @@
 //! Whether a history requires reasons.
 
+ghost use Rattle.record_history.specs.Spelled.{IsSpelledDeed};
+ghost use Rattle.record_history.specs.Views.{deed_view};
+
 use crate::author::Author;
 use crate::beginning::line_now;
 use crate::opening::{Purpose, occasion_of};
@@ -12,7 +15,9 @@ use record_store::Store;
 use sqlite::Alter;
 
 /// The deed that tells whether reasons are required.
-fn deed_of(reasons: Reasons) -> Deed<'static> {
+fn deed_of(reasons: Reasons) -> Deed<'static>
+    ensures { IsSpelledDeed (deed_view result) }
+{
     match reasons {
         Reasons::Required => Deed::ReasonsRequired,
         Reasons::Optional => Deed::ReasonsOptional,
