@@ -96,7 +96,9 @@ impl Work for ChangeBy<'_, '_> {
             Ok(seals) => seals,
             Err(failure) => return (archive.into_connection(), Err(failure)),
         };
-        let mut ledger = match open_ledger(rt, archive, &author, None, change.purpose()) {
+        let no_rules = None;
+        let filing = filing_of(&no_rules);
+        let mut ledger = match open_ledger(rt, archive, &author, filing, change.purpose()) {
             Ok(ledger) => ledger,
             Err((archive, failure)) => return (archive.into_connection(), Err(failure)),
         };

@@ -52,32 +52,32 @@ enum Reading<'a> {
 
 /// Reads the records of a choice, and of the questions that are asked of their messages.
 #[derive(Drop)]
-struct OnRecords<'a> {
+struct OnRecords<'a, 't> {
     /// The path of the store, which a report and the index of an export name.
     store: &'a str,
     choice: Choice<'a>,
     questions: Questions,
-    reading: Reading<'a>,
+    reading: &'t Reading<'a>,
 }
 
-impl OnRecords<'_> {
+impl OnRecords<'_, '_> {
     /// Does it.
     fn perform<S: Alter>(&self, rt: &HostRuntime, archive: &mut Store<S>) -> Result<(), Failure> {
         let (choice, questions) = (&self.choice, &self.questions);
         match self.reading {
-            Reading::List(listing) => write_list(rt, archive, choice, questions, listing),
+            Reading::List(listing) => write_list(rt, archive, choice, questions, *listing),
             Reading::Export(target) => {
-                export_to(rt, archive, self.store, choice, questions, target)
-            },
+                export_to(rt, archive, self.store, choice, questions, *target)
+            }
             Reading::Report { day } => {
-                let day = day_or_today(rt, day)?;
+                let day = day_or_today(rt, *day)?;
                 write_report(rt, archive, self.store, day, choice, questions)
             }
         }
     }
 }
 
-impl Work for OnRecords<'_> {
+impl Work for OnRecords<'_, '_> {
     type Answer = ();
 
     fn work<S: Alter>(
@@ -233,7 +233,7 @@ fn read_records<'a, A: Archives>(
     archives: &A,
     store: &'a str,
     choice: Choice<'a>,
-    reading: Reading<'a>,
+    reading: &Reading<'a>,
 ) -> Result<(), Failure> {
     let questions = judge_choice(rt, &choice)?;
     let work = OnRecords {
@@ -277,30 +277,30 @@ fn on_records<'a, A: Archives>(
     archives: &A,
     store: &'a str,
     choice: Choice<'a>,
-    task: ChosenTask<'a>,
+    task: &ChosenTask<'a>,
     told: &Attribution<'a>,
 ) -> Result<(), Failure> {
     match task {
         ChosenTask::List(listing) => {
-            read_records(rt, archives, store, choice, Reading::List(listing))
+            read_records(rt, archives, store, choice, &Reading::List(*listing))
         }
         ChosenTask::Export(target) => {
-            read_records(rt, archives, store, choice, Reading::Export(target))
+            read_records(rt, archives, store, choice, &Reading::Export(*target))
         }
         ChosenTask::Report { day } => {
-            read_records(rt, archives, store, choice, Reading::Report { day })
+            read_records(rt, archives, store, choice, &Reading::Report { day: *day })
         }
         ChosenTask::Hold(name) => {
             let hold = HoldChange {
                 change: Change::Place,
-                name,
+                name: *name,
             };
             change_holds_of(rt, archives, store, &choice, hold, told)
         }
         ChosenTask::Release(name) => {
             let hold = HoldChange {
                 change: Change::End,
-                name,
+                name: *name,
             };
             change_holds_of(rt, archives, store, &choice, hold, told)
         }
@@ -407,6 +407,6 @@ pub fn execute<A: Archives>(
         Command::Certificates { numbers } => {
             lend(rt, archives, store, ReadHistory::Certificates(numbers))
         }
-        Command::Chosen(choice, task) => { on_records(rt, archives, store, choice, task, told) }
+        Command::Chosen(choice, task) => { on_records(rt, archives, store, choice, &task, told) }
     }
 }
