@@ -1,5 +1,8 @@
 //! `certificates`: those of records that were destroyed, from the history.
 
+ghost use Rattle.record_history.specs.Spelled.{IsSpelledDeed};
+ghost use Rattle.record_history.specs.Views.{deed_view};
+
 use crate::chosen::is_about;
 use crate::pages::{Events, event_of};
 use choice_words::TypedNumbers;
@@ -162,7 +165,9 @@ fn certificate_of(
     event: &Event<'_>,
     entry: Option<&RecordEntry>,
     messages: &Messages,
-) -> Result<Option<Shown>, AllocError> {
+) -> Result<Option<Shown>, AllocError>
+    requires { IsSpelledDeed (deed_view event.now.deed) }
+{
     let Deed::Destroyed {
         number,
         day,

@@ -1,5 +1,9 @@
 //! The events of a history and the records beside it, a page at a time.
 
+ghost use Rattle.std.specs.Prelude.{IfOk};
+ghost use Rattle.record_history.specs.Spelled.{IsSpelledDeed};
+ghost use Rattle.record_history.specs.Views.{deed_view};
+
 use cli_console::{Failure, Status};
 use record_history::{Event, LineFault, read_line};
 use record_noted::NotedStore;
@@ -90,7 +94,9 @@ pub fn at_event(alloc: Global, number: u32, words: &'static str) -> Result<Shown
 }
 
 /// The event of a row. `BadData` where its line is none, or is that of another number.
-pub fn event_of<'a>(alloc: Global, row: &'a EventRow) -> Result<Event<'a>, Failure> {
+pub fn event_of<'a>(alloc: Global, row: &'a EventRow) -> Result<Event<'a>, Failure>
+    ensures { IfOk result (λ e. IsSpelledDeed (deed_view e.deed)) }
+{
     match read_line(alloc, row.line.as_slice()) {
         Ok((number, event)) if number == u64::from(row.number) => Ok(event),
         Ok(_) => Err(Failure::shown(
