@@ -172,7 +172,7 @@ captures_nothing_outside_the_years() {
 # A clock that is set back during an intake, after the first message: the others stay.
 captures_nothing_once_the_clock_is_behind() {
     archive_after maildir "$here" || return
-    run_by '1893456000 1893456000 1893456000 1893456000 0' intake --store "$here/records.db" --rules "$here/rules" ann "$here/Maildir"
+    run_by '1893456000 1893456000 1893456000 1893456000 1893456000 0' intake --store "$here/records.db" --rules "$here/rules" ann "$here/Maildir"
     ((status == 75)) && [[ $(head -n 1 "$work/said") == 'a: record 5 class finance due 2037-01-01' && $(mail_in new) -eq 2 ]] &&
         [[ $(< "$work/error") == 'mailfile-store: the clock says 1970-01-01, but the store has a record of 2030-01-01; '* ]] || shows_run
 }
