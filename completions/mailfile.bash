@@ -50,7 +50,7 @@ _mailfile_pass() {
 _mailfile_offer() {
     local script officer
     case ${1%...} in
-        FILE | PLAN | SCRIPT | MESSAGE | IMAGE | NEW) compopt -o default ;;
+        FILE | PLAN | SCRIPT | MESSAGE | IMAGE | NEW | SOURCE) compopt -o default ;;
         FOLDER | DIR | MAILDIR) compopt -o dirnames ;;
         OFFICER)
             for script in "$(_mailfile_plain "$rules")"/*/main.sieve; do

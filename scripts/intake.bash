@@ -19,7 +19,7 @@ write_messages() {
     for ((number = 1; number <= $1; number++)); do
         printf 'Subject: mail %d\n\nNumber %d.\n' "$number" "$number" > "$work/mails/$(printf '%05d' "$number")"
     done
-    head -c 20000 /dev/zero | tr '\0' 'x' > "$work/long"
+    { printf 'Subject: long\n\n' && head -c 20000 /dev/zero | tr '\0' 'x'; } > "$work/long"
     echo 'keep;' > "$work/rules/ann/main.sieve"
     echo 'root = "7 years destroy"' > "$work/plan.toml"
     (cd -- "$work/mails" && sha256sum -- *) > "$work/sums"

@@ -31,11 +31,15 @@ is_as_noted() {
     fi
 }
 
-# All that the store has, as starts of mailfile-store tell it.
+# All that the store has, as starts of mailfile-store tell it. Where it has no record, nothing is exported.
 whole_archive() {
     rm -rf -- "$here/out"
-    "$keeper" plan --store "$here/store" && "$keeper" check --store "$here/store" && "$keeper" export --store "$here/store" "$here/out" &&
+    "$keeper" plan --store "$here/store" && "$keeper" check --store "$here/store" || return
+    if "$keeper" export --store "$here/store" "$here/out"; then
         cat -- "$here/out/manifest.csv"
+    else
+        [[ ! -e $here/out ]]
+    fi
 }
 
 # Whether a later session finds the archive, and all of it is as it should be. That session ends with all in the file, so a file of the
@@ -282,7 +286,7 @@ has_taken_all() {
     has_all_mail && ((moved == 3)) && [[ $(find "$here/Maildir" -type f | wc -l) -eq 3 ]] || return
     is_as_noted "$1" store && (($1 > 0)) && return
     rm -rf -- "$here/out"
-    "$keeper" export --store "$here/store" "$here/out" > "$here/exported" && cut -d , -f 2,7,8 "$here/out/manifest.csv" > "$here/all" || return
+    "$keeper" export --store "$here/store" "$here/out" > "$here/exported" && cut -d , -f 2,8,9 "$here/out/manifest.csv" > "$here/all" || return
     uniq "$here/all" > "$here/mail" && has_mail_as_noted "$1" && (($(wc -l < "$here/all") == 6 + ${#twice})) &&
         [[ $(uniq -d "$here/all") == "${twice:+$(sed -n "$((3 + twice))p" "$noted/mail")}" ]]
 }

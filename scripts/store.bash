@@ -317,7 +317,7 @@ leaves_a_damaged_message_out() {
     run export --store "$store" "$here/out"
     ends_with 65 "exported records 5 messages 3 octets 139 to $here/out" "mailfile-store: record 5: $it" || return
     [[ ! -e $here/out/5.eml ]] && (cd -- "$here/out" && sha256sum --quiet --strict -c SHA256SUMS) &&
-        [[ $(tail -n 1 "$here/out/manifest.csv") == "5,unfiled,2023-11-18,never,,,9018,$(sha256sum < "$here/long.eml" | cut -d ' ' -f 1),,," ]] ||
+        [[ $(tail -n 1 "$here/out/manifest.csv") == "5,unfiled,2023-11-18,never,,no,,9018,$(sha256sum < "$here/long.eml" | cut -d ' ' -f 1),,," ]] ||
         return
     run copy --store "$store" --damaged "$here/new.db"
     ends_with 0 'copied records 5 messages 4 octets 9157' "mailfile-store: record 5: $it" || return
@@ -385,6 +385,64 @@ changes_are_killed() {
     echo "events after a kill: $(head -n 1 "$work/events") to $(tail -n 1 "$work/events")"
 }
 
+# How many messages an mbox has, and how often its import is killed.
+readonly IMPORTED=10000 IMPORTS=10
+
+# Writes an mbox of small messages, and their sums.
+write_mbox() {
+    rm -rf -- "$work/parts" && mkdir -p -- "$work/parts" || return
+    awk -v count="$IMPORTED" -v parts="$work/parts" 'BEGIN {
+        for (number = 1; number <= count; number++) {
+            message = sprintf("Date: Wed, 7 Jan 2009 10:00:00 +0000\nSubject: old mail %d\n\nNumber %d.\n", number, number)
+            printf "From ann@example.org Wed Jan  7 10:00:00 2009\n%s\n", message
+            part = parts "/" number
+            printf "%s", message > part
+            close(part)
+        }
+    }' > "$here/old.mbox" && (cd -- "$work/parts" && sha256sum -- * | cut -d ' ' -f 1 | sort) > "$work/sums"
+}
+
+# Imports that mbox, or what is left of it.
+import_old() {
+    LOGNAME=tess "$keeper_program" import --store "$here/records.db" --rules "$here/rules" --dated date --quiet ann "$here/old.mbox"
+}
+
+# Kills an import a number of seconds after its start. Whatever it has captured then has its event, so a check finds nothing.
+survives_a_kill_of_an_import() {
+    local process
+    LOGNAME=tess "$keeper_program" import --store "$here/records.db" --rules "$here/rules" --dated date --quiet ann "$here/old.mbox" \
+        > "$work/changed" 2>&1 &
+    process=$!
+    sleep "$1"
+    {
+        kill -KILL "$process"
+        wait "$process"
+    } 2> "$work/error"
+    run check --store "$here/records.db"
+    ((status == 0)) && [[ ! -s $work/error ]] || shows_run || return
+    sed -n 's/^records //p' "$work/said" >> "$work/imported"
+}
+
+# Whether each message of the mbox is captured once, after the rest was imported.
+has_each_message_once() {
+    import_old > "$work/changed" 2>&1 && "$keeper_program" export --store "$here/records.db" "$here/out" > "$work/said" &&
+        grep '\.eml$' "$here/out/SHA256SUMS" | cut -d ' ' -f 1 | sort | cmp - "$work/sums"
+}
+
+# Kills imports of one mbox at random moments, each of which goes on where the one before it was killed.
+imports_are_killed() {
+    local number keeper_program
+    keeper_program=$(program_of mailfile_store)
+    : > "$work/imported"
+    archive_after create/new "$here" && write_mbox || return
+    for ((number = 1; number <= IMPORTS; number++)); do
+        count "an import that is killed, $number" survives_a_kill_of_an_import \
+            "$(awk -v by="$RANDOM" 'BEGIN { printf "%.3f", 0.1 + by / 32768 }')"
+    done
+    count "each message of an import that was killed, once" has_each_message_once
+    echo "records after a kill of an import: $(tr '\n' ' ' < "$work/imported")of $IMPORTED"
+}
+
 store() {
     local status here=$work/archive
     if ((EUID > 0)) || command -v setpriv > "$work/found"; then
@@ -411,7 +469,8 @@ store() {
     count "a message that is damaged in the file" finds_a_damaged_message
     count "a damaged message among others" leaves_a_damaged_message_out
     changes_are_killed
-    group "mailfile-store with a damaged message, and killed in the midst of changes"
+    imports_are_killed
+    group "mailfile-store with a damaged message, and killed in the midst of changes and imports"
 }
 
 if [[ ${BASH_SOURCE[0]} == "$0" ]]; then

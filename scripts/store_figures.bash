@@ -3,7 +3,7 @@
 # Times ./mailfile-store beside a session of ./mailfile over the same messages, beside the opening of the store, and beside `cp`. scripts/speed.bash
 # sources this file.
 
-: "${folder:?}"
+: "${folder:?}" "${root:?}"
 
 # How often each is timed, and the octets of a message.
 readonly RUNS=3 SMALL=2048 MIDDLE=10240 LARGE=51200
@@ -101,6 +101,18 @@ copy_file() {
     cp -- "$here/store" "$here/copy"
 }
 
+copy_and_sum_file() {
+    copy_file && sha256sum -- "$here/copy"
+}
+
+# Does something a hundred times.
+hundred() {
+    local turn
+    for ((turn = 0; turn < 100; turn++)); do
+        "$@" || return
+    done
+}
+
 # The least time in which a command was done, in microseconds, each time after another one.
 best() {
     local turn began spans=()
@@ -177,11 +189,27 @@ export_rows() {
     no_second_export && no_export
 }
 
-# A copy of the store with its opening, beside a copy of its file, and beside the opening.
+# The openings of a new store.
+new_store_row() {
+    local opening
+    new_store && opening=$(best true hundred open_store) || return
+    row "a hundred openings of a new store, $place" "2.5 ms each" "$opening" "a hundred times 2.5 ms" 250000 100
+}
+
+# Later starts by the script of the checkout, beside those of the program.
+start_row() {
+    local script=$root/mailfile-store scripted own
+    "$script" --version > "$folder/said" || return
+    scripted=$(here=$folder best true hundred "$script" --version) && own=$(here=$folder best true hundred "$keeper" --version) || return
+    row "a hundred later starts by the script" "–" "$scripted" "a hundred starts of the program, and 4 ms each" $((own + 400000)) 0
+}
+
+# A copy of the store with its opening, beside a copy of its file, also with its sum, and beside the opening.
 copy_rows() {
     local what="copy of $1 messages of $(($2 / 1024)) KB" time
     time=$(best no_copy copy_store) || return
     row "$what, $place" "–" "$time" "cp of the store" "$(best no_copy copy_file)" 0
+    row "the same" "–" "$time" "\`cp\` and \`sha256sum\` of the store" "$(best no_copy copy_and_sum_file)" 0
     row "the same" "8 openings at most" "$time" "the opening, times 8" $((opening * 8)) 100
     memory_line "$what" "$(no_copy && size_of "$keeper" copy --store "$here/store" "$here/copy")" "$open"
     no_copy
@@ -236,7 +264,7 @@ question_rows() {
 # The rows of a place, in a folder.
 rows_in() {
     local here=$1 place=$2
-    write_rules && intake_rows 10000 && growth_rows 4000 && growth_rows 40000 && list_rows 100000 && archive_rows 100000 "$SMALL" &&
+    write_rules && new_store_row && intake_rows 10000 && growth_rows 4000 && growth_rows 40000 && list_rows 100000 && archive_rows 100000 "$SMALL" &&
         archive_rows 5000 "$LARGE" && question_rows 20000 "$MIDDLE" && question_rows 100000 "$SMALL"
 }
 
@@ -248,6 +276,7 @@ store_figures() {
     mailfile=$(program_of mailfile) keeper=$(program_of mailfile_store)
     echo "| measure | asked | reached | met | ms | beside | ms |"
     echo "|---|---|---|---|---|---|---|"
+    start_row || return
     [[ -z $memory ]] || rows_in "$memory" "over files in memory" || return
     rows_in "$folder" "in a file" || return
     echo

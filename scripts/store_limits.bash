@@ -85,7 +85,7 @@ copy_has_nothing_destroyed() {
 # Whether a message of 8 MiB is delivered, and one with an octet more is refused (65), and captured nowhere.
 delivers_up_to_the_limit() {
     over_refuses 65 '95: ' deliver --rules "$1/rules" --at 0 ann < "$1/over" &&
-        over_says $'record 3 class finance due never\n' deliver --rules "$1/rules" --at 0 ann < "$1/mail/3" && tells "$1" "$here/store"
+        over_says $'record 3 class finance due never\n' deliver --rules "$1/rules" --as-is --at 0 ann < "$1/mail/3" && tells "$1" "$here/store"
 }
 
 # Whether an intake captures such a message, and the other one stays.

@@ -29,6 +29,7 @@ counts_of_list() {
             count("messages", live)
             count("octets", live * octets)
             count("next number", NR + 1)
+            print "no history"
         }' "$folder/list"
 }
 
@@ -41,11 +42,11 @@ copied_of_counts() {
 # The manifest of the live records of the list, which have no holds, and each a message of its own with a subject alone.
 manifest_of_list() {
     local number class day due sum subject
-    echo number,class,day,due,holds,file,octets,sha256,sender,subject,date
+    echo number,class,day,due,holds,destroyed,file,octets,sha256,sender,subject,date
     while read -r _ number _ class _ day _ due; do
         sum=$(sha256sum < "$folder/mail/$number")
         subject=$(sed -n 's/^field 1 Subject "\(.*\)"$/\1/p' "$folder/fields/$number")
-        echo "$number,$class,$day,$due,,$number.eml,$(stat -c %s -- "$folder/mail/$number"),${sum%% *},,$subject,"
+        echo "$number,$class,$day,$due,,no,$number.eml,$(stat -c %s -- "$folder/mail/$number"),${sum%% *},,$subject,"
     done < <(grep ' due ' "$folder/list")
 }
 

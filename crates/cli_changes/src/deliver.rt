@@ -2,6 +2,7 @@
 
 ghost use Rattle.std.specs.Prelude.{◌≡◌, is_ok};
 ghost use Rattle.cli_changes.specs.Deliveries.{is_captured};
+ghost use Rattle.cli_changes.specs.Endings.{desk_status as desk_status_of, fault_of, IsFailureOf};
 
 use crate::fault_words::{Cause, fault_words, given_up_words};
 use crate::moments::{Timing, date_of_clock};
@@ -19,15 +20,40 @@ use sqlite::Alter;
 use std::alloc::{AllocError, Global};
 use tool_texts::{Shown, put};
 
+/// The status for what a desk refuses; none where there was no memory.
+pub(crate) fn desk_status(fault: DeskFault) -> Option<Status>
+    ensures { result ≡ desk_status_of fault }
+{
+    match fault {
+        DeskFault::NoMemory => None,
+        DeskFault::BadMoment => Some(Status::Usage),
+        DeskFault::MessageTooLong => Some(Status::BadData),
+        DeskFault::Text(..)
+        | DeskFault::Check(_)
+        | DeskFault::Plan(_)
+        | DeskFault::PlanTooLong
+        | DeskFault::ImageTooLong
+        | DeskFault::ImageForm
+        | DeskFault::Image(_)
+        | DeskFault::LibraryFull
+        | DeskFault::Archive(_)
+        | DeskFault::Database
+        | DeskFault::TooManyInFlight
+        | DeskFault::NoTicket
+        | DeskFault::NotEnded
+        | DeskFault::NoScript
+        | DeskFault::TicketsUsedUp => Some(Status::TryAgain),
+    }
+}
+
 /// The failure of a call of the desk.
-pub fn desk_failure(alloc: Global, name: &str, fault: DeskFault) -> Failure {
-    let status = match fault {
-        DeskFault::NoMemory => return Failure::NoMemory,
-        DeskFault::BadMoment => Status::Usage,
-        DeskFault::MessageTooLong => Status::BadData,
-        _ => Status::TryAgain,
-    };
-    Failure::numbered(alloc, status, name, fault.refusal().number)
+pub fn desk_failure(alloc: Global, name: &str, fault: DeskFault) -> Failure
+    ensures { IsFailureOf (desk_status_of fault) result }
+{
+    match desk_status(fault) {
+        Some(status) => Failure::numbered(alloc, status, name, fault.refusal().number),
+        None => Failure::NoMemory,
+    }
 }
 
 /// The record lines of a capture, each after a text; or that the message was discarded.
@@ -142,7 +168,9 @@ pub struct Delivered {
 }
 
 /// The fault with which the run over a message ended, if it did.
-fn fault_in(outcome: &Delivery) -> Option<RunFault> {
+fn fault_in(outcome: &Delivery) -> Option<RunFault>
+    ensures { result ≡ fault_of outcome.now }
+{
     match outcome {
         Delivery::Captured(capture) => capture.fault,
         Delivery::GivenUp(fault) => Some(*fault),
@@ -159,7 +187,9 @@ fn copy_of(message: &Payload) -> Option<Vec<u8>> {
 }
 
 /// The failure of a delivery.
-fn delivery_failure(alloc: Global, fault: DeskFault) -> Failure {
+fn delivery_failure(alloc: Global, fault: DeskFault) -> Failure
+    ensures { IsFailureOf (desk_status_of fault) result }
+{
     let name = match fault {
         DeskFault::BadMoment => "--at",
         _ => "the message",

@@ -1,5 +1,6 @@
 //! `dispose`: what is due, and its destruction. Which records these are, `record_choice` decides.
 
+use crate::runs::{Run, runs_of};
 use class_plan::{Action, Date, Schedule};
 use cli_choice::{Meant, meant_of};
 use cli_console::{Failure, Status, judge_day, now, tell, tell_words, today, write_text};
@@ -158,24 +159,13 @@ fn meant_by<S: Alter>(
     Ok(meant_of(rt.alloc(), typed, lines)?)
 }
 
-/// Tells whether messages are gone, and why a disposal ended where that is no success.
-fn settle(
-    rt: &HostRuntime,
-    is_any_gone: bool,
-    end: End<StoreFault, Failure>,
-) -> Result<(), Failure> {
+/// Why a disposal ended, where that is no success.
+fn settle(rt: &HostRuntime, end: End<StoreFault, Failure>) -> Result<(), Failure> {
     match end {
-        End::Repository(fault) => return Err(Failure::of_store(rt.alloc(), "the store", fault)),
-        End::Registrar(failure) => return Err(failure),
-        End::Done => {}
+        End::Repository(fault) => Err(Failure::of_store(rt.alloc(), "the store", fault)),
+        End::Registrar(failure) => Err(failure),
+        End::Done => Ok(()),
     }
-    if is_any_gone {
-        tell_words(
-            rt,
-            "the messages are gone from the archive, but their octets may still lie in unused parts of its file; copy makes a store without them",
-        );
-    }
-    Ok(())
 }
 
 /// Tells that no record may be destroyed by a day, of those that this is said of.
@@ -186,7 +176,37 @@ fn tell_none(rt: &HostRuntime, whose: &'static str, day: Date) -> Result<(), Fai
     Ok(())
 }
 
-/// Destroys the records of some numbers, all that are due where there is no number, with a certificate for each.
+/// Destroys the records of a run, which has one, with a certificate for each. Their events have its notes.
+fn destroy_run<S: Alter>(
+    rt: &HostRuntime,
+    archive: &mut StoreLedger<'_, S>,
+    certificates: &mut Certificates<'_, '_>,
+    run: &Run,
+    day: Date,
+) -> Result<(), Failure> {
+    archive.set_notes(run.notes());
+    let disposed = dispose(rt.alloc(), archive, certificates, run.numbers(), day);
+    archive.set_notes(b"");
+    let Disposed { end, .. } = disposed.map_err(|fault| refused(rt, fault))?;
+    settle(rt, end)
+}
+
+/// Destroys records in runs, with a certificate for each.
+fn destroy_runs<S: Alter>(
+    rt: &HostRuntime,
+    archive: &mut StoreLedger<'_, S>,
+    certificates: &mut Certificates<'_, '_>,
+    runs: &[Run],
+    day: Date,
+) -> Result<(), Failure> {
+    for run in runs {
+        destroy_run(rt, archive, certificates, run, day)?;
+    }
+    Ok(())
+}
+
+/// Destroys the records of some numbers, all that are due where there is no number, with a certificate for each. None is
+/// destroyed unless each of them may be.
 fn destroy_asked<S: Alter>(
     rt: &HostRuntime,
     archive: &mut StoreLedger<'_, S>,
@@ -194,20 +214,21 @@ fn destroy_asked<S: Alter>(
     numbers: &[u32],
     day: Date,
 ) -> Result<(), Failure> {
+    let lines = asked_lines(rt.alloc(), archive, numbers, day).map_err(|fault| refused(rt, fault))?;
+    let runs = runs_of(rt, archive, seals, lines)?;
     let mut certificates = Certificates {
         rt,
         seals,
         is_any_gone: false,
     };
-    let Disposed { count, end } = dispose(
-        rt.alloc(),
-        archive,
-        &mut certificates,
-        numbers,
-        day,
-    ).map_err(|fault| refused(rt, fault))?;
-    settle(rt, certificates.is_any_gone, end)?;
-    if count == 0 {
+    destroy_runs(rt, archive, &mut certificates, runs.as_slice(), day)?;
+    if certificates.is_any_gone {
+        tell_words(
+            rt,
+            "the messages are gone from the archive, but their octets may still lie in unused parts of its file; copy makes a store without them",
+        );
+    }
+    if runs.is_empty() {
         tell_none(rt, "no record", day)?;
     }
     Ok(())
@@ -266,7 +287,7 @@ pub fn day_of_disposal(rt: &HostRuntime, asked: &Disposal) -> Result<Date, Failu
 
 /// Writes what is due by a day and may be destroyed, or destroys it; where numbers are typed, these records alone. A range
 /// passes over what may not be destroyed; `BadData` with the reason where that is a record whose number is typed by itself. Where
-/// there is none, this is told. The seals of the history are those by which certificates judge messages.
+/// there is none, this is told. The seals of the history are those by which certificates and events judge messages.
 pub fn dispose_by<S: Alter>(
     rt: &HostRuntime,
     archive: &mut StoreLedger<'_, S>,

@@ -1,10 +1,15 @@
 //! The fault with which the run over a message ended, in words for a log.
 
+ghost use Rattle.std.specs.Prelude.{◌≡◌, option_and_then, IfOk};
+ghost use Rattle.class_plan.specs.Plans.{has};
+ghost use Rattle.cli_changes.specs.Causes.{why_not_open, class_told, class_of_culprit};
+
 use class_plan::Plan;
 use cli_sources::{Rules, Script};
 use desk_commands::Payload;
 use sieve_meaning::reading::first_string;
 use sieve_meaning::{Location, RunFault};
+use sieve_syntax::Command;
 use std::alloc::{AllocError, Global};
 use tool_inquiry::{
     Culprit, Faulted, Inquiry, InquiryFault, ScriptFile, Scripts, fault_of, script_of,
@@ -67,7 +72,9 @@ enum Unopened {
 
 impl Unopened {
     /// Why a path is no open class of a plan.
-    fn of(plan: &Plan, path: &[u8]) -> Unopened {
+    fn of(plan: &Plan, path: &[u8]) -> Unopened
+        ensures { result ≡ why_not_open (has plan.now.rows path.now) }
+    {
         if plan.contains(path) {
             Unopened::Closed
         } else {
@@ -101,26 +108,36 @@ pub struct Cause {
     class: Option<Unopened>,
 }
 
+/// Why the class that a command names is not open, where that is the fault.
+fn class_at(plan: &Plan, fault: RunFault, command: &Command) -> Option<Unopened>
+    ensures { result ≡ class_told plan.now fault command.now }
+{
+    match fault {
+        RunFault::ClassNotOpen => {
+            let path = first_string(command.arguments.as_slice());
+            Some(Unopened::of(plan, path))
+        }
+        _ => None,
+    }
+}
+
 /// What is known of a fault: by the command that it is of, or the program where that was not run.
 fn cause_in(
     alloc: Global,
     plan: &Plan,
     faulted: Faulted<'_>,
     program: &str,
-) -> Result<Cause, AllocError> {
+) -> Result<Cause, AllocError>
+    ensures { IfOk result (λ cause. cause.class
+        ≡ option_and_then (class_of_culprit plan.now faulted.entry.fault) faulted.entry.culprit) }
+{
     let Faulted { fault, culprit } = faulted;
     let Some(Culprit { command, place }) = culprit else {
         let mut place = Shown::new(alloc);
         place.named(program.as_bytes())?;
         return Ok(Cause { place, class: None });
     };
-    let class = match fault {
-        RunFault::ClassNotOpen => {
-            let path = first_string(command.arguments.as_slice());
-            Some(Unopened::of(plan, path))
-        }
-        _ => None,
-    };
+    let class = class_at(plan, fault, command);
     Ok(Cause { place, class })
 }
 

@@ -51,7 +51,7 @@ fn write_change(rt: &HostRuntime, change: Change, name: &str, number: u32) {
 
 /// Changes the hold of a name on a record, and writes that. Answers whether the archive did it; a refusal is told, and a fault
 /// of the store is the end.
-fn change_on<S: Alter>(
+pub(crate) fn change_on<S: Alter>(
     rt: &HostRuntime,
     archive: &mut StoreLedger<'_, S>,
     change: Change,
@@ -133,7 +133,7 @@ fn said_of(alloc: Global, name: &str, words: &'static str) -> Result<Shown, Allo
 
 /// Tells that no hold ended. `BadData` where a record is refused, which was told, and where no record of the archive has a hold
 /// of that name.
-fn end_of_none<S: Alter>(
+pub(crate) fn end_of_none<S: Alter>(
     rt: &HostRuntime,
     archive: &mut StoreLedger<'_, S>,
     name: &str,

@@ -1,5 +1,8 @@
 //! `intake`: the new messages of a Maildir.
 
+ghost use Rattle.std.specs.Prelude.{◌≡◌};
+ghost use Rattle.cli_changes.specs.Endings.{status_after as status_after_of, EndsWith, IsEndOf};
+
 use crate::intake_log::IntakeLog;
 use crate::intake_memory::{forget, recall, renew};
 use crate::intake_room::Room;
@@ -36,19 +39,33 @@ pub(crate) fn maildir_failure(rt: &HostRuntime, maildir: &str, error: io::Error)
     Failure::at(rt.alloc(), status, maildir, &error)
 }
 
-/// The status of an intake that came to its end.
-fn status_of(tally: &Tally, nameless: usize) -> Result<(), Failure> {
+/// The status of an intake that came to its end; none where nothing stays.
+fn status_after(tally: &Tally, nameless: usize) -> Option<Status>
+    ensures { result ≡ status_after_of tally.now nameless }
+{
     if tally.given_up > 0 {
-        return Err(Failure::Reported(Status::TryAgain));
+        return Some(Status::TryAgain);
     }
-    if tally.staying(nameless) > 0 {
-        return Err(Failure::Reported(Status::BadData));
+    if tally.unfit > 0 || nameless > 0 {
+        return Some(Status::BadData);
     }
-    Ok(())
+    None
+}
+
+/// How an intake ends that came to its end.
+fn end_of(tally: &Tally, nameless: usize) -> Result<(), Failure>
+    ensures { EndsWith (status_after_of tally.now nameless) result }
+{
+    match status_after(tally, nameless) {
+        Some(status) => Err(Failure::Reported(status)),
+        None => Ok(()),
+    }
 }
 
 /// Tells what is left to tell at the end of an intake that began at a time of day, and answers how it ended.
-fn close(log: &IntakeLog<'_>, taking: Taking<Failure>, since: &Shown) -> Result<(), Failure> {
+fn close(log: &IntakeLog<'_>, taking: Taking<Failure>, since: &Shown) -> Result<(), Failure>
+    ensures { IsEndOf taking.end (status_after_of taking.tally taking.nameless) result }
+{
     let Taking {
         tally,
         nameless,
@@ -57,7 +74,7 @@ fn close(log: &IntakeLog<'_>, taking: Taking<Failure>, since: &Shown) -> Result<
     match end {
         End::Done => {
             log.write_summary(&tally, nameless, since);
-            status_of(&tally, nameless)
+            end_of(&tally, nameless)
         }
         End::NotCaptured(failure) | End::NotMoved(failure) | End::NotSettled(failure) => {
             Err(failure)

@@ -1,6 +1,10 @@
 //! The room in which an intake is made: a Maildir in files, a desk over an archive, and a log.
 
-use crate::deliver::{desk_failure, undecoded_in};
+ghost use Rattle.std.specs.Prelude.{◌≡◌};
+ghost use Rattle.mail_intake.specs.declared.mailroom.Refusal.TheVariants.{Stays};
+ghost use Rattle.cli_changes.specs.Endings.{taken_of, IsAnswer, IsGivenUp, IsRefusal};
+
+use crate::deliver::{desk_status, undecoded_in};
 use crate::fault_words::{Cause, given_up_words};
 use crate::intake::{Intake, maildir_failure};
 use crate::intake_memory::told_of;
@@ -39,7 +43,7 @@ pub(crate) struct Room<'a, A> {
 }
 
 /// A reason that was just put into words, if there was memory for them.
-fn unfit(words: Result<Shown, AllocError>) -> Reason {
+pub(crate) fn unfit(words: Result<Shown, AllocError>) -> Reason {
     match words {
         Ok(words) => Reason::Unfit(words.into_string()),
         Err(AllocError) => Reason::NoMemory,
@@ -47,7 +51,9 @@ fn unfit(words: Result<Shown, AllocError>) -> Reason {
 }
 
 /// The same of a message that is given up.
-fn given_up(words: Result<Shown, AllocError>) -> Reason {
+pub(crate) fn given_up(words: Result<Shown, AllocError>) -> Reason
+    ensures { IsGivenUp result }
+{
     match words {
         Ok(words) => Reason::GivenUp(words.into_string()),
         Err(AllocError) => Reason::NoMemory,
@@ -55,7 +61,7 @@ fn given_up(words: Result<Shown, AllocError>) -> Reason {
 }
 
 /// Words of the program.
-fn words_of(alloc: Global, words: &'static str) -> Result<Shown, AllocError> {
+pub(crate) fn words_of(alloc: Global, words: &'static str) -> Result<Shown, AllocError> {
     let mut text = Shown::new(alloc);
     text.words(words)?;
     Ok(text)
@@ -69,7 +75,7 @@ fn error_words(alloc: Global, error: &io::Error) -> Result<Shown, AllocError> {
 }
 
 /// Why a message stays whose file cannot be had.
-fn unread(alloc: Global, error: &io::Error) -> Reason {
+pub(crate) fn unread(alloc: Global, error: &io::Error) -> Reason {
     match error.kind() {
         ErrorKind::OutOfMemory => Reason::NoMemory,
         _ => unfit(error_words(alloc, error)),
@@ -110,7 +116,9 @@ fn not_moved(alloc: Global, name: &str, error: &io::Error) -> Result<Shown, Allo
 }
 
 /// How a message was taken, by what was answered to its capture.
-fn taken_by(capture: &Capture) -> Taken {
+fn taken_by(capture: &Capture) -> Taken
+    ensures { result ≡ taken_of capture.now }
+{
     if capture.lines.is_empty() {
         Taken::Discarded
     } else {
@@ -191,22 +199,57 @@ impl<'a, A: Records> Room<'a, A> {
     }
 
     /// Why a message stays whose run ended in a fault.
-    fn faulty(&self, name: &str, fault: RunFault) -> Reason {
+    fn faulty(&self, name: &str, fault: RunFault) -> Reason
+        ensures { IsGivenUp result }
+    {
         let cause = self.cause_of(name, fault);
         given_up(given_up_words(self.job.rt.alloc(), fault, cause.as_ref()))
     }
 
     /// That a message stays. Its capture is dropped.
-    fn refused(&mut self, reason: Reason) -> Refusal<Failure> {
+    fn refused(&mut self, reason: Reason) -> Refusal<Failure>
+        ensures { result ≡ Stays reason }
+    {
         self.desk.drop_flights();
         Refusal::Stays(reason)
     }
 
     /// Why a message was not captured.
-    fn refusal_of(&mut self, name: &str, fault: DeskFault) -> Refusal<Failure> {
-        match fault {
-            DeskFault::NoMemory => self.refused(Reason::NoMemory),
-            fault => Refusal::Ends(desk_failure(self.job.rt.alloc(), name, fault)),
+    fn refusal_of(&mut self, name: &str, fault: DeskFault) -> Refusal<Failure>
+        ensures { IsRefusal fault result }
+    {
+        match desk_status(fault) {
+            None => self.refused(Reason::NoMemory),
+            Some(status) => {
+                let number = fault.refusal().number;
+                Refusal::Ends(Failure::numbered(self.job.rt.alloc(), status, name, number))
+            }
+        }
+    }
+
+    /// What is answered of a message, by what the desk answered, with what is told of its undecoded words.
+    fn answer_to(
+        &mut self,
+        name: &str,
+        done: Result<Delivery, DeskFault>,
+        undecoded: &[Shown],
+    ) -> Result<Taken, Refusal<Failure>>
+        ensures { IsAnswer done result }
+    {
+        match done {
+            Ok(Delivery::Captured(capture)) => {
+                self.report(name, &capture, undecoded);
+                Ok(taken_by(&capture))
+            }
+            Ok(Delivery::GivenUp(fault)) => {
+                let reason = self.faulty(name, fault);
+                Err(self.refused(reason))
+            }
+            Ok(Delivery::OutOfTime) => {
+                let reason = given_up(too_slow_reason(self.job.rt.alloc(), self.job.filing.limit));
+                Err(self.refused(reason))
+            }
+            Err(fault) => Err(self.refusal_of(name, fault)),
         }
     }
 
@@ -254,24 +297,9 @@ impl<'a, A: Records> Mailroom for Room<'a, A> {
         let alloc = self.job.rt.alloc();
         let message = Payload::Whole(octets);
         let undecoded = undecoded_in(alloc, &message);
-        let done = match self.deliver_now(message) {
-            Ok(done) => done,
-            Err(failure) => return Err(Refusal::Ends(failure)),
-        };
-        match done {
-            Ok(Delivery::Captured(capture)) => {
-                self.report(name, &capture, undecoded.as_slice());
-                Ok(taken_by(&capture))
-            }
-            Ok(Delivery::GivenUp(fault)) => {
-                let reason = self.faulty(name, fault);
-                Err(self.refused(reason))
-            }
-            Ok(Delivery::OutOfTime) => {
-                let reason = given_up(too_slow_reason(alloc, self.job.filing.limit));
-                Err(self.refused(reason))
-            }
-            Err(fault) => Err(self.refusal_of(name, fault)),
+        match self.deliver_now(message) {
+            Ok(done) => self.answer_to(name, done, undecoded.as_slice()),
+            Err(failure) => Err(Refusal::Ends(failure)),
         }
     }
 

@@ -1,42 +1,61 @@
 //! What `mailfile-store` changes in an archive, for each of its subcommands that do.
 //!
-//! - `plan`: the plan, and another one in its place; `plan_file`: a plan that is read from a file;
+//! - `plan`: the plan, and another one in its place; `plan_changes`: what that changes; `plan_file`: a plan that is read from a
+//!   file;
 //! - `rules`: the rules by which mail is filed; `rules_sum`: what stands for them in a history;
 //!   `rule_checks`: whether they are good;
 //! - `fault_words`: where the run of rules over a message ended in a fault, in words;
 //! - `moments`: when mail is captured; `time_limit`: how long the work on a message may take; `time_of_day`: that of a log;
 //! - `deliver` and `intake`: one message, and those of a Maildir; `intake_room`: the files, the desk and the log of an intake,
 //!   as the calls of `mail_intake`; `intake_log`: what is said of its messages; `intake_memory`: what was said on a day;
-//! - `holds` and `dispose`: records that must not be destroyed, and the destruction of what is due.
+//! - `import`: old mail; `import_fate` and `import_room`: what becomes of each message, and what is done with it;
+//!   `import_log`: what is said of it; `no_mail`: what looks like no message;
+//! - `holds` and `whole_holds`: records that must not be destroyed, and the end of a hold on all of them; `keeping`: whether a
+//!   new plan keeps less;
+//! - `dispose`: the destruction of what is due; `runs`: records in runs, by what is noted of each.
 //!
 //! Each works on a store that is lent to it. What it writes, and what a Maildir or a terminal does, no contract speaks of:
-//! tests of the program show it. `specs/Moments` says when a clock is refused.
+//! tests of the program show it. `specs/Moments` says when a clock is refused, and `specs/Imports` what becomes
+//! of a message of old mail.
 #![tactic(auto)]
 
 mod deliver;
 mod dispose;
 mod fault_words;
 mod holds;
+mod import;
+mod import_fate;
+mod import_log;
+mod import_room;
 mod intake;
 mod intake_log;
 mod intake_memory;
 mod intake_room;
+mod keeping;
 mod moments;
+mod no_mail;
 mod plan;
+mod plan_changes;
 mod plan_file;
 mod rule_checks;
 mod rules;
 mod rules_sum;
+mod runs;
 mod time_limit;
 mod time_of_day;
+mod whole_holds;
 
 pub use deliver::{Delivered, deliver_to, read_message, report_delivery, undecoded_in};
 pub use dispose::{day_of_disposal, dispose_by};
 pub use holds::change_holds;
+pub use import::{MailImport, import_mail};
 pub use intake::{Intake, take_new};
+pub use keeping::keeps_less;
 pub use moments::{MomentFault, Timing, judge_moment};
+pub use no_mail::refuse_no_mail;
 pub use plan::{replace_plan, write_plan};
 pub use plan_file::read_plan;
 pub use rule_checks::check_rules;
 pub use rules::{FilingRules, NamedRules};
 pub use time_of_day::logged;
+pub use whole_holds::release_all;

@@ -1,111 +1,15 @@
 //! `plan`: the plan of an archive, and another one in its place.
 
-use crate::plan_file::read_plan;
-use class_plan::{Date, Plan, day_number};
-use cli_console::{Failure, Status, Walk, agrees, is_by, today, write_data, write_text};
+use crate::plan_changes::{changes_by, changes_lines};
+use class_plan::Plan;
+use cli_console::{Failure, Status, agrees, write_data, write_text};
 use cli_history::StoreLedger;
-use cli_texts::{due_by, plan_of_text, plan_text};
+use cli_texts::{plan_of_text, plan_text};
 use record_archive::Records;
-use record_choice::{Choice, destroys};
-use record_store::RecordEntry;
 use sqlite::Alter;
 use std::alloc::{AllocError, Global};
-use tool_plans::dropped_paths;
+use tool_plans::{dropped_paths, renaming_of};
 use tool_texts::{Shown, put};
-
-/// How many live records are due today by a plan.
-#[derive(Clone, Copy)]
-struct DueToday {
-    /// Held or not.
-    all: u64,
-    /// Those that no hold keeps, by a schedule that destroys.
-    destroyable: u64,
-}
-
-impl DueToday {
-    /// Adds a live record.
-    fn add(&mut self, entry: &RecordEntry, plan: &Plan, today: Date) {
-        let path = entry.path.as_slice();
-        if is_by(due_by(plan, path, entry.day), today) {
-            self.all = self.all.saturating_add(1);
-            if entry.holds.is_empty() && destroys(plan.schedule_of(path)) {
-                self.destroyable = self.destroyable.saturating_add(1);
-            }
-        }
-    }
-}
-
-/// What a new plan changes.
-#[derive(Clone, Copy)]
-struct Changes {
-    /// How many records have another due date.
-    moved: u64,
-    before: DueToday,
-    after: DueToday,
-}
-
-/// Whether two due dates are the same, or there is none.
-fn is_same_day(one: Option<Date>, other: Option<Date>) -> bool {
-    match (one, other) {
-        (Some(one), Some(other)) => day_number(one) == day_number(other),
-        (None, None) => true,
-        _ => false,
-    }
-}
-
-impl Changes {
-    /// Adds a live record.
-    fn add(&mut self, entry: &RecordEntry, old: &Plan, new: &Plan, today: Date) {
-        if !is_same_day(due_by(new, entry.path.as_slice(), entry.day), entry.due) {
-            self.moved = self.moved.saturating_add(1);
-        }
-        self.before.add(entry, old, today);
-        self.after.add(entry, new, today);
-    }
-}
-
-/// What a new plan changes in an archive.
-fn changes_by<S: Alter>(
-    rt: &HostRuntime,
-    archive: &mut StoreLedger<'_, S>,
-    plan: &Plan,
-) -> Result<Changes, Failure> {
-    let today = today(rt)?;
-    let none = DueToday {
-        all: 0,
-        destroyable: 0,
-    };
-    let mut changes = Changes {
-        moved: 0,
-        before: none,
-        after: none,
-    };
-    let live = Choice::live();
-    let mut walk = Walk::from(&live, 1);
-    for _ in 0..u64::MAX {
-        let Some(page) = walk.next_page(rt, archive)? else {
-            break;
-        };
-        for entry in page.iter() {
-            changes.add(entry, archive.plan_kept(), plan, today);
-        }
-    }
-    Ok(changes)
-}
-
-/// What a new plan changes, in three lines.
-fn changes_lines(alloc: Global, changes: &Changes) -> Result<Shown, AllocError> {
-    let (before, after) = (changes.before, changes.after);
-    let mut text = Shown::new(alloc);
-    put!(text; "due dates that move: " value(&changes.moved))?;
-    text.end_line()?;
-    put!(text; "records that are due at once: " value(&after.all) ", before " value(&before.all))?;
-    text.end_line()?;
-    put!(text; "records that may be destroyed at once: " value(&after.destroyable)
-        ", before " value(&before.destroyable))?;
-    text.end_line()?;
-    Ok(text)
-}
 
 /// The greatest number of classes that are named where a plan leaves them out.
 const MAX_NAMED: usize = 20;
@@ -121,8 +25,8 @@ fn put_dropped(text: &mut Shown, dropped: &[&[u8]]) -> Result<(), AllocError> {
     }
 }
 
-/// That a plan leaves out classes of the present one. Where that is one class, and one is new, both are named: the class was
-/// more likely to get another path.
+/// That a plan leaves out classes of the present one. Where that is one class, and one is new, the class was more likely to get
+/// another path, so both are named.
 fn dropped_text(
     alloc: Global,
     path: &str,
@@ -132,15 +36,15 @@ fn dropped_text(
     let mut text = Shown::new(alloc);
     put!(text; named(path.as_bytes()) ": 57: the new plan leaves out")?;
     put_dropped(&mut text, dropped)?;
-    match (dropped, new) {
-        ([_], [added]) =>
-            put!(text; ", and has " quoted(*added) ", which is new; a class keeps its path, so list it too")?,
-        ([_], _) => text.words("; list it")?,
-        _ => text.words("; list them")?,
+    if let Some(renaming) = renaming_of(dropped, new) {
+        put!(text; ", and has " quoted(renaming.to)
+            ", which is new; a class keeps its path: keep " quoted(renaming.from)
+            " with open = false, and file to " quoted(renaming.to))?;
+        return Ok(text);
     }
     text.words(match dropped {
-        [_] => ", and close it by open = false if nothing is to be filed there",
-        _ => ", and close by open = false those in which nothing is to be filed",
+        [_] => "; list it, and close it by open = false if nothing is to be filed there",
+        _ => "; list them, and close by open = false those in which nothing is to be filed",
     })?;
     Ok(text)
 }
@@ -157,15 +61,16 @@ fn judge_classes(rt: &HostRuntime, present: &Plan, new: &Plan, path: &str) -> Re
     Err(Failure::shown(Status::BadData, text))
 }
 
-/// Replaces the plan of an archive by that of a file, once it was printed what that changes, and someone agrees. `BadData`
+/// Replaces the plan of an archive by that of the file at a path, once it was printed what that changes, in all and by class, and
+/// someone agrees. `BadData`
 /// where the new plan leaves out a class of the present one, before anything is printed; `Usage` where nobody agrees.
 pub fn replace_plan<S: Alter>(
     rt: &HostRuntime,
     archive: &mut StoreLedger<'_, S>,
+    plan: Plan,
     path: &str,
     is_agreed: bool,
 ) -> Result<(), Failure> {
-    let plan = read_plan(rt, path)?;
     judge_classes(rt, archive.plan(), &plan, path)?;
     let changes = changes_by(rt, archive, &plan)?;
     write_text(rt, &changes_lines(rt.alloc(), &changes)?)?;

@@ -1,5 +1,9 @@
 //! The rules by which mail is filed, and what is done where they are at fault.
 
+ghost use Rattle.std.specs.Prelude.{◌≡◌, ◌||◌, true, is_some, option_map, string_bytes, IfOk};
+ghost use Rattle.cli_changes.specs.Endings.{captures, IsExcused};
+ghost use Rattle.cli_changes.specs.RuleSums.{rules_sum};
+
 use crate::fault_words::{Cause, cause_of_fault};
 use crate::rules_sum::sum_of_rules;
 use crate::time_of_day::{as_line, line_start};
@@ -35,10 +39,25 @@ pub struct NamedRules {
     pub sum: String,
 }
 
-/// What is told of a fault of the rules in a folder. Of an officer who is not there it says who is.
-fn fault_text(rt: &HostRuntime, folder: &str, fault: &RulesFault) -> Result<Shown, AllocError> {
+/// Who reads what is told of rules.
+#[derive(Clone, Copy)]
+enum Reader {
+    /// Those who run the archive.
+    Keeper,
+    /// A mail server, which may pass it on to whoever sent the message.
+    MailServer,
+}
+
+/// What is told of a fault of the rules in a folder. Of an officer who is not there it says who is, but not to a mail server.
+fn fault_text(
+    rt: &HostRuntime,
+    folder: &str,
+    fault: &RulesFault,
+    reader: Reader,
+) -> Result<Shown, AllocError> {
     let mut text = fault.text(rt.alloc())?;
-    if matches!(fault, RulesFault::BadOfficer(_) | RulesFault::Missing(_)) {
+    let is_unknown = matches!(fault, RulesFault::BadOfficer(_) | RulesFault::Missing(_));
+    if is_unknown && matches!(reader, Reader::Keeper) {
         push_officers(rt, &mut text, folder)?;
     }
     Ok(text)
@@ -51,13 +70,33 @@ fn excuse(
     words: Result<Shown, AllocError>,
     on_fault: OnFault,
     has_times: bool,
-) -> Result<(), Failure> {
-    let words = words?;
+) -> Result<(), Failure>
+    ensures { IsExcused fault.now on_fault result }
+{
+    let Ok(words) = words else {
+        return Err(Failure::NoMemory);
+    };
     if !fault.is_of_rules() || matches!(on_fault, OnFault::GiveUp) {
         return Err(Failure::Told(Status::TryAgain, words));
     }
-    tell(rt, &as_line(rt, has_times, &words)?);
-    Ok(())
+    match as_line(rt, has_times, &words) {
+        Ok(line) => {
+            tell(rt, &line);
+            Ok(())
+        }
+        Err(AllocError) => Err(Failure::NoMemory),
+    }
+}
+
+/// What is done with mail whose rules or run are at fault.
+fn on_fault_of(asked: &Filing<'_>) -> OnFault
+    ensures { captures result ≡ asked.now.unfiled_on_fault }
+{
+    if asked.unfiled_on_fault {
+        OnFault::Capture
+    } else {
+        OnFault::GiveUp
+    }
 }
 
 impl<'a> FilingRules<'a> {
@@ -67,17 +106,46 @@ impl<'a> FilingRules<'a> {
         rt: &HostRuntime,
         asked: &Filing<'a>,
         has_times: bool,
-    ) -> Result<FilingRules<'a>, Failure> {
+    ) -> Result<FilingRules<'a>, Failure>
+        ensures on_fault { IfOk result
+            (λ f. captures f.on_fault ≡ asked.now.unfiled_on_fault) }
+        ensures rules { IfOk result
+            (λ f. (is_some f.rules || captures f.on_fault) ≡ true) }
+    {
+        FilingRules::read_for(rt, asked, has_times, Reader::Keeper)
+    }
+
+    /// The same, for a message of a mail server. No other officer is named to it.
+    pub fn read_for_delivery(
+        rt: &HostRuntime,
+        asked: &Filing<'a>,
+    ) -> Result<FilingRules<'a>, Failure>
+        ensures on_fault { IfOk result
+            (λ f. captures f.on_fault ≡ asked.now.unfiled_on_fault) }
+        ensures rules { IfOk result
+            (λ f. (is_some f.rules || captures f.on_fault) ≡ true) }
+    {
+        FilingRules::read_for(rt, asked, false, Reader::MailServer)
+    }
+
+    /// The rules of a folder, with what is told of them to a reader.
+    fn read_for(
+        rt: &HostRuntime,
+        asked: &Filing<'a>,
+        has_times: bool,
+        reader: Reader,
+    ) -> Result<FilingRules<'a>, Failure>
+        ensures on_fault { IfOk result
+            (λ f. captures f.on_fault ≡ asked.now.unfiled_on_fault) }
+        ensures rules { IfOk result
+            (λ f. (is_some f.rules || captures f.on_fault) ≡ true) }
+    {
         let officer = asked.officer;
-        let on_fault = if asked.unfiled_on_fault {
-            OnFault::Capture
-        } else {
-            OnFault::GiveUp
-        };
+        let on_fault = on_fault_of(asked);
         let rules = match read_rules(rt, asked.rules, officer) {
             Ok(rules) => Some(rules),
             Err(fault) => {
-                let words = fault_text(rt, asked.rules, &fault);
+                let words = fault_text(rt, asked.rules, &fault, reader);
                 excuse(rt, &fault, words, on_fault, has_times)?;
                 None
             }
@@ -101,7 +169,10 @@ impl<'a> FilingRules<'a> {
     }
 
     /// Whose rules they are, and their sum; none where they are at fault.
-    pub fn named(&self, alloc: Global) -> Result<Option<NamedRules>, AllocError> {
+    pub fn named(&self, alloc: Global) -> Result<Option<NamedRules>, AllocError>
+        ensures { IfOk result (λ named. option_map (λ n. string_bytes n.sum) named
+            ≡ option_map rules_sum self.now.rules) }
+    {
         match &self.rules {
             Some(rules) => Ok(Some(NamedRules {
                 officer: rules.officer.clone()?,

@@ -1,5 +1,8 @@
 //! What stands for rules in a history.
 
+ghost use Rattle.std.specs.Prelude.{◌≡◌, ◌++◌, flat_map, string_bytes, IfOk, OnOk};
+ghost use Rattle.cli_changes.specs.RuleSums.{script_line, rules_sum};
+
 use cli_sources::{Rules, Script};
 use cli_texts::sum_of;
 use desk_commands::Payload;
@@ -11,12 +14,17 @@ fn push_line(
     lines: &mut String,
     folder: &str,
     script: &Script,
-) -> Result<(), AllocError> {
-    if let Payload::Whole(text) = &script.text {
-        let sum = sum_of(alloc, text.as_slice())?;
-        write!(lines, "{sum}  {folder}/{}.sieve\n", script.name)?;
+) -> Result<(), AllocError>
+    ensures { OnOk result
+        (string_bytes lines.new ≡ string_bytes lines.old ++ script_line folder.now script.now) }
+{
+    match &script.text {
+        Payload::Whole(text) => {
+            let sum = sum_of(alloc, text.as_slice())?;
+            write!(lines, "{sum}  {folder}/{}.sieve\n", script.name)
+        }
+        Payload::TooLong | Payload::NoMemory => Ok(()),
     }
-    Ok(())
 }
 
 /// Adds the lines of scripts.
@@ -25,7 +33,10 @@ fn push_lines(
     lines: &mut String,
     folder: &str,
     scripts: &[Script],
-) -> Result<(), AllocError> {
+) -> Result<(), AllocError>
+    ensures { OnOk result (string_bytes lines.new
+        ≡ string_bytes lines.old ++ flat_map (script_line folder.now) scripts.now) }
+{
     for script in scripts {
         push_line(alloc, lines, folder, script)?;
     }
@@ -34,7 +45,9 @@ fn push_lines(
 
 /// The sum of an officer's rules: the SHA-256 of what `sha256sum` prints in the folder of the rules, of each script that the
 /// program reaches: the program first, then the officer's others, and then those for all officers.
-pub fn sum_of_rules(alloc: Global, rules: &Rules) -> Result<String, AllocError> {
+pub fn sum_of_rules(alloc: Global, rules: &Rules) -> Result<String, AllocError>
+    ensures { IfOk result (λ sum. string_bytes sum ≡ rules_sum rules.now) }
+{
     let mut lines = String::new(alloc);
     push_lines(
         alloc,

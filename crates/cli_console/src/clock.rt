@@ -1,5 +1,9 @@
 //! The time and the day.
 
+ghost use Rattle.std.specs.Prelude.{◌≡◌, Ok, IfSome, int_le};
+ghost use Rattle.jiff.specs.Words.{epoch_day};
+ghost use Rattle.cli_console.specs.Days.{is_by as is_due_by};
+
 use crate::failure::{Failure, Status};
 use class_plan::{Date, day_number, day_of};
 use std::time::{SystemTime, UNIX_EPOCH};
@@ -26,16 +30,25 @@ pub fn today(rt: &HostRuntime) -> Result<Date, Failure> {
 }
 
 /// A day that is asked for, or else today.
-pub fn day_or_today(rt: &HostRuntime, asked: Option<Date>) -> Result<Date, Failure> {
+pub fn day_or_today(rt: &HostRuntime, asked: Option<Date>) -> Result<Date, Failure>
+    ensures { IfSome asked (λ day. result ≡ Ok day) }
+{
     match asked {
         Some(day) => Ok(day),
         None => today(rt),
     }
 }
 
+/// Whether a day has come by another.
+fn has_come(day: Date, today: Date) -> bool
+    ensures { result ≡ int_le (epoch_day day) (epoch_day today) }
+{
+    day_number(day) <= day_number(today)
+}
+
 /// Finds that a day has come. `Usage` where it is later than today: nothing is due by it yet.
 pub fn judge_day(rt: &HostRuntime, day: Date) -> Result<(), Failure> {
-    if day_number(day) <= day_number(today(rt)?) {
+    if has_come(day, today(rt)?) {
         return Ok(());
     }
     let mut text = Shown::new(rt.alloc());
@@ -45,6 +58,11 @@ pub fn judge_day(rt: &HostRuntime, day: Date) -> Result<(), Failure> {
 }
 
 /// Whether there is a due day that is not later than a day.
-pub fn is_by(due: Option<Date>, day: Date) -> bool {
-    due.is_some_and(|due| day_number(due) <= day_number(day))
+pub fn is_by(due: Option<Date>, day: Date) -> bool
+    ensures { result ≡ is_due_by due day }
+{
+    match due {
+        Some(due) => has_come(due, day),
+        None => false,
+    }
 }

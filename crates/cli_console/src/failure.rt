@@ -1,5 +1,8 @@
 //! Why something is not done, and the status that says so.
 
+ghost use Rattle.std.specs.Prelude.{◌≡◌};
+ghost use Rattle.cli_console.specs.Failures.{status_number, IsToldAs, IsOfStore, IsKept};
+
 use record_store::{Cause, StoreFault};
 use std::alloc::{AllocError, AllocFailed, Global};
 use std::fmt::Display;
@@ -24,16 +27,23 @@ pub enum Status {
 }
 
 impl Status {
-    /// The status as the system has it.
-    pub fn code(self) -> ExitCode {
-        ExitCode::from(match self {
+    /// Its number (`sysexits.h`).
+    fn number(self) -> u8
+        ensures { result ≡ status_number self }
+    {
+        match self {
             Status::Usage => 64,
             Status::BadData => 65,
             Status::NoInput => 66,
             Status::CannotMake => 73,
             Status::NotWritten => 74,
             Status::TryAgain => 75,
-        })
+        }
+    }
+
+    /// The status as the system has it.
+    pub fn code(self) -> ExitCode {
+        ExitCode::from(self.number())
     }
 }
 
@@ -93,7 +103,9 @@ fn refusal_at(alloc: Global, thing: &str, number: u8) -> Result<Shown, AllocErro
 
 impl Failure {
     /// A failure that is reported by a text that was just made, if there was memory for it.
-    pub fn shown(status: Status, text: Result<Shown, AllocError>) -> Failure {
+    pub fn shown(status: Status, text: Result<Shown, AllocError>) -> Failure
+        ensures { IsToldAs status result }
+    {
         match text {
             Ok(text) => Failure::Told(status, text),
             Err(AllocError) => Failure::NoMemory,
@@ -101,33 +113,45 @@ impl Failure {
     }
 
     /// A failure that is reported in these words.
-    pub fn told(alloc: Global, status: Status, words: &'static str) -> Failure {
+    pub fn told(alloc: Global, status: Status, words: &'static str) -> Failure
+        ensures { IsToldAs status result }
+    {
         Failure::shown(status, words_of(alloc, words))
     }
 
     /// A failure that is reported by the reason alone.
-    pub fn by<T: Display>(alloc: Global, status: Status, reason: &T) -> Failure {
+    pub fn by<T: Display>(alloc: Global, status: Status, reason: &T) -> Failure
+        ensures { IsToldAs status result }
+    {
         Failure::shown(status, text_of(alloc, reason))
     }
 
     /// A failure at a file or a record, reported with the name that was given and the reason.
-    pub fn at<T: Display>(alloc: Global, status: Status, name: &str, reason: &T) -> Failure {
+    pub fn at<T: Display>(alloc: Global, status: Status, name: &str, reason: &T) -> Failure
+        ensures { IsToldAs status result }
+    {
         Failure::shown(status, text_at(alloc, name, reason))
     }
 
     /// A failure at something that the program names, as a stream, reported with the reason.
-    pub fn at_thing<T: Display>(alloc: Global, status: Status, thing: &str, reason: &T) -> Failure {
+    pub fn at_thing<T: Display>(alloc: Global, status: Status, thing: &str, reason: &T) -> Failure
+        ensures { IsToldAs status result }
+    {
         Failure::shown(status, text_at_thing(alloc, thing, reason))
     }
 
     /// The failure of a refusal's number, reported with its text.
-    pub fn numbered(alloc: Global, status: Status, name: &str, number: u8) -> Failure {
+    pub fn numbered(alloc: Global, status: Status, name: &str, number: u8) -> Failure
+        ensures { IsToldAs status result }
+    {
         Failure::shown(status, refusal_at(alloc, name, number))
     }
 
     /// The failure of a call of the store, at something of this name. A refusal is `BadData` with its number; what the
     /// database refuses is `TryAgain`.
-    pub fn of_store(alloc: Global, name: &str, fault: StoreFault) -> Failure {
+    pub fn of_store(alloc: Global, name: &str, fault: StoreFault) -> Failure
+        ensures { IsOfStore fault result }
+    {
         match fault {
             StoreFault::NoMemory => Failure::NoMemory,
             StoreFault::Database(Cause::Sqlite(error)) => {
@@ -147,21 +171,35 @@ impl Failure {
     }
 
     /// The same failure with `TryAgain`, by which a mail server keeps its mail.
-    pub fn kept(self) -> Failure {
+    pub fn kept(self) -> Failure
+        ensures { IsKept self result }
+    {
         match self {
             Failure::Told(_, text) => Failure::Told(Status::TryAgain, text),
-            other => other,
+            Failure::Closed => Failure::Closed,
+            Failure::NoMemory => Failure::NoMemory,
+            Failure::Reported(status) => Failure::Reported(status),
         }
     }
 }
 
 impl From<AllocError> for Failure {
+    ghost use Rattle.std.specs.Prelude.{◌≡◌};
+    ghost use Rattle.cli_console.specs.declared.failure.Failure.TheVariants.{NoMemory};
+
+    ghost from_gives = { λ _ failure. failure ≡ NoMemory };
+
     fn from(_error: AllocError) -> Failure {
         Failure::NoMemory
     }
 }
 
 impl<T: Drop> From<AllocFailed<T>> for Failure {
+    ghost use Rattle.std.specs.Prelude.{◌≡◌};
+    ghost use Rattle.cli_console.specs.declared.failure.Failure.TheVariants.{NoMemory};
+
+    ghost from_gives = { λ _ failure. failure ≡ NoMemory };
+
     fn from(_error: AllocFailed<T>) -> Failure {
         Failure::NoMemory
     }

@@ -8,7 +8,8 @@ use Rattle.choice_words.specs.declared.numbers.TypedNumbers.TheVariants as typed
 use Rattle.command_lines.specs.declared.archives.histories.DeedKind.{DeedKind}
 use Rattle.command_lines.specs.declared.archives.histories.DeedKind.TheVariants as kind
 use Rattle.command_lines.specs.declared.archives.histories.HistoryAsked.{HistoryAsked}
-use Rattle.record_history.specs.Events.{Deed, Event, Captured, Held, Released, Destroyed, ClassAdded, PlanReplaced, ReasonsRequired, ReasonsOptional, FoundPlan, FoundMessage, FoundRecord, FoundHold}
+use Rattle.record_history.specs.Events.{Deed, Event, Captured, Held, Released, Destroyed, ClassAdded, PlanReplaced, ReasonsRequired, ReasonsOptional}
+use Rattle.record_history.specs.Events.{FindingsAccepted, FoundPlan, FoundMessage, FoundRecord, FoundHold}
 
 -- what is asked of something, if anything is
 abbrev pub where_asked : {X : Type 0} → (X → Bool) → Option X → Bool
@@ -25,6 +26,7 @@ subjects (ClassAdded path) = None
 subjects (PlanReplaced plan) = None
 subjects ReasonsRequired = None
 subjects ReasonsOptional = None
+subjects FindingsAccepted = None
 subjects (FoundPlan plan) = None
 subjects (FoundMessage n seal) = Some (n, n)
 subjects (FoundRecord r) = Some (r.number, r.number)
@@ -53,6 +55,7 @@ kind_of (ClassAdded path) = kind.Added
 kind_of (PlanReplaced plan) = kind.Replaced
 kind_of ReasonsRequired = kind.Made
 kind_of ReasonsOptional = kind.Made
+kind_of FindingsAccepted = kind.Accepted
 kind_of (FoundPlan plan) = kind.Found
 kind_of (FoundMessage n seal) = kind.Found
 kind_of (FoundRecord r) = kind.Found
@@ -67,6 +70,7 @@ is_same_kind kind.Added kind.Added = true
 is_same_kind kind.Replaced kind.Replaced = true
 is_same_kind kind.Made kind.Made = true
 is_same_kind kind.Found kind.Found = true
+is_same_kind kind.Accepted kind.Accepted = true
 is_same_kind k l = false
 
 -- AN EVENT IS ASKED FOR

@@ -1,5 +1,9 @@
 pub mod Chosen
 pub mod Seals
+pub mod Stored
 pub mod Compared
 pub mod Marks
 pub mod Reasons
+pub mod Findings
+pub mod Authors
+pub mod Cases

@@ -1,5 +1,5 @@
 -- The seals of messages, as a history tells them, and what a message is beside the one that was captured.
-use Rattle.std.specs.Prelude.{ℕ, ◌==◌, ◌&&◌, Bool, List, if◌then◌else◌, option_map, Option, Some, None}
+use Rattle.std.specs.Prelude.{ℕ, ◌==◌, ◌&&◌, Bool, List, if◌then◌else◌, option_map, Option, Some, None, [], codes}
 use Rattle.std.specs.Ordering.{nat_cmp}
 use Rattle.std.specs.BTreeMap.{get}
 use Rattle.std.specs.Str.{bytes_eq}
@@ -45,3 +45,9 @@ sealed_by event deed n = None
 abbrev pub later : {X : Type 0} → Option X → Option X → Option X
 later (Some x) before = Some x
 later None before = before
+
+-- THE NOTES of the destruction of a record, by what its message is
+abbrev pub notes_for : Fidelity → List ℕ
+notes_for Unsealed = []
+notes_for Same = []
+notes_for (Altered event) = codes "message=altered"

@@ -1,5 +1,8 @@
 //! Who changes an archive, and for what reason.
 
+ghost use Rattle.std.specs.Prelude.{◌≡◌, Some, option_map, is_ok, is_some, string_bytes, true, IfOk, IfSome};
+ghost use Rattle.cli_history.specs.Authors.{name_or};
+
 use cli_console::{Failure, Status};
 use command_lines::archives::Attribution;
 use session_words::is_name;
@@ -13,9 +16,6 @@ pub struct Author<'a> {
     reason: &'a str,
 }
 
-/// The variables of the environment that name who runs a program, in the order in which they are looked at.
-const VARIABLES: [&str; 2] = ["LOGNAME", "USER"];
-
 /// The value of a variable of the environment that can stand for a person.
 fn name_in(rt: &HostRuntime, variable: &str) -> Result<Option<String>, AllocError> {
     match var(rt, variable) {
@@ -25,40 +25,50 @@ fn name_in(rt: &HostRuntime, variable: &str) -> Result<Option<String>, AllocErro
     }
 }
 
-/// Who runs the program, by the environment.
-fn name_of_user(rt: &HostRuntime) -> Result<Option<String>, AllocError> {
-    for variable in VARIABLES {
-        if let Some(name) = name_in(rt, variable)? {
-            return Ok(Some(name));
-        }
+/// The name that is noted where none is told: that of `LOGNAME`, or else that of `USER`.
+fn name_of_user(logname: Option<String>, user: Option<String>) -> Option<String>
+    ensures { result ≡ name_or logname user }
+{
+    match logname {
+        Some(name) => Some(name),
+        None => user,
     }
-    Ok(None)
 }
 
 impl<'a> Author<'a> {
     /// The author of a change: the name that is told, or else the one of `LOGNAME` or `USER` in the environment.
-    pub fn of(rt: &HostRuntime, told: &Attribution<'a>) -> Result<Author<'a>, AllocError> {
-        let name = match told.by {
-            Some(name) => Some(String::from_str(rt.alloc(), name)?),
-            None => name_of_user(rt)?,
-        };
-        Ok(Author {
-            name,
-            reason: told.reason,
-        })
+    pub fn of(rt: &HostRuntime, told: &Attribution<'a>) -> Result<Author<'a>, AllocError>
+        ensures { IfOk result (λ a. IfSome told.now.by
+            (λ n. option_map string_bytes a.name ≡ Some n.now)) }
+    {
+        let reason = told.reason;
+        match told.by {
+            Some(name) => Ok(Author {
+                name: Some(String::from_str(rt.alloc(), name)?),
+                reason,
+            }),
+            None => Ok(Author {
+                name: name_of_user(name_in(rt, "LOGNAME")?, name_in(rt, "USER")?),
+                reason,
+            }),
+        }
     }
 
     /// The same; where it names nobody, the program is the author.
-    pub fn or_program(rt: &HostRuntime, told: &Attribution<'a>) -> Result<Author<'a>, AllocError> {
+    pub fn or_program(rt: &HostRuntime, told: &Attribution<'a>) -> Result<Author<'a>, AllocError>
+        ensures { IfOk result (λ a. is_some a.name ≡ true) }
+    {
         let Author { name, reason } = Author::of(rt, told)?;
-        let name = match name {
-            Some(name) => name,
-            None => String::from_str(rt.alloc(), "mailfile-store")?,
-        };
-        Ok(Author {
-            name: Some(name),
-            reason,
-        })
+        match name {
+            Some(name) => Ok(Author {
+                name: Some(name),
+                reason,
+            }),
+            None => Ok(Author {
+                name: Some(String::from_str(rt.alloc(), "mailfile-store")?),
+                reason,
+            }),
+        }
     }
 
     /// The name, where it is known.
@@ -72,7 +82,10 @@ impl<'a> Author<'a> {
     }
 
     /// The name. `Usage` where it is not known.
-    pub fn named(&self, rt: &HostRuntime) -> Result<&str, Failure> {
+    pub fn named(&self, rt: &HostRuntime) -> Result<&str, Failure>
+        ensures known { is_ok result ≡ is_some self.now.name }
+        ensures is { IfOk result (λ n. option_map string_bytes self.now.name ≡ Some n.now) }
+    {
         match &self.name {
             Some(name) => Ok(name.as_str()),
             None => Err(Failure::told(

@@ -5,7 +5,7 @@ ghost use Rattle.record_history.specs.Spelled.{IsMoment, IsSpelledDeed};
 ghost use Rattle.record_history.specs.Views.{deed_view};
 
 use crate::author::Author;
-use crate::opening::occasion_of;
+use crate::opening::occasion_by;
 use cli_console::{Failure, Walk, message_of, now};
 use record_choice::Choice;
 use record_history::{Deed, Event, LAST_MOMENT, Seal, event_line};
@@ -173,16 +173,18 @@ impl<'k, 's> Findings<'k, 's> {
     }
 }
 
-/// The lines of what is found in a store, from the event of a number on: its plan, and each message, record and hold.
+/// The lines of what is found in a store, from the event of a number on: its plan, on an occasion of its own, and each message,
+/// record and hold.
 pub fn findings_in<S: Alter>(
     rt: &HostRuntime,
     archive: &mut Store<S>,
+    heading: &Occasion<'_, HostRuntime>,
     occasion: &Occasion<'_, HostRuntime>,
     first: u32,
     known: &Known<'_>,
 ) -> Result<Vec<Vec<u8>>, Failure> {
     let mut findings = Findings::new(rt.alloc(), first, known);
-    let line = occasion.plan_found(rt.alloc(), findings.next(), archive.plan())?;
+    let line = heading.plan_found(rt.alloc(), findings.next(), archive.plan())?;
     findings.lines.push(line)?;
     let every = Choice::every();
     let mut walk = Walk::from(&every, 1);
@@ -195,15 +197,30 @@ pub fn findings_in<S: Alter>(
     Ok(findings.lines)
 }
 
+/// For what reason a history begins where none is told.
+const BEGINNING: &str = "the beginning";
+
 /// The lines that a history begins with. `Usage` where it is not known who begins it.
 fn first_lines<'a, S: Alter>(
     rt: &'a HostRuntime,
     archive: &mut Store<S>,
     author: &'a Author<'_>,
 ) -> Result<Vec<Vec<u8>>, Failure> {
-    author.named(rt)?;
-    let occasion = occasion_of(rt, author, None)?;
-    findings_in(rt, archive, &occasion, 1, &Known::none(rt.alloc()))
+    let who = author.named(rt)?.as_bytes();
+    let reason = if author.reason().is_empty() {
+        BEGINNING
+    } else {
+        author.reason()
+    };
+    let occasion = occasion_by(rt, who, reason, None)?;
+    findings_in(
+        rt,
+        archive,
+        &occasion,
+        &occasion,
+        1,
+        &Known::none(rt.alloc()),
+    )
 }
 
 /// Begins the history of a store that has none with what is found there, and answers how many events that are. `Usage`

@@ -1,13 +1,18 @@
 //! `certificates`: those of records that were destroyed, from the history.
 
+ghost use Rattle.std.specs.Prelude.{IfOk, IfSome};
 ghost use Rattle.record_history.specs.Spelled.{IsSpelledDeed};
 ghost use Rattle.record_history.specs.Views.{deed_view};
 
 use crate::chosen::is_about;
+use crate::days::day_text;
+use crate::missing::Missing;
+use crate::notes::is_altered;
 use crate::pages::{Events, event_of};
+use crate::watching::Watch;
 use choice_words::TypedNumbers;
-use class_plan::{date_of, schedule_text};
-use cli_console::{Failure, write_text};
+use class_plan::schedule_text;
+use cli_console::{Failure, Status, write_text};
 use cli_texts::{ToldCertificate, told_certificate};
 use record_history::{Deed, Event, Seal};
 use record_noted::NotedStore;
@@ -43,6 +48,17 @@ fn entry_of<S: Alter>(
     }
 }
 
+/// The event of a row; none where its line is none of an event.
+fn readable<'a>(alloc: Global, row: &'a EventRow) -> Result<Option<Event<'a>>, Failure>
+    ensures { IfOk result (λ o. IfSome o (λ e. IsSpelledDeed (deed_view e.deed))) }
+{
+    match event_of(alloc, row) {
+        Ok(event) => Ok(Some(event)),
+        Err(Failure::Told(Status::BadData, _)) => Ok(None),
+        Err(failure) => Err(failure),
+    }
+}
+
 /// The record that an event destroys, where it is one of those of the numbers that are typed, if there are any.
 fn destroyed_in(typed: &[TypedNumbers], event: &Event<'_>) -> Option<u32> {
     match &event.deed {
@@ -60,7 +76,9 @@ impl Messages {
         typed: &[TypedNumbers],
         row: &EventRow,
     ) -> Result<(), Failure> {
-        let event = event_of(rt.alloc(), row)?;
+        let Some(event) = readable(rt.alloc(), row)? else {
+            return Ok(());
+        };
         let Some(number) = destroyed_in(typed, &event) else {
             return Ok(());
         };
@@ -84,7 +102,9 @@ impl Messages {
 
     /// Keeps the seal of the message that an event captures or finds.
     fn look_at(&mut self, alloc: Global, row: &EventRow) -> Result<(), Failure> {
-        let event = event_of(alloc, row)?;
+        let Some(event) = readable(alloc, row)? else {
+            return Ok(());
+        };
         match &event.deed {
             Deed::Captured { first, seal, .. } => Ok(self.keep(*first, seal)?),
             Deed::FoundMessage { number, seal } => Ok(self.keep(*number, seal)?),
@@ -150,14 +170,6 @@ fn find_seals<S: Alter>(
     Ok(())
 }
 
-/// A day by its number, as `2033-11-28`.
-fn day_text(alloc: Global, number: u32) -> Result<String, AllocError> {
-    match date_of(i64::from(number)) {
-        Some(day) => format!(in alloc; "{day}"),
-        None => format!(in alloc; "day {number}"),
-    }
-}
-
 /// The certificate of an event that destroys a record; none of any other event.
 fn certificate_of(
     alloc: Global,
@@ -193,45 +205,89 @@ fn certificate_of(
         who: event.who,
         reason: event.reason,
         event: row.number,
+        is_altered: is_altered(event.notes),
     };
     Ok(Some(told_certificate(alloc, &told)?))
 }
 
-/// Prints the certificate of an event, where it destroys a record that is asked for.
-fn print_one<S: Alter>(
-    rt: &HostRuntime,
-    noted: &mut NotedStore<S>,
-    typed: &[TypedNumbers],
-    messages: &Messages,
-    row: &EventRow,
-) -> Result<(), Failure> {
-    let event = event_of(rt.alloc(), row)?;
-    let Some(number) = destroyed_in(typed, &event) else {
-        return Ok(());
-    };
-    let entry = entry_of(rt, noted, number)?;
-    match certificate_of(rt.alloc(), row, &event, entry.as_ref(), messages)? {
-        Some(text) => write_text(rt, &text),
-        None => Ok(()),
+/// Certificates that are printed of a history, which is judged as it is read.
+#[derive(Drop)]
+struct Printing<'n> {
+    typed: &'n [TypedNumbers],
+    messages: Messages,
+    watch: Watch,
+    missing: Missing,
+}
+
+impl<'n> Printing<'n> {
+    /// Prints the certificate of an event, where it destroys a record that is asked for.
+    fn print_one<S: Alter>(
+        &mut self,
+        rt: &HostRuntime,
+        noted: &mut NotedStore<S>,
+        row: &EventRow,
+    ) -> Result<(), Failure> {
+        let Some(event) = readable(rt.alloc(), row)? else {
+            return Ok(());
+        };
+        let Some(number) = destroyed_in(self.typed, &event) else {
+            return Ok(());
+        };
+        self.missing.meet(&event.deed)?;
+        let entry = entry_of(rt, noted, number)?;
+        match certificate_of(rt.alloc(), row, &event, entry.as_ref(), &self.messages)? {
+            Some(text) => write_text(rt, &text),
+            None => Ok(()),
+        }
+    }
+
+    /// Prints the certificates of a page of events.
+    fn print_page<S: Alter>(
+        &mut self,
+        rt: &HostRuntime,
+        noted: &mut NotedStore<S>,
+        page: &[EventRow],
+    ) -> Result<(), Failure> {
+        for row in page {
+            self.watch.look_at(rt, row)?;
+            self.print_one(rt, noted, row)?;
+        }
+        Ok(())
+    }
+
+    /// Prints the certificates of a history.
+    fn print_all<S: Alter>(
+        &mut self,
+        rt: &HostRuntime,
+        noted: &mut NotedStore<S>,
+    ) -> Result<(), Failure> {
+        let mut events = Events::all();
+        for _ in 0..u64::MAX {
+            let Some(page) = events.next_page(rt, noted)? else {
+                break;
+            };
+            self.print_page(rt, noted, page.as_slice())?;
+        }
+        Ok(())
+    }
+
+    /// What it came to: `BadData` where something stands against an event, and where a number is asked for of whose record no
+    /// event tells that it was destroyed. Both are told.
+    fn end(&self, rt: &HostRuntime) -> Result<(), Failure> {
+        self.watch.end(rt.alloc())?;
+        if self
+            .missing
+            .tell(rt, "no event tells that it was destroyed")?
+        {
+            return Ok(());
+        }
+        Err(Failure::Reported(Status::BadData))
     }
 }
 
-/// Prints the certificates of a page of events.
-fn print_page<S: Alter>(
-    rt: &HostRuntime,
-    noted: &mut NotedStore<S>,
-    typed: &[TypedNumbers],
-    messages: &Messages,
-    page: &[EventRow],
-) -> Result<(), Failure> {
-    for row in page {
-        print_one(rt, noted, typed, messages, row)?;
-    }
-    Ok(())
-}
-
-/// Prints a certificate for each record that was destroyed, by the history: all, or those of the numbers that are typed.
-/// `BadData` where the line of an event cannot be read.
+/// Prints a certificate for each record that was destroyed, by the history: all, or those of the numbers that are typed. The
+/// events are judged as they are read. `BadData` in the end where something stands against one, which is told, and where a
+/// number is typed of whose record no event tells that it was destroyed.
 pub fn write_certificates<S: Alter>(
     rt: &HostRuntime,
     noted: &mut NotedStore<S>,
@@ -239,12 +295,12 @@ pub fn write_certificates<S: Alter>(
 ) -> Result<(), Failure> {
     let mut messages = messages_of(rt, noted, typed)?;
     find_seals(rt, noted, &mut messages)?;
-    let mut events = Events::all();
-    for _ in 0..u64::MAX {
-        let Some(page) = events.next_page(rt, noted)? else {
-            break;
-        };
-        print_page(rt, noted, typed, &messages, page.as_slice())?;
-    }
-    Ok(())
+    let mut printing = Printing {
+        typed,
+        messages,
+        watch: Watch::new(rt.alloc())?,
+        missing: Missing::of(rt.alloc(), typed)?,
+    };
+    printing.print_all(rt, noted)?;
+    printing.end(rt)
 }

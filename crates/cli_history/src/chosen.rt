@@ -36,12 +36,13 @@ pub fn records_of(deed: &Deed<'_>) -> Option<(u32, u32)>
         | Deed::PlanReplaced(_)
         | Deed::ReasonsRequired
         | Deed::ReasonsOptional
+        | Deed::FindingsAccepted
         | Deed::FoundPlan(_) => None,
     }
 }
 
 /// Whether a word means one of the numbers from a first to a last.
-fn touches(typed: &TypedNumbers, first: u32, last: u32) -> bool
+pub fn touches(typed: &TypedNumbers, first: u32, last: u32) -> bool
     ensures { result ≡ meets first last typed.now }
 {
     match typed {
@@ -54,7 +55,7 @@ fn touches(typed: &TypedNumbers, first: u32, last: u32) -> bool
 }
 
 /// Whether numbers that are typed have one from a first to a last.
-fn any_touches(typed: &[TypedNumbers], first: u32, last: u32) -> bool
+pub fn any_touches(typed: &[TypedNumbers], first: u32, last: u32) -> bool
     ensures { result ≡ list_any (meets first last) typed.now }
 {
     typed.iter().any(|numbers| touches(numbers, first, last))
@@ -119,6 +120,7 @@ fn is_of_kind(kind: DeedKind, deed: &Deed<'_>) -> bool
                 | Deed::FoundRecord { .. }
                 | Deed::FoundHold { .. }
         ),
+        DeedKind::Accepted => matches!(deed, Deed::FindingsAccepted),
     }
 }
 
@@ -157,6 +159,7 @@ pub fn word_of(deed: &Deed<'_>) -> &'static str {
         Deed::ClassAdded { .. } => "added",
         Deed::PlanReplaced(_) => "replaced",
         Deed::ReasonsRequired | Deed::ReasonsOptional => "made",
+        Deed::FindingsAccepted => "accepted",
         Deed::FoundPlan(_)
         | Deed::FoundMessage { .. }
         | Deed::FoundRecord { .. }

@@ -1,17 +1,18 @@
 //! What a history makes of an archive, beside what the store has.
 
-ghost use Rattle.std.specs.Prelude.{◌≡◌, ◌↔◌, ◌==◌, ◌&&◌, IsTrue, length};
+ghost use Rattle.std.specs.Prelude.{◌≡◌, ◌↔◌, ◌==◌, ◌&&◌, IsNone, IsTrue, length, option_map, vec_len};
 ghost use Rattle.std.specs.List.{list_all, list_any};
 ghost use Rattle.std.specs.Str.{bytes_eq};
-ghost use Rattle.cli_history.specs.Compared.{row_had, row_told};
+ghost use Rattle.cli_history.specs.Compared.{IsAsTold, row_had, row_told};
 
 use crate::chosen::is_about;
+use crate::differences::{Change, Changes};
 use crate::pages::{Entries, Events, event_of};
+use crate::stored::StoredSeals;
 use choice_words::TypedNumbers;
 use class_plan::{Plan, day_number};
 use cli_console::{Failure, tell, tell_words};
 use cli_texts::plan_text;
-use record_history::seal_of;
 use record_judge::{SealedArchive, SealedRecord};
 use record_noted::NotedStore;
 use record_store::{EventRow, RecordEntry};
@@ -24,12 +25,12 @@ use tool_texts::{Shown, put};
 const MAX_NAMED: usize = 20;
 
 /// How much of an archive is compared.
-#[derive(Clone, Copy)]
+#[derive(Drop)]
 pub enum Depth {
     /// The plan, and of each record its row and its holds.
     Rows,
-    /// The messages too, by their seals.
-    Messages,
+    /// The messages too, by their seals. Those are read whose seals were not made before.
+    Messages(StoredSeals),
 }
 
 /// How a record differs.
@@ -49,7 +50,8 @@ enum Difference {
 #[derive(Drop)]
 pub struct Comparison<'a> {
     made: &'a SealedArchive,
-    depth: Depth,
+    /// The seals of the messages that the store has, where they are compared.
+    stored: Option<StoredSeals>,
     /// Whether the plan is that of the history.
     is_planned: bool,
     /// The place of each record that was not met yet, by number.
@@ -58,12 +60,12 @@ pub struct Comparison<'a> {
     messages: BTreeMap<u32, usize>,
     /// The names of the holds on each record.
     held: BTreeMap<u32, Vec<&'a [u8]>>,
-    /// The messages that were compared, and whether each is that of its seal.
-    compared: BTreeMap<u32, bool>,
     /// The first records that differ.
     found: Vec<(u32, Difference)>,
     /// How many more of them there are.
     more: u64,
+    /// What was done that the history does not tell.
+    changes: Changes,
 }
 
 /// The place of each record by its number.
@@ -110,6 +112,13 @@ fn is_among(names: &[&[u8]], hold: &[u8]) -> bool
     names.iter().any(|name| hold == *name)
 }
 
+/// Whether one of these holds has a name.
+fn has_hold(holds: &[Vec<u8>], name: &[u8]) -> bool
+    ensures { result ≡ list_any (λ h. bytes_eq h.items name.now) holds.now }
+{
+    holds.iter().any(|hold| hold.as_slice() == name)
+}
+
 /// Whether each of these holds has a name that is among those.
 fn are_all_among(holds: &[Vec<u8>], names: &[&[u8]]) -> bool
     ensures { result ≡
@@ -139,6 +148,74 @@ fn is_record(entry: &RecordEntry, record: &SealedRecord) -> bool
         && entry.destroyed == record.destroyed
 }
 
+/// How an entry differs from a record and its holds, as a history tells them; not at all exactly where it is told, with this
+/// message, class and day, as live or as destroyed, and with holds of these names and no others.
+fn compared(entry: &RecordEntry, told: Option<&SealedRecord>, names: &[&[u8]]) -> Option<Difference>
+    ensures { IsNone result ↔ IsAsTold (option_map (λ r. r.now) told.entry) entry.now
+        ((length entry.now.holds.items == length names.now)
+        && list_all (λ h. list_any (λ n. bytes_eq h.items n.now) names.now) entry.now.holds.items) }
+{
+    match told {
+        None => Some(Difference::Untold),
+        Some(record) if is_record(entry, record) && are_holds(entry.holds.as_slice(), names) => {
+            None
+        }
+        Some(_) => Some(Difference::Changed),
+    }
+}
+
+/// Adds the holds of a record that the history tells, and that have ended.
+fn add_ended(
+    changes: &mut Changes,
+    names: &[&[u8]],
+    entry: &RecordEntry,
+) -> Result<(), AllocError> {
+    for name in names {
+        if !has_hold(entry.holds.as_slice(), name) {
+            changes.add_ended_hold(name, entry.number)?;
+        }
+    }
+    Ok(())
+}
+
+/// Adds the holds of a record that the history does not tell.
+fn add_placed(
+    changes: &mut Changes,
+    names: &[&[u8]],
+    entry: &RecordEntry,
+) -> Result<(), AllocError> {
+    for hold in &entry.holds {
+        if !is_among(names, hold.as_slice()) {
+            changes.add_placed_hold(hold.as_slice(), entry.number)?;
+        }
+    }
+    Ok(())
+}
+
+/// Adds what was done to a record beside its holds, by what the history tells of it.
+fn add_row(
+    changes: &mut Changes,
+    entry: &RecordEntry,
+    told: Option<&SealedRecord>,
+) -> Result<(), AllocError> {
+    let number = entry.number;
+    let Some(record) = told else {
+        changes.add(Change::Captured(number))?;
+        if entry.destroyed {
+            changes.add(Change::Destroyed(number))?;
+        }
+        return Ok(());
+    };
+    if is_record(entry, record) {
+        return Ok(());
+    }
+    changes.add(if entry.destroyed && !record.destroyed {
+        Change::Destroyed(number)
+    } else {
+        Change::Changed(number)
+    })
+}
+
 impl<'a> Comparison<'a> {
     fn new(
         alloc: Global,
@@ -146,16 +223,24 @@ impl<'a> Comparison<'a> {
         plan: &Plan,
         depth: Depth,
     ) -> Result<Comparison<'a>, AllocError> {
+        let is_planned = is_same_plan(alloc, made.plan(), plan)?;
+        let mut changes = Changes::none(alloc);
+        if !is_planned {
+            changes.add(Change::PlanReplaced)?;
+        }
         Ok(Comparison {
             made,
-            depth,
-            is_planned: is_same_plan(alloc, made.plan(), plan)?,
+            stored: match depth {
+                Depth::Rows => None,
+                Depth::Messages(stored) => Some(stored),
+            },
+            is_planned,
             records: places_of_records(alloc, made.records())?,
             messages: places_of_messages(alloc, made)?,
             held: holds_of(alloc, made)?,
-            compared: BTreeMap::new(alloc),
             found: Vec::new(alloc),
             more: 0,
+            changes,
         })
     }
 
@@ -169,57 +254,66 @@ impl<'a> Comparison<'a> {
         Ok(())
     }
 
-    /// Whether a record has the holds that the history tells.
-    fn is_held_so(&self, entry: &RecordEntry) -> bool {
-        match self.held.get(&entry.number) {
-            Some(names) => are_holds(entry.holds.as_slice(), names.as_slice()),
-            None => entry.holds.is_empty(),
-        }
+    /// The record of a number that the history makes, if it makes one that was not met yet.
+    fn told(&self, number: u32) -> Option<&'a SealedRecord> {
+        let place = self.records.get(&number).copied();
+        place.and_then(|place| self.made.records().get(place))
     }
 
     /// How an entry differs from the record that the history makes, its message left aside.
     fn difference_of(&self, entry: &RecordEntry) -> Option<Difference> {
-        let Some(place) = self.records.get(&entry.number) else {
-            return Some(Difference::Untold);
-        };
-        match self.made.records().get(*place) {
-            Some(record) if is_record(entry, record) && self.is_held_so(entry) => None,
-            _ => Some(Difference::Changed),
+        let told = self.told(entry.number);
+        match self.held.get(&entry.number) {
+            Some(names) => compared(entry, told, names.as_slice()),
+            None => compared(entry, told, &[]),
         }
     }
 
-    /// Whether a message is that of its seal.
-    fn is_sealed(&self, alloc: Global, message: u32, body: &[u8]) -> Result<bool, AllocError> {
-        let seal = seal_of(alloc, body)?;
-        let place = self.messages.get(&message).copied();
-        let sealed = place.and_then(|place| self.made.messages().get(place));
-        Ok(sealed.is_some_and(|sealed| {
-            sealed.seal.octets == seal.octets && sealed.seal.sum.as_slice() == seal.sum.as_slice()
-        }))
+    /// Adds what was done to a record that is not as the history tells.
+    fn add_changes(&mut self, entry: &RecordEntry) -> Result<(), AllocError> {
+        let told = self.told(entry.number);
+        add_row(&mut self.changes, entry, told)?;
+        match self.held.get(&entry.number) {
+            Some(names) => {
+                add_ended(&mut self.changes, names.as_slice(), entry)?;
+                add_placed(&mut self.changes, names.as_slice(), entry)
+            }
+            None => add_placed(&mut self.changes, &[], entry),
+        }
     }
 
-    /// Whether the message of a live record is that of its seal.
-    fn is_message_sealed<S: Alter>(
+    /// Whether a message is that of its seal, which the history tells.
+    fn is_sealed(&self, stored: &StoredSeals, message: u32) -> bool {
+        let place = self.messages.get(&message).copied();
+        let told = place.and_then(|place| self.made.messages().get(place));
+        told.is_some_and(|told| stored.is_sealed_by(message, &told.seal))
+    }
+
+    /// Makes the seal of the message of a live record, where messages are compared and it was not made before.
+    fn make_seal<S: Alter>(
         &mut self,
         rt: &HostRuntime,
         noted: &mut NotedStore<S>,
         entry: &RecordEntry,
-    ) -> Result<bool, Failure> {
-        let known = self.compared.get(&entry.message).copied();
-        if let Some(is_sealed) = known {
-            return Ok(is_sealed);
+    ) -> Result<(), Failure> {
+        let Some(stored) = &mut self.stored else {
+            return Ok(());
+        };
+        if entry.destroyed || stored.has(entry.message) {
+            return Ok(());
         }
         let body = noted
             .message(entry.number)
             .map_err(|fault| Failure::of_store(rt.alloc(), "the store", fault))?;
-        let is_sealed = self.is_sealed(rt.alloc(), entry.message, body.as_slice())?;
-        self.compared.insert(entry.message, is_sealed)?;
-        Ok(is_sealed)
+        Ok(stored.note(rt.alloc(), entry.message, body.as_slice())?)
     }
 
-    /// Whether the message of a record is compared: its record is live.
-    fn looks_into(&self, entry: &RecordEntry) -> bool {
-        matches!(self.depth, Depth::Messages) && !entry.destroyed
+    /// Whether the message of a record is that of its seal, if it is compared: its record is live.
+    fn is_message_sealed(&self, entry: &RecordEntry) -> bool {
+        match &self.stored {
+            Some(stored) if !entry.destroyed => self.is_sealed(stored, entry.message),
+            _ => true,
+        }
     }
 
     /// Compares a record.
@@ -230,11 +324,14 @@ impl<'a> Comparison<'a> {
         entry: &RecordEntry,
     ) -> Result<(), Failure> {
         let difference = self.difference_of(entry);
-        self.records.remove(&entry.number);
         if let Some(difference) = difference {
+            self.add_changes(entry)?;
+            self.records.remove(&entry.number);
             return Ok(self.note(entry.number, difference)?);
         }
-        if self.looks_into(entry) && !self.is_message_sealed(rt, noted, entry)? {
+        self.records.remove(&entry.number);
+        self.make_seal(rt, noted, entry)?;
+        if !self.is_message_sealed(entry) {
             self.note(entry.number, Difference::Unsealed)?;
         }
         Ok(())
@@ -261,13 +358,22 @@ impl<'a> Comparison<'a> {
         }
         for number in &gone {
             self.note(*number, Difference::Gone)?;
+            self.changes.add(Change::Gone(*number))?;
         }
         Ok(())
     }
 
     /// Whether nothing differs.
-    pub fn is_same(&self) -> bool {
+    pub fn is_same(&self) -> bool
+        ensures { result ≡ self.now.is_planned && (vec_len self.now.found == 0) }
+    {
         self.is_planned && self.found.is_empty()
+    }
+
+    /// What was done that the history does not tell. Messages are left aside.
+    pub fn into_changes(self) -> Changes {
+        let Comparison { changes, .. } = self;
+        changes
     }
 }
 

@@ -73,6 +73,6 @@ fn judged(alloc: Global, is_same: bool) -> Result<(), Failure> {
     Err(Failure::told(
         alloc,
         Status::BadData,
-        "the marks of the history are not those of its lines; check says where",
+        "the marks of the history are not those of its lines; check says where, and --damaged copies what is whole",
     ))
 }

@@ -2,12 +2,14 @@
 
 use crate::chosen::records_of;
 use crate::pages::{PAGE, event_of};
+use crate::watching::Watch;
 use cli_console::{Failure, Status, tell};
 use record_history::Deed;
 use record_store::{EventLayout, EventRow, RecordEntry, Store};
 use sqlite::Alter;
 use std::alloc::{AllocError, Global};
 use std::collections::BTreeSet;
+use tool_texts::Shown;
 
 /// Records that are taken out, and their messages.
 #[derive(Drop)]
@@ -43,10 +45,11 @@ impl Subjects {
     }
 }
 
-/// A walk over the events of records.
+/// A walk over the events of records, which are judged as they are read.
 #[derive(Drop)]
 pub struct Extract<'s> {
     subjects: &'s Subjects,
+    watch: Watch,
     /// The number from which it goes on, if it does.
     from: Option<u32>,
     /// The mark of the event before; empty before the first.
@@ -67,20 +70,30 @@ fn push_taken(lines: &mut Vec<u8>, before: &[u8], row: &EventRow) -> Result<(), 
 }
 
 impl<'s> Extract<'s> {
-    /// The walk over the events of some records from the first event on; none where the store keeps no history.
+    /// The walk over the events of some records from the first event on; none where the store keeps no history. The only
+    /// refusal is no memory.
     pub fn of<S: Alter>(
         alloc: Global,
         archive: &Store<S>,
         subjects: &'s Subjects,
-    ) -> Option<Extract<'s>> {
+    ) -> Result<Option<Extract<'s>>, AllocError> {
         match archive.event_layout() {
-            EventLayout::Present => Some(Extract {
+            EventLayout::Present => Ok(Some(Extract {
                 subjects,
+                watch: Watch::new(alloc)?,
                 from: Some(1),
                 before: Vec::new(alloc),
                 is_any_unread: false,
-            }),
-            EventLayout::Absent | EventLayout::Other => None,
+            })),
+            EventLayout::Absent | EventLayout::Other => Ok(None),
+        }
+    }
+
+    /// Tells that the line of an event cannot be read, unless that was told as it was judged.
+    fn tell_unread(&mut self, rt: &HostRuntime, row: &EventRow, words: &Shown) {
+        self.is_any_unread = true;
+        if !self.watch.is_told(row.number) {
+            tell(rt, words);
         }
     }
 
@@ -91,15 +104,13 @@ impl<'s> Extract<'s> {
         row: EventRow,
         lines: &mut Vec<u8>,
     ) -> Result<(), Failure> {
+        self.watch.look_at(rt, &row)?;
         match event_of(rt.alloc(), &row) {
             Ok(event) if self.subjects.has(&event.deed) => {
                 push_taken(lines, self.before.as_slice(), &row)?;
             }
             Ok(_) => {}
-            Err(Failure::Told(_, words)) => {
-                self.is_any_unread = true;
-                tell(rt, &words);
-            }
+            Err(Failure::Told(_, words)) => self.tell_unread(rt, &row, &words),
             Err(failure) => return Err(failure),
         }
         self.before = row.mark;
@@ -131,8 +142,9 @@ impl<'s> Extract<'s> {
         Ok(Some(lines))
     }
 
-    /// Ends the walk. `BadData` where the line of an event could not be read.
-    pub fn end(self) -> Result<(), Failure> {
+    /// Ends the walk. `BadData` where something stands against an event, or where its line could not be read.
+    pub fn end(self, alloc: Global) -> Result<(), Failure> {
+        self.watch.end(alloc)?;
         if self.is_any_unread {
             return Err(Failure::Reported(Status::BadData));
         }

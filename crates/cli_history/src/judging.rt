@@ -5,10 +5,14 @@ ghost use Rattle.std.specs.Str.{bytes_eq};
 ghost use Rattle.cli_history.specs.Marks.{is_sought as is_mark_sought, met_after};
 
 use crate::comparison::{Depth, compare, tell_differences};
-use crate::flaws::words_of;
-use crate::pages::{Events, at_event, event_of};
+use crate::findings::Findings;
+use crate::notes::is_altered;
+use crate::pages::{Events, at_event, judged_event_of};
+use crate::stored::StoredSeals;
+use crate::watching::Watch;
 use cli_console::{Failure, Status, tell, write_text};
-use record_judge::{Flaw, Judge, SealedArchive};
+use record_history::{Deed, Event};
+use record_judge::SealedArchive;
 use record_noted::NotedStore;
 use record_store::EventRow;
 use sqlite::Alter;
@@ -18,13 +22,12 @@ use tool_texts::{Shown, put};
 /// What was found of a history so far.
 #[derive(Drop)]
 struct Judgement<'h> {
-    judge: Judge,
+    watch: Watch,
+    findings: Findings,
     /// A mark that was noted elsewhere.
     head: Option<&'h str>,
     /// The number of the event that has that mark, once it was judged.
     met: Option<u32>,
-    /// Whether something stands against an event, which was told.
-    is_any_wrong: bool,
     count: u64,
     /// The mark of the last event, as the database has it.
     mark: Vec<u8>,
@@ -41,38 +44,47 @@ fn met_line(alloc: Global, mark: &str, number: u32) -> Result<Shown, AllocError>
 }
 
 /// That no event has a mark; of those that were judged, where something stands against one.
-fn unmet_words(alloc: Global, mark: &str, is_any_wrong: bool) -> Result<Shown, AllocError> {
+fn unmet_words(alloc: Global, mark: &str, is_sound: bool) -> Result<Shown, AllocError> {
     let mut words = Shown::new(alloc);
     put!(words; value(&mark) ": ")?;
-    words.words(if is_any_wrong {
-        "no event before that one has this mark"
-    } else {
+    words.words(if is_sound {
         "no event of the history has this mark"
+    } else {
+        "no event before that one has this mark"
     })?;
     Ok(words)
+}
+
+/// That the message of a record that an event destroys was not the one that was captured.
+fn altered_line(alloc: Global, event: u32, record: u32) -> Result<Shown, AllocError> {
+    let mut line = Shown::new(alloc);
+    put!(line; "event " value(&event) ": record " value(&record)
+        " was destroyed, and its message was not the one captured")?;
+    line.end_line()?;
+    Ok(line)
+}
+
+/// Says of an event that destroys a record where it notes that the message was not the one that was captured.
+fn say_altered(rt: &HostRuntime, number: u32, event: &Event<'_>) -> Result<(), Failure> {
+    match &event.deed {
+        Deed::Destroyed { number: record, .. } if is_altered(event.notes) => {
+            write_text(rt, &altered_line(rt.alloc(), number, *record)?)
+        }
+        _ => Ok(()),
+    }
 }
 
 impl<'h> Judgement<'h> {
     fn new(alloc: Global, head: Option<&'h str>) -> Result<Judgement<'h>, AllocError> {
         Ok(Judgement {
-            judge: Judge::new(alloc)?,
+            watch: Watch::new(alloc)?,
+            findings: Findings::none(alloc),
             head,
             met: None,
-            is_any_wrong: false,
             count: 0,
             mark: Vec::new(alloc),
             moment: 0,
         })
-    }
-
-    /// Tells what stands against an event.
-    fn tell_flaw(&mut self, rt: &HostRuntime, number: u32, flaw: Flaw) -> Result<(), AllocError> {
-        let Some(words) = words_of(flaw) else {
-            return Err(AllocError);
-        };
-        self.is_any_wrong = true;
-        tell(rt, &at_event(rt.alloc(), number, words)?);
-        Ok(())
     }
 
     /// Whether an event has the mark that is looked for.
@@ -96,41 +108,36 @@ impl<'h> Judgement<'h> {
         }
     }
 
-    /// Judges an event, unless one before it is at fault: then nothing is known of those that follow.
-    fn judge_row(&mut self, rt: &HostRuntime, row: &EventRow) -> Result<(), AllocError> {
-        if self.is_any_wrong {
-            return Ok(());
-        }
-        let taken = self
-            .judge
-            .take(row.number, row.line.as_slice(), row.mark.as_slice());
-        match taken {
-            Ok(()) => {
-                self.meet(row);
-                Ok(())
-            }
-            Err(flaw) => self.tell_flaw(rt, row.number, flaw),
-        }
-    }
-
     /// Tells where a clock went back, which is no fault of the history.
-    fn look_at_clock(&mut self, rt: &HostRuntime, row: &EventRow) -> Result<(), Failure> {
-        let Ok(event) = event_of(rt.alloc(), row) else {
-            return Ok(());
-        };
-        if event.moment < self.moment {
+    fn look_at_clock(
+        &mut self,
+        rt: &HostRuntime,
+        number: u32,
+        moment: u64,
+    ) -> Result<(), AllocError> {
+        if moment < self.moment {
             let words = "its moment is before that of the event before it; the clock went back";
-            tell(rt, &at_event(rt.alloc(), row.number, words)?);
+            tell(rt, &at_event(rt.alloc(), number, words)?);
         }
-        self.moment = event.moment;
+        self.moment = moment;
         Ok(())
     }
 
-    /// Judges the events of a page.
+    /// Notes what an event says, against which nothing stands.
+    fn take(&mut self, rt: &HostRuntime, row: &EventRow) -> Result<(), Failure> {
+        self.meet(row);
+        let event = judged_event_of(rt.alloc(), row)?;
+        self.findings.take(row.number, &event)?;
+        say_altered(rt, row.number, &event)?;
+        Ok(self.look_at_clock(rt, row.number, event.moment)?)
+    }
+
+    /// Judges the events of a page. Where one is at fault, nothing is known of those that follow.
     fn judge_page(&mut self, rt: &HostRuntime, page: &[EventRow]) -> Result<(), Failure> {
         for row in page {
-            self.judge_row(rt, row)?;
-            self.look_at_clock(rt, row)?;
+            if self.watch.look_at(rt, row)? {
+                self.take(rt, row)?;
+            }
             self.count = self.count.saturating_add(1);
         }
         Ok(())
@@ -171,10 +178,28 @@ impl<'h> Judgement<'h> {
             (None, _) => Ok(()),
             (Some(mark), Some(number)) => write_text(rt, &met_line(alloc, mark, number)?),
             (Some(mark), None) => {
-                tell(rt, &unmet_words(alloc, mark, self.is_any_wrong)?);
+                tell(rt, &unmet_words(alloc, mark, self.watch.is_sound())?);
                 Ok(())
             }
         }
+    }
+
+    /// Says what was found behind the beginning, a line for each group.
+    fn say_found(&self, rt: &HostRuntime) -> Result<(), Failure> {
+        let lines = self.findings.lines()?;
+        for line in &lines {
+            write_text(rt, line)?;
+        }
+        Ok(())
+    }
+
+    /// Tells that something that was found is not accepted, if it is so. Answers whether it is not so.
+    fn is_accepted(&self, rt: &HostRuntime) -> Result<bool, AllocError> {
+        if !self.findings.is_unaccepted() {
+            return Ok(true);
+        }
+        self.findings.tell(rt)?;
+        Ok(false)
     }
 }
 
@@ -201,18 +226,19 @@ fn is_explained<S: Alter>(
     rt: &HostRuntime,
     noted: &mut NotedStore<S>,
     made: &SealedArchive,
+    stored: StoredSeals,
 ) -> Result<bool, Failure> {
-    let comparison = compare(rt, noted, made, Depth::Messages)?;
+    let comparison = compare(rt, noted, made, Depth::Messages(stored))?;
     tell_differences(rt, noted, &comparison)?;
     Ok(comparison.is_same())
 }
 
-/// What a judgement comes to: `BadData` where the store has not what the history makes, or where no event has the mark that
-/// is looked for. Both were told.
-fn verdict(is_same: bool, is_met: bool) -> Result<(), Failure>
-    ensures { is_ok result ≡ is_same && is_met }
+/// What a judgement comes to: `BadData` where the store has not what the history makes, where something that was found is not
+/// accepted, or where no event has the mark that is looked for. Each was told.
+fn verdict(is_same: bool, is_accepted: bool, is_met: bool) -> Result<(), Failure>
+    ensures { is_ok result ≡ is_same && (is_accepted && is_met) }
 {
-    if is_same && is_met {
+    if is_same && is_accepted && is_met {
         Ok(())
     } else {
         Err(Failure::Reported(Status::BadData))
@@ -221,20 +247,27 @@ fn verdict(is_same: bool, is_met: bool) -> Result<(), Failure>
 
 /// Judges a history: the numbers of its events have no gap, each mark is that of the line after the events before it, each
 /// line is that of an event, and the archive allows each at its point; and what they make is what the store has, each
-/// message by its seal. Prints how many events there are, the last mark, and which event has a mark that was noted elsewhere,
-/// where one is looked for. `BadData` where any of that is not so, which is told.
+/// message by its seal. Prints which messages were destroyed that were not the ones captured, what was found after a program
+/// that keeps no history, and whether that was accepted, how many events there are, the last mark, and which event has a mark
+/// that was noted elsewhere, where one is looked for. `BadData` where any of that is not so, and where something that was
+/// found is not accepted, which is told.
+///
+/// The caller gives the seals of the messages that it has read; the others are read here.
 pub fn judge_history<S: Alter>(
     rt: &HostRuntime,
     noted: &mut NotedStore<S>,
     head: Option<&str>,
+    stored: StoredSeals,
 ) -> Result<(), Failure> {
     let judgement = judge_events(rt, noted, head)?;
-    let is_same = if judgement.is_any_wrong {
-        false
+    let is_same = if judgement.watch.is_sound() {
+        is_explained(rt, noted, judgement.watch.archive(), stored)?
     } else {
-        is_explained(rt, noted, judgement.judge.archive())?
+        false
     };
+    judgement.say_found(rt)?;
     write_text(rt, &judgement.totals(rt.alloc())?)?;
     judgement.say_met(rt)?;
-    verdict(is_same, judgement.is_met())
+    let is_accepted = judgement.is_accepted(rt)?;
+    verdict(is_same, is_accepted, judgement.is_met())
 }

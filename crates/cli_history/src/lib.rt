@@ -2,13 +2,19 @@
 //!
 //! - `author`: who changes an archive, and for what reason; `opening`: its ledger, opened on that occasion;
 //! - `replaying` and `restating`: a history that is done again before a change, and what another program has left, noted as
-//!   found; `reasons`: whether it requires reasons;
+//!   found; `differences`: what it has done, in words; `findings`: what was found, and whether a person has accepted it;
+//!   `reasons`: what a person decides of a history itself;
 //! - `beginning`: what is there in a store, as a history begins with it;
-//! - `pages`: the events of a history, a page at a time;
-//! - `chosen`: which events are asked for; `printing`: these, as lines or as JSON;
+//! - `pages`: the events of a history, a page at a time; `watching`: they are judged as they are read;
+//! - `chosen`: which events are asked for; `missing`: of which numbers none tells; `printing`: these, as lines or as JSON;
+//!   `fields`: what a deed tells, as named fields; `days` and `notes`: parts of lines;
+//! - `cases`: what the hold of each name keeps, and how that began;
 //! - `certificates`: those of records that were destroyed;
-//! - `seals`: of messages, as events tell them, and what a message is beside the one that was captured;
-//! - `copies`: a history that another store takes over; `extracts`: the events of records that are exported;
+//! - `captured`: what is captured for an officer already;
+//! - `seals`: of messages, as events tell them, and what a message is beside the one that was captured; `stored`: the seals of
+//!   those that a store has;
+//! - `copies`: a history that another store takes over; `damaged`: the same where it is not whole; `extracts`: the events of
+//!   records that are exported;
 //! - `judging` and `comparison`: whether a history is whole, has a mark that was noted elsewhere, and explains its archive;
 //!   `flaws`: what stands against an event.
 //!
@@ -17,13 +23,22 @@
 
 mod author;
 mod beginning;
+mod captured;
+mod cases;
 mod certificates;
 mod chosen;
 mod comparison;
 mod copies;
+mod damaged;
+mod days;
+mod differences;
 mod extracts;
+mod fields;
+mod findings;
 mod flaws;
 mod judging;
+mod missing;
+mod notes;
 mod opening;
 mod pages;
 mod printing;
@@ -31,14 +46,22 @@ mod reasons;
 mod replaying;
 mod restating;
 mod seals;
+mod stored;
+mod watching;
 
 pub use author::Author;
 pub use beginning::begin_history;
+pub use captured::captured_for;
+pub use cases::write_cases;
 pub use certificates::write_certificates;
 pub use copies::Lines;
+pub use damaged::Whole;
 pub use extracts::{Extract, Subjects};
+pub use findings::findings_are_told;
 pub use judging::judge_history;
-pub use opening::{Purpose, StoreLedger, open_history, open_ledger, open_noted};
+pub use notes::notes_of;
+pub use opening::{Purpose, StoreLedger, open_history, open_ledger, open_noted, open_with_seals};
 pub use printing::write_history;
-pub use reasons::note_reasons;
+pub use reasons::{accept_findings, note_reasons};
 pub use seals::{Fidelity, Seals, altered_words};
+pub use stored::StoredSeals;

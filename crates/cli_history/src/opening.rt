@@ -1,10 +1,11 @@
 //! The ledger of an archive.
 
 ghost use Rattle.std.specs.Prelude.{◌≡◌};
-ghost use Rattle.cli_history.specs.Reasons.{changes as is_changed_for, decides as is_decided_for};
+ghost use Rattle.cli_history.specs.Reasons.{changes as is_changed_for, decides as is_decided_for, ends as is_ended_for};
 
 use crate::author::Author;
-use crate::restating::prepared;
+use crate::restating::{Ready, prepared};
+use crate::seals::Seals;
 use cli_console::{Failure, Status, now};
 use record_history::Filing;
 use record_ledger::{Ledger, Occasion};
@@ -35,8 +36,11 @@ pub enum Purpose {
     Listing,
     /// To capture mail, for which no reason is required.
     Capturing,
-    /// To decide which records are kept, and how long. A history may require a reason for that.
-    Deciding,
+    /// To keep records from destruction. A history may require a reason for that.
+    Keeping,
+    /// To do what can end the keeping of records. A history may require a reason for that, and it is refused while something
+    /// that was found is not accepted.
+    Ending,
 }
 
 impl Purpose {
@@ -44,29 +48,40 @@ impl Purpose {
     fn changes(self) -> bool
         ensures { result ≡ is_changed_for self }
     {
-        matches!(self, Purpose::Capturing | Purpose::Deciding)
+        matches!(
+            self,
+            Purpose::Capturing | Purpose::Keeping | Purpose::Ending
+        )
     }
 
     /// Whether a history may require a reason.
     pub fn decides(self) -> bool
         ensures { result ≡ is_decided_for self }
     {
-        matches!(self, Purpose::Deciding)
+        matches!(self, Purpose::Keeping | Purpose::Ending)
+    }
+
+    /// Whether the keeping of records can end.
+    pub fn ends(self) -> bool
+        ensures { result ≡ is_ended_for self }
+    {
+        matches!(self, Purpose::Ending)
     }
 }
 
-/// The occasion of what an author does for a reason. `TryAgain` where there is no clock.
-pub fn occasion_for<'a>(
+/// The occasion of what is noted under a name for a reason. `TryAgain` where there is no clock.
+pub fn occasion_by<'a>(
     rt: &'a HostRuntime,
-    author: &'a Author<'_>,
+    who: &'a [u8],
     reason: &'a str,
     filing: Option<Filing<'a>>,
 ) -> Result<Occasion<'a, HostRuntime>, Failure> {
     Ok(Occasion {
         clock: rt,
         begun: now(rt)?,
-        who: author.name().unwrap_or("").as_bytes(),
+        who,
         reason: reason.as_bytes(),
+        notes: b"",
         filing,
     })
 }
@@ -77,7 +92,8 @@ pub fn occasion_of<'a>(
     author: &'a Author<'_>,
     filing: Option<Filing<'a>>,
 ) -> Result<Occasion<'a, HostRuntime>, Failure> {
-    occasion_for(rt, author, author.reason(), filing)
+    let who = author.name().unwrap_or("").as_bytes();
+    occasion_by(rt, who, author.reason(), filing)
 }
 
 /// Opens the history of a store, or the store as it is where it keeps none. `BadData` where the history is damaged. A failure
@@ -111,22 +127,45 @@ pub fn open_noted<S: Alter>(
     }
 }
 
+/// A store that is open for a change, and the seals that its history tells.
+#[derive(Drop)]
+struct Open<S: Alter> {
+    opened: Opened<S>,
+    seals: Seals,
+}
+
 /// Opens the history of a store for a purpose, or the store as it is where it keeps none. A failure is that of `open_ledger`.
 fn open_for<S: Alter>(
     rt: &HostRuntime,
     archive: Store<S>,
     author: &Author<'_>,
     purpose: Purpose,
-) -> Result<Opened<S>, (Store<S>, Failure)> {
+) -> Result<Open<S>, (Store<S>, Failure)> {
     match open_history(rt, archive) {
         Ok(Opened::Noted(noted)) if purpose.changes() => {
             match prepared(rt, noted, author, purpose) {
-                Ok(noted) => Ok(Opened::Noted(noted)),
+                Ok(prepared) => Ok(open_of(rt.alloc(), prepared)),
                 Err(refusal) => Err(refusal),
             }
         }
-        Ok(opened) => Ok(opened),
+        Ok(opened) => Ok(Open {
+            opened,
+            seals: Seals::none(rt.alloc()),
+        }),
         Err(refusal) => Err(refusal),
+    }
+}
+
+/// The store of a history that is ready for a change.
+fn open_of<S: Alter>(alloc: Global, prepared: Ready<S>) -> Open<S> {
+    let Ready {
+        noted,
+        replayed,
+        ..
+    } = prepared;
+    Open {
+        opened: Opened::Noted(noted),
+        seals: replayed.into_seals(alloc),
     }
 }
 
@@ -138,12 +177,32 @@ fn store_of<S: Alter>(opened: Opened<S>) -> Store<S> {
     }
 }
 
-/// Opens the ledger of a store for an author's purpose, with the rules by which messages are filed. Where the store keeps a
+/// Opens the ledger of a store for an author's purpose, with the rules by which messages are filed, and answers beside it the
+/// seals of messages that its history tells, where the purpose can end the keeping of records. Where the store keeps a
 /// history and is to be changed, the history is done again first: what another program has changed is told, and all that is
 /// there is noted as found.
 ///
 /// `Usage` where it is not known then who changes the archive, or where the history requires a reason and none is given;
-/// `BadData` where the history is damaged. A failure hands the store back.
+/// `BadData` where the history is damaged, or where the purpose can end the keeping of records while something that was found
+/// is not accepted. A failure hands the store back.
+pub fn open_with_seals<'a, S: Alter>(
+    rt: &'a HostRuntime,
+    archive: Store<S>,
+    author: &'a Author<'_>,
+    filing: Option<Filing<'a>>,
+    purpose: Purpose,
+) -> Result<(StoreLedger<'a, S>, Seals), (Store<S>, Failure)> {
+    let Open { opened, seals } = match open_for(rt, archive, author, purpose) {
+        Ok(open) => open,
+        Err(refusal) => return Err(refusal),
+    };
+    match occasion_of(rt, author, filing) {
+        Ok(occasion) => Ok((Ledger::of(rt.alloc(), opened, occasion), seals)),
+        Err(failure) => Err((store_of(opened), failure)),
+    }
+}
+
+/// The same ledger alone.
 pub fn open_ledger<'a, S: Alter>(
     rt: &'a HostRuntime,
     archive: Store<S>,
@@ -151,12 +210,8 @@ pub fn open_ledger<'a, S: Alter>(
     filing: Option<Filing<'a>>,
     purpose: Purpose,
 ) -> Result<StoreLedger<'a, S>, (Store<S>, Failure)> {
-    let opened = match open_for(rt, archive, author, purpose) {
-        Ok(opened) => opened,
-        Err(refusal) => return Err(refusal),
-    };
-    match occasion_of(rt, author, filing) {
-        Ok(occasion) => Ok(Ledger::of(rt.alloc(), opened, occasion)),
-        Err(failure) => Err((store_of(opened), failure)),
+    match open_with_seals(rt, archive, author, filing, purpose) {
+        Ok((ledger, _)) => Ok(ledger),
+        Err(refusal) => Err(refusal),
     }
 }

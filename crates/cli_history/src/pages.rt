@@ -5,7 +5,7 @@ ghost use Rattle.record_history.specs.Spelled.{IsSpelledDeed};
 ghost use Rattle.record_history.specs.Views.{deed_view};
 
 use cli_console::{Failure, Status};
-use record_history::{Event, LineFault, read_line};
+use record_history::{Event, LineFault, read_line, read_line_again};
 use record_noted::NotedStore;
 use record_store::{EventRow, RecordEntry};
 use sqlite::Alter;
@@ -93,20 +93,34 @@ pub fn at_event(alloc: Global, number: u32, words: &'static str) -> Result<Shown
     Ok(text)
 }
 
+/// Why the line of a row is not that of its event: it has another number, or could not be read.
+fn line_failure(alloc: Global, number: u32, fault: Option<LineFault>) -> Failure {
+    let words = match fault {
+        Some(LineFault::NoMemory) => return Failure::NoMemory,
+        Some(LineFault::NotALine) => "its line is none of an event",
+        None => "its line has another number",
+    };
+    Failure::shown(Status::BadData, at_event(alloc, number, words))
+}
+
 /// The event of a row. `BadData` where its line is none, or is that of another number.
 pub fn event_of<'a>(alloc: Global, row: &'a EventRow) -> Result<Event<'a>, Failure>
     ensures { IfOk result (λ e. IsSpelledDeed (deed_view e.deed)) }
 {
     match read_line(alloc, row.line.as_slice()) {
         Ok((number, event)) if number == u64::from(row.number) => Ok(event),
-        Ok(_) => Err(Failure::shown(
-            Status::BadData,
-            at_event(alloc, row.number, "its line has another number"),
-        )),
-        Err(LineFault::NotALine) => Err(Failure::shown(
-            Status::BadData,
-            at_event(alloc, row.number, "its line is none of an event"),
-        )),
-        Err(LineFault::NoMemory) => Err(Failure::NoMemory),
+        Ok(_) => Err(line_failure(alloc, row.number, None)),
+        Err(fault) => Err(line_failure(alloc, row.number, Some(fault))),
+    }
+}
+
+/// The same, of a row against which nothing stands: its line is one, and is not written again to be compared.
+pub fn judged_event_of<'a>(alloc: Global, row: &'a EventRow) -> Result<Event<'a>, Failure>
+    ensures { IfOk result (λ e. IsSpelledDeed (deed_view e.deed)) }
+{
+    match read_line_again(alloc, row.line.as_slice()) {
+        Ok((number, event)) if number == u64::from(row.number) => Ok(event),
+        Ok(_) => Err(line_failure(alloc, row.number, None)),
+        Err(fault) => Err(line_failure(alloc, row.number, Some(fault))),
     }
 }

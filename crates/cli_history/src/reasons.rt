@@ -1,4 +1,4 @@
-//! Whether a history requires reasons.
+//! What a person decides of a history itself: whether it requires reasons, and that what was found is let stand.
 
 ghost use Rattle.record_history.specs.Spelled.{IsSpelledDeed};
 ghost use Rattle.record_history.specs.Views.{deed_view};
@@ -6,8 +6,8 @@ ghost use Rattle.record_history.specs.Views.{deed_view};
 use crate::author::Author;
 use crate::beginning::line_now;
 use crate::opening::{Purpose, occasion_of};
-use crate::restating::prepared;
-use cli_console::Failure;
+use crate::restating::{Ready, prepared};
+use cli_console::{Failure, Status};
 use command_lines::archives::Reasons;
 use record_history::Deed;
 use record_noted::NotedStore;
@@ -24,16 +24,18 @@ fn deed_of(reasons: Reasons) -> Deed<'static>
     }
 }
 
-/// Notes the next event of a history: whether reasons are required.
+/// Notes a deed as the next event of a history. Answers the number of the event.
 fn note_next<'a, S: Alter>(
     rt: &'a HostRuntime,
     noted: &mut NotedStore<S>,
     author: &'a Author<'_>,
-    reasons: Reasons,
-) -> Result<u32, Failure> {
+    deed: Deed<'_>,
+) -> Result<u32, Failure>
+    requires { IsSpelledDeed (deed_view deed) }
+{
     let number = noted.next();
     let occasion = occasion_of(rt, author, None)?;
-    let line = line_now(rt, &occasion, number, deed_of(reasons))?;
+    let line = line_now(rt, &occasion, number, deed)?;
     let lines = vec![in rt.alloc(); line]?;
     noted.note_all(lines.as_slice()).map_err(|fault| Failure::of_store(
         rt.alloc(),
@@ -43,18 +45,88 @@ fn note_next<'a, S: Alter>(
     Ok(number)
 }
 
+/// Whether reasons are required already, or need not be given already.
+fn is_so(reasons: Reasons, are_required: bool) -> bool {
+    match reasons {
+        Reasons::Required => are_required,
+        Reasons::Optional => !are_required,
+    }
+}
+
+/// Notes whether reasons are required, unless it is so already.
+fn note_if_new<S: Alter>(
+    rt: &HostRuntime,
+    noted: &mut NotedStore<S>,
+    author: &Author<'_>,
+    reasons: Reasons,
+    are_required: bool,
+) -> Result<Option<u32>, Failure> {
+    if is_so(reasons, are_required) {
+        return Ok(None);
+    }
+    let number = note_next(rt, noted, author, deed_of(reasons))?;
+    Ok(Some(number))
+}
+
 /// Notes in a history whether reasons are required from now on of those who decide which records are kept, and how long.
-/// Answers the number of the event. A failure is one of `open_ledger`; the store is handed back.
+/// Answers the number of the event; none where it was so before, and nothing is noted. A failure is one of `open_ledger`; the
+/// store is handed back.
 pub fn note_reasons<S: Alter>(
     rt: &HostRuntime,
     noted: NotedStore<S>,
     author: &Author<'_>,
     reasons: Reasons,
-) -> (Store<S>, Result<u32, Failure>) {
+) -> (Store<S>, Result<Option<u32>, Failure>) {
     match prepared(rt, noted, author, Purpose::Capturing) {
-        Ok(noted) => {
+        Ok(prepared) => {
+            let Ready {
+                noted,
+                replayed,
+                ..
+            } = prepared;
             let mut noted = noted;
-            let done = note_next(rt, &mut noted, author, reasons);
+            let are_required = replayed.requires_reasons();
+            let done = note_if_new(rt, &mut noted, author, reasons, are_required);
+            (noted.into_store(), done)
+        }
+        Err((archive, failure)) => (archive, Err(failure)),
+    }
+}
+
+/// Accepts what was found. `BadData` where nothing is without acceptance, and where what is to be accepted was noted only
+/// just now, so that nobody has looked at it.
+fn accept_next<S: Alter>(
+    rt: &HostRuntime,
+    ready: &mut Ready<S>,
+    author: &Author<'_>,
+) -> Result<u32, Failure> {
+    if ready.is_restated {
+        return Err(ready.replayed.findings().failure());
+    }
+    if !ready.replayed.findings().is_unaccepted() {
+        return Err(Failure::told(
+            rt.alloc(),
+            Status::BadData,
+            "nothing that was found is left to accept",
+        ));
+    }
+    note_next(rt, &mut ready.noted, author, Deed::FindingsAccepted)
+}
+
+/// Notes in a history that a person lets stand what a program that keeps none has left. Answers the number of the event.
+/// `BadData` where there is nothing to accept, and where such a program has changed the archive since the last event: then
+/// what is there is noted as found first, and can be accepted once it was looked at. Other failures are those of
+/// `open_ledger`; the store is handed back.
+pub fn accept_findings<S: Alter>(
+    rt: &HostRuntime,
+    noted: NotedStore<S>,
+    author: &Author<'_>,
+) -> (Store<S>, Result<u32, Failure>) {
+    match prepared(rt, noted, author, Purpose::Keeping) {
+        Ok(ready) => {
+            let mut ready = ready;
+            let done = accept_next(rt, &mut ready, author);
+            let Ready { noted, .. } = ready;
             (noted.into_store(), done)
         }
         Err((archive, failure)) => (archive, Err(failure)),

@@ -4,10 +4,13 @@ ghost use Rattle.std.specs.Prelude.{◌≡◌};
 ghost use Rattle.record_history.specs.Views.{deed_view};
 ghost use Rattle.cli_history.specs.Reasons.{are_required};
 
+use crate::findings::Findings;
 use crate::flaws::failure_of;
-use crate::pages::{Events, event_of};
+use crate::opening::Purpose;
+use crate::pages::{Events, judged_event_of};
+use crate::seals::Seals;
 use cli_console::Failure;
-use record_history::Deed;
+use record_history::{Deed, Event, read_line};
 use record_judge::{Judge, SealedArchive};
 use record_noted::NotedStore;
 use record_store::EventRow;
@@ -19,6 +22,9 @@ use std::alloc::{AllocError, Global};
 pub struct Replayed {
     judge: Judge,
     requires_reasons: bool,
+    findings: Findings,
+    /// The seals that it tells of messages, where records may be destroyed.
+    seals: Option<Seals>,
 }
 
 /// Whether reasons are required after a deed, by whether they were before it.
@@ -34,6 +40,7 @@ fn requires_after(is_before: bool, deed: &Deed<'_>) -> bool
         | Deed::Destroyed { .. }
         | Deed::ClassAdded { .. }
         | Deed::PlanReplaced(_)
+        | Deed::FindingsAccepted
         | Deed::FoundPlan(_)
         | Deed::FoundMessage { .. }
         | Deed::FoundRecord { .. }
@@ -42,11 +49,25 @@ fn requires_after(is_before: bool, deed: &Deed<'_>) -> bool
 }
 
 impl Replayed {
-    fn new(alloc: Global) -> Result<Replayed, AllocError> {
+    fn new(alloc: Global, purpose: Purpose) -> Result<Replayed, AllocError> {
         Ok(Replayed {
             judge: Judge::new(alloc)?,
             requires_reasons: false,
+            findings: Findings::none(alloc),
+            seals: if purpose.ends() {
+                Some(Seals::none(alloc))
+            } else {
+                None
+            },
         })
+    }
+
+    /// Keeps the seal that a deed tells, if seals are kept.
+    fn keep_seal(&mut self, number: u32, deed: Deed<'_>) -> Result<(), AllocError> {
+        match &mut self.seals {
+            Some(seals) => seals.take(number, deed),
+            None => Ok(()),
+        }
     }
 
     /// Does an event again.
@@ -57,9 +78,11 @@ impl Replayed {
         if let Err(flaw) = taken {
             return Err(failure_of(alloc, row.number, flaw));
         }
-        let event = event_of(alloc, row)?;
+        let event = judged_event_of(alloc, row)?;
         self.requires_reasons = requires_after(self.requires_reasons, &event.deed);
-        Ok(())
+        self.findings.take(row.number, &event)?;
+        let Event { deed, .. } = event;
+        Ok(self.keep_seal(row.number, deed)?)
     }
 
     /// Does the events of a page again.
@@ -70,9 +93,13 @@ impl Replayed {
         Ok(())
     }
 
-    /// A history, done again. `BadData` where something stands against an event, which the words name.
-    pub fn of<S: Alter>(rt: &HostRuntime, noted: &mut NotedStore<S>) -> Result<Replayed, Failure> {
-        let mut replayed = Replayed::new(rt.alloc())?;
+    /// A history, done again for a purpose. `BadData` where something stands against an event, which the words name.
+    pub fn of<S: Alter>(
+        rt: &HostRuntime,
+        noted: &mut NotedStore<S>,
+        purpose: Purpose,
+    ) -> Result<Replayed, Failure> {
+        let mut replayed = Replayed::new(rt.alloc(), purpose)?;
         let mut events = Events::all();
         for _ in 0..u64::MAX {
             let Some(page) = events.next_page(rt, noted)? else {
@@ -81,6 +108,34 @@ impl Replayed {
             replayed.take_page(rt.alloc(), page.as_slice())?;
         }
         Ok(replayed)
+    }
+
+    /// Notes that lines were added behind its events, which tell what was found.
+    pub fn take_found(&mut self, alloc: Global, lines: &[Vec<u8>]) -> Result<(), Failure> {
+        for line in lines {
+            let Ok((number, event)) = read_line(alloc, line.as_slice()) else {
+                return Err(Failure::NoMemory);
+            };
+            let number = u32::try_from(number).unwrap_or(u32::MAX);
+            self.findings.take(number, &event)?;
+        }
+        Ok(())
+    }
+
+    /// What was found behind its beginning.
+    pub fn findings(&self) -> &Findings
+        ensures { result.now ≡ self.now.findings }
+    {
+        &self.findings
+    }
+
+    /// The seals that it tells of messages; none where no record may be destroyed.
+    pub fn into_seals(self, alloc: Global) -> Seals {
+        let Replayed { seals, .. } = self;
+        match seals {
+            Some(seals) => seals,
+            None => Seals::none(alloc),
+        }
     }
 
     /// What it makes of an archive.

@@ -6,7 +6,9 @@ ghost use Rattle.cli_history.specs.Reasons.{lacks_reason as is_reason_lacking};
 use crate::author::Author;
 use crate::beginning::{Known, findings_in};
 use crate::comparison::{Depth, compare, tell_differences};
-use crate::opening::{Purpose, occasion_for, open_noted};
+use crate::differences::{Changes, plain_reason};
+use crate::findings::UNKNOWN;
+use crate::opening::{Purpose, occasion_by, open_noted};
 use crate::replaying::Replayed;
 use cli_console::{Failure, Status, tell_words};
 use record_judge::SealedArchive;
@@ -14,9 +16,6 @@ use record_noted::NotedStore;
 use record_store::Store;
 use sqlite::Alter;
 use std::alloc::Global;
-
-/// For what reason it is noted.
-const FOUND: &str = "another program has changed the archive without its history";
 
 /// Whether a reason is lacking.
 fn lacks_reason(purpose: Purpose, is_required: bool, reason: &str) -> bool
@@ -42,54 +41,102 @@ fn judge_reason(
     Ok(())
 }
 
-/// Whether the store has anything else than a history makes, by the rows. What differs is told.
-fn is_apart<S: Alter>(
+/// What another program has done, where the store has anything else than a history makes, by the rows. What differs is told.
+fn changes_apart<S: Alter>(
     rt: &HostRuntime,
     noted: &mut NotedStore<S>,
     made: &SealedArchive,
-) -> Result<bool, Failure> {
+) -> Result<Option<Changes>, Failure> {
     let comparison = compare(rt, noted, made, Depth::Rows)?;
     if comparison.is_same() {
-        return Ok(false);
+        return Ok(None);
     }
     tell_words(
         rt,
         "another program has changed the archive without its history; what is there is noted as found",
     );
     tell_differences(rt, noted, &comparison)?;
-    Ok(true)
+    Ok(Some(comparison.into_changes()))
 }
 
-/// Does a history again for a change. Answers it where the store has anything else than it makes. A failure is that of
-/// `prepared`.
-fn replayed_apart<S: Alter>(
+/// A history that was done again for a change, and what another program has done since its last event, if anything.
+#[derive(Drop)]
+struct Sight {
+    replayed: Replayed,
+    changes: Option<Changes>,
+}
+
+/// Does a history again for a change, and compares the store with what it makes. A failure is one of `prepared`.
+fn look_at<S: Alter>(
     rt: &HostRuntime,
     noted: &mut NotedStore<S>,
     author: &Author<'_>,
     purpose: Purpose,
-) -> Result<Option<Replayed>, Failure> {
+) -> Result<Sight, Failure> {
     author.named(rt)?;
-    let replayed = Replayed::of(rt, noted)?;
+    let replayed = Replayed::of(rt, noted, purpose)?;
     judge_reason(rt.alloc(), &replayed, author, purpose)?;
-    if is_apart(rt, noted, replayed.archive())? {
-        Ok(Some(replayed))
-    } else {
-        Ok(None)
-    }
+    let changes = changes_apart(rt, noted, replayed.archive())?;
+    Ok(Sight { replayed, changes })
 }
 
-/// The lines of all that is there in a store, from the event of a number on. A message that the history knows keeps the seal
-/// that it has there.
-fn lines_found<'a, S: Alter>(
+/// The lines of all that is there in a store, from the event of a number on. Nobody knows who did it: the reasons say who
+/// notes it, and the first one what was done. A message that the history knows keeps the seal that it has there.
+pub fn lines_found<'a, S: Alter>(
     rt: &'a HostRuntime,
     archive: &mut Store<S>,
-    author: &'a Author<'_>,
-    next: u32,
-    replayed: &Replayed,
+    first: u32,
+    made: &SealedArchive,
+    first_reason: &'a str,
+    reason: &'a str,
 ) -> Result<Vec<Vec<u8>>, Failure> {
-    let known = Known::of(rt.alloc(), replayed.archive())?;
-    let occasion = occasion_for(rt, author, FOUND, None)?;
-    findings_in(rt, archive, &occasion, next, &known)
+    let known = Known::of(rt.alloc(), made)?;
+    let heading = occasion_by(rt, UNKNOWN, first_reason, None)?;
+    let occasion = occasion_by(rt, UNKNOWN, reason, None)?;
+    findings_in(rt, archive, &heading, &occasion, first, &known)
+}
+
+/// The lines of all that is there in a store after another program has changed it.
+fn lines_apart<S: Alter>(
+    rt: &HostRuntime,
+    archive: &mut Store<S>,
+    author: &Author<'_>,
+    first: u32,
+    made: &SealedArchive,
+    changes: &Changes,
+) -> Result<Vec<Vec<u8>>, Failure> {
+    let who = author.named(rt)?;
+    let first_reason = changes.reason(who)?;
+    let reason = plain_reason(rt.alloc(), who)?;
+    lines_found(
+        rt,
+        archive,
+        first,
+        made,
+        first_reason.as_str(),
+        reason.as_str(),
+    )
+}
+
+/// Notes lines behind the events of a history, in one transaction, and takes them. A failure hands the store back.
+fn note_found<S: Alter>(
+    rt: &HostRuntime,
+    archive: Store<S>,
+    replayed: &mut Replayed,
+    lines: &[Vec<u8>],
+) -> Result<NotedStore<S>, (Store<S>, Failure)> {
+    let mut noted = match open_noted(rt, archive) {
+        Ok(noted) => noted,
+        Err(refusal) => return Err(refusal),
+    };
+    let done = match noted.note_all(lines) {
+        Ok(()) => replayed.take_found(rt.alloc(), lines),
+        Err(fault) => Err(Failure::of_store(rt.alloc(), "the history", fault)),
+    };
+    match done {
+        Ok(()) => Ok(noted),
+        Err(failure) => Err((noted.into_store(), failure)),
+    }
 }
 
 /// Notes all that is there behind the events of a history, in one transaction. A failure hands the store back.
@@ -97,42 +144,78 @@ fn restate<S: Alter>(
     rt: &HostRuntime,
     noted: NotedStore<S>,
     author: &Author<'_>,
-    replayed: &Replayed,
+    replayed: &mut Replayed,
+    changes: &Changes,
 ) -> Result<NotedStore<S>, (Store<S>, Failure)> {
     let next = noted.next();
     let mut archive = noted.into_store();
-    let lines = match lines_found(rt, &mut archive, author, next, replayed) {
-        Ok(lines) => lines,
-        Err(failure) => return Err((archive, failure)),
+    match lines_apart(rt, &mut archive, author, next, replayed.archive(), changes) {
+        Ok(lines) => note_found(rt, archive, replayed, lines.as_slice()),
+        Err(failure) => Err((archive, failure)),
+    }
+}
+
+/// A history that is ready for a change of its archive.
+#[derive(Drop)]
+pub struct Ready<S: Alter> {
+    pub noted: NotedStore<S>,
+    /// What its events tell.
+    pub replayed: Replayed,
+    /// Whether it was noted just now what another program has done.
+    pub is_restated: bool,
+}
+
+/// Notes what another program has done, if anything.
+fn prepared_with<S: Alter>(
+    rt: &HostRuntime,
+    noted: NotedStore<S>,
+    author: &Author<'_>,
+    sight: Sight,
+) -> Result<Ready<S>, (Store<S>, Failure)> {
+    let Sight { replayed, changes } = sight;
+    let mut replayed = replayed;
+    let Some(changes) = changes else {
+        return Ok(Ready {
+            noted,
+            replayed,
+            is_restated: false,
+        });
     };
-    let mut noted = match open_noted(rt, archive) {
-        Ok(noted) => noted,
-        Err(refusal) => return Err(refusal),
-    };
-    match noted.note_all(lines.as_slice()) {
-        Ok(()) => Ok(noted),
-        Err(fault) => {
-            let failure = Failure::of_store(rt.alloc(), "the history", fault);
-            Err((noted.into_store(), failure))
-        }
+    match restate(rt, noted, author, &mut replayed, &changes) {
+        Ok(noted) => Ok(Ready {
+            noted,
+            replayed,
+            is_restated: true,
+        }),
+        Err(refusal) => Err(refusal),
     }
 }
 
 /// Prepares a history for a change of its archive. What another program has changed since its last event is told, and all
-/// that is there is noted as found, by the author of the change.
+/// that is there is noted as found.
 ///
 /// `Usage` where it is not known who changes the archive, or where a reason is required and none is given; `BadData` where
-/// something stands against an event. A failure hands the store back.
+/// something stands against an event, and where the change can end the keeping of records while something that was found is
+/// not accepted. A failure hands the store back.
 pub fn prepared<S: Alter>(
     rt: &HostRuntime,
     noted: NotedStore<S>,
     author: &Author<'_>,
     purpose: Purpose,
-) -> Result<NotedStore<S>, (Store<S>, Failure)> {
+) -> Result<Ready<S>, (Store<S>, Failure)> {
     let mut noted = noted;
-    match replayed_apart(rt, &mut noted, author, purpose) {
-        Ok(None) => Ok(noted),
-        Ok(Some(replayed)) => restate(rt, noted, author, &replayed),
-        Err(failure) => Err((noted.into_store(), failure)),
+    let sight = match look_at(rt, &mut noted, author, purpose) {
+        Ok(sight) => sight,
+        Err(failure) => return Err((noted.into_store(), failure)),
+    };
+    let ready = match prepared_with(rt, noted, author, sight) {
+        Ok(ready) => ready,
+        Err(refusal) => return Err(refusal),
+    };
+    if ready.replayed.findings().blocks(purpose) {
+        let failure = ready.replayed.findings().failure();
+        let Ready { noted, .. } = ready;
+        return Err((noted.into_store(), failure));
     }
+    Ok(ready)
 }

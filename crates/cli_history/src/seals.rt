@@ -40,7 +40,7 @@ pub enum Fidelity {
 }
 
 /// The deed of an event; none where its line cannot be read, or is that of another number. The only refusal is no memory.
-fn deed_of(alloc: Global, row: &EventRow) -> Result<Option<Deed<'_>>, AllocError> {
+pub(crate) fn deed_of(alloc: Global, row: &EventRow) -> Result<Option<Deed<'_>>, AllocError> {
     match read_line(alloc, row.line.as_slice()) {
         Ok((number, event)) if number == u64::from(row.number) => {
             let Event { deed, .. } = event;
@@ -150,7 +150,7 @@ impl Seals {
     }
 
     /// Notes the seal that a deed tells, if it tells one. The only refusal is no memory.
-    fn take(&mut self, event: u32, deed: Deed<'_>) -> Result<(), AllocError>
+    pub(crate) fn take(&mut self, event: u32, deed: Deed<'_>) -> Result<(), AllocError>
         ensures { OnOk result ((n : ℕ) → known self.new n ≡
             later (sealed_by event (deed_view deed.entry) n) (known self.old n)) }
     {

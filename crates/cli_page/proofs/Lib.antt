@@ -5,3 +5,6 @@ pub mod TallyLemmas
 pub mod DayLemmas
 mod Rows
 pub mod MarkLemmas
+pub mod KeptLemmas
+pub mod SeenLemmas
+pub mod PushLemmas

@@ -1,6 +1,12 @@
 -- Examples of the definitions.
-use Rattle.std.proofs.Common.{◌≡◌, ◌∷◌, [], codes, refl}
+use Rattle.std.proofs.Common.{◌≡◌, ◌∷◌, ◌++◌, [], codes, refl, false, true, Some, None}
 use Rattle.cli_page.specs.Marks.{read_all}
+use Rattle.class_plan.specs.declared.schedules.Action.TheVariants as action
+use Rattle.class_plan.specs.declared.schedules.Schedule.TheVariants.{Permanent, After}
+use Rattle.class_plan.specs.declared.schedules.Unit.TheVariants.{Years}
+use Rattle.cli_page.specs.DueLists.{ruling_by, ruling_words, row_tag}
+use Rattle.cli_page.specs.declared.due_list.Ruling.TheVariants as ruling
+use Rattle.cli_page.specs.KeptNumbers.{numbers_of}
 use Rattle.cli_page.specs.Columns.{no_year, breadth_of, span_of, no_column, columns_from, columns_of}
 
 -- one year with records, 1971
@@ -27,3 +33,17 @@ without_its_marks = refl
 
 as_it_is : read_all (codes "O'Neil") ≡ codes "O'Neil"
 as_it_is = refl
+
+-- seven years, and then a review
+review_after_seven_years : ruling_by (Some (After 7 Years action.Review false)) ≡ ruling.Review
+review_after_seven_years = refl
+
+its_words : ruling_words ruling.Review false ≡ codes "Not destroyed: its schedule is review. "
+its_words = refl
+
+free : ruling_words (ruling_by (Some (After 7 Years action.Destroy false))) false ≡ codes "May be destroyed"
+free = refl
+
+-- two records apart
+one_and_seven : numbers_of (record { first = 1; more = 0 } ∷ record { first = 7; more = 0 } ∷ []) ≡ 1 ∷ 7 ∷ []
+one_and_seven = refl

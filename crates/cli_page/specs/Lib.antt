@@ -4,3 +4,7 @@ pub mod Columns
 pub mod Tallies
 pub mod Days
 pub mod Marks
+pub mod Pages
+pub mod DueLists
+pub mod KeptNumbers
+pub mod Seeing

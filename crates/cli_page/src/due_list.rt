@@ -1,5 +1,9 @@
 //! What is due by the day, for signature.
 
+ghost use Rattle.std.specs.Prelude.{◌≡◌, ◌++◌, ◌∷◌, [], map, flat_map, count_by, option_map, IfOk, OnOk, OnErr};
+ghost use Rattle.class_plan.specs.Plans.{schedule_at};
+ghost use Rattle.cli_page.specs.DueLists.{ruling_by, due_record, due_view, is_held as is_held_item, is_free as is_free_item, ruling_words, holds_word as holds_word_of, more_names, hold_names, bar_words, texts_shown, number_head, day_cell, free_words, row_tag as row_tag_of, first_cells as first_cells_of, row as row_of, table_head, table_end, counts as counts_of_items, list as list_of, section_head};
+
 use crate::fault::ReportFault;
 use crate::page::{Page, put};
 use crate::report::Record;
@@ -10,7 +14,7 @@ use std::alloc::{AllocError, Global};
 /// What may be done with a record that is due.
 #[derive(Clone, Copy)]
 enum Ruling {
-    /// Its schedule destroys it, and no hold keeps it.
+    /// Its schedule destroys it.
     Destroy,
     /// Its schedule is that somebody reviews it.
     Review,
@@ -40,26 +44,24 @@ pub struct DueList {
 }
 
 /// What the schedule of a class says of a record that is due.
-fn ruling_of(plan: &Plan, path: &[u8]) -> Ruling {
-    match plan.schedule_of(path) {
-        Some(
-            Schedule::After {
-                action: Action::Destroy,
-                ..
-            },
-        ) => Ruling::Destroy,
-        Some(
-            Schedule::After {
-                action: Action::Transfer,
-                ..
-            },
-        ) => Ruling::Transfer,
-        _ => Ruling::Review,
+fn ruling_of(plan: &Plan, path: &[u8]) -> Ruling
+    ensures { result ≡ ruling_by (schedule_at plan.now path.now) }
+{
+    let Some(Schedule::After { action, .. }) = plan.schedule_of(path) else {
+        return Ruling::Review;
+    };
+    match action {
+        Action::Destroy => Ruling::Destroy,
+        Action::Transfer => Ruling::Transfer,
+        Action::Review => Ruling::Review,
     }
 }
 
 /// A copy of the names of holds.
-fn copy_of(alloc: Global, holds: &[Vec<u8>]) -> Result<Vec<Vec<u8>>, ReportFault> {
+fn copy_of(alloc: Global, holds: &[Vec<u8>]) -> Result<Vec<Vec<u8>>, ReportFault>
+    ensures { IfOk result (λ names. map (λ n. n.items) names.items
+        ≡ map (λ h. h.items) holds.now) }
+{
     let mut names = Vec::new(alloc);
     for name in holds {
         names.push(Vec::from_slice(alloc, name.as_slice())?)?;
@@ -67,67 +69,237 @@ fn copy_of(alloc: Global, holds: &[Vec<u8>]) -> Result<Vec<Vec<u8>>, ReportFault
     Ok(names)
 }
 
-/// Adds the names of holds.
-fn push_names(page: &mut Page, holds: &[Vec<u8>]) -> Result<(), AllocError> {
-    page.markup(if holds.len() == 1 {
-        "Hold: "
-    } else {
-        "Holds: "
-    })?;
-    let mut is_first = true;
+/// What comes before the names of holds.
+fn holds_word(others: usize) -> &'static str
+    ensures { result.now ≡ holds_word_of others }
+{
+    if others == 0 { "Hold: " } else { "Holds: " }
+}
+
+/// Adds the names of holds, each after a comma.
+fn push_more_names(page: &mut Page, holds: &[Vec<u8>]) -> Result<(), AllocError>
+    ensures { OnOk result (page.new ≡ page.old ++ more_names (map (λ h. h.items) holds.now)) }
+{
     for name in holds {
-        if !is_first {
-            page.markup(", ")?;
-        }
-        is_first = false;
-        page.name(name.as_slice())?;
+        put!(page; ", " name(name.as_slice()))?;
     }
     Ok(())
 }
 
+/// Adds the names of the holds on a record, if there are any.
+fn push_names(page: &mut Page, holds: &[Vec<u8>]) -> Result<(), AllocError>
+    ensures { OnOk result (page.new ≡ page.old ++ hold_names (map (λ h. h.items) holds.now)) }
+{
+    match holds {
+        [] => Ok(()),
+        [first, others @ ..] => {
+            put!(page; markup(holds_word(others.len())) name(first.as_slice()))?;
+            push_more_names(page, others)
+        }
+    }
+}
+
+/// Adds what a schedule says of the destruction of a record: also that nothing bars it.
+fn push_ruling(page: &mut Page, ruling: Ruling, is_held: bool) -> Result<(), AllocError>
+    ensures { OnOk result (page.new ≡ page.old ++ ruling_words ruling is_held) }
+{
+    match ruling {
+        Ruling::Destroy if is_held => Ok(()),
+        Ruling::Destroy => page.markup("May be destroyed"),
+        Ruling::Review => page.markup("Not destroyed: its schedule is review. "),
+        Ruling::Transfer => page.markup("Not destroyed: its schedule is transfer. "),
+    }
+}
+
+/// Adds the sender and the subject of a message, if they are known.
+fn push_texts(page: &mut Page, headers: Option<&Headers>) -> Result<(), AllocError>
+    ensures { OnOk result
+        (page.new ≡ page.old ++ texts_shown (option_map (λ h. h.now) headers.entry)) }
+{
+    match headers {
+        Some(headers) => put!(page;
+            text(headers.sender.as_str()) "<br>" text(headers.subject.as_str())
+        ),
+        None => Ok(()),
+    }
+}
+
+/// Adds the cell of a record's number, and the tag of the next one.
+#[tactic(auto, unfolding(crate::specs::DueLists::number_head))]
+fn push_number(page: &mut Page, number: u64) -> Result<(), AllocError>
+    ensures { OnOk result (page.new ≡ page.old ++ number_head number) }
+{
+    put!(page;
+        "<th scope=\"row\" class=\"n\">" number(number) "</th><td>"
+    )
+}
+
+/// Adds a day in a cell, after the end of the one before.
+#[tactic(auto, unfolding(crate::specs::DueLists::day_cell))]
+fn push_day(page: &mut Page, day: Date) -> Result<(), AllocError>
+    ensures { OnOk result (page.new ≡ page.old ++ day_cell day) }
+{
+    put!(page; "</td><td class=\"d\">" date(day))
+}
+
 impl Item {
+    /// Whether a hold keeps it.
+    fn is_held(&self) -> bool
+        ensures { result ≡ is_held_item self.now }
+    {
+        !self.holds.is_empty()
+    }
+
+    /// Whether it may be destroyed: its schedule destroys it, and no hold keeps it.
+    fn is_free(&self) -> bool
+        ensures { result ≡ is_free_item self.now }
+    {
+        matches!(self.ruling, Ruling::Destroy) && !self.is_held()
+    }
+
+    /// The tag with which its row begins.
+    fn row_tag(&self) -> &'static str
+        ensures { result.now ≡ row_tag_of (is_free_item self.now) }
+    {
+        if self.is_free() {
+            "<tr>"
+        } else {
+            "<tr class=\"barred\">"
+        }
+    }
+
     /// Adds what bars the destruction of the record, or that nothing does.
-    fn bar(&self, page: &mut Page) -> Result<(), AllocError> {
-        match self.ruling {
-            Ruling::Destroy if self.holds.is_empty() => page.markup("May be destroyed")?,
-            Ruling::Destroy => {}
-            Ruling::Review => page.markup("Not destroyed: its schedule is review. ")?,
-            Ruling::Transfer => page.markup("Not destroyed: its schedule is transfer. ")?,
-        }
-        if self.holds.is_empty() {
-            return Ok(());
-        }
+    fn bar(&self, page: &mut Page) -> Result<(), AllocError>
+        ensures { OnOk result (page.new ≡ page.old ++ bar_words self.now) }
+    {
+        push_ruling(page, self.ruling, self.is_held())?;
         push_names(page, self.holds.as_slice())
     }
 
-    /// Whether it may be destroyed.
-    fn is_free(&self) -> bool {
-        matches!(self.ruling, Ruling::Destroy) && self.holds.is_empty()
+    /// Adds the cells of its number, its class and its days.
+    #[tactic(auto, unfolding(crate::specs::DueLists::first_cells))]
+    fn first_cells(&self, page: &mut Page) -> Result<(), AllocError>
+        ensures { OnOk result (page.new ≡ page.old ++ first_cells_of self.now) }
+    {
+        push_number(page, u64::from(self.number))?;
+        page.name(self.path.as_slice())?;
+        push_day(page, self.day)?;
+        push_day(page, self.due)
     }
 
     /// Adds the row of the record.
-    fn row(&self, page: &mut Page) -> Result<(), AllocError> {
-        put!(page;
-            markup(if self.is_free() { "<tr>" } else { "<tr class=\"barred\">" })
-            "<th scope=\"row\" class=\"n\">" number(u64::from(self.number))
-            "</th><td>" name(self.path.as_slice())
-            "</td><td class=\"d\">" date(self.day)
-            "</td><td class=\"d\">" date(self.due) "</td><td>"
-        )?;
-        if let Some(headers) = &self.headers {
-            put!(page;
-                text(headers.sender.as_str()) "<br>" text(headers.subject.as_str())
-            )?;
-        }
+    #[tactic(auto, unfolding(crate::specs::DueLists::row))]
+    fn row(&self, page: &mut Page) -> Result<(), AllocError>
+        ensures { OnOk result (page.new ≡ page.old ++ row_of self.now) }
+    {
+        page.markup(self.row_tag())?;
+        self.first_cells(page)?;
+        page.markup("</td><td>")?;
+        push_texts(page, self.headers.as_ref())?;
         page.markup("</td><td>")?;
         self.bar(page)?;
         page.markup("</td><td class=\"sign\"></td></tr>\n")
     }
 }
 
+/// How many records may be destroyed.
+fn free_count(items: &[Item]) -> usize
+    ensures { result ≡ count_by is_free_item items.now }
+{
+    items.iter().filter(|item| item.is_free()).count()
+}
+
+/// Adds the rows of records.
+fn push_rows(page: &mut Page, items: &[Item]) -> Result<(), AllocError>
+    ensures { OnOk result (page.new ≡ page.old ++ flat_map row_of items.now) }
+{
+    for item in items {
+        item.row(page)?;
+    }
+    Ok(())
+}
+
+/// Adds what comes before the rows of records that are due by a day.
+#[tactic(auto, unfolding(crate::specs::DueLists::table_head))]
+fn open_table(page: &mut Page, day: Date) -> Result<(), AllocError>
+    ensures { OnOk result (page.new ≡ page.old ++ table_head day) }
+{
+    put!(page;
+        "<table>\n<caption>Live records that are due by " date(day)
+        ", by number</caption>\n<thead><tr><th scope=\"col\" class=\"n\">Record</th>\
+        <th scope=\"col\">Class</th><th scope=\"col\">Captured</th>\
+        <th scope=\"col\">Due</th><th scope=\"col\" class=\"t\">Sender and subject</th>\
+        <th scope=\"col\">What bars destruction</th>\
+        <th scope=\"col\" class=\"sign\">Approved (initials)</th></tr></thead>\n<tbody>\n"
+    )
+}
+
+/// Adds what comes after the rows: who authorizes the destruction.
+#[tactic(auto, unfolding(crate::specs::DueLists::table_end))]
+fn close_table(page: &mut Page) -> Result<(), AllocError>
+    ensures { OnOk result (page.new ≡ page.old ++ table_end) }
+{
+    page.markup(
+        "</tbody>\n</table>\n<div class=\"signature\">\n\
+        <p>The destruction of the records that are approved above is authorized by:</p>\n\
+        <ul><li>Name</li><li>Function</li><li>Date</li><li>Signature</li></ul>\n\
+        </div>\n</section>\n",
+    )
+}
+
+/// Adds how many of the records may be destroyed.
+#[tactic(auto, unfolding(crate::specs::DueLists::free_words))]
+fn push_free(page: &mut Page, count: usize) -> Result<(), AllocError>
+    ensures { OnOk result (page.new ≡ page.old ++ free_words count) }
+{
+    put!(page;
+        ", of which " number(count as u64) " may be destroyed.</p>\n\
+        <p>A record may be destroyed from the day on which it is due, that day included.</p>\n"
+    )
+}
+
+/// Adds how many records there are, and how many of them may be destroyed.
+#[tactic(auto, unfolding(crate::specs::DueLists::counts))]
+fn push_counts(page: &mut Page, items: &[Item]) -> Result<(), AllocError>
+    ensures { OnOk result (page.new ≡ page.old ++ counts_of_items items.now) }
+{
+    put!(page; "<p>Records: " number(items.len() as u64))?;
+    push_free(page, free_count(items))?;
+    Ok(())
+}
+
+/// Adds the heading of the section of what is due by a day.
+#[tactic(auto, unfolding(crate::specs::DueLists::section_head))]
+fn open_section(page: &mut Page, day: Date) -> Result<(), AllocError>
+    ensures { OnOk result (page.new ≡ page.old ++ section_head day) }
+{
+    put!(page;
+        "<section aria-labelledby=\"due\" class=\"due\">\n<h2 id=\"due\">Due by " date(day)
+        ", for signature</h2>\n"
+    )
+}
+
+/// Adds the list of records that are due by a day.
+#[tactic(auto, unfolding(crate::specs::DueLists::list))]
+fn push_list(page: &mut Page, items: &[Item], day: Date) -> Result<(), AllocError>
+    ensures { OnOk result (page.new ≡ page.old ++ list_of items.now day) }
+{
+    match items {
+        [] => page.markup("<p>No record is due by this day.</p>\n</section>\n"),
+        items => {
+            push_counts(page, items)?;
+            open_table(page, day)?;
+            push_rows(page, items)?;
+            close_table(page)
+        }
+    }
+}
+
 impl DueList {
     /// Nothing is due.
-    pub fn new(alloc: Global) -> DueList {
+    pub fn new(alloc: Global) -> DueList
+        ensures { result.items.items ≡ [] }
+    {
         let items = Vec::new(alloc);
         DueList { alloc, items }
     }
@@ -139,7 +311,13 @@ impl DueList {
         record: &Record<'_>,
         headers: Option<&Headers>,
         due: Date,
-    ) -> Result<(), ReportFault> {
+    ) -> Result<(), ReportFault>
+        ensures ok { OnOk result (map due_view self.new.items.items
+            ≡ map due_view self.old.items.items ++ due_record plan.now «record».now due ∷ []) }
+        ensures numbers { OnOk result (map (λ d. d.number) (map due_view self.new.items.items)
+            ≡ map (λ d. d.number) (map due_view self.old.items.items) ++ «record».now.number ∷ []) }
+        ensures err { OnErr result (self.new.items.items ≡ self.old.items.items) }
+    {
         let path = Vec::from_slice(self.alloc, record.path)?;
         let holds = copy_of(self.alloc, record.holds)?;
         let headers = match headers {
@@ -160,47 +338,18 @@ impl DueList {
     }
 
     /// How many records may be destroyed.
-    pub(crate) fn free_count(&self) -> usize {
-        self.items.iter().filter(|item| item.is_free()).count()
+    pub(crate) fn free_count(&self) -> usize
+        ensures { result ≡ count_by is_free_item self.now.items.items }
+    {
+        free_count(self.items.as_slice())
     }
 
-    /// Adds how many records there are, and how many of them may be destroyed.
-    fn heading(&self, page: &mut Page, day: Date) -> Result<(), AllocError> {
-        put!(page;
-            "<section aria-labelledby=\"due\" class=\"due\">\n<h2 id=\"due\">Due by " date(day)
-            ", for signature</h2>\n"
-        )?;
-        if self.items.is_empty() {
-            return page.markup("<p>No record is due by this day.</p>\n</section>\n");
-        }
-        put!(page;
-            "<p>Records: " number(self.items.len() as u64) ", of which "
-            number(self.free_count() as u64) " may be destroyed.</p>\n"
-        )
-    }
-
-    /// Adds the section of what is due.
-    pub fn section(&self, page: &mut Page, day: Date) -> Result<(), AllocError> {
-        self.heading(page, day)?;
-        if self.items.is_empty() {
-            return Ok(());
-        }
-        put!(page;
-            "<table>\n<caption>Live records that are due by " date(day)
-            ", by number</caption>\n<thead><tr><th scope=\"col\" class=\"n\">Record</th>\
-            <th scope=\"col\">Class</th><th scope=\"col\">Captured</th>\
-            <th scope=\"col\">Due</th><th scope=\"col\" class=\"t\">Sender and subject</th>\
-            <th scope=\"col\">What bars destruction</th>\
-            <th scope=\"col\" class=\"sign\">Approved (initials)</th></tr></thead>\n<tbody>\n"
-        )?;
-        for item in self.items.as_slice() {
-            item.row(page)?;
-        }
-        page.markup(
-            "</tbody>\n</table>\n<div class=\"signature\">\n\
-            <p>The destruction of the records that are approved above is authorized by:</p>\n\
-            <ul><li>Name</li><li>Function</li><li>Date</li><li>Signature</li></ul>\n\
-            </div>\n</section>\n",
-        )
+    /// Adds the section of what is due, for signature.
+    pub fn section(&self, page: &mut Page, day: Date) -> Result<(), AllocError>
+        ensures { OnOk result
+            (page.new ≡ page.old ++ section_head day ++ list_of self.now.items.items day) }
+    {
+        open_section(page, day)?;
+        push_list(page, self.items.as_slice(), day)
     }
 }

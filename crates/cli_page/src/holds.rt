@@ -1,15 +1,18 @@
 //! The holds of an archive, by name, and the records that each keeps.
 
+ghost use Rattle.std.specs.Prelude.{◌≡◌, ◌++◌, ◌∷◌, [], ◌+◌, flat_map, IfSome, OnOk};
+ghost use Rattle.cli_page.specs.KeptNumbers.{numbers_in, numbers_of, stretch_text, more_stretch, stretches_text, hold_head, numbers_cell, hold_row};
+
 use crate::fault::ReportFault;
 use crate::page::{Page, put};
 use std::alloc::{AllocError, Global};
 use std::collections::BTreeMap;
 
-/// Records with consecutive numbers.
+/// Records with consecutive numbers: a first one, and so many more.
 #[derive(Clone, Copy)]
 struct Stretch {
     first: u32,
-    last: u32,
+    more: u32,
 }
 
 /// The holds of an archive, in byte order of their names, each with the records that it keeps.
@@ -19,45 +22,133 @@ pub struct Holds {
     holds: BTreeMap<Vec<u8>, Vec<Stretch>>,
 }
 
-/// Adds a record to those of a hold, after those with smaller numbers.
-fn push_number(stretches: &mut Vec<Stretch>, number: u32) -> Result<(), ReportFault> {
-    if let Some(stretch) = stretches.last_mut() {
-        if stretch.last.checked_add(1) == Some(number) {
-            stretch.last = number;
-            return Ok(());
+impl Stretch {
+    /// One record.
+    fn of(number: u32) -> Stretch
+        ensures { numbers_in result ≡ number ∷ [] }
+    {
+        Stretch {
+            first: number,
+            more: 0,
         }
     }
-    let stretch = Stretch {
-        first: number,
-        last: number,
+
+    /// The number of its last record.
+    fn last(self) -> u64
+        ensures { result ≡ self.first + self.more }
+    {
+        u64::from(self.first) + u64::from(self.more)
+    }
+
+    /// With the record right after its last one. None where a number is another one's.
+    #[tactic(auto, using(crate::proofs::KeptLemmas::count_up_next))]
+    fn with(self, number: u32) -> Option<Stretch>
+        ensures { IfSome result (λ s. numbers_in s ≡ numbers_in self ++ number ∷ []) }
+    {
+        if u64::from(number) != self.last() + 1 {
+            return None;
+        }
+        let more = self.more.checked_add(1)?;
+        Some(Stretch {
+            first: self.first,
+            more,
+        })
+    }
+}
+
+/// Adds a record to those of a hold, after those with smaller numbers.
+fn push_number(stretches: &mut Vec<Stretch>, number: u32) -> Result<(), ReportFault>
+    ensures { OnOk result
+        (numbers_of stretches.new.items ≡ numbers_of stretches.old.items ++ number ∷ []) }
+{
+    let Some(last) = stretches.pop() else {
+        stretches.push(Stretch::of(number))?;
+        return Ok(());
     };
-    stretches.push(stretch)?;
+    match last.with(number) {
+        Some(longer) => stretches.push(longer)?,
+        None => {
+            stretches.push(last)?;
+            stretches.push(Stretch::of(number))?;
+        }
+    }
     Ok(())
 }
 
 /// How many records there are in some stretches.
 fn count_of(stretches: &[Stretch]) -> u64 {
-    stretches.iter().fold(0, |count: u64, stretch| {
-        let length = u64::from(stretch.last.saturating_sub(stretch.first)).saturating_add(1);
-        count.saturating_add(length)
-    })
+    let mut count = 0u64;
+    for stretch in stretches {
+        count = count.saturating_add(u64::from(stretch.more) + 1);
+    }
+    count
+}
+
+/// Adds the numbers of a stretch, as `7` or `1-3`.
+fn push_stretch(page: &mut Page, stretch: Stretch) -> Result<(), AllocError>
+    ensures { OnOk result (page.new ≡ page.old ++ stretch_text stretch) }
+{
+    page.number(u64::from(stretch.first))?;
+    if stretch.more == 0 {
+        return Ok(());
+    }
+    put!(page; "\u{2013}" number(stretch.last()))
+}
+
+/// Adds the numbers of stretches, each after a comma.
+fn push_more_stretches(page: &mut Page, stretches: &[Stretch]) -> Result<(), AllocError>
+    ensures { OnOk result (page.new ≡ page.old ++ flat_map more_stretch stretches.now) }
+{
+    for stretch in stretches {
+        page.markup(", ")?;
+        push_stretch(page, *stretch)?;
+    }
+    Ok(())
 }
 
 /// Adds the numbers of records, as `1-3, 7`.
-fn push_stretches(page: &mut Page, stretches: &[Stretch]) -> Result<(), AllocError> {
-    let mut is_first = true;
-    for stretch in stretches {
-        if !is_first {
-            page.markup(", ")?;
-        }
-        is_first = false;
-        page.number(u64::from(stretch.first))?;
-        if stretch.last > stretch.first {
-            page.markup("\u{2013}")?;
-            page.number(u64::from(stretch.last))?;
+fn push_stretches(page: &mut Page, stretches: &[Stretch]) -> Result<(), AllocError>
+    ensures { OnOk result (page.new ≡ page.old ++ stretches_text stretches.now) }
+{
+    match stretches {
+        [] => Ok(()),
+        [first, others @ ..] => {
+            push_stretch(page, *first)?;
+            push_more_stretches(page, others)
         }
     }
-    Ok(())
+}
+
+/// Adds the name of a hold at the beginning of its row.
+#[tactic(auto, unfolding(crate::specs::KeptNumbers::hold_head))]
+fn open_hold(page: &mut Page, name: &[u8]) -> Result<(), AllocError>
+    ensures { OnOk result (page.new ≡ page.old ++ hold_head name.now) }
+{
+    put!(page; "<tr><th scope=\"row\">" name(name) "</th>")
+}
+
+/// Adds the numbers of records in a cell, and the end of the row.
+#[tactic(auto, unfolding(crate::specs::KeptNumbers::numbers_cell))]
+fn push_numbers(page: &mut Page, stretches: &[Stretch]) -> Result<(), AllocError>
+    ensures { OnOk result (page.new ≡ page.old ++ numbers_cell stretches.now) }
+{
+    page.markup("<td>")?;
+    push_stretches(page, stretches)?;
+    put!(page; "</td></tr>\n")
+}
+
+/// Adds the row of a hold: its name, how many records it keeps, and which.
+fn push_hold(
+    page: &mut Page,
+    name: &[u8],
+    count: u64,
+    stretches: &[Stretch],
+) -> Result<(), AllocError>
+    ensures { OnOk result (page.new ≡ page.old ++ hold_row name.now count stretches.now) }
+{
+    open_hold(page, name)?;
+    page.number_cell(count)?;
+    push_numbers(page, stretches)
 }
 
 impl Holds {
@@ -79,16 +170,11 @@ impl Holds {
         Ok(())
     }
 
-    /// Adds the rows of a table: the name of each hold, how many records it keeps, and which.
+    /// Adds the rows of the table.
     fn rows(&self, page: &mut Page) -> Result<(), AllocError> {
         for (name, stretches) in &self.holds {
             let stretches = stretches.as_slice();
-            put!(page;
-                "<tr><th scope=\"row\">" name(name.as_slice()) "</th>"
-                number_cell(count_of(stretches)) "<td>"
-            )?;
-            push_stretches(page, stretches)?;
-            page.markup("</td></tr>\n")?;
+            push_hold(page, name.as_slice(), count_of(stretches), stretches)?;
         }
         Ok(())
     }

@@ -34,6 +34,8 @@ pub struct IndexHeading<'a> {
     /// The conditions that its records meet, and their numbers, as they are typed. None where it is of all records.
     pub conditions: Option<&'a str>,
     pub order: Order,
+    /// Whether the events of its records are beside it, in `history.txt`.
+    pub has_history: bool,
 }
 
 /// What an index has of a message.
@@ -220,13 +222,24 @@ impl Index {
         )
     }
 
-    /// Adds the head of the table.
-    fn table_head(page: &mut Page) -> Result<(), AllocError> {
+    /// Adds the caption of the table.
+    fn caption(page: &mut Page, has_history: bool) -> Result<(), AllocError> {
         page.markup(
-            "<table>\n\
-            <caption>Long texts are cut here; manifest.csv has them whole. SHA256SUMS has the \
-            sums of the files.</caption>\n\
-            <thead><tr><th scope=\"col\" class=\"n\">Record</th>\
+            "<caption>Long texts are cut here; manifest.csv has them whole. SHA256SUMS has the \
+            sums of the files.",
+        )?;
+        if has_history {
+            page.markup(" <a href=\"history.txt\">history.txt</a> has the events of the records.")?;
+        }
+        page.markup("</caption>\n")
+    }
+
+    /// Adds the head of the table.
+    fn table_head(page: &mut Page, has_history: bool) -> Result<(), AllocError> {
+        page.markup("<table>\n")?;
+        Index::caption(page, has_history)?;
+        page.markup(
+            "<thead><tr><th scope=\"col\" class=\"n\">Record</th>\
             <th scope=\"col\" class=\"k\">Class</th>\
             <th scope=\"col\" class=\"d\">Captured</th><th scope=\"col\" class=\"d\">Due</th>\
             <th scope=\"col\">Sender</th><th scope=\"col\">Subject</th>\
@@ -239,7 +252,7 @@ impl Index {
     pub fn write(mut self, page: &mut Page, about: &IndexHeading<'_>) -> Result<(), AllocError> {
         sort_rows(&mut self.rows, about.order)?;
         self.heading(page, about)?;
-        Index::table_head(page)?;
+        Index::table_head(page, about.has_history)?;
         for row in self.rows.as_slice() {
             row.write(page)?;
         }

@@ -1,12 +1,13 @@
 //! The text of a page, which grows piece by piece.
 
-ghost use Rattle.std.specs.Prelude.{◌≡◌, ◌++◌, [], OnOk, string_bytes};
-ghost use Rattle.std.specs.Str.{chars, encode_utf8_all};
-ghost use Rattle.cli_page.specs.Escaping.{shown_all};
+ghost use Rattle.std.specs.Prelude.{◌≡◌, ◌++◌, [], OnOk, decimal, string_bytes};
+ghost use Rattle.jiff.specs.Words.{date_text};
+ghost use Rattle.cli_page.specs.Pages.{text_piece, name_piece, time_piece, number_cell_piece};
 
 use crate::escaping::push_escaped;
 use class_plan::Date;
 use std::alloc::{AllocError, Global};
+use std::marker::Model;
 use std::str;
 
 /// Adds pieces to a page, one after the other: markup, and values by the calls of `Page` that are named.
@@ -31,13 +32,21 @@ pub(crate) use put;
 #[derive(Drop)]
 pub struct Page {
     alloc: Global,
-    pub(crate) html: String,
+    html: String,
+}
+
+impl Model for Page {
+    ghost use Rattle.std.specs.Prelude.{ℕ, List, string_bytes};
+
+    ghost Value = { List ℕ };
+
+    ghost view = { λ p. string_bytes p.html };
 }
 
 impl Page {
     /// An empty page.
     pub fn new(alloc: Global) -> Page
-        ensures { string_bytes result.html ≡ [] }
+        ensures { result ≡ [] }
     {
         let html = String::new(alloc);
         Page { alloc, html }
@@ -45,23 +54,26 @@ impl Page {
 
     /// Adds markup.
     pub fn markup(&mut self, markup: &'static str) -> Result<(), AllocError>
-        ensures { OnOk result
-            (string_bytes self.new.html ≡ string_bytes self.old.html ++ markup.now) }
+        ensures { OnOk result (self.new ≡ self.old ++ markup.now) }
     {
         self.html.push_str(markup)
     }
 
     /// Adds text, as [`escaped`](crate::escaped) shows it.
+    #[tactic(auto, unfolding(crate::specs::Pages::text_piece))]
     pub fn text(&mut self, text: &str) -> Result<(), AllocError>
-        ensures { OnOk result (string_bytes self.new.html
-            ≡ string_bytes self.old.html ++ encode_utf8_all (shown_all (chars text.now))) }
+        ensures { OnOk result (self.new ≡ self.old ++ text_piece text.now) }
     {
         push_escaped(&mut self.html, text)
     }
 
-    /// Adds the path of a class, the name of a hold or a schedule, which are ASCII.
-    pub fn name(&mut self, name: &[u8]) -> Result<(), AllocError> {
-        self.text(str::from_utf8(name).unwrap_or("\u{fffd}"))
+    /// Adds the path of a class, the name of a hold or a schedule, which are ASCII. What is no UTF-8 is U+FFFD.
+    #[tactic(auto, unfolding(crate::specs::Pages::name_piece))]
+    pub fn name(&mut self, name: &[u8]) -> Result<(), AllocError>
+        ensures { OnOk result (self.new ≡ self.old ++ name_piece name.now) }
+    {
+        let text = String::from_utf8_lossy(self.alloc, name)?;
+        self.text(text.as_str())
     }
 
     /// Adds the path of a class. A line may end after each slash of it.
@@ -79,29 +91,39 @@ impl Page {
     }
 
     /// Adds a number in decimal.
-    pub fn number(&mut self, number: u64) -> Result<(), AllocError> {
+    pub fn number(&mut self, number: u64) -> Result<(), AllocError>
+        ensures { OnOk result (self.new ≡ self.old ++ decimal number) }
+    {
         write!(self.html, "{number}")
     }
 
-    /// Adds a date as `2030-11-14`.
-    pub fn date(&mut self, date: Date) -> Result<(), AllocError> {
+    /// Adds a date as `2030-11-14`, which has digits and hyphens alone.
+    pub fn date(&mut self, date: Date) -> Result<(), AllocError>
+        ensures { OnOk result (self.new ≡ self.old ++ date_text date) }
+    {
         let text = format!(in self.alloc; "{date}")?;
-        self.text(text.as_str())
+        self.html.push_str(text.as_str())
     }
 
     /// Adds a date as an element, which is not broken into lines.
-    pub(crate) fn time(&mut self, date: Date) -> Result<(), AllocError> {
+    #[tactic(auto, unfolding(crate::specs::Pages::time_piece))]
+    pub(crate) fn time(&mut self, date: Date) -> Result<(), AllocError>
+        ensures { OnOk result (self.new ≡ self.old ++ time_piece date) }
+    {
         put!(self; "<time>" date(date) "</time>")
     }
 
     /// Adds a number in a cell of a table.
-    pub(crate) fn number_cell(&mut self, number: u64) -> Result<(), AllocError> {
+    #[tactic(auto, unfolding(crate::specs::Pages::number_cell_piece))]
+    pub(crate) fn number_cell(&mut self, number: u64) -> Result<(), AllocError>
+        ensures { OnOk result (self.new ≡ self.old ++ number_cell_piece number) }
+    {
         put!(self; "<td class=\"n\">" number(number) "</td>")
     }
 
     /// What was added.
     pub fn as_str(&self) -> &str
-        ensures { result.now ≡ string_bytes self.now.html }
+        ensures { result.now ≡ self.now }
     {
         self.html.as_str()
     }

@@ -1,7 +1,12 @@
 //! A report on an archive: what it counts and keeps of the records, and its parts.
 
+ghost use Rattle.std.specs.Prelude.{◌≡◌, ◌++◌, ◌&&◌, [], pos, map, is_some, option_map, IfOk, OnOk};
+ghost use Rattle.jiff.specs.Words.{epoch_day};
+ghost use Rattle.cli_page.specs.DueLists.{due_view};
+ghost use Rattle.cli_page.specs.Seeing.{due_seen, seen_for, listed_if, AddsRecord, report_day, listed_numbers, is_listed, number_if};
+
 use crate::counts::Seen;
-use crate::dates::due_day;
+use crate::dates::{DueDay, due_day};
 use crate::due_list::DueList;
 use crate::fault::ReportFault;
 use crate::holds::Holds;
@@ -55,9 +60,67 @@ pub struct Report {
     due: DueList,
 }
 
+/// A due date as it is counted. One before 1970 is refused.
+#[tactic(auto, using(crate::proofs::SeenLemmas::due_seen_is))]
+fn due_of(due: Option<Date>) -> Result<Option<DueDay>, ReportFault>
+    ensures { IfOk result (λ d. d ≡ option_map due_seen due) }
+{
+    let Some(date) = due else {
+        return Ok(None);
+    };
+    match due_day(date) {
+        Some(day) => Ok(Some(day)),
+        None => Err(ReportFault::NoDay),
+    }
+}
+
+/// What is counted of a record.
+fn seen_of(record: &Record<'_>) -> Result<Seen, ReportFault>
+    ensures { IfOk result (λ s. s ≡ seen_for «record».now) }
+{
+    Ok(Seen {
+        is_destroyed: record.is_destroyed,
+        is_held: !record.holds.is_empty(),
+        due: due_of(record.due)?,
+    })
+}
+
+/// Adds a record to those of each of its holds.
+fn add_holds(holds: &mut Holds, record: &Record<'_>) -> Result<(), ReportFault> {
+    for name in record.holds {
+        holds.add(name.as_slice(), record.number)?;
+    }
+    Ok(())
+}
+
+/// Lists a record, where it is due.
+fn list_due(
+    list: &mut DueList,
+    plan: &Plan,
+    record: &Record<'_>,
+    headers: Option<&Headers>,
+    is_due: bool,
+) -> Result<(), ReportFault>
+    ensures listed { OnOk result (map due_view list.new.items.items
+        ≡ map due_view list.old.items.items
+        ++ listed_if is_due plan.now «record».now «record».now.due) }
+    ensures numbers { OnOk result (map (λ d. d.number) (map due_view list.new.items.items)
+        ≡ map (λ d. d.number) (map due_view list.old.items.items)
+        ++ number_if (is_due && is_some «record».now.due) «record».now.number) }
+{
+    match record.due {
+        Some(due) if is_due => list.add(plan, record, headers, due),
+        _ => Ok(()),
+    }
+}
+
 impl Report {
     /// A report without records on the classes of a plan. A day before 1970 is refused.
-    pub fn new(alloc: Global, plan: &Plan, day: Date) -> Result<Report, ReportFault> {
+    pub fn new(alloc: Global, plan: &Plan, day: Date) -> Result<Report, ReportFault>
+        ensures day { IfOk result (λ r. epoch_day day ≡ pos r.day_number) }
+        ensures tally { IfOk result (λ r. r.tally.day ≡ r.day_number) }
+        ensures due { IfOk result (λ r. r.due.items.items ≡ []) }
+    {
         let day_number = due_day(day).ok_or(ReportFault::NoDay)?.day;
         Ok(Report {
             alloc,
@@ -76,26 +139,19 @@ impl Report {
         plan: &Plan,
         record: &Record<'_>,
         headers: Option<&Headers>,
-    ) -> Result<(), ReportFault> {
-        let due = match record.due {
-            Some(date) => Some(due_day(date).ok_or(ReportFault::NoDay)?),
-            None => None,
-        };
-        let seen = Seen {
-            is_destroyed: record.is_destroyed,
-            is_held: !record.holds.is_empty(),
-            due,
-        };
+    ) -> Result<(), ReportFault>
+        ensures added { OnOk result (AddsRecord plan.now «record».now self.old self.new) }
+        ensures numbers { OnOk result (listed_numbers self.new ≡ listed_numbers self.old
+            ++ number_if (is_listed (report_day self.old)
+            «record».now.is_destroyed «record».now.due)
+            «record».now.number) }
+        ensures day { OnOk result (report_day self.new ≡ report_day self.old) }
+    {
+        let seen = seen_of(record)?;
+        let is_due = seen.is_due(self.day_number);
         self.tally.add(record.path, &seen)?;
-        for name in record.holds {
-            self.holds.add(name.as_slice(), record.number)?;
-        }
-        match record.due {
-            Some(date) if seen.is_due(self.day_number) => {
-                self.due.add(plan, record, headers, date)
-            }
-            _ => Ok(()),
-        }
+        add_holds(&mut self.holds, record)?;
+        list_due(&mut self.due, plan, record, headers, is_due)
     }
 
     /// Writes the report, for a heading with its day.

@@ -6,7 +6,7 @@ use crate::folder::{ListFile, judge_free, make_file, make_folder, write_to};
 use crate::list::row_of;
 use crate::report::record_of;
 use cli_choice::Questions;
-use cli_console::{Failure, Search, message_of, now, write_text};
+use cli_console::{Failure, Search, Status, message_of, now, write_text};
 use cli_history::{Extract, Fidelity, Seals, Subjects};
 use cli_page::{Index, IndexHeading, Order, Page};
 use cli_texts::{
@@ -47,6 +47,8 @@ struct Export<'a> {
     last: Option<Met>,
     /// Those whose messages are not written, since they are not the ones that were captured.
     altered: Altered,
+    /// Whether the events of the records were written.
+    has_history: bool,
     count: Count,
 }
 
@@ -62,6 +64,7 @@ impl<'a> Export<'a> {
             seals,
             last: None,
             altered: Altered::none(alloc),
+            has_history: false,
             count: Count {
                 records: 0,
                 messages: 0,
@@ -269,20 +272,75 @@ fn export_record<S: Alter>(
     export.manifest.write(rt, export.folder, row.as_slice())
 }
 
-/// Exports the records that are found.
-fn export_records<S: Alter>(
+/// The next records that are found, one at least. None where the search has come to its end.
+fn next_found<S: Alter>(
     rt: &HostRuntime,
     archive: &mut Store<S>,
-    export: &mut Export<'_>,
     search: &mut Search<'_, '_>,
-) -> Result<(), Failure> {
+) -> Result<Option<Vec<RecordEntry>>, Failure> {
     for _ in 0..u64::MAX {
         let Some(page) = search.next_page(rt, archive)? else {
             break;
         };
-        for entry in page.iter() {
-            export_record(rt, archive, export, entry)?;
+        if !page.is_empty() {
+            return Ok(Some(page));
         }
+    }
+    Ok(None)
+}
+
+/// Exports the records of a page.
+fn export_page<S: Alter>(
+    rt: &HostRuntime,
+    archive: &mut Store<S>,
+    export: &mut Export<'_>,
+    page: &[RecordEntry],
+) -> Result<(), Failure> {
+    for entry in page {
+        export_record(rt, archive, export, entry)?;
+    }
+    Ok(())
+}
+
+/// Exports the first records that are found, and the others.
+fn export_records<S: Alter>(
+    rt: &HostRuntime,
+    archive: &mut Store<S>,
+    export: &mut Export<'_>,
+    first: &[RecordEntry],
+    search: &mut Search<'_, '_>,
+) -> Result<(), Failure> {
+    export_page(rt, archive, export, first)?;
+    for _ in 0..u64::MAX {
+        let Some(page) = next_found(rt, archive, search)? else {
+            break;
+        };
+        export_page(rt, archive, export, page.as_slice())?;
+    }
+    Ok(())
+}
+
+/// The end of a search that has found no record: `BadData`, and nothing is exported.
+fn end_of_none<S: Alter>(
+    rt: &HostRuntime,
+    archive: &mut Store<S>,
+    search: Search<'_, '_>,
+) -> Failure {
+    match search.end(rt, archive) {
+        Ok(()) => Failure::told(
+            rt.alloc(),
+            Status::BadData,
+            "no record is found; nothing is exported",
+        ),
+        Err(failure) => failure,
+    }
+}
+
+/// Makes the folder of an export, in which none of its files may be yet.
+fn prepare_folder(rt: &HostRuntime, folder: &str) -> Result<(), Failure> {
+    make_folder(rt, folder)?;
+    for name in [MANIFEST, SUMS, INDEX, HISTORY] {
+        judge_free(rt, folder, name)?;
     }
     Ok(())
 }
@@ -311,7 +369,7 @@ fn write_events<S: Alter>(
 struct HistoryFile {
     /// Its SHA-256.
     sum: [u8; 32],
-    /// What stands against the history: `BadData` where the line of an event cannot be read, which was told.
+    /// What stands against the history: `BadData` where something stands against an event, which was told.
     told: Result<(), Failure>,
 }
 
@@ -322,17 +380,17 @@ fn write_history<S: Alter>(
     folder: &str,
     subjects: &Subjects,
 ) -> Result<Option<HistoryFile>, Failure> {
-    let Some(extract) = Extract::of(rt.alloc(), archive, subjects) else {
+    let Some(extract) = Extract::of(rt.alloc(), archive, subjects)? else {
         return Ok(None);
     };
     let mut extract = extract;
     let sum = write_events(rt, archive, folder, &mut extract)?;
-    let told = extract.end();
+    let told = extract.end(rt.alloc());
     Ok(Some(HistoryFile { sum, told }))
 }
 
 /// Writes the events of the records to a file, where the store keeps a history, and its sum to the list of sums. Answers what
-/// stands against the history: `BadData` where the line of an event cannot be read, which is told.
+/// stands against the history: `BadData` where something stands against an event, which is told.
 fn export_history<S: Alter>(
     rt: &HostRuntime,
     archive: &mut Store<S>,
@@ -344,6 +402,7 @@ fn export_history<S: Alter>(
     let HistoryFile { sum, told } = written;
     let sum = sum_text(rt.alloc(), sum.as_slice())?;
     write_sum(rt, export, HISTORY, sum.as_str())?;
+    export.has_history = true;
     Ok(told)
 }
 
@@ -360,6 +419,7 @@ fn order_of(sorting: Sorting) -> Order {
 fn write_index(
     rt: &HostRuntime,
     index: Index,
+    has_history: bool,
     file: &str,
     choice: &Choice<'_>,
     target: Target<'_>,
@@ -372,6 +432,7 @@ fn write_index(
         moment: moment.as_str(),
         conditions,
         order: order_of(target.sorting),
+        has_history,
     };
     let mut page = Page::new(rt.alloc());
     index.write(&mut page, &heading)?;
@@ -392,12 +453,13 @@ fn finish(
         mut manifest,
         mut sums,
         index,
+        has_history,
         count,
         ..
     } = export;
     manifest.write(rt, folder, b"")?;
     sums.write(rt, folder, b"")?;
-    write_index(rt, index, file, choice, target)?;
+    write_index(rt, index, has_history, file, choice, target)?;
     write_text(rt, &exported_line(rt.alloc(), count, folder)?)
 }
 
@@ -413,8 +475,8 @@ fn exported_line(alloc: Global, count: Count, folder: &str) -> Result<Shown, All
 /// Exports the records that meet a choice, and whose messages have what is asked of them, to a folder in which none of the
 /// files is yet, and writes how much that is. The index is written after the messages, with the file of the store and what
 /// was asked for: where it is missing, the export was cut off. `BadData` where the class is none of the plan, and where a
-/// number that is typed by itself is not found; where nothing else is, no list is left. `BadData` too where a message is not the
-/// one that was captured: it is not written, which is told, and the others are.
+/// number that is typed by itself is not found. Where no record is found, that is `BadData` too, and nothing is made. `BadData` also
+/// where a message is not the one that was captured: it is not written, which is told, and the others are.
 pub fn export_to<S: Alter>(
     rt: &HostRuntime,
     archive: &mut Store<S>,
@@ -424,17 +486,13 @@ pub fn export_to<S: Alter>(
     target: Target<'_>,
 ) -> Result<(), Failure> {
     let mut search = Search::new(rt, archive, choice, questions)?;
-    let folder = target.folder;
-    make_folder(rt, folder)?;
-    for name in [MANIFEST, SUMS, INDEX, HISTORY] {
-        judge_free(rt, folder, name)?;
-    }
-    let mut export = Export::new(rt.alloc(), folder, Seals::of(rt, archive)?);
-    export_records(rt, archive, &mut export, &mut search)?;
-    let ended = match search.end(rt, archive) {
-        Err(failure) if export.count.records == 0 => return Err(failure),
-        ended => ended,
+    let Some(first) = next_found(rt, archive, &mut search)? else {
+        return Err(end_of_none(rt, archive, search));
     };
+    prepare_folder(rt, target.folder)?;
+    let mut export = Export::new(rt.alloc(), target.folder, Seals::of(rt, archive)?);
+    export_records(rt, archive, &mut export, first.as_slice(), &mut search)?;
+    let ended = search.end(rt, archive);
     export.altered.tell(rt)?;
     let judged = export.altered.end();
     let told = export_history(rt, archive, &mut export)?;

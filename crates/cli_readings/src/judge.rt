@@ -2,13 +2,14 @@
 
 use class_plan::Date;
 use cli_console::{Failure, Walk, is_by, message_of, today, write_text};
+use cli_history::StoredSeals;
 use record_choice::Choice;
-use record_store::{RecordEntry, Store};
+use record_store::{EventLayout, RecordEntry, Store};
 use sqlite::Alter;
 use tool_texts::Shown;
 
 /// What an archive holds.
-#[derive(Clone, Copy)]
+#[derive(Drop)]
 struct Contents {
     records: u64,
     live: u64,
@@ -21,6 +22,10 @@ struct Contents {
     last: u32,
     /// The message that was counted last.
     message: u32,
+    /// Whether the store keeps a history, which tells the seals of messages.
+    is_noted: bool,
+    /// The seals of the messages that were counted, where the store keeps a history.
+    seals: StoredSeals,
 }
 
 impl Contents {
@@ -61,6 +66,10 @@ impl Contents {
         self.message = entry.message;
         self.messages = self.messages.saturating_add(1);
         self.octets = self.octets.saturating_add(octets.len() as u64);
+        if self.is_noted {
+            self.seals
+                .note(rt.alloc(), entry.message, octets.as_slice())?;
+        }
         Ok(())
     }
 }
@@ -77,6 +86,8 @@ fn contents_of<S: Alter>(rt: &HostRuntime, archive: &mut Store<S>) -> Result<Con
         octets: 0,
         last: 0,
         message: 0,
+        is_noted: matches!(archive.event_layout(), EventLayout::Present),
+        seals: StoredSeals::none(rt.alloc()),
     };
     let every = Choice::every();
     let mut walk = Walk::from(&every, 1);
@@ -91,8 +102,12 @@ fn contents_of<S: Alter>(rt: &HostRuntime, archive: &mut Store<S>) -> Result<Con
     Ok(contents)
 }
 
-/// Reads a whole store, and writes to standard output what it holds.
-pub fn write_contents<S: Alter>(rt: &HostRuntime, archive: &mut Store<S>) -> Result<(), Failure> {
+/// Reads a whole store, and writes to standard output what it holds. Answers the seals of its messages where it keeps a
+/// history, and else none.
+pub fn write_contents<S: Alter>(
+    rt: &HostRuntime,
+    archive: &mut Store<S>,
+) -> Result<StoredSeals, Failure> {
     let classes = archive.plan().class_count();
     let held = contents_of(rt, archive)?;
     let counts: [(&'static str, u64); 8] = [
@@ -111,5 +126,7 @@ pub fn write_contents<S: Alter>(rt: &HostRuntime, archive: &mut Store<S>) -> Res
         text.value(&count)?;
         text.end_line()?;
     }
-    write_text(rt, &text)
+    write_text(rt, &text)?;
+    let Contents { seals, .. } = held;
+    Ok(seals)
 }

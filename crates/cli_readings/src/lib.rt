@@ -2,6 +2,7 @@
 //!
 //! - `choice`: what is asked of the records that a command is about; `conditions`: the same as it can be typed;
 //! - `list`, `show`, `export`, `judge` (for `check`), `why` and `report`: these subcommands;
+//! - `twice`: what `list --twice` lists;
 //! - `altered`: records whose messages are not the ones that were captured;
 //! - `folder`: the files of an export;
 //! - `sums`: what a copy is compared by.
@@ -19,6 +20,7 @@ mod list;
 mod report;
 mod show;
 mod sums;
+mod twice;
 mod why;
 
 pub use altered::Altered;
@@ -29,4 +31,5 @@ pub use list::write_list;
 pub use report::write_report;
 pub use show::{message_of_record, write_message};
 pub use sums::{Judged, Summary, judged_summary, summary_of};
+pub use twice::write_twice;
 pub use why::{Captured, read_captured, write_why};

@@ -27,7 +27,7 @@ pub fn row_of(entry: &RecordEntry) -> Row<'_> {
 }
 
 /// What the header of a record's message says, where the message is there and was not read before.
-fn headers_of_record<S: Alter>(
+pub(crate) fn headers_of_record<S: Alter>(
     rt: &HostRuntime,
     archive: &mut Store<S>,
     entry: &RecordEntry,
@@ -40,7 +40,7 @@ fn headers_of_record<S: Alter>(
 }
 
 /// What is listed of the header of a record, where it is asked for.
-fn listed(headers: Option<&Headers>) -> ListedHeaders<'_> {
+pub(crate) fn listed(headers: Option<&Headers>) -> ListedHeaders<'_> {
     match headers {
         Some(texts) => ListedHeaders::Texts(texts),
         None => ListedHeaders::Destroyed,
@@ -48,7 +48,7 @@ fn listed(headers: Option<&Headers>) -> ListedHeaders<'_> {
 }
 
 /// Adds a record to a text.
-fn push_record(
+pub(crate) fn push_record(
     alloc: Global,
     text: &mut Vec<u8>,
     entry: &RecordEntry,

@@ -1,5 +1,9 @@
 //! `report`: one page of HTML on what is kept, what is due and what is held.
 
+ghost use Rattle.std.specs.Prelude.{◌≡◌, ◌++◌, flat_map, OnOk};
+ghost use Rattle.cli_page.specs.Seeing.{listed_numbers, report_day};
+ghost use Rattle.cli_readings.specs.Reports.{due_number, IsRecordOf};
+
 use crate::conditions::conditions_of;
 use class_plan::{Date, Plan};
 use cli_choice::Questions;
@@ -22,7 +26,9 @@ fn report_failure(rt: &HostRuntime, fault: ReportFault) -> Failure {
 }
 
 /// A record as a page reads it.
-pub fn record_of(entry: &RecordEntry) -> Record<'_> {
+pub fn record_of(entry: &RecordEntry) -> Record<'_>
+    ensures { IsRecordOf entry.now result }
+{
     Record {
         number: entry.number,
         path: entry.path.as_slice(),
@@ -54,7 +60,10 @@ fn add_page<S: Alter>(
     report: &mut Report,
     page: &[RecordEntry],
     day: Date,
-) -> Result<(), Failure> {
+) -> Result<(), Failure>
+    ensures { OnOk result (listed_numbers report.new
+        ≡ listed_numbers report.old ++ flat_map (due_number (report_day report.old)) page.now) }
+{
     for entry in page {
         let headers = headers_of_due(rt, archive, entry, day)?;
         report

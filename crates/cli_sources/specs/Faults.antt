@@ -1,5 +1,5 @@
 -- Why an officer has no rules.
-use Rattle.std.specs.Prelude.{◌≡◌, ℕ, List, string_bytes}
+use Rattle.std.specs.Prelude.{◌≡◌, ℕ, Bool, true, false, List, string_bytes}
 use Rattle.desk_commands.specs.Faults.{refusal_of}
 use Rattle.desk_commands.specs.declared.fault.DeskFault.{DeskFault}
 use Rattle.cli_sources.specs.declared.fault.RulesFault.{RulesFault}
@@ -16,3 +16,11 @@ IsRefusedBy path number NoMemory = Unit {0}
 -- the same by the number of a registry's refusal
 abbrev pub IsFaultOf : (path : List ℕ) → DeskFault → RulesFault → Type 0
 IsFaultOf path refusal fault = IsRefusedBy path (refusal_of refusal).number fault
+
+-- the officer's own rules are at fault: missing, or with a script that is refused
+abbrev pub is_of_rules : RulesFault → Bool
+is_of_rules (BadOfficer officer) = false
+is_of_rules (Missing path) = true
+is_of_rules (Unreadable path error) = false
+is_of_rules (Refused path place n) = true
+is_of_rules NoMemory = false

@@ -1,6 +1,7 @@
 //! Why an officer has no rules.
 
-ghost use Rattle.cli_sources.specs.Faults.{IsRefusedBy};
+ghost use Rattle.std.specs.Prelude.{◌≡◌};
+ghost use Rattle.cli_sources.specs.Faults.{IsRefusedBy, is_of_rules as is_fault_of_rules};
 
 use std::alloc::{AllocError, AllocFailed, Global};
 use std::io;
@@ -86,7 +87,9 @@ impl RulesFault {
     }
 
     /// Whether the officer's own rules are at fault: missing, or with a script that is refused.
-    pub fn is_of_rules(&self) -> bool {
+    pub fn is_of_rules(&self) -> bool
+        ensures { result ≡ is_fault_of_rules self.now }
+    {
         matches!(self, RulesFault::Missing(_) | RulesFault::Refused { .. })
     }
 }

@@ -1,6 +1,10 @@
 //! The folders of a Maildir: new mail lies in `new`, and what was taken over in `cur`.
 //!
-//! No contract knows what a file system does. So these calls are only proved to be safe, and tests show what they do.
+//! No contract knows what a file system does. So most of these calls are only proved to be safe, and tests show what they do;
+//! which names are those of messages is proved.
+
+ghost use Rattle.std.specs.Prelude.{◌≡◌, ◌++◌, map, string_bytes, OnOk};
+ghost use Rattle.cli_sources.specs.NewMail.{is_message as is_message_name, if_message};
 
 use std::alloc::{AllocError, Global};
 use std::fs::{self, DirEntry, File};
@@ -26,16 +30,31 @@ pub fn new_path(alloc: Global, maildir: &str, name: &str) -> Result<String, Allo
     format!(in alloc; "{maildir}/new/{name}")
 }
 
+/// Whether a name in `new` is that of a message: it does not begin with a dot.
+fn is_message(name: &[u8]) -> bool
+    ensures { result ≡ is_message_name name.now }
+{
+    match name {
+        [] => true,
+        [first, ..] => *first != b'.',
+    }
+}
+
+/// Adds a name, if it is that of a message.
+fn add_name(alloc: Global, names: &mut Vec<String>, name: &str) -> Result<(), AllocError>
+    ensures { OnOk result (map string_bytes names.new.items
+        ≡ map string_bytes names.old.items ++ if_message name.now) }
+{
+    if is_message(name.as_bytes()) {
+        names.push(String::from_str(alloc, name)?)?;
+    }
+    Ok(())
+}
+
 /// Adds the name of an entry, if it has one.
 fn add_entry(alloc: Global, entry: io::Result<DirEntry>, mail: &mut NewMail) -> io::Result<()> {
     match entry {
-        Ok(entry) => {
-            let name = entry.file_name();
-            if !name.starts_with('.') {
-                mail.names.push(String::from_str(alloc, name)?)?;
-            }
-            Ok(())
-        }
+        Ok(entry) => Ok(add_name(alloc, &mut mail.names, entry.file_name())?),
         Err(error) if error.kind() == ErrorKind::InvalidFilename => {
             mail.nameless = mail.nameless.saturating_add(1);
             Ok(())

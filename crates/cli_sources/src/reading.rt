@@ -128,7 +128,20 @@ impl Scripts for Folder<'_> {
     }
 }
 
-/// The officer's program. Where it is not there, the fault names it, or the officer's folder if that is not there.
+/// The fault where an officer's program is not there. It names the folder of all rules if that is not there, or else the officer's
+/// folder if that is not, or else the program.
+fn missing_program(folder: &Folder<'_>, program: String) -> Result<RulesFault, AllocError> {
+    let own = folder.own.as_str();
+    let rules = own.rsplit_once('/').map_or(own, |(rules, _)| rules);
+    for place in [rules, own] {
+        if !place.is_empty() && !fs::exists(folder.rt, place).unwrap_or(true) {
+            return Ok(RulesFault::Missing(String::from_str(folder.rt.alloc(), place)?));
+        }
+    }
+    Ok(RulesFault::Missing(program))
+}
+
+/// The officer's program. Where it is not there, the fault names the first folder on its path that is not there, or else it.
 fn read_program(folder: &mut Folder<'_>) -> Result<ReachedScript, RulesFault> {
     let alloc = folder.rt.alloc();
     let Some(path) = folder.path(alloc, MAIN.as_bytes(), false)? else {
@@ -137,12 +150,7 @@ fn read_program(folder: &mut Folder<'_>) -> Result<ReachedScript, RulesFault> {
     let text = match folder.read(path.as_str(), false)? {
         Found::Text(text) => Some(text),
         Found::TooLong => None,
-        Found::Nothing if fs::exists(folder.rt, folder.own.as_str()).unwrap_or(true) => {
-            return Err(RulesFault::Missing(path));
-        }
-        Found::Nothing => {
-            return Err(RulesFault::Missing(String::from_str(alloc, folder.own.as_str())?));
-        }
+        Found::Nothing => return Err(missing_program(folder, path)?),
     };
     Ok(ReachedScript {
         path,

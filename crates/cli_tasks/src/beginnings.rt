@@ -1,8 +1,8 @@
-//! Histories that begin, and that come to require reasons.
+//! Histories that begin, that come to require reasons, and in which findings are accepted.
 
 use crate::archives::{Archives, Work, lend};
 use cli_console::{Failure, Status, write_text};
-use cli_history::{Author, begin_history, note_reasons, open_history, open_noted};
+use cli_history::{Author, accept_findings, begin_history, note_reasons, open_history, open_noted};
 use command_lines::archives::Reasons;
 use record_noted::Opened;
 use record_store::Store;
@@ -63,7 +63,7 @@ pub fn begin<A: Archives>(
     write_text(rt, &begun_line(rt.alloc(), count)?)
 }
 
-/// Notes in the history of an archive whether reasons are required. Answers the number of the event.
+/// Notes in the history of an archive whether reasons are required. Answers the number of the event; none where it is so already.
 #[derive(Drop)]
 struct NoteReasons<'a> {
     author: Author<'a>,
@@ -71,13 +71,13 @@ struct NoteReasons<'a> {
 }
 
 impl Work for NoteReasons<'_> {
-    type Answer = u32;
+    type Answer = Option<u32>;
 
     fn work<S: Alter>(
         self,
         rt: &HostRuntime,
         archive: Store<S>,
-    ) -> (Connection<S>, Result<u32, Failure>) {
+    ) -> (Connection<S>, Result<Option<u32>, Failure>) {
         match open_noted(rt, archive) {
             Ok(noted) => {
                 let (archive, done) = note_reasons(rt, noted, &self.author, self.reasons);
@@ -88,19 +88,22 @@ impl Work for NoteReasons<'_> {
     }
 }
 
-/// From which event on reasons are required, or are not.
-fn reasons_line(alloc: Global, reasons: Reasons, number: u32) -> Result<Shown, AllocError> {
+/// From which event on reasons are required, or are not; or that it is so already.
+fn reasons_line(alloc: Global, reasons: Reasons, number: Option<u32>) -> Result<Shown, AllocError> {
     let mut line = Shown::new(alloc);
     line.words(match reasons {
         Reasons::Required => "reasons required",
         Reasons::Optional => "reasons optional",
     })?;
-    put!(line; " event " value(&number))?;
+    match number {
+        Some(number) => put!(line; " event " value(&number))?,
+        None => line.words(" already, and nothing is noted")?,
+    }
     line.end_line()?;
     Ok(line)
 }
 
-/// Notes whether those who decide have to give a reason. `BadData` where the store has no history.
+/// Notes whether those who decide have to give a reason, unless it is so already. `BadData` where the store has no history.
 pub fn require_reasons<A: Archives>(
     rt: &HostRuntime,
     archives: &A,
@@ -111,4 +114,47 @@ pub fn require_reasons<A: Archives>(
     author.named(rt)?;
     let number = lend(rt, archives, store, NoteReasons { author, reasons })?;
     write_text(rt, &reasons_line(rt.alloc(), reasons, number)?)
+}
+
+/// Notes in the history of an archive that what was found is accepted. Answers the number of the event.
+#[derive(Drop)]
+struct AcceptFound<'a>(Author<'a>);
+
+impl Work for AcceptFound<'_> {
+    type Answer = u32;
+
+    fn work<S: Alter>(
+        self,
+        rt: &HostRuntime,
+        archive: Store<S>,
+    ) -> (Connection<S>, Result<u32, Failure>) {
+        match open_noted(rt, archive) {
+            Ok(noted) => {
+                let (archive, done) = accept_findings(rt, noted, &self.0);
+                (archive.into_connection(), done)
+            }
+            Err((archive, failure)) => (archive.into_connection(), Err(failure)),
+        }
+    }
+}
+
+/// In which event findings are accepted.
+fn accepted_line(alloc: Global, number: u32) -> Result<Shown, AllocError> {
+    let mut line = Shown::new(alloc);
+    put!(line; "findings accepted event " value(&number))?;
+    line.end_line()?;
+    Ok(line)
+}
+
+/// Notes that a person lets stand what a program that keeps no history has left. `BadData` where there is nothing to accept,
+/// and where the store has no history.
+pub fn accept_found<A: Archives>(
+    rt: &HostRuntime,
+    archives: &A,
+    store: &str,
+    author: Author<'_>,
+) -> Result<(), Failure> {
+    author.named(rt)?;
+    let number = lend(rt, archives, store, AcceptFound(author))?;
+    write_text(rt, &accepted_line(rt.alloc(), number)?)
 }

@@ -1,26 +1,28 @@
 //! What is changed in an archive, by whom and for what reason.
 
 use crate::archives::Work;
-use class_plan::Date;
+use class_plan::{Date, Plan};
 use cli_changes::{
     Delivered, FilingRules, Intake, NamedRules, Timing, change_holds, deliver_to, dispose_by,
-    replace_plan, take_new,
+    keeps_less, release_all, replace_plan, take_new,
 };
 use cli_choice::{Change, Questions};
 use cli_console::Failure;
-use cli_history::{Author, Purpose, Seals, StoreLedger, open_ledger};
+use cli_history::{Author, Purpose, Seals, StoreLedger, open_ledger, open_with_seals};
 use command_lines::archives::{Choice, Disposal};
 use desk_commands::Payload;
 use record_history::Filing;
 use record_store::Store;
 use sqlite::{Alter, Connection};
-use std::alloc::AllocError;
+use std::alloc::{AllocError, Global};
 
 /// What is changed in an archive by an author.
 #[derive(Drop)]
 pub enum Changing<'a, 't> {
     ReplacePlan {
-        plan: &'a str,
+        /// As it was read from the file at a path.
+        plan: Plan,
+        path: &'a str,
         is_agreed: bool,
     },
     /// Lists or destroys what is due by a day.
@@ -32,45 +34,59 @@ pub enum Changing<'a, 't> {
         choice: &'t Choice<'a>,
         questions: Questions,
     },
+    /// Ends the hold of a name on each record.
+    ReleaseAll {
+        name: &'a str,
+        is_agreed: bool,
+    },
+}
+
+/// For what a ledger is opened in which a plan replaces the present one.
+fn purpose_of(alloc: Global, present: &Plan, new: &Plan) -> Result<Purpose, AllocError> {
+    if keeps_less(alloc, present, new)? {
+        Ok(Purpose::Ending)
+    } else {
+        Ok(Purpose::Keeping)
+    }
 }
 
 impl Changing<'_, '_> {
-    /// The seals by which messages are judged that are destroyed.
-    fn seals<S: Alter>(&self, rt: &HostRuntime, archive: &mut Store<S>) -> Result<Seals, Failure> {
+    /// For what the ledger of an archive with a plan is opened.
+    fn purpose(&self, alloc: Global, present: &Plan) -> Result<Purpose, AllocError> {
         match self {
-            Changing::Dispose(asked, _) if asked.destroys => Seals::of(rt, archive),
-            _ => Ok(Seals::none(rt.alloc())),
-        }
-    }
-
-    /// For what the archive's ledger is opened.
-    fn purpose(&self) -> Purpose {
-        match self {
-            Changing::Dispose(asked, _) if !asked.destroys => Purpose::Listing,
-            Changing::ReplacePlan { .. } | Changing::Dispose(..) | Changing::Hold { .. } => {
-                Purpose::Deciding
+            Changing::ReplacePlan { plan, .. } => purpose_of(alloc, present, plan),
+            Changing::Dispose(asked, _) if !asked.destroys => Ok(Purpose::Listing),
+            Changing::Hold {
+                change: Change::Place,
+                ..
+            } => Ok(Purpose::Keeping),
+            Changing::Dispose(..) | Changing::Hold { .. } | Changing::ReleaseAll { .. } => {
+                Ok(Purpose::Ending)
             }
         }
     }
 
     /// Does it.
     fn perform<S: Alter>(
-        &self,
+        self,
         rt: &HostRuntime,
         ledger: &mut StoreLedger<'_, S>,
         seals: &Seals,
     ) -> Result<(), Failure> {
         match self {
-            Changing::ReplacePlan { plan, is_agreed } => {
-                replace_plan(rt, ledger, *plan, *is_agreed)
-            }
-            Changing::Dispose(asked, day) => dispose_by(rt, ledger, asked, *day, seals),
+            Changing::ReplacePlan {
+                plan,
+                path,
+                is_agreed,
+            } => replace_plan(rt, ledger, plan, path, is_agreed),
+            Changing::Dispose(asked, day) => dispose_by(rt, ledger, &asked, day, seals),
             Changing::Hold {
                 change,
                 name,
                 choice,
                 questions,
-            } => change_holds(rt, ledger, *change, *name, *choice, questions),
+            } => change_holds(rt, ledger, change, name, choice, &questions),
+            Changing::ReleaseAll { name, is_agreed } => release_all(rt, ledger, name, is_agreed),
         }
     }
 }
@@ -91,15 +107,14 @@ impl Work for ChangeBy<'_, '_> {
         archive: Store<S>,
     ) -> (Connection<S>, Result<(), Failure>) {
         let ChangeBy { author, change } = self;
-        let mut archive = archive;
-        let seals = match change.seals(rt, &mut archive) {
-            Ok(seals) => seals,
-            Err(failure) => return (archive.into_connection(), Err(failure)),
+        let purpose = match change.purpose(rt.alloc(), archive.plan()) {
+            Ok(purpose) => purpose,
+            Err(AllocError) => return (archive.into_connection(), Err(Failure::NoMemory)),
         };
         let no_rules = None;
         let filing = filing_of(&no_rules);
-        let mut ledger = match open_ledger(rt, archive, &author, filing, change.purpose()) {
-            Ok(ledger) => ledger,
+        let (mut ledger, seals) = match open_with_seals(rt, archive, &author, filing, purpose) {
+            Ok(open) => open,
             Err((archive, failure)) => return (archive.into_connection(), Err(failure)),
         };
         let done = change.perform(rt, &mut ledger, &seals);
@@ -108,7 +123,7 @@ impl Work for ChangeBy<'_, '_> {
 }
 
 /// By which rules an officer's messages are filed, for a history; none where the rules are at fault.
-fn filing_of(rules: &Option<NamedRules>) -> Option<Filing<'_>> {
+pub(crate) fn filing_of(rules: &Option<NamedRules>) -> Option<Filing<'_>> {
     match rules {
         Some(rules) => Some(Filing {
             officer: rules.officer.as_bytes(),

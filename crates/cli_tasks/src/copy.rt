@@ -3,9 +3,10 @@
 use crate::archives::{Archives, Work, lend, not_made};
 use crate::drafts::{begin, read_back, settle};
 use class_plan::Plan;
-use cli_console::{Failure, Status, write_text};
-use cli_history::{Lines, Seals, open_history};
+use cli_console::{Failure, Status, tell, tell_words, write_text};
+use cli_history::{Author, Lines, Seals, Whole, open_history};
 use cli_readings::{Judged, Summary, judged_summary};
+use command_lines::archives::Attribution;
 use record_copy::{CopyFault, copy_archive};
 use record_noted::Opened;
 use record_store::Store;
@@ -51,25 +52,43 @@ fn copy_failure(alloc: Global, paths: Paths<'_>, fault: CopyFault) -> Failure {
     }
 }
 
+/// What is done where messages are not the ones that were captured, and where the history is not whole.
+#[derive(Clone, Copy)]
+enum Damage {
+    /// Nothing is copied.
+    Refused,
+    /// Messages are copied as they are, and the history as far as it is whole.
+    Copied,
+}
+
+/// A history that is copied.
+#[derive(Drop)]
+enum History {
+    /// All of its lines.
+    Lines(Lines),
+    /// As far as it is whole. What is there is noted as found behind it by this author, where it is not whole.
+    Whole(Whole, Author<'static>),
+}
+
 /// What is kept of an archive while it is copied.
 #[derive(Drop)]
 struct Kept {
     plan: Plan,
     summary: Summary,
     /// Its history, where it keeps one.
-    history: Option<Lines>,
+    history: Option<History>,
 }
 
 /// Reads the history of an archive, where it keeps one. The archive is handed back.
-fn history_of<S: Alter>(
+fn lines_of<S: Alter>(
     rt: &HostRuntime,
     archive: Store<S>,
-) -> (Store<S>, Result<Option<Lines>, Failure>) {
+) -> (Store<S>, Result<Option<History>, Failure>) {
     match open_history(rt, archive) {
         Ok(Opened::Noted(noted)) => {
             let mut noted = noted;
             match Lines::of(rt, &mut noted) {
-                Ok(lines) => (noted.into_store(), Ok(Some(lines))),
+                Ok(lines) => (noted.into_store(), Ok(Some(History::Lines(lines)))),
                 Err(failure) => (noted.into_store(), Err(failure)),
             }
         }
@@ -78,13 +97,46 @@ fn history_of<S: Alter>(
     }
 }
 
-/// What is done where messages are not the ones that were captured.
-#[derive(Clone, Copy)]
-enum Damage {
-    /// Nothing is copied.
-    Refused,
-    /// They are copied as they are.
-    Copied,
+/// Who notes what is there behind a history that is not whole: who runs the program, or else the program.
+const NOBODY: Attribution<'static> = Attribution {
+    by: None,
+    reason: "",
+};
+
+/// Reads the history of an archive as far as it is whole, where it keeps one. What stands against it is told.
+fn whole_of<S: Alter>(
+    rt: &HostRuntime,
+    archive: &mut Store<S>,
+) -> Result<Option<History>, Failure> {
+    let Some(whole) = Whole::of(rt, archive)? else {
+        return Ok(None);
+    };
+    if let Some(fault) = whole.fault() {
+        tell(rt, fault);
+        tell_words(
+            rt,
+            "the copy gets the history before that event, and what is there is noted behind it as found; look at it, and accept it by history --accept-found",
+        );
+    }
+    let author = Author::or_program(rt, &NOBODY)?;
+    Ok(Some(History::Whole(whole, author)))
+}
+
+/// Reads the history of an archive, where it keeps one; as far as it is whole, where damage is copied. The archive is handed
+/// back.
+fn history_of<S: Alter>(
+    rt: &HostRuntime,
+    archive: Store<S>,
+    damage: Damage,
+) -> (Store<S>, Result<Option<History>, Failure>) {
+    match damage {
+        Damage::Refused => lines_of(rt, archive),
+        Damage::Copied => {
+            let mut archive = archive;
+            let whole = whole_of(rt, &mut archive);
+            (archive, whole)
+        }
+    }
 }
 
 /// How much an archive keeps. The records whose messages are not the ones that were captured are told; `BadData` where such
@@ -115,7 +167,7 @@ fn judged_by_seals<S: Alter>(
 fn kept_of<S: Alter>(
     rt: &HostRuntime,
     archive: &mut Store<S>,
-    history: Option<Lines>,
+    history: Option<History>,
     damage: Damage,
 ) -> Result<Kept, Failure> {
     let summary = judged_by_seals(rt, archive, damage)?;
@@ -133,15 +185,15 @@ fn read_all<S: Alter>(
     archive: Store<S>,
     damage: Damage,
 ) -> (Store<S>, Result<Kept, Failure>) {
-    let (archive, history) = history_of(rt, archive);
+    let (archive, history) = history_of(rt, archive, damage);
     let mut archive = archive;
     let kept = history.and_then(|history| kept_of(rt, &mut archive, history, damage));
     (archive, kept)
 }
 
-/// Begins the history of a draft with the lines of another.
+/// Begins the history of a draft with that of another archive.
 #[derive(Drop)]
-struct TakeOver<'l>(&'l Lines);
+struct TakeOver<'h>(&'h History);
 
 impl Work for TakeOver<'_> {
     type Answer = ();
@@ -151,24 +203,34 @@ impl Work for TakeOver<'_> {
         rt: &HostRuntime,
         archive: Store<S>,
     ) -> (Connection<S>, Result<(), Failure>) {
-        let (archive, begun) = self.0.begin(rt, archive);
+        let (archive, begun) = match self.0 {
+            History::Lines(lines) => lines.begin(rt, archive),
+            History::Whole(whole, author) => whole.begin(rt, archive, author),
+        };
         (archive.into_connection(), begun)
     }
 }
 
-/// Takes a history over into a draft, where there is one.
-fn take_over<A: Archives>(
+/// Takes a history over into a draft that was filled, where there is one. The draft is not opened again for that.
+fn take_over<T: Alter>(
     rt: &HostRuntime,
-    archives: &A,
-    draft: &str,
-    history: Option<&Lines>,
-) -> Result<(), Failure> {
-    let Some(lines) = history else {
-        return Ok(());
+    filled: Connection<T>,
+    history: Option<&History>,
+    new: &str,
+) -> (Connection<T>, Result<(), Failure>) {
+    let Some(history) = history else {
+        return (filled, Ok(()));
     };
-    match archives.lend(rt, draft, TakeOver(lines)) {
-        Ok((begun, _)) => begun,
-        Err(failure) => Err(not_made(failure)),
+    if !filled.is_autocommit() {
+        let busy = Failure::at(rt.alloc(), Status::TryAgain, new, &"a transaction is open");
+        return (filled, Err(busy));
+    }
+    match Store::adopt(rt.alloc(), filled) {
+        Ok(archive) => TakeOver(history).work(rt, archive),
+        Err((fault, filled)) => {
+            let failure = Failure::of_store(rt.alloc(), "the new archive", fault);
+            (filled, Err(not_made(failure)))
+        }
     }
 }
 
@@ -177,6 +239,7 @@ fn take_over<A: Archives>(
 struct FillDraft<'f, S: Alter> {
     plan: &'f Plan,
     from: &'f mut Connection<S>,
+    history: Option<&'f History>,
     paths: Paths<'f>,
 }
 
@@ -188,10 +251,15 @@ impl<S: Alter> Work for FillDraft<'_, S> {
         rt: &HostRuntime,
         archive: Store<T>,
     ) -> (Connection<T>, Result<(), Failure>) {
-        let FillDraft { plan, from, paths } = self;
+        let FillDraft {
+            plan,
+            from,
+            history,
+            paths,
+        } = self;
         let mut to = archive.into_connection();
         match copy_archive(rt.alloc(), plan, from, &mut to) {
-            Ok(()) => (to, Ok(())),
+            Ok(()) => take_over(rt, to, history, paths.new),
             Err(fault) => (to, Err(copy_failure(rt.alloc(), paths, fault))),
         }
     }
@@ -222,10 +290,10 @@ fn copy_all<A: Archives, S: Alter>(
     let work = FillDraft {
         plan: &kept.plan,
         from,
+        history: kept.history.as_ref(),
         paths,
     };
     fill(rt, archives, draft, work)?;
-    take_over(rt, archives, draft, kept.history.as_ref())?;
     Ok(kept.summary)
 }
 
@@ -307,7 +375,8 @@ impl<A: Archives> Work for Copying<'_, A> {
 }
 
 /// Makes a new archive with all that another one has. Where that fails, no new one is left. `BadData` where a message is not
-/// the one that was captured, unless such messages are to be copied too, as they are; the records that have them are told.
+/// the one that was captured, and where the history is not whole, unless damage is to be copied: messages as they are, and
+/// the history as far as it is whole, with what is there noted behind it as found. What is damaged is told.
 pub fn copy_to<A: Archives>(
     rt: &HostRuntime,
     archives: &A,

@@ -1,13 +1,14 @@
 //! What is read of histories.
 
 use crate::archives::Work;
-use cli_console::Failure;
+use cli_console::{Failure, write_text};
 use cli_history::{judge_history, open_history, open_noted, write_certificates, write_history};
 use cli_readings::write_contents;
 use command_lines::archives::{HistoryAsked, TypedNumbers};
 use record_noted::{NotedStore, Opened};
 use record_store::Store;
 use sqlite::{Alter, Connection};
+use tool_texts::Shown;
 
 /// What is read of a history.
 #[derive(Drop)]
@@ -64,7 +65,15 @@ fn open_for<S: Alter>(
     }
 }
 
-/// Judges a whole store, and its history where it has one. A mark may be looked for, which a store without a history has
+/// Says that a store has no history.
+fn say_none(rt: &HostRuntime) -> Result<(), Failure> {
+    let mut line = Shown::new(rt.alloc());
+    line.words("no history")?;
+    line.end_line()?;
+    write_text(rt, &line)
+}
+
+/// Judges a whole store, and its history where it has one; else that is said. A mark may be looked for, which a store without a history has
 /// nowhere.
 #[derive(Drop)]
 pub struct CheckAll<'a> {
@@ -80,16 +89,20 @@ impl Work for CheckAll<'_> {
         archive: Store<S>,
     ) -> (Connection<S>, Result<(), Failure>) {
         let mut archive = archive;
-        if let Err(failure) = write_contents(rt, &mut archive) {
-            return (archive.into_connection(), Err(failure));
-        }
+        let stored = match write_contents(rt, &mut archive) {
+            Ok(stored) => stored,
+            Err(failure) => return (archive.into_connection(), Err(failure)),
+        };
         match open_for(rt, archive, self.head) {
             Ok(Opened::Noted(noted)) => {
                 let mut noted = noted;
-                let done = judge_history(rt, &mut noted, self.head);
+                let done = judge_history(rt, &mut noted, self.head, stored);
                 (noted.into_store().into_connection(), done)
             }
-            Ok(Opened::Plain(archive)) => (archive.into_connection(), Ok(())),
+            Ok(Opened::Plain(archive)) => {
+                let said = say_none(rt);
+                (archive.into_connection(), said)
+            }
             Err((archive, failure)) => (archive.into_connection(), Err(failure)),
         }
     }

@@ -2,7 +2,8 @@
 //!
 //! - `archives`: where archives are kept, and how one is lent to a work;
 //! - `subcommands`: what each subcommand does;
-//! - `changes`: what is changed in an archive, by whom and why; `beginnings` and `histories`: its history, begun and read;
+//! - `changes`: what is changed in an archive, by whom and why; `imports`: old mail; `beginnings` and `histories`: its history, begun
+//!   and read;
 //! - `drafts`: new archives, which get their places once they are found whole;
 //! - `copy`: a new archive with all that another one has;
 //! - `reports`: why something was not done, for a person and as a status;
@@ -18,6 +19,7 @@ mod changes;
 mod copy;
 mod drafts;
 mod histories;
+mod imports;
 mod program;
 mod reports;
 mod subcommands;

@@ -1,22 +1,23 @@
 //! What each subcommand does.
 
 use crate::archives::{Archives, Work, lend, settled};
-use crate::beginnings::{begin, require_reasons};
+use crate::beginnings::{accept_found, begin, require_reasons};
 use crate::changes::{ChangeBy, Changing, DeliverOne, TakeNew};
 use crate::copy::{Paths, copy_to};
 use crate::drafts::make;
 use crate::histories::{CheckAll, ReadHistory};
+use crate::imports::import;
 use class_plan::Date;
 use cli_changes::{
     FilingRules, Intake, Timing, check_rules, day_of_disposal, logged, read_message, read_plan,
-    report_delivery, undecoded_in, write_plan,
+    refuse_no_mail, report_delivery, undecoded_in, write_plan,
 };
 use cli_choice::{Change, Questions};
 use cli_console::{Failure, day_or_today};
-use cli_history::Author;
+use cli_history::{Author, write_cases};
 use cli_readings::{
     Captured, export_to, judge_choice, message_of_record, read_captured, write_list, write_message,
-    write_report, write_why,
+    write_report, write_twice, write_why,
 };
 use command_lines::archives::{
     Attribution, Choice, ChosenTask, Command, CommandLine, Disposal, Filing, HistoryTask, Listing,
@@ -38,6 +39,32 @@ impl Work for WritePlan {
         archive: Store<S>,
     ) -> (Connection<S>, Result<(), Failure>) {
         let done = write_plan(rt, archive.plan());
+        (archive.into_connection(), done)
+    }
+}
+
+/// What is read of all records.
+#[derive(Drop)]
+enum Survey {
+    /// The cases, perhaps as JSON.
+    Holds { is_json: bool },
+    /// The records whose messages were captured twice.
+    Twice(Listing),
+}
+
+impl Work for Survey {
+    type Answer = ();
+
+    fn work<S: Alter>(
+        self,
+        rt: &HostRuntime,
+        archive: Store<S>,
+    ) -> (Connection<S>, Result<(), Failure>) {
+        let mut archive = archive;
+        let done = match self {
+            Survey::Holds { is_json } => write_cases(rt, &mut archive, is_json),
+            Survey::Twice(listing) => write_twice(rt, &mut archive, listing),
+        };
         (archive.into_connection(), done)
     }
 }
@@ -144,20 +171,24 @@ impl Work for CheckRules<'_> {
     }
 }
 
-/// Captures the message on standard input. A store that cannot be had, or that may not keep the message, is a reason to
-/// try again, so that a mail server keeps it.
+/// Captures the message on standard input. What looks like no message is refused, unless it is to be captured as it is. A store that
+/// cannot be had, or that may not keep the message, is a reason to try again, so that a mail server keeps it.
 fn deliver<'a, A: Archives>(
     rt: &HostRuntime,
     archives: &A,
     store: &str,
     filing: &Filing<'a>,
+    is_as_is: bool,
     told: &Attribution<'a>,
 ) -> Result<(), Failure> {
     let author = Author::or_program(rt, told)?;
     let timing = Timing::new(rt, filing.moment)?;
     let message = read_message(rt)?;
+    if !is_as_is {
+        refuse_no_mail(rt.alloc(), &message)?;
+    }
     let undecoded = undecoded_in(rt.alloc(), &message);
-    let rules = FilingRules::read(rt, filing, false)?;
+    let rules = FilingRules::read_for_delivery(rt, filing)?;
     rules.tell_unused(rt);
     let work = DeliverOne {
         author,
@@ -350,7 +381,24 @@ fn change<'a, A: Archives>(
     lend(rt, archives, store, ChangeBy { author, change })
 }
 
-/// Begins a history, notes whether it requires reasons, or prints it.
+/// Replaces the plan of an archive by that of the file at a path.
+fn replace_plan<'a, A: Archives>(
+    rt: &HostRuntime,
+    archives: &A,
+    store: &str,
+    path: &'a str,
+    is_agreed: bool,
+    told: &Attribution<'a>,
+) -> Result<(), Failure> {
+    let new_plan = Changing::ReplacePlan {
+        plan: read_plan(rt, path)?,
+        path,
+        is_agreed,
+    };
+    change(rt, archives, store, new_plan, told)
+}
+
+/// Begins a history, notes whether it requires reasons or that findings are accepted, or prints it.
 fn history<A: Archives>(
     rt: &HostRuntime,
     archives: &A,
@@ -363,6 +411,7 @@ fn history<A: Archives>(
         HistoryTask::Reasons(reasons) => {
             require_reasons(rt, archives, store, Author::of(rt, told)?, reasons)
         }
+        HistoryTask::AcceptFound => accept_found(rt, archives, store, Author::of(rt, told)?),
         HistoryTask::Print(asked) => lend(rt, archives, store, ReadHistory::Print(asked)),
     }
 }
@@ -383,15 +432,17 @@ pub fn execute<A: Archives>(
         Command::Create { plan } => create(rt, archives, store, plan, told),
         Command::WritePlan => lend(rt, archives, store, WritePlan),
         Command::ReplacePlan { plan, is_agreed } => {
-            let new_plan = Changing::ReplacePlan { plan, is_agreed };
-            change(rt, archives, store, new_plan, told)
+            replace_plan(rt, archives, store, plan, is_agreed, told)
         }
-        Command::Deliver(filing) => deliver(rt, archives, store, &filing, told),
+        Command::Deliver { filing, is_as_is } => {
+            deliver(rt, archives, store, &filing, is_as_is, told)
+        }
         Command::Intake {
             maildir,
             filing,
             telling,
         } => intake(rt, archives, store, maildir, &filing, telling, told),
+        Command::Import(asked) => import(rt, archives, store, &asked, told),
         Command::Show { record, fields } => show(rt, archives, store, record, fields),
         Command::Copy { new, is_damaged } => copy_to(
             rt,
@@ -403,6 +454,12 @@ pub fn execute<A: Archives>(
         Command::CheckRules(asked) => lend(rt, archives, store, CheckRules(asked)),
         Command::Why(asked) => why(rt, archives, store, &asked),
         Command::Dispose(asked) => dispose(rt, archives, store, asked, told),
+        Command::ReleaseAll { name, is_agreed } => {
+            let whole = Changing::ReleaseAll { name, is_agreed };
+            change(rt, archives, store, whole, told)
+        }
+        Command::Holds { is_json } => lend(rt, archives, store, Survey::Holds { is_json }),
+        Command::Twice(listing) => lend(rt, archives, store, Survey::Twice(listing)),
         Command::History(task) => history(rt, archives, store, task, told),
         Command::Certificates { numbers } => {
             lend(rt, archives, store, ReadHistory::Certificates(numbers))

@@ -1,1 +1,4 @@
 pub mod Headers
+pub mod Sums
+pub mod Words
+pub mod Lines

@@ -1,8 +1,9 @@
 //! Certificates of destruction, sums and moments.
 
-ghost use Rattle.std.specs.Prelude.{◌≡◌, IfOk, string_bytes};
+ghost use Rattle.std.specs.Prelude.{◌≡◌, ◌++◌, ℕ, List, IfOk, OnOk, string_bytes};
 ghost use Rattle.sha2.specs.Sha256.{sha256};
 ghost use Rattle.hex.specs.Hex.{encode_lower};
+ghost use Rattle.cli_texts.specs.Lines.{destroyed_record, destroyed_message, kept_words, altered_words, certificate};
 
 use crate::records::put_due;
 use class_plan::{Date, day_of};
@@ -44,29 +45,75 @@ pub fn sum_text(alloc: Global, sum: &[u8]) -> Result<String, AllocError>
     hex::encode(alloc, sum)
 }
 
-/// A moment in UTC, as `2023-11-14T22:13:20Z`; in seconds where it is after 2199.
-pub fn moment_text(alloc: Global, moment: u64) -> Result<String, AllocError> {
-    let Some(day) = day_of(moment) else {
-        return format!(in alloc; "{moment}");
-    };
-    let seconds = moment % 86_400;
+/// A day, and a time of it in seconds since midnight.
+fn day_and_time(alloc: Global, day: Date, seconds: u64) -> Result<String, AllocError> {
     let (hour, minute, second) = (seconds / 3_600, seconds / 60 % 60, seconds % 60);
     format!(in alloc; "{day}T{hour:02}:{minute:02}:{second:02}Z")
 }
 
-/// The line of a record that was destroyed.
-pub fn certificate_line(alloc: Global, it: &Certificate<'_>) -> Result<Shown, AllocError> {
-    let moment = moment_text(alloc, it.moment)?;
-    let mut line = Shown::new(alloc);
-    put!(line; "destroyed record " value(&it.number) " class " named(it.path) " due ")?;
-    put_due(&mut line, it.due)?;
-    put!(line; " octets " value(&it.octets) " sha256 " value(&it.sum) " at " value(&moment))?;
-    if let Some(keeper) = it.kept_by {
-        put!(line; " message kept by record " value(&keeper))?;
+/// A moment in UTC, as `2023-11-14T22:13:20Z`; in seconds where it is after 2199.
+pub fn moment_text(alloc: Global, moment: u64) -> Result<String, AllocError> {
+    match day_of(moment) {
+        Some(day) => day_and_time(alloc, day, moment % 86_400),
+        None => format!(in alloc; "{moment}"),
     }
-    if it.is_altered {
+}
+
+/// Adds the record that was destroyed.
+#[tactic(auto, unfolding(crate::specs::Lines::destroyed_record))]
+fn put_record(line: &mut Shown, it: &Certificate<'_>) -> Result<(), AllocError>
+    ensures { OnOk result (line.new ≡ line.old ++ destroyed_record it.now) }
+{
+    put!(line; "destroyed record " value(&it.number) " class " named(it.path) " due ")?;
+    put_due(line, it.due)
+}
+
+/// Adds the length and the sum of its message.
+#[tactic(auto, unfolding(crate::specs::Lines::destroyed_message))]
+fn put_message(line: &mut Shown, it: &Certificate<'_>) -> Result<(), AllocError>
+    ensures { OnOk result (line.new ≡ line.old ++ destroyed_message it.now) }
+{
+    put!(line; " octets " value(&it.octets) " sha256 " value(&it.sum))
+}
+
+/// Adds which record keeps the message, if one does.
+fn put_keeper(line: &mut Shown, keeper: Option<u32>) -> Result<(), AllocError>
+    ensures { OnOk result (line.new ≡ line.old ++ kept_words keeper) }
+{
+    match keeper {
+        Some(keeper) => put!(line; " message kept by record " value(&keeper)),
+        None => Ok(()),
+    }
+}
+
+/// Adds that the message was not the one that was captured, where that is so.
+fn put_altered(line: &mut Shown, is_altered: bool) -> Result<(), AllocError>
+    ensures { OnOk result (line.new ≡ line.old ++ altered_words is_altered) }
+{
+    if is_altered {
         line.words("; its message was not the one captured")?;
     }
+    Ok(())
+}
+
+/// The line of a certificate with the text of its moment.
+fn line_with(alloc: Global, it: &Certificate<'_>, moment: &String) -> Result<Shown, AllocError>
+    ensures { IfOk result (λ line. line ≡ certificate it.now (string_bytes moment.now)) }
+{
+    let mut line = Shown::new(alloc);
+    put_record(&mut line, it)?;
+    put_message(&mut line, it)?;
+    put!(line; " at " value(moment))?;
+    put_keeper(&mut line, it.kept_by)?;
+    put_altered(&mut line, it.is_altered)?;
     line.end_line()?;
     Ok(line)
+}
+
+/// The line of a record that was destroyed.
+pub fn certificate_line(alloc: Global, it: &Certificate<'_>) -> Result<Shown, AllocError>
+    ensures { IfOk result (λ line. (moment : List ℕ) × (line ≡ certificate it.now moment)) }
+{
+    let moment = moment_text(alloc, it.moment)?;
+    line_with(alloc, it, &moment)
 }

@@ -1,9 +1,9 @@
 //! What a message's header says, as people read it.
 
-ghost use Rattle.std.specs.Prelude.{◌≡◌, [], IfOk, MatchOption, string_bytes};
+ghost use Rattle.std.specs.Prelude.{◌≡◌, [], IfOk, MatchOption, is_some, string_bytes};
 ghost use Rattle.mail_head.specs.Fields.{fields_of};
 ghost use Rattle.mail_display.specs.Fields.{IsShownOf};
-ghost use Rattle.cli_texts.specs.Headers.{sender_of, subject_of, date_of};
+ghost use Rattle.cli_texts.specs.Headers.{sender_of, subject_of, date_of, has_texts};
 
 use mail_display::{DisplayText, UndecodedWord, date, sender, subject, undecoded_words};
 use std::alloc::{AllocError, Global};
@@ -37,7 +37,9 @@ pub enum ListedHeaders<'a> {
 
 impl<'a> ListedHeaders<'a> {
     /// The texts, if there are any.
-    pub(crate) fn texts(self) -> Option<&'a Headers> {
+    pub(crate) fn texts(self) -> Option<&'a Headers>
+        ensures { is_some result ≡ has_texts self.entry }
+    {
         match self {
             ListedHeaders::Texts(headers) => Some(headers),
             ListedHeaders::Unasked | ListedHeaders::Destroyed => None,

@@ -1,7 +1,8 @@
 //! Texts for those who run an archive: records as lines, as rows of CSV and as JSON; what the headers of their messages say;
-//! certificates; sums; and the text of a plan.
+//! holds as cases; certificates; sums; and the text of a plan.
 #![tactic(auto)]
 
+mod cases;
 mod certificates;
 mod events;
 mod headers;
@@ -11,8 +12,11 @@ mod rows;
 #[cfg(test)]
 mod tests;
 
+pub use cases::{CaseBeginning, ListedCase, case_line, case_object};
 pub use certificates::{Certificate, certificate_line, moment_text, sum_of, sum_text};
-pub use events::{ListedEvent, ToldCertificate, event_object, history_line, told_certificate};
+pub use events::{
+    Field, ListedEvent, Named, ToldCertificate, event_object, history_line, told_certificate,
+};
 pub use headers::{Headers, ListedHeaders, headers_of, undecoded_lines};
 pub use plans::{due_by, plan_of_text, plan_text};
 pub use records::{Row, captured_line, captured_words, json_object, listed_line};

@@ -1,5 +1,9 @@
 //! Records as lines and as JSON.
 
+ghost use Rattle.std.specs.Prelude.{◌≡◌, ◌++◌, ◌∷◌, [], false, flat_map, IfOk, OnOk};
+ghost use Rattle.cli_texts.specs.Headers.{has_texts};
+ghost use Rattle.cli_texts.specs.Lines.{due_words, captured, listed_front, listed_state, hold_words, listed};
+
 use crate::headers::{Headers, ListedHeaders};
 use class_plan::Date;
 use record_archive::Line;
@@ -23,7 +27,9 @@ pub struct Row<'a> {
 }
 
 /// Adds a due date, or `never`.
-pub(crate) fn put_due(text: &mut Shown, due: Option<Date>) -> Result<(), AllocError> {
+pub(crate) fn put_due(text: &mut Shown, due: Option<Date>) -> Result<(), AllocError>
+    ensures { OnOk result (text.new ≡ text.old ++ due_words due) }
+{
     match due {
         Some(date) => text.value(&date),
         None => text.words("never"),
@@ -60,7 +66,10 @@ pub(crate) fn shown(alloc: Global, octets: &[u8]) -> Result<String, AllocError> 
 }
 
 /// A record of a capture in words, as a session answers it: `record 1 class finance due 2030-11-14`.
-pub fn captured_words(alloc: Global, line: &Line) -> Result<Shown, AllocError> {
+#[tactic(auto, unfolding(crate::specs::Lines::captured))]
+pub fn captured_words(alloc: Global, line: &Line) -> Result<Shown, AllocError>
+    ensures { IfOk result (λ t. t ≡ captured line.now) }
+{
     let mut text = Shown::new(alloc);
     put!(text; "record " value(&line.number) " class " named(line.path.as_slice()) " due ")?;
     put_due(&mut text, line.due)?;
@@ -68,7 +77,9 @@ pub fn captured_words(alloc: Global, line: &Line) -> Result<Shown, AllocError> {
 }
 
 /// The line of a record of a capture: its words, and the end of the line.
-pub fn captured_line(alloc: Global, line: &Line) -> Result<Shown, AllocError> {
+pub fn captured_line(alloc: Global, line: &Line) -> Result<Shown, AllocError>
+    ensures { IfOk result (λ t. t ≡ captured line.now ++ 10 ∷ []) }
+{
     let mut text = captured_words(alloc, line)?;
     text.end_line()?;
     Ok(text)
@@ -84,6 +95,47 @@ fn put_headers(line: &mut Shown, headers: &Headers) -> Result<(), AllocError> {
     )
 }
 
+/// Adds the number of a record, its class and the day of its capture.
+#[tactic(auto, unfolding(crate::specs::Lines::listed_front))]
+fn put_front(line: &mut Shown, row: &Row<'_>) -> Result<(), AllocError>
+    ensures { OnOk result (line.new ≡ line.old ++ listed_front row.now) }
+{
+    put!(line; "record " value(&row.number) " class " named(row.path) " day " value(&row.day))
+}
+
+/// Adds when a record is due, or that it is destroyed.
+fn put_state(line: &mut Shown, row: &Row<'_>) -> Result<(), AllocError>
+    ensures { OnOk result (line.new ≡ line.old ++ listed_state row.now) }
+{
+    if row.destroyed {
+        return line.words(" destroyed");
+    }
+    line.words(" due ")?;
+    put_due(line, row.due)
+}
+
+/// Adds each hold on a record.
+fn put_holds(line: &mut Shown, holds: &[Vec<u8>]) -> Result<(), AllocError>
+    ensures { OnOk result
+        (line.new ≡ line.old ++ flat_map (λ h. hold_words h.items) holds.now) }
+{
+    for name in holds {
+        put!(line; " hold " named(name.as_slice()))?;
+    }
+    Ok(())
+}
+
+/// A listed record, before what is said of its message's header.
+fn record_text(alloc: Global, row: &Row<'_>) -> Result<Shown, AllocError>
+    ensures { IfOk result (λ line. line ≡ listed row.now) }
+{
+    let mut line = Shown::new(alloc);
+    put_front(&mut line, row)?;
+    put_state(&mut line, row)?;
+    put_holds(&mut line, row.holds)?;
+    Ok(line)
+}
+
 /// The line of a listed record: `record 1 class finance day 2023-11-14 due 2030-11-14`, then ` hold NAME` for each hold. One
 /// that is destroyed has ` destroyed` in place of its due date. What is listed of its message's header comes last, as
 /// ` sender "Ann" subject "a bill" date ""`: each text in quotation marks, and cut to 80 columns.
@@ -91,18 +143,11 @@ pub fn listed_line(
     alloc: Global,
     row: &Row<'_>,
     headers: ListedHeaders<'_>,
-) -> Result<Shown, AllocError> {
-    let mut line = Shown::new(alloc);
-    put!(line; "record " value(&row.number) " class " named(row.path) " day " value(&row.day))?;
-    if row.destroyed {
-        line.words(" destroyed")?;
-    } else {
-        line.words(" due ")?;
-        put_due(&mut line, row.due)?;
-    }
-    for name in row.holds {
-        put!(line; " hold " named(name.as_slice()))?;
-    }
+) -> Result<Shown, AllocError>
+    ensures { has_texts headers.entry ≡ false
+        → IfOk result (λ line. line ≡ listed row.now ++ 10 ∷ []) }
+{
+    let mut line = record_text(alloc, row)?;
     if let Some(texts) = headers.texts() {
         put_headers(&mut line, texts)?;
     }

@@ -15,7 +15,7 @@ pub const LIST_HEADER_WITH_TEXTS: &str =
 
 /// The header of a manifest.
 pub const MANIFEST_HEADER: &str =
-    "number,class,day,due,holds,file,octets,sha256,sender,subject,date\n";
+    "number,class,day,due,holds,destroyed,file,octets,sha256,sender,subject,date\n";
 
 /// The message of a record, as an export keeps it.
 #[derive(Clone, Copy)]
@@ -194,6 +194,7 @@ pub fn manifest_row(
     message: Exported<'_>,
 ) -> Result<Vec<u8>, AllocError> {
     let [number, day, due, holds] = first_cells(alloc, row)?;
+    let destroyed = if row.destroyed { "yes" } else { "no" };
     let [file, octets, sum] = message_cells(alloc, message)?;
     let [sender, subject, date] = header_cells(alloc, headers_written(message))?;
     csv_row(
@@ -204,6 +205,7 @@ pub fn manifest_row(
             day.as_bytes(),
             due.as_bytes(),
             holds.as_bytes(),
+            destroyed.as_bytes(),
             file.as_bytes(),
             octets.as_bytes(),
             sum.as_bytes(),

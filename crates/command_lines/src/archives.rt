@@ -1,18 +1,26 @@
 //! The command line of `mailfile-store`: what it asks for, with each value read and judged.
 
+mod captures;
 mod histories;
 mod history_words;
+mod holds;
+mod import_words;
+mod imports;
 mod words;
 
 use crate::reading::{NoCommand, day_of, has_flag, read_words, required, value_of, values_of};
 use crate::table::Word;
+use captures::filing_asked;
 use choice_words::{read_numbers, reads_as_numbers, reversed_range};
 pub use choice_words::{Choice, TypedNumbers};
 use clap::ArgMatches;
 pub use histories::{Attribution, DeedKind, HistoryAsked, HistoryTask, Reasons};
 use histories::{attribution_asked, head_asked, history_asked};
+use holds::{NAME_FORGOTTEN, hold_asked, release_asked};
+use imports::import_asked;
+pub use imports::{Dating, Import};
 use jiff::civil::Date;
-use session_words::{is_name, read_number};
+use session_words::read_number;
 use std::alloc::{AllocError, Global};
 
 /// What `mailfile-store` is asked to do, with the store in the file at a path.
@@ -40,13 +48,19 @@ pub enum Command<'a> {
         is_agreed: bool,
     },
     /// Captures the message on standard input.
-    Deliver(Filing<'a>),
+    Deliver {
+        filing: Filing<'a>,
+        /// Whether it is captured also where it does not look like a message.
+        is_as_is: bool,
+    },
     /// Captures the new messages of a Maildir.
     Intake {
         maildir: &'a str,
         filing: Filing<'a>,
         telling: Telling,
     },
+    /// Captures old mail.
+    Import(Import<'a>),
     /// Writes the message of a record.
     Show {
         record: TypedNumber<'a>,
@@ -73,6 +87,19 @@ pub enum Command<'a> {
     CheckRules(RulesChecked<'a>),
     Why(Why<'a>),
     Dispose(Disposal),
+    /// Ends the hold of a name, which is 1 to 64 octets from 33 to 126, on each record.
+    ReleaseAll {
+        name: &'a str,
+        /// Whether nobody is asked before.
+        is_agreed: bool,
+    },
+    /// Lists the holds, with how many records each keeps.
+    Holds {
+        /// Whether they are printed as an array of JSON objects.
+        is_json: bool,
+    },
+    /// Lists the live records whose messages stand in the archive a second time.
+    Twice(Listing),
     /// Does something with the records of a choice.
     Chosen(Choice<'a>, ChosenTask<'a>),
 }
@@ -214,11 +241,6 @@ fn number_of(alloc: Global, word: &str, reason: &str) -> Result<u32, NoCommand> 
     }
 }
 
-/// A number of seconds, as it is typed: one of 64 bits, in decimal digits without a leading zero.
-fn seconds_of(alloc: Global, word: &str, reason: &str) -> Result<u64, NoCommand> {
-    read_number(word.as_bytes(), u64::MAX).ok_or_else(|| NoCommand::wrong(alloc, word, reason))
-}
-
 /// The number of a record, which must be given.
 fn record_asked<'a>(alloc: Global, asked: &ArgMatches<'a>) -> Result<TypedNumber<'a>, NoCommand> {
     let word = required(asked, words::NUMBER)?;
@@ -264,48 +286,13 @@ fn day_asked(alloc: Global, asked: &ArgMatches<'_>, word: Word) -> Result<Option
     };
     match day_of(text) {
         Some(day) => Ok(Some(day)),
-        None => Err(NoCommand::wrong(alloc, text, "not a day of 1970 to 9999, written YYYY-MM-DD")),
+        None => Err(NoCommand::wrong_after(
+            alloc,
+            word,
+            text,
+            "not a day of 1970 to 9999, written YYYY-MM-DD",
+        )),
     }
-}
-
-/// The moment of a capture.
-fn moment_asked(alloc: Global, asked: &ArgMatches<'_>) -> Result<Moment, NoCommand> {
-    match value_of(asked, words::AT) {
-        None => Ok(Moment::Unnamed),
-        Some("now") => Ok(Moment::Now),
-        Some(word) => {
-            let reason = "neither now nor a number of seconds since 1970";
-            Ok(Moment::At(seconds_of(alloc, word, reason)?))
-        }
-    }
-}
-
-/// How long the work on a message may take where it is not said, in seconds.
-const LIMIT: u64 = 60;
-
-/// The longest time that the work on a message may be given, in seconds: a day.
-const GREATEST_LIMIT: u64 = 86_400;
-
-/// How long the work on a message may take, in seconds.
-fn limit_asked(alloc: Global, asked: &ArgMatches<'_>) -> Result<u64, NoCommand> {
-    let Some(word) = value_of(asked, words::LIMIT) else {
-        return Ok(LIMIT);
-    };
-    match read_number(word.as_bytes(), GREATEST_LIMIT) {
-        Some(seconds) if seconds > 0 => Ok(seconds),
-        _ => Err(NoCommand::wrong(alloc, word, "not a number of seconds from 1 to 86400")),
-    }
-}
-
-/// How mail is filed.
-fn filing_asked<'a>(alloc: Global, asked: &ArgMatches<'a>) -> Result<Filing<'a>, NoCommand> {
-    Ok(Filing {
-        rules: required(asked, words::RULES)?,
-        officer: required(asked, words::OFFICER)?,
-        unfiled_on_fault: has_flag(asked, words::UNFILED_ON_FAULT),
-        moment: moment_asked(alloc, asked)?,
-        limit: limit_asked(alloc, asked)?,
-    })
 }
 
 /// Whether a first day is after a last one.
@@ -404,13 +391,32 @@ fn listing_asked(alloc: Global, asked: &ArgMatches<'_>) -> Result<Listing, NoCom
     Ok(Listing { format, headers })
 }
 
+/// The records that are listed: those of a choice, or those whose messages stand twice, beside which nothing is chosen.
+fn list_asked<'a>(alloc: Global, asked: &ArgMatches<'a>) -> Result<Command<'a>, NoCommand> {
+    let choice = choice_asked(alloc, asked)?;
+    let listing = listing_asked(alloc, asked)?;
+    if !has_flag(asked, words::TWICE) {
+        return Ok(Command::Chosen(choice, ChosenTask::List(listing)));
+    }
+    if choice.is_empty() {
+        return Ok(Command::Twice(listing));
+    }
+    let reason = "--twice looks at all messages; it takes no numbers and no conditions";
+    Err(NoCommand::Wrong(String::from_str(alloc, reason)?))
+}
+
 /// How the index of an export is sorted: by number, where nothing is said.
 fn sorting_asked(alloc: Global, asked: &ArgMatches<'_>) -> Result<Sorting, NoCommand> {
     match value_of(asked, words::SORT) {
         None | Some("number") => Ok(Sorting::Number),
         Some("date") => Ok(Sorting::Date),
         Some("sender") => Ok(Sorting::Sender),
-        Some(word) => Err(NoCommand::wrong(alloc, word, "none of number, date and sender")),
+        Some(word) => Err(NoCommand::wrong_after(
+            alloc,
+            words::SORT,
+            word,
+            "none of number, date and sender",
+        )),
     }
 }
 
@@ -462,43 +468,6 @@ fn plan_asked<'a>(alloc: Global, asked: &ArgMatches<'a>) -> Result<Command<'a>, 
         )?)),
         None => Ok(Command::WritePlan),
     }
-}
-
-/// The name of a hold.
-fn name_asked<'a>(alloc: Global, asked: &ArgMatches<'a>) -> Result<&'a str, NoCommand> {
-    let name = required(asked, words::NAME)?;
-    if is_name(name.as_bytes()) {
-        return Ok(name);
-    }
-    let reason = "a hold's name is 1 to 64 octets from 33 to 126";
-    Err(NoCommand::wrong(alloc, name, reason))
-}
-
-/// What is said of numbers of records where the name of a hold belongs.
-const NAME_FORGOTTEN: &str =
-    "numbers of records, where the name of the hold belongs; type it before them, as audit 3 5-9";
-
-/// The name of a hold that is to be placed. One that reads as numbers is refused.
-fn new_name_asked<'a>(alloc: Global, asked: &ArgMatches<'a>) -> Result<&'a str, NoCommand> {
-    let name = name_asked(alloc, asked)?;
-    judge_place(alloc, name, NAME_FORGOTTEN)?;
-    Ok(name)
-}
-
-/// Which records the hold of a name is about. They must be named.
-fn held_asked<'a>(
-    alloc: Global,
-    asked: &ArgMatches<'a>,
-    name: &str,
-) -> Result<Choice<'a>, NoCommand> {
-    let mut choice = conditions_asked(alloc, asked)?;
-    choice.numbers = numbers_asked(alloc, asked)?;
-    if choice.is_empty() {
-        let reason =
-            "the name of the hold; name the records too, by their numbers as 3 5-9, or by conditions as --sender müller";
-        return Err(NoCommand::wrong(alloc, name, reason));
-    }
-    Ok(choice)
 }
 
 /// What is to be destroyed.
@@ -558,8 +527,12 @@ fn change_asked<'a>(
             plan: required(asked, words::PLAN_FILE)?,
         },
         "plan" => plan_asked(alloc, asked)?,
-        "deliver" => Command::Deliver(filing_asked(alloc, asked)?),
+        "deliver" => Command::Deliver {
+            filing: filing_asked(alloc, asked)?,
+            is_as_is: has_flag(asked, import_words::AS_IS),
+        },
         "intake" => intake_asked(alloc, asked)?,
+        "import" => Command::Import(import_asked(alloc, asked)?),
         "dispose" => Command::Dispose(disposal_asked(alloc, asked)?),
         _ => return Ok(None),
     }))
@@ -582,6 +555,9 @@ fn reading_asked<'a>(
         "certificates" => Command::Certificates {
             numbers: numbers_asked(alloc, asked)?,
         },
+        "holds" => Command::Holds {
+            is_json: has_flag(asked, words::JSON),
+        },
         "why" => Command::Why(why_asked(alloc, asked)?),
         _ => return Ok(None),
     }))
@@ -594,22 +570,13 @@ fn chosen_asked<'a>(
     asked: &ArgMatches<'a>,
 ) -> Result<Option<Command<'a>>, NoCommand> {
     let (choice, task) = match name {
-        "list" => (
-            choice_asked(alloc, asked)?,
-            ChosenTask::List(listing_asked(alloc, asked)?),
-        ),
+        "list" => return Ok(Some(list_asked(alloc, asked)?)),
         "export" => {
             let target = target_asked(alloc, asked)?;
             (choice_asked(alloc, asked)?, ChosenTask::Export(target))
         }
-        "hold" => {
-            let name = new_name_asked(alloc, asked)?;
-            (held_asked(alloc, asked, name)?, ChosenTask::Hold(name))
-        }
-        "release" => {
-            let name = name_asked(alloc, asked)?;
-            (held_asked(alloc, asked, name)?, ChosenTask::Release(name))
-        }
+        "hold" => return Ok(Some(hold_asked(alloc, asked)?)),
+        "release" => return Ok(Some(release_asked(alloc, asked)?)),
         "report" => {
             let day = day_asked(alloc, asked, words::DAY)?;
             (conditions_asked(alloc, asked)?, ChosenTask::Report { day })
@@ -660,6 +627,32 @@ fn read_matches<'a>(alloc: Global, matches: &ArgMatches<'a>) -> Result<CommandLi
     }
 }
 
+/// What is said of numbers of records that stand right after the name of a subcommand, where something else belongs.
+fn forgotten_after(name: &str) -> Option<&'static str> {
+    match name {
+        "export" => Some(FOLDER_FORGOTTEN),
+        "copy" => Some(FILE_FORGOTTEN),
+        "hold" => Some(NAME_FORGOTTEN),
+        _ => None,
+    }
+}
+
+/// A refusal of words that was told. Where numbers of records stand in the place of something else too, that is still to be told.
+fn with_forgotten(alloc: Global, words: &[String], refusal: NoCommand) -> NoCommand {
+    if !matches!(refusal, NoCommand::Told) {
+        return refusal;
+    }
+    let (Some(name), Some(word)) = (words.get(1), words.get(2)) else {
+        return refusal;
+    };
+    match forgotten_after(name.as_str()) {
+        Some(forgotten) if reads_as_numbers(word.as_bytes()) => {
+            NoCommand::wrong(alloc, word.as_str(), forgotten)
+        }
+        _ => refusal,
+    }
+}
+
 /// Reads the words of a command line, the program's name first. A value that its option or place cannot have is
 /// `Wrong`; help, and what `clap` refuses, are printed.
 pub fn read_command_line<'a>(
@@ -667,6 +660,8 @@ pub fn read_command_line<'a>(
     words: &'a [String],
 ) -> Result<CommandLine<'a>, NoCommand> {
     let alloc = rt.alloc();
-    let matches = read_words(rt, &words::program(alloc)?, words)?;
-    read_matches(alloc, &matches)
+    match read_words(rt, &words::program(alloc)?, words) {
+        Ok(matches) => read_matches(alloc, &matches),
+        Err(refusal) => Err(with_forgotten(alloc, words, refusal)),
+    }
 }

@@ -36,6 +36,14 @@ impl NoCommand {
             Err(_) => NoCommand::NoMemory,
         }
     }
+
+    /// The refusal of the value of an option, with the option, the value as it is typed, and the reason.
+    pub(crate) fn wrong_after(alloc: Global, word: Word, typed: &str, reason: &str) -> NoCommand {
+        match format!(in alloc; "--{} {typed}: {reason}", word.name) {
+            Ok(text) => NoCommand::Wrong(text),
+            Err(_) => NoCommand::NoMemory,
+        }
+    }
 }
 
 impl From<AllocError> for NoCommand {

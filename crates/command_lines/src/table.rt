@@ -34,6 +34,8 @@ pub struct Word {
     pub help: Option<&'static str>,
     /// The name of a word that may not stand beside it, if there is one.
     pub conflict: Option<&'static str>,
+    /// Whether what follows an option is its value also where that begins with a hyphen.
+    pub takes_hyphens: bool,
 }
 
 /// A word by its place, which must be given, and of which nothing is told.
@@ -44,6 +46,7 @@ pub const PLACE: Word = Word {
     is_required: true,
     help: None,
     conflict: None,
+    takes_hyphens: false,
 };
 
 /// An option that can be left out.
@@ -110,7 +113,10 @@ fn formed<'a>(argument: Arg<'a>, word: &Word) -> Arg<'a> {
             .value_name(word.value)
             .allow_negative_numbers(true)
             .num_args(1..),
-        Form::Option => argument.value_name(word.value).long(word.name),
+        Form::Option => argument
+            .value_name(word.value)
+            .long(word.name)
+            .allow_hyphen_values(word.takes_hyphens),
         Form::Letter(letter) => argument.value_name(word.value).short(letter),
         Form::Flag => argument.long(word.name),
     }

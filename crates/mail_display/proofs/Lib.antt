@@ -5,3 +5,5 @@ mod UnfoldingLemmas
 mod UndecodedLemmas
 mod ComparingLemmas
 mod Rows
+mod PlainLemmas
+mod FoldingLemmas

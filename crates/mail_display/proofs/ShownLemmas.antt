@@ -23,12 +23,13 @@ pub record Showing (line rest out : List ℕ) (unread : ℕ) (after : Bool) : Ty
 pub Showing-none : (line : List ℕ) → Showing line line [] 0 false
 Showing-none line = record { turns = length line; enough = omega arith; octets = refl; count = omega arith; few = omega arith }
 
-shown_nil : (n : ℕ) (after : Bool) → shown n after [] ≡ ([], 0)
+pub shown_nil : (n : ℕ) (after : Bool) → shown n after [] ≡ ([], 0)
 unfolding shown
 shown_nil zero after = refl
 shown_nil (suc n) after = refl
 
-shown_cons : (n : ℕ) (after : Bool) (b : ℕ) (bs : List ℕ) → shown (suc n) after (b ∷ bs) ≡ shown_piece (word_after_gap after (b ∷ bs)) b bs (shown n)
+pub shown_cons : (n : ℕ) (after : Bool) (b : ℕ) (bs : List ℕ)
+    → shown (suc n) after (b ∷ bs) ≡ shown_piece (word_after_gap after (b ∷ bs)) b bs (shown n)
 unfolding shown
 shown_cons n after b bs = refl
 

@@ -3,7 +3,7 @@ use Rattle.std.proofs.Common.{◌≡◌, ℕ, suc, ◌≤◌, length, arith, Boo
 use Rattle.std.proofs.lemmas.List.{append-nil}
 use Rattle.mail_words.specs.Unfolding.{begins_line_end, without_line_ends}
 
-step : (b : ℕ) (bs : List ℕ) → without_line_ends (b ∷ bs) ≡ cond (begins_line_end (b ∷ bs)) (without_line_ends bs) (b ∷ without_line_ends bs)
+pub step : (b : ℕ) (bs : List ℕ) → without_line_ends (b ∷ bs) ≡ cond (begins_line_end (b ∷ bs)) (without_line_ends bs) (b ∷ without_line_ends bs)
 unfolding without_line_ends
 step b bs = refl
 

@@ -1,6 +1,6 @@
 -- The text that people are shown for a field's body.
-use Rattle.std.specs.Prelude.{ℕ, zero, suc, ◌+◌, Bool, true, false, List, [], ◌∷◌, ◌++◌, length, drop, Option, Some, None, if◌then◌else◌}
-use Rattle.std.specs.List.{prefix_len}
+use Rattle.std.specs.Prelude.{ℕ, zero, suc, ◌+◌, Bool, true, false, List, [], ◌∷◌, ◌++◌, length, drop, Option, Some, None, ◌==◌, ◌&&◌, not, if◌then◌else◌}
+use Rattle.std.specs.List.{prefix_len, list_any}
 use Rattle.mail_words.specs.Unfolding.{is_blank, without_line_ends, without_outer_blanks}
 use Rattle.mail_charsets.specs.declared.charset.Charset.TheVariants.{Utf8}
 use Rattle.mail_charsets.specs.Decoding.{text_of, unread_of}
@@ -40,6 +40,10 @@ shown_line line = shown (length line) false line
 -- a body as one line (RFC 5322, section 2.2.3), without blanks at both ends
 abbrev pub line_of : List ℕ → List ℕ
 line_of body = without_outer_blanks (without_line_ends body)
+
+-- a body has no line end, and no "=", with which each encoded word begins
+abbrev pub is_plain : List ℕ → Bool
+is_plain body = not (list_any (λ b. b == 10) body) && not (list_any (λ b. b == 61) body)
 
 -- the text of a body
 unfoldable pub display_text : List ℕ → List ℕ

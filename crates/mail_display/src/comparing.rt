@@ -12,7 +12,7 @@ fn one_space(alloc: Global, text: &str) -> Result<String, AllocError>
     ensures { IfOk result
         (λ t. string_bytes t ≡ encode_utf8_all (one_space (chars text.now))) }
 {
-    let mut spaced = String::new(alloc);
+    let mut spaced = String::with_capacity(alloc, text.len())?;
     let mut is_after_white = false;
     for c in text.chars() {
         let is_white = c.is_whitespace();

@@ -13,6 +13,9 @@ use unicode_normalization::to_nfd;
 pub fn fold(alloc: Global, text: &str) -> Result<String, AllocError>
     ensures { IfOk result (λ t. string_bytes t ≡ folded text.now) }
 {
+    if text.is_ascii() {
+        return text.to_ascii_lowercase(alloc);
+    }
     let decomposed = to_nfd(alloc, text)?;
     let caseless = default_case_fold_str(alloc, decomposed.as_str())?;
     to_nfd(alloc, caseless.as_str())

@@ -4,10 +4,12 @@ ghost use Rattle.std.specs.Prelude.{◌≡◌, ◌+◌, ◌<◌, ◌≤◌, leng
 ghost use Rattle.std.specs.Str.{is_utf8};
 ghost use Rattle.std.specs.Str.Lossy.{utf8_lossy};
 ghost use Rattle.mail_words.specs.Unfolding.{without_line_ends, without_outer_blanks};
+ghost use Rattle.mail_charsets.specs.declared.charset.Charset.TheVariants.{Utf8};
+ghost use Rattle.mail_charsets.specs.Decoding.{text_of, unread_of};
 ghost use Rattle.mail_display.specs.Decoding.{readable_at};
 ghost use Rattle.mail_display.specs.Readable.{IsReadable};
 ghost use Rattle.mail_display.specs.Words.{begins_word};
-ghost use Rattle.mail_display.specs.Display.{word_after_gap, unread_front, shown_line, display_text, display_unread};
+ghost use Rattle.mail_display.specs.Display.{word_after_gap, unread_front, shown_line, is_plain, display_text, display_unread};
 
 use crate::decoding::{ReadableWord, readable_word};
 use crate::unfolding::{blank_len, trimmed, unfolded};
@@ -94,6 +96,29 @@ fn shown_line(alloc: Global, line: &[u8]) -> Result<ShownLine, AllocError>
     Ok(ShownLine { octets, unread })
 }
 
+/// Whether a body is shown as it stands between its outer blanks: it has no line end, and no "=", with which each
+/// encoded word begins.
+fn is_plain(value: &[u8]) -> bool
+    ensures { result ≡ is_plain value.now }
+{
+    !value.contains(&b'\n') && !value.contains(&b'=')
+}
+
+/// What stands between the outer blanks of a body.
+#[tactic(auto, using(crate::proofs::ShownLemmas::utf8_unread))]
+fn as_it_stands(alloc: Global, value: &[u8]) -> Result<DisplayText, AllocError>
+    ensures text { IfOk result (λ d. string_bytes d.text ≡
+        text_of Utf8 (without_outer_blanks value.now)) }
+    ensures unread { IfOk result (λ d. d.unread ≡ unread_of Utf8 (without_outer_blanks value.now)) }
+    ensures few { IfOk result (λ d. d.unread ≤ 1) }
+{
+    let decoded = decode(alloc, Charset::Utf8, trimmed(value))?;
+    Ok(DisplayText {
+        text: decoded.text,
+        unread: decoded.unread,
+    })
+}
+
 /// The text of a field's body as people read it: unfolded (RFC 5322, section 2.2.3), without blanks at both ends, with
 /// its encoded words decoded (RFC 2047), and without the blanks between two decoded words (its section 6.2).
 ///
@@ -107,6 +132,9 @@ pub fn display(alloc: Global, value: &[u8]) -> Result<DisplayText, AllocError>
     ensures unread { IfOk result (λ d. d.unread ≡ display_unread value.now) }
     ensures few { IfOk result (λ d. d.unread ≤ length value.now + 1) }
 {
+    if is_plain(value) {
+        return as_it_stands(alloc, value);
+    }
     let line = unfolded(alloc, value)?;
     let shown = shown_line(alloc, trimmed(line.as_slice()))?;
     let decoded = decode(alloc, Charset::Utf8, shown.octets.as_slice())?;

@@ -8,6 +8,7 @@ use Rattle.record_archive.specs.declared.fault.ArchiveFault.TheVariants.{Refused
 
 abbrev pub number_of : ArchiveRefusal → ℕ
 number_of (archive.Plan f) = plan.number_of f
+number_of archive.NoClass = 59
 number_of archive.NoRecord = 80
 number_of archive.Held = 81
 number_of archive.NotDue = 82

@@ -1,5 +1,6 @@
 pub mod Lists
 pub mod Archive
+pub mod Refiling
 pub mod Lines
 pub mod Faults
 pub mod Calls

@@ -11,6 +11,8 @@ use std::alloc::{AllocError, AllocFailed};
 pub enum ArchiveRefusal {
     /// 52, 53, 54, 56 or 57: a refusal of the plan.
     Plan(PlanFault),
+    /// 59: the path is no class of the plan.
+    NoClass,
     /// 80: there is no record with the number.
     NoRecord,
     /// 81: a hold keeps the record.
@@ -35,7 +37,7 @@ pub enum ArchiveRefusal {
 /// database.
 #[derive(Clone, Copy)]
 pub enum ArchiveFault<E> {
-    /// 52 to 57 and 80 to 88: the archive refuses the command.
+    /// 52 to 57, 59, and 80 to 88: the archive refuses the command.
     Refused(ArchiveRefusal),
     /// 89: the database refused, for this cause.
     Database(E),
@@ -44,12 +46,13 @@ pub enum ArchiveFault<E> {
 }
 
 impl ArchiveRefusal {
-    /// The number of the refusal: 52 to 57, or 80 to 88.
+    /// The number of the refusal: 52 to 57, 59, or 80 to 88.
     pub fn number(&self) -> u8
         ensures { result ≡ number_of self.now }
     {
         match self {
             ArchiveRefusal::Plan(fault) => fault.number(),
+            ArchiveRefusal::NoClass => 59,
             ArchiveRefusal::NoRecord => 80,
             ArchiveRefusal::Held => 81,
             ArchiveRefusal::NotDue => 82,

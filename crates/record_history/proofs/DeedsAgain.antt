@@ -7,11 +7,11 @@ use Rattle.class_plan.specs.Texts.{text_of}
 use Rattle.class_plan.specs.Plans.{Listing}
 use Rattle.record_history.specs.Events.{Event, Deed, Seal, Filing}
 use Rattle.record_history.specs.Events.{Captured, Held, Released, Destroyed, ClassAdded, PlanReplaced, FoundPlan, FoundMessage, FoundRecord}
-use Rattle.record_history.specs.Events.{FoundHold, ReasonsRequired, ReasonsOptional}
+use Rattle.record_history.specs.Events.{FoundHold, ReasonsRequired, ReasonsOptional, FindingsAccepted}
 use Rattle.record_history.specs.Lines.{day_text, deed_text, filing_text, paths_text, plan_text, record_text, seal_text, state_word}
 use Rattle.record_history.specs.Readable.{IsName, IsReadableDeed, IsListing}
-use Rattle.record_history.specs.Reading.{added_at, captured_at, deed_at, destroyed_at, found_at, from, hold_deed, made_at, message_at, paths_of}
-use Rattle.record_history.specs.Reading.{plan_change_at, plan_deed, reasons_at, record_at, stripped, until, greatest_record}
+use Rattle.record_history.specs.Reading.{accepted_at, added_at, captured_at, deed_at, destroyed_at, found_at, from, hold_deed, made_at}
+use Rattle.record_history.specs.Reading.{message_at, paths_of, plan_change_at, plan_deed, reasons_at, record_at, stripped, until, greatest_record}
 use Rattle.record_history.proofs.Again.{IsAfter, from_word, number_again, stripped_again, until_word}
 use Rattle.record_history.proofs.FieldsAgain.{day_again, filing_again, hold_again, path_plain, paths_again, paths_plain, seal_again}
 use Rattle.record_history.proofs.PlansAgain.{place_again, plan_again, schedule_again}
@@ -59,6 +59,10 @@ is_required x = refl
 is_optional : (x : List ℕ) → deed_at (codes "made reasons optional" ++ x) ≡ Some (ReasonsOptional, x)
 unfolding deed_at plan_change_at made_at reasons_at stripped
 is_optional x = refl
+
+is_accepted : (x : List ℕ) → deed_at (codes "accepted findings" ++ x) ≡ Some (FindingsAccepted, x)
+unfolding deed_at plan_change_at made_at accepted_at stripped
+is_accepted x = refl
 
 is_found_plan : (x : List ℕ) → deed_at (codes "found plan (" ++ x) ≡ plan_deed FoundPlan x
 unfolding deed_at plan_change_at found_at stripped
@@ -166,6 +170,7 @@ deed_again (ClassAdded path) t h e = is_added (path ++ t) ∙ added_again path t
 deed_again (PlanReplaced p) t h e = is_replaced (plan_text p ++ codes ")" ++ t) ∙ plan_deed_again PlanReplaced p t h
 deed_again ReasonsRequired t h e = is_required t
 deed_again ReasonsOptional t h e = is_optional t
+deed_again FindingsAccepted t h e = is_accepted t
 deed_again (FoundPlan p) t h e = is_found_plan (plan_text p ++ codes ")" ++ t) ∙ plan_deed_again FoundPlan p t h
 deed_again (FoundMessage n s) t h e =
     is_found_message (decimal n ++ codes " " ++ seal_text s ++ t)

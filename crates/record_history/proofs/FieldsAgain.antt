@@ -78,7 +78,8 @@ seal_again s t h e =
           from_word 32 s.sum t (sum_plain s.sum h.sum) e,
         ) refl
 
-pub filing_again : (o : Option Filing) (t : List ℕ) → IfSome o IsFiling → filing_at (filing_text o ++ (codes " in " ++ t)) ≡ Some (o, codes " in " ++ t)
+pub filing_again : (o : Option Filing) (t : List ℕ) → IfSome o IsFiling
+    → filing_at (filing_text o ++ (codes " in " ++ t)) ≡ Some (o, codes " in " ++ t)
 unfolding filing_at filing_from stripped
 filing_again None t h = refl
 filing_again (Some f) t h = regroup (codes " in " ++ t) ∙ go (codes " in " ++ t) refl

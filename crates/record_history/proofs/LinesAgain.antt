@@ -40,8 +40,8 @@ regroup : (a b c d f g : List ℕ) → a ++ b ++ c ++ d ++ f ++ g ≡ a ++ (b ++
 regroup a b c d f g = simp append_assoc
 
 read : (n : ℕ) (e : Event) → n < 2 ^ 64 → IsReadable e
-    → event_at (decimal n ++ (codes " " ++ moment_text e.moment ++ (codes " " ++ e.who ++ (codes " " ++ deed_text e.deed ++ (notes_text e.notes ++ reason_text e.reason)))))
-    ≡ Some (n, e)
+    → event_at (decimal n ++ (codes " " ++ moment_text e.moment ++ (codes " " ++ e.who ++ (codes " " ++ deed_text e.deed
+    ++ (notes_text e.notes ++ reason_text e.reason))))) ≡ Some (n, e)
 unfolding event_at
 read n e h r =
     let ending = notes_text e.notes ++ reason_text e.reason in

@@ -4,7 +4,8 @@ use Rattle.sha2.specs.Sha256.{compress, digest_bytes, first_words, hash_after, r
 use Rattle.hex.specs.Hex.{encode_with}
 use Rattle.record_history.specs.Chain.{mark_after}
 
-first_mark : mark_after [] (codes "1 2031-01-01T09:30:00Z ann held audit 1 : order 12/3") ≡ codes "5e7c47d418734268924e140c633389c1162cf1757710aa387ee237ce191e294a"
+first_mark : mark_after [] (codes "1 2031-01-01T09:30:00Z ann held audit 1 : order 12/3")
+    ≡ codes "5e7c47d418734268924e140c633389c1162cf1757710aa387ee237ce191e294a"
 unfolding first_words schedule rounds compress hash_after digest_bytes sha256 encode_with
 first_mark = refl
 

@@ -12,7 +12,7 @@ use Rattle.record_archive.specs.Archive.{destroys, is_by_any, due_of, without, w
 use Rattle.record_archive.specs.Archive.{without_hold, messages_without, add_class, plan_answer, revise}
 use Rattle.record_archive.specs.declared.fault.ArchiveRefusal.{ArchiveRefusal}
 use Rattle.record_archive.specs.declared.fault.ArchiveRefusal.TheVariants as refusal
-use Rattle.record_history.specs.Events.{Event, Deed, ReasonsRequired, ReasonsOptional}
+use Rattle.record_history.specs.Events.{Event, Deed, ReasonsRequired, ReasonsOptional, FindingsAccepted}
 use Rattle.record_history.specs.Replay.{seal, sealed_message, sealed, made, after, replay}
 use Rattle.record_history.specs.Lines.{line_of, lines_from, seal_text}
 use Rattle.record_history.specs.Laws.{Tells, TellsInLines, LeavesTold, CommandsAreTold}
@@ -173,5 +173,6 @@ all_told = record {
   plans = λ p. told _ (λ a. revise a p) (λ a. same_revision a p);
   reasons_required = left_told ReasonsRequired (λ a. refl);
   reasons_optional = left_told ReasonsOptional (λ a. refl);
+  findings_accepted = left_told FindingsAccepted (λ a. refl);
   lines = told_in_lines;
 }

@@ -6,8 +6,9 @@ use Rattle.class_plan.specs.declared.schedules.Schedule.TheVariants.{Permanent, 
 use Rattle.class_plan.specs.declared.schedules.Unit.TheVariants.{Days, Years}
 use Rattle.class_plan.specs.Plans.{Listing, open_row}
 use Rattle.record_archive.specs.Archive.{empty_archive}
-use Rattle.record_history.specs.Events.{Event, Deed, Seal}
-use Rattle.record_history.specs.Events.{Captured, Held, Released, Destroyed, ClassAdded, PlanReplaced, ReasonsRequired, ReasonsOptional, FoundMessage, FoundRecord}
+use Rattle.record_history.specs.Events.{Event, Deed, Seal, Filing}
+use Rattle.record_history.specs.Events.{Captured, Held, Released, Destroyed, ClassAdded, PlanReplaced, FoundMessage, FoundRecord}
+use Rattle.record_history.specs.Events.{ReasonsRequired, ReasonsOptional, FindingsAccepted}
 use Rattle.record_history.specs.Lines.{day_text, moment_text, line_of}
 use Rattle.record_history.specs.Replay.{after, replay}
 
@@ -19,12 +20,14 @@ written : ℕ → Event → List ℕ
 unfolding moment_text day_text digits
 written n e = line_of n e
 
-held : written 17 (record (done (Held (codes "audit") 1)) { reason = codes "order 12/3" }) ≡ codes "17 2031-01-01T09:30:00Z ann held audit 1 : order 12/3"
+held : written 17 (record (done (Held (codes "audit") 1)) { reason = codes "order 12/3" })
+    ≡ codes "17 2031-01-01T09:30:00Z ann held audit 1 : order 12/3"
 unfolding written
 held = refl
 
 -- a name that looks like the sign of a reason is no sign
-colons : written 1 (record (done (Held (codes ":") 1)) { who = codes ":"; reason = codes "a : b" }) ≡ codes "1 2031-01-01T09:30:00Z : held : 1 : a : b"
+colons : written 1 (record (done (Held (codes ":") 1)) { who = codes ":"; reason = codes "a : b" })
+    ≡ codes "1 2031-01-01T09:30:00Z : held : 1 : a : b"
 unfolding written
 colons = refl
 
@@ -36,7 +39,10 @@ noted = refl
 abbrev a_seal : Seal
 a_seal = record { octets = 17; sum = codes "0a" }
 
-captured : written 3 (done (Captured 5 a_seal 22280 (Some (record { officer = codes "post"; rules = codes "ff" })) (codes "finance/tax" ∷ codes "rent" ∷ [])))
+abbrev a_filing : Filing
+a_filing = record { officer = codes "post"; rules = codes "ff" }
+
+captured : written 3 (done (Captured 5 a_seal 22280 (Some a_filing) (codes "finance/tax" ∷ codes "rent" ∷ [])))
     ≡ codes "3 2031-01-01T09:30:00Z ann captured 5 on 2031-01-01 message 17 0a by post rules ff in finance/tax,rent"
 unfolding written
 captured = refl
@@ -57,7 +63,8 @@ a_plan = record {
   rows = record { path = codes "rent"; is_open = false; schedule = Some Permanent } ∷ open_row (codes "unfiled") ∷ [];
 }
 
-planned : written 6 (done (PlanReplaced a_plan)) ≡ codes "6 2031-01-01T09:30:00Z ann replaced plan (root 30 days review; closed rent, permanent; unfiled)"
+planned : written 6 (done (PlanReplaced a_plan))
+    ≡ codes "6 2031-01-01T09:30:00Z ann replaced plan (root 30 days review; closed rent, permanent; unfiled)"
 unfolding written
 planned = refl
 
@@ -74,6 +81,11 @@ optional : written 8 (done ReasonsOptional) ≡ codes "8 2031-01-01T09:30:00Z an
 unfolding written
 optional = refl
 
+accepted : written 9 (record (done FindingsAccepted) { reason = codes "seen with ben" })
+    ≡ codes "9 2031-01-01T09:30:00Z ann accepted findings : seen with ben"
+unfolding written
+accepted = refl
+
 found : written 8 (done (FoundRecord (record { number = 5; message = 4; path = codes "rent"; day = 22280; destroyed = true })))
     ≡ codes "8 2031-01-01T09:30:00Z ann found record 5 of message 4 in rent on 2031-01-01 destroyed"
 unfolding written
@@ -83,8 +95,8 @@ found_message : written 9 (done (FoundMessage 4 a_seal)) ≡ codes "9 2031-01-01
 unfolding written
 found_message = refl
 
--- whether reasons are required changes nothing
-nothing_changed : replay (done ReasonsRequired ∷ done ReasonsOptional ∷ []) empty_archive ≡ Some empty_archive
+-- neither whether reasons are required nor that findings are accepted changes anything
+nothing_changed : replay (done ReasonsRequired ∷ done ReasonsOptional ∷ done FindingsAccepted ∷ []) empty_archive ≡ Some empty_archive
 nothing_changed = refl
 
 -- a hold of a record that is not there is refused, and so is a capture with another first number

@@ -29,6 +29,8 @@ pub data Deed : Type 0 where
   -- more. These change nothing of the archive.
   ReasonsRequired : Deed
   ReasonsOptional : Deed
+  -- A person has looked at what a program that keeps no history left, and lets it stand. It changes nothing either.
+  FindingsAccepted : Deed
   -- What was there when the history began, or what a program that keeps none has left: the plan, and then each message,
   -- each record and each hold.
   FoundPlan : Listing → Deed
@@ -37,9 +39,9 @@ pub data Deed : Type 0 where
   FoundHold : (name : List ℕ) → (number : ℕ) → Deed
 
 -- A deed at a moment, in seconds since 1970-01-01T00:00:00Z. Who did it, and for what reason, is told by the caller. The
--- notes are more that is told of the deed, in one word: `key=value`, joined by `;`. Today there are none. They are the
--- room for what comes later, as a capture's file name or the source of its date: a line with notes is read today, and
--- none of its octets changes.
+-- notes are more that is told of the deed, in one word, as `message=altered` or `dated=received`: `key=value`, joined by
+-- `;`, or nothing. They are room for what comes later too, as a capture's file name: a line with any notes is read
+-- today, and none of its octets changes.
 pub record Event : Type 0 where
   pub moment : ℕ
   pub who : List ℕ

@@ -5,7 +5,8 @@ use Rattle.class_plan.specs.Plans.{Listing}
 use Rattle.record_archive.specs.Archive.{Archive, empty_archive, next_number, capture, hold, release, destroy, destroy_on, add_class, revise}
 use Rattle.record_archive.specs.declared.fault.ArchiveRefusal.{ArchiveRefusal}
 use Rattle.record_history.specs.Events.{Event, Deed, Filing}
-use Rattle.record_history.specs.Events.{Captured, Held, Released, Destroyed, ClassAdded, PlanReplaced, ReasonsRequired, ReasonsOptional}
+use Rattle.record_history.specs.Events.{Captured, Held, Released, Destroyed, ClassAdded, PlanReplaced}
+use Rattle.record_history.specs.Events.{ReasonsRequired, ReasonsOptional, FindingsAccepted}
 use Rattle.record_history.specs.Lines.{line_of, lines_from}
 use Rattle.record_history.specs.Replay.{Explains, seal}
 
@@ -43,4 +44,6 @@ pub record CommandsAreTold : Type 0 where
   -- whether reasons are required is told, and changes nothing of the archive
   pub reasons_required : LeavesTold ReasonsRequired
   pub reasons_optional : LeavesTold ReasonsOptional
+  -- nor does it that findings are let stand
+  pub findings_accepted : LeavesTold FindingsAccepted
   pub lines : (deed : Archive → Deed) (command : Archive → Result Archive ArchiveRefusal) → Tells deed command → TellsInLines deed command

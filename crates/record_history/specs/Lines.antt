@@ -13,7 +13,7 @@ use Rattle.class_plan.specs.Calendar.{Civil, civil}
 use Rattle.record_archive.specs.Archive.{Record}
 use Rattle.record_history.specs.Events.{Event, Deed, Seal, Filing}
 use Rattle.record_history.specs.Events.{Captured, Held, Released, Destroyed, ClassAdded, PlanReplaced, FoundPlan, FoundMessage, FoundRecord, FoundHold}
-use Rattle.record_history.specs.Events.{ReasonsRequired, ReasonsOptional}
+use Rattle.record_history.specs.Events.{ReasonsRequired, ReasonsOptional, FindingsAccepted}
 
 -- ---- moments and days
 
@@ -100,6 +100,7 @@ deed_text (ClassAdded path) = codes "added class " ++ path
 deed_text (PlanReplaced p) = codes "replaced plan (" ++ plan_text p ++ codes ")"
 deed_text ReasonsRequired = codes "made reasons required"
 deed_text ReasonsOptional = codes "made reasons optional"
+deed_text FindingsAccepted = codes "accepted findings"
 deed_text (FoundPlan p) = codes "found plan (" ++ plan_text p ++ codes ")"
 deed_text (FoundMessage n seal) = codes "found message " ++ decimal n ++ codes " " ++ seal_text seal
 deed_text (FoundRecord r) = codes "found record " ++ record_text r

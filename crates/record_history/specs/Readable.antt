@@ -7,7 +7,7 @@ use Rattle.class_plan.specs.Schedules.{IsInRange, IsInRangeIfAny}
 use Rattle.class_plan.specs.Plans.{Listing, Row}
 use Rattle.record_history.specs.Events.{Event, Deed, Seal, Filing}
 use Rattle.record_history.specs.Events.{Captured, Held, Released, Destroyed, ClassAdded, PlanReplaced, FoundPlan, FoundMessage, FoundRecord, FoundHold}
-use Rattle.record_history.specs.Events.{ReasonsRequired, ReasonsOptional}
+use Rattle.record_history.specs.Events.{ReasonsRequired, ReasonsOptional, FindingsAccepted}
 use Rattle.record_history.specs.Spelled.{IsDay, IsMoment}
 
 -- a name: 1 to 64 octets from 33 to 126
@@ -58,6 +58,7 @@ IsReadableDeed (ClassAdded path) = IsPathText path
 IsReadableDeed (PlanReplaced p) = IsListing p
 IsReadableDeed ReasonsRequired = Unit {0}
 IsReadableDeed ReasonsOptional = Unit {0}
+IsReadableDeed FindingsAccepted = Unit {0}
 IsReadableDeed (FoundPlan p) = IsListing p
 IsReadableDeed (FoundMessage n seal) = IsNumber n × IsSeal seal
 IsReadableDeed (FoundRecord r) = IsNumber r.number × IsNumber r.message × IsPathText r.path × IsDay r.day

@@ -10,7 +10,7 @@ use Rattle.class_plan.specs.Plans.{Listing, Row}
 use Rattle.class_plan.specs.Texts.{◌>>=◌, schedule_of_bytes}
 use Rattle.record_history.specs.Events.{Event, Deed, Seal, Filing}
 use Rattle.record_history.specs.Events.{Captured, Held, Released, Destroyed, ClassAdded, PlanReplaced, FoundPlan, FoundMessage, FoundRecord, FoundHold}
-use Rattle.record_history.specs.Events.{ReasonsRequired, ReasonsOptional}
+use Rattle.record_history.specs.Events.{ReasonsRequired, ReasonsOptional, FindingsAccepted}
 use Rattle.record_history.specs.declared.faults.LineFault.{LineFault}
 use Rattle.record_history.specs.declared.faults.LineFault.TheVariants.{NotALine, NoMemory}
 
@@ -247,8 +247,11 @@ unfoldable pub reasons_at : List ℕ → Option (Deed × List ℕ)
 reasons_at t = case (stripped (codes "required") t) (λ r. Some (ReasonsRequired, r))
     (case (stripped (codes "optional") t) (λ r. Some (ReasonsOptional, r)) None)
 
+unfoldable pub accepted_at : List ℕ → Option (Deed × List ℕ)
+accepted_at t = case (stripped (codes "accepted findings") t) (λ r. Some (FindingsAccepted, r)) None
+
 unfoldable pub made_at : List ℕ → Option (Deed × List ℕ)
-made_at t = case (stripped (codes "made reasons ") t) reasons_at None
+made_at t = case (stripped (codes "made reasons ") t) reasons_at (accepted_at t)
 
 unfoldable pub plan_change_at : List ℕ → Option (Deed × List ℕ)
 plan_change_at t = case (stripped (codes "added class ") t) added_at

@@ -8,7 +8,7 @@ use Rattle.record_archive.specs.Archive.{Archive, Message, Record, Hold, empty_a
 use Rattle.record_archive.specs.declared.fault.ArchiveRefusal.{ArchiveRefusal}
 use Rattle.record_history.specs.Events.{Event, Deed, Seal}
 use Rattle.record_history.specs.Events.{Captured, Held, Released, Destroyed, ClassAdded, PlanReplaced, FoundPlan, FoundMessage, FoundRecord, FoundHold}
-use Rattle.record_history.specs.Events.{ReasonsRequired, ReasonsOptional}
+use Rattle.record_history.specs.Events.{ReasonsRequired, ReasonsOptional, FindingsAccepted}
 use Rattle.record_history.specs.Lines.{seal_text}
 
 -- the seal of a message
@@ -47,6 +47,7 @@ after (ClassAdded path) a = made (add_class a path)
 after (PlanReplaced p) a = made (revise a p)
 after ReasonsRequired a = Some a
 after ReasonsOptional a = Some a
+after FindingsAccepted a = Some a
 after (FoundPlan p) a = Some (record empty_archive { plan = p })
 after (FoundMessage n seal) a = Some (with_message a (record { number = n; body = seal_text seal }))
 after (FoundRecord r) a = Some (with_record a r)

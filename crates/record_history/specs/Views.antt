@@ -9,7 +9,7 @@ use Rattle.record_history.specs.declared.events.Filing as filings
 use Rattle.record_history.specs.declared.events.Listing as listings
 use Rattle.record_history.specs.declared.events.Deed as deeds
 use Rattle.record_history.specs.declared.events.Deed.TheVariants.{Captured, Held, Released, Destroyed, ClassAdded, PlanReplaced, FoundPlan, FoundMessage, FoundRecord, FoundHold}
-use Rattle.record_history.specs.declared.events.Deed.TheVariants.{ReasonsRequired, ReasonsOptional}
+use Rattle.record_history.specs.declared.events.Deed.TheVariants.{ReasonsRequired, ReasonsOptional, FindingsAccepted}
 use Rattle.record_history.specs.declared.events.Event as events
 
 abbrev pub seal_view : seals.Seal → Seal
@@ -31,6 +31,7 @@ deed_view (ClassAdded path) = plain.ClassAdded path.now
 deed_view (PlanReplaced p) = plain.PlanReplaced (listing_view p)
 deed_view ReasonsRequired = plain.ReasonsRequired
 deed_view ReasonsOptional = plain.ReasonsOptional
+deed_view FindingsAccepted = plain.FindingsAccepted
 deed_view (FoundPlan p) = plain.FoundPlan (listing_view p)
 deed_view (FoundMessage n seal) = plain.FoundMessage n (seal_view seal)
 deed_view (FoundRecord n message path day destroyed) = plain.FoundRecord (record {

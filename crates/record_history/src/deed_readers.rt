@@ -3,7 +3,7 @@
 ghost use Rattle.std.specs.Prelude.{◌≡◌, IfOk};
 ghost use Rattle.class_plan.specs.Schedules.{IsInRange};
 ghost use Rattle.record_history.specs.Events.{Held, Released, PlanReplaced, FoundPlan, FoundHold};
-ghost use Rattle.record_history.specs.Reading.{Gives, added_at as added_at_of, captured_at as captured_at_of, deed_at as deed_at_of, destroyed_at as destroyed_at_of, found_at as found_at_of, hold_at as hold_at_of, hold_deed, made_at as made_at_of, message_at as message_at_of, place_at as place_at_of, schedule_at as schedule_at_of, plan_at as plan_at_of, plan_change_at as plan_change_at_of, plan_deed, reasons_at as reasons_at_of, record_at as record_at_of};
+ghost use Rattle.record_history.specs.Reading.{Gives, accepted_at as accepted_at_of, added_at as added_at_of, captured_at as captured_at_of, deed_at as deed_at_of, destroyed_at as destroyed_at_of, found_at as found_at_of, hold_at as hold_at_of, hold_deed, made_at as made_at_of, message_at as message_at_of, place_at as place_at_of, schedule_at as schedule_at_of, plan_at as plan_at_of, plan_change_at as plan_change_at_of, plan_deed, reasons_at as reasons_at_of, record_at as record_at_of};
 ghost use Rattle.record_history.specs.Spelled.{HasSchedules, IsDay, IsSpelledDeed};
 ghost use Rattle.record_history.specs.Views.{deed_view, listing_view};
 
@@ -229,6 +229,17 @@ fn reasons_at(text: &[u8]) -> Result<(Deed<'_>, &[u8]), LineFault>
     }
 }
 
+#[tactic(auto, unfolding(crate::specs::Reading::accepted_at))]
+fn accepted_at(text: &[u8]) -> Result<(Deed<'_>, &[u8]), LineFault>
+    ensures deed { Gives (λ x. (deed_view x.0, x.1.now)) result (accepted_at_of text.now) }
+    ensures spelled { IfOk result (λ x. IsSpelledDeed (deed_view x.0)) }
+{
+    match strip_if(text, b"accepted findings") {
+        Some(rest) => Ok((Deed::FindingsAccepted, rest)),
+        None => Err(LineFault::NotALine),
+    }
+}
+
 #[tactic(auto, unfolding(crate::specs::Reading::made_at))]
 fn made_at(text: &[u8]) -> Result<(Deed<'_>, &[u8]), LineFault>
     ensures deed { Gives (λ x. (deed_view x.0, x.1.now)) result (made_at_of text.now) }
@@ -236,7 +247,7 @@ fn made_at(text: &[u8]) -> Result<(Deed<'_>, &[u8]), LineFault>
 {
     match strip_if(text, b"made reasons ") {
         Some(rest) => reasons_at(rest),
-        None => Err(LineFault::NotALine),
+        None => accepted_at(text),
     }
 }
 

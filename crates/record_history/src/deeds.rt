@@ -219,6 +219,7 @@ pub(crate) fn deed_text(alloc: Global, deed: &Deed<'_>) -> Result<Vec<u8>, Alloc
         Deed::PlanReplaced(plan) => with_plan(alloc, b"replaced plan ", plan),
         Deed::ReasonsRequired => Vec::from_slice(alloc, b"made reasons required"),
         Deed::ReasonsOptional => Vec::from_slice(alloc, b"made reasons optional"),
+        Deed::FindingsAccepted => Vec::from_slice(alloc, b"accepted findings"),
         Deed::FoundPlan(plan) => with_plan(alloc, b"found plan ", plan),
         Deed::FoundMessage { number, seal } => message_text(alloc, *number, seal),
         Deed::FoundRecord {

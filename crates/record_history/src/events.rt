@@ -81,6 +81,8 @@ pub enum Deed<'a> {
     ReasonsRequired,
     /// A reason need not be given any more.
     ReasonsOptional,
+    /// A person has looked at what a program that keeps no history left, and lets it stand.
+    FindingsAccepted,
     /// This plan was there. It begins the history, or a finding of what a program that keeps none has left.
     FoundPlan(Listing<'a>),
     /// This message was there.
@@ -104,7 +106,8 @@ pub enum Deed<'a> {
 }
 
 /// A deed at a moment, in seconds since 1970-01-01T00:00:00Z. Who did it, and for what reason, is told by the caller; no
-/// reason is an empty one. The notes are more that is told of the deed, `key=value` joined by `;`; today there are none.
+/// reason is an empty one. The notes are more that is told of the deed, as `message=altered`: `key=value` joined by `;`, or
+/// empty where nothing more is told.
 #[derive(Drop)]
 pub struct Event<'a> {
     pub moment: u64,

@@ -28,5 +28,5 @@ pub use faults::LineFault;
 pub use laws::{commands_are_told, lines_have_one_reading};
 pub use lines::{LAST_DAY, LAST_MOMENT, event_line};
 pub use marks::next_mark;
-pub use reading::read_line;
+pub use reading::{read_line, read_line_again};
 pub use seals::seal_of;

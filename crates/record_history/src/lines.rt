@@ -8,6 +8,7 @@ ghost use Rattle.record_history.specs.Views.{event_view};
 use crate::dates::moment_text;
 use crate::deeds::deed_text;
 use crate::events::Event;
+use crate::texts::ROOM;
 use std::alloc::{AllocError, Global};
 
 /// The last moment that a line can have, 9999-12-31T23:59:59Z, in seconds since 1970-01-01T00:00:00Z.
@@ -55,7 +56,9 @@ pub fn event_line(alloc: Global, number: u64, event: &Event<'_>) -> Result<Vec<u
 {
     let moment = moment_text(alloc, event.moment)?;
     let deed = deed_text(alloc, &event.deed)?;
-    let mut line = number.to_string(alloc)?.into_bytes();
+    let number = number.to_string(alloc)?;
+    let mut line = Vec::with_capacity(alloc, ROOM)?;
+    line.extend_from_slice(number.as_bytes())?;
     push_word(&mut line, moment.as_slice())?;
     push_word(&mut line, event.who)?;
     push_word(&mut line, deed.as_slice())?;

@@ -51,8 +51,11 @@ fn ending_at(text: &[u8]) -> Result<(&[u8], &[u8]), LineFault>
     }
 }
 
+/// The number and the event of a line that [`read_line`] has read before.
+///
+/// What was read is not written again to be compared, so other octets may be read as an event too. Refused as by `read_line`.
 #[tactic(auto, unfolding(crate::specs::Reading::event_at))]
-fn event_at(alloc: Global, line: &[u8]) -> Result<(u64, Event<'_>), LineFault>
+pub fn read_line_again(alloc: Global, line: &[u8]) -> Result<(u64, Event<'_>), LineFault>
     ensures event { Gives (λ x. (x.0, event_view x.1)) result (event_at_of line.now) }
     ensures spelled { IfOk result (λ x. IsSpelled (event_view x.1)) }
 {
@@ -84,7 +87,7 @@ pub fn read_line(alloc: Global, line: &[u8]) -> Result<(u64, Event<'_>), LineFau
     ensures only { ReadsEach (λ x. (x.0, event_view x.1)) line.now result }
     ensures spelled { IfOk result (λ x. IsSpelled (event_view x.1)) }
 {
-    let (number, event) = event_at(alloc, line)?;
+    let (number, event) = read_line_again(alloc, line)?;
     let again = event_line(alloc, number, &event)?;
     if again.as_slice() != line {
         return Err(LineFault::NotALine);

@@ -105,6 +105,8 @@ fn each_deed_is_read(rt: HostRuntime) {
         b"7 2031-01-01T09:30:00Z ann made reasons required",
         b"7 2031-01-01T09:30:00Z ann made reasons required note=1 : order 12/3",
         b"8 2031-01-01T09:30:00Z ann made reasons optional : order 12/3",
+        b"9 2031-01-01T09:30:00Z ann accepted findings",
+        b"9 2031-01-01T09:30:00Z ann accepted findings note=1 : seen with ben",
         b"8 2031-01-01T09:30:00Z ann found record 5 of message 4 in rent on 2031-01-01 destroyed",
         b"8 2031-01-01T09:30:00Z ann found record 5 of message 4 in rent on 2031-01-01 live : x",
         b"9 2031-01-01T09:30:00Z ann found message 4 17 0a",
@@ -136,6 +138,7 @@ fn other_octets_are_no_line(rt: HostRuntime) {
         b"17 2031-01-01T09:30:00Z ann made reasons",
         b"17 2031-01-01T09:30:00Z ann made reasons requiredly",
         b"17 2031-01-01T09:30:00Z ann made reasons optional ",
+        b"17 2031-01-01T09:30:00Z ann accepted finding",
         b"17 2031-01-01T09:30:00Z ann destroyed 5 as due by 2031-01-01 (0 years destroy)",
         b"6 2031-01-01T09:30:00Z ann replaced plan (root permanent;unfiled)",
     ];

@@ -11,11 +11,14 @@ use crate::events::{Filing, Listing, Seal};
 use class_plan::{Schedule, schedule_text};
 use std::alloc::{AllocError, Global};
 
+/// The room for a text, which holds those of most events, so that few have to grow.
+pub(crate) const ROOM: usize = 256;
+
 /// The pieces, one after the other.
 pub(crate) fn joined(alloc: Global, pieces: &[&[u8]]) -> Result<Vec<u8>, AllocError>
     ensures { IfOk result (λ v. v.items ≡ joined_of (map (λ p. p.now) pieces.now)) }
 {
-    let mut text = Vec::new(alloc);
+    let mut text = Vec::with_capacity(alloc, ROOM)?;
     for piece in pieces {
         text.extend_from_slice(piece)?;
     }

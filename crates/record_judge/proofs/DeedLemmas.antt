@@ -205,3 +205,9 @@ may_go a n day r is live free destroyed due = record {
   message_is = refl;
   goes = gone_done a n day r is live free destroyed due;
 }
+
+-- by which a destruction is judged
+pub ruleset destruction_laws = (gone_nowhere, gone_destroyed, gone_held, gone_kept, gone_later, may_go)
+
+-- by which a hold is placed
+pub ruleset hold_laws = (held_nowhere, held_destroyed, held_twice, held_as_found)

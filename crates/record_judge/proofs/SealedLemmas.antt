@@ -207,16 +207,26 @@ same_holds old new holds index kept =
     let at : IsHoldIndex new.hold_index old.holds.items = subst (λ i. IsHoldIndex i old.holds.items) (sym index) kept.holds in
     subst (λ v. IsHoldIndex new.hold_index v.items) (sym holds) at
 
+same_records : (old new : SealedArchive) → new.records ≡ old.records → new.record_index ≡ old.record_index → IsKept old
+    → IsRecordIndex new.record_index new.records.items
+same_records old new records index kept =
+    let at : IsRecordIndex new.record_index old.records.items = subst (λ i. IsRecordIndex i old.records.items) (sym index) kept.records in
+    subst (λ v. IsRecordIndex new.record_index v.items) (sym records) at
+
+same_messages : (old new : SealedArchive) → new.messages ≡ old.messages → new.message_index ≡ old.message_index → IsKept old
+    → IsMessageIndex new.message_index new.messages.items
+same_messages old new messages index kept =
+    let at : IsMessageIndex new.message_index old.messages.items = subst (λ i. IsMessageIndex i old.messages.items) (sym index) kept.messages in
+    subst (λ v. IsMessageIndex new.message_index v.items) (sym messages) at
+
 -- the holds and their index alone are new
 kept_with : (old new : SealedArchive) → IsHoldIndex new.hold_index new.holds.items → new.records ≡ old.records
     → new.record_index ≡ old.record_index → new.messages ≡ old.messages → new.message_index ≡ old.message_index → new.next ≡ old.next
     → IsKept old → IsKept new
 kept_with old new holds records record_index messages message_index next kept = record {
   next = next ∙ kept.next ∙ ap (λ v. past_all 1 (map record_view v.items)) (sym records);
-  records = let at : IsRecordIndex new.record_index old.records.items = subst (λ i. IsRecordIndex i old.records.items) (sym record_index) kept.records in
-      subst (λ v. IsRecordIndex new.record_index v.items) (sym records) at;
-  messages = let at : IsMessageIndex new.message_index old.messages.items = subst (λ i. IsMessageIndex i old.messages.items) (sym message_index) kept.messages in
-      subst (λ v. IsMessageIndex new.message_index v.items) (sym messages) at;
+  records = same_records old new records record_index kept;
+  messages = same_messages old new messages message_index kept;
   holds = holds;
 }
 
@@ -340,11 +350,11 @@ pub kept_pushed : (old new : SealedArchive) (row : SealedRecord) (place : ℕ) �
     → IsKept old → IsKept new
 kept_pushed old new row place more next long note messages index holds hold_index kept = record {
   holds = same_holds old new holds hold_index kept;
-  messages = let at : IsMessageIndex new.message_index old.messages.items = subst (λ i. IsMessageIndex i old.messages.items) (sym index) kept.messages in
-      subst (λ v. IsMessageIndex new.message_index v.items) (sym messages) at;
+  messages = same_messages old new messages index kept;
   next = next ∙ ap (λ n. max n (row.number + 1)) kept.next ∙ sym (past_snoc 1 (map record_view old.records.items) (record_view row))
       ∙ ap (past_all 1) (sym (ap (map record_view) more ∙ map-append record_view old.records.items (row ∷ [])));
-  records = subst (IsRecordIndex new.record_index) (sym more) (noted old.record_index new.record_index old.records.items row place long note kept.records);
+  records = subst (IsRecordIndex new.record_index) (sym more)
+      (noted old.record_index new.record_index old.records.items row place long note kept.records);
 }
 
 pub kept_messages : (old new : SealedArchive) (m : SealedMessage) → new.messages.items ≡ old.messages.items ++ m ∷ []
@@ -353,9 +363,9 @@ pub kept_messages : (old new : SealedArchive) (m : SealedMessage) → new.messag
 kept_messages old new m more note records index next holds hold_index kept = record {
   holds = same_holds old new holds hold_index kept;
   next = next ∙ kept.next ∙ ap (λ v. past_all 1 (map record_view v.items)) (sym records);
-  records = let at : IsRecordIndex new.record_index old.records.items = subst (λ i. IsRecordIndex i old.records.items) (sym index) kept.records in
-      subst (λ v. IsRecordIndex new.record_index v.items) (sym records) at;
-  messages = subst (IsMessageIndex new.message_index) (sym more) (message_noted old.message_index new.message_index old.messages.items m note kept.messages);
+  records = same_records old new records index kept;
+  messages = subst (IsMessageIndex new.message_index) (sym more)
+      (message_noted old.message_index new.message_index old.messages.items m note kept.messages);
 }
 
 pub adds_message : (old new : SealedArchive) (m : SealedMessage) → new.messages.items ≡ old.messages.items ++ m ∷ [] → new.plan ≡ old.plan
@@ -413,3 +423,6 @@ same_at f (x ∷ xs) [] i d e low high h = absurd (omega (arith, high))
 same_at f (x ∷ xs) (y ∷ ys) zero d e low high h = let one : f x ≡ f y = cc in one
 same_at f (x ∷ xs) (y ∷ ys) (suc i) d e low high h =
     let rest : map f xs ≡ map f ys = cc in same_at f xs ys i d e (omega (arith, low)) (omega (arith, high)) rest
+
+-- by which a message is captured
+pub ruleset capture_laws = (capture_elsewhere, capture_nothing, capture_full, captured_as)

@@ -37,6 +37,10 @@ pub record IsRecordIndex (index : RecordIndex) (rows : List SealedRecord) : Type
   pub numbers : (q : ℕ) → count_at index.numbers q ≡ tally (has_the_number q) rows
   pub lives : (q : ℕ) → count_at index.lives q ≡ tally (has_live q) rows
 
+-- the index of the records before is that of those after
+abbrev pub FollowsRecords : (old : RecordIndex) → List SealedRecord → (new : RecordIndex) → List SealedRecord → Type 0
+FollowsRecords old rows new after = IsRecordIndex old rows → IsRecordIndex new after
+
 -- the message has this number
 abbrev pub is_message : ℕ → SealedMessage → Bool
 is_message q m = m.number == q
@@ -44,6 +48,10 @@ is_message q m = m.number == q
 -- THE INDEX OF THE MESSAGES: how many have each number
 pub record IsMessageIndex (index : MessageIndex) (rows : List SealedMessage) : Type 0 where
   pub numbers : (q : ℕ) → count_at index.numbers q ≡ tally (is_message q) rows
+
+-- the index of the messages before is that of those after
+abbrev pub FollowsMessages : (old : MessageIndex) → List SealedMessage → (new : MessageIndex) → List SealedMessage → Type 0
+FollowsMessages old rows new after = IsMessageIndex old rows → IsMessageIndex new after
 
 -- a message is noted in the index
 pub record IsMessageNoted (number : ℕ) (old new : MessageIndex) : Type 0 where

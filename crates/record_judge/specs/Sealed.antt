@@ -40,6 +40,10 @@ pub record IsKept (s : SealedArchive) : Type 0 where
   pub messages : IsMessageIndex s.message_index s.messages.items
   pub holds : IsHoldIndex s.hold_index s.holds.items
 
+-- what is kept beside the lists stays right
+abbrev pub StaysKept : (old new : SealedArchive) → Type 0
+StaysKept old new = IsKept old → IsKept new
+
 -- the deed tells of this plan
 abbrev pub HasPlan : Deed → Listing → Type 0
 HasPlan deed p = (deed ≡ PlanReplaced p) ⊎ (deed ≡ FoundPlan p)

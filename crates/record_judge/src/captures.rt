@@ -4,7 +4,7 @@ ghost use Rattle.std.specs.Prelude.{◌≡◌, ◌+◌, ◌++◌, ◌≤◌, ◌
 ghost use Rattle.record_archive.specs.Archive.{records_of};
 ghost use Rattle.record_history.specs.Events as plain;
 ghost use Rattle.record_history.specs.Views.{seal_view};
-ghost use Rattle.record_judge.specs.Sealed.{AddsMessage, IsDone, IsKept, PushesRecord, PushesRecords, archive_view, record_view};
+ghost use Rattle.record_judge.specs.Sealed.{AddsMessage, IsDone, IsKept, PushesRecord, PushesRecords, StaysKept, archive_view, record_view};
 
 use crate::faults::Misdeed;
 use crate::sealed::{SealedArchive, SealedMessage, SealedRecord};
@@ -18,7 +18,7 @@ impl SealedArchive {
     pub(crate) fn find_message(&mut self, number: u32, seal: Seal) -> Result<(), Misdeed>
         ensures done { IsDone (plain.FoundMessage number (seal_view seal))
             (archive_view self.old) (archive_view self.new) result }
-        ensures kept { OnOk result (IsKept self.old → IsKept self.new) }
+        ensures kept { OnOk result (StaysKept self.old self.new) }
         ensures added { OnOk result (AddsMessage number (seal_view seal) self.old self.new) }
         ensures cause { IfErr result (λ m. m ≡ Misdeed.NoMemory) }
     {
@@ -31,7 +31,7 @@ impl SealedArchive {
     #[tactic(auto, using(crate::proofs::SealedLemmas::pushes_record))]
     fn put_record(&mut self, row: SealedRecord) -> Result<(), Misdeed>
         ensures pushed { OnOk result (PushesRecord (record_view row) self.old self.new) }
-        ensures kept { OnOk result (IsKept self.old → IsKept self.new) }
+        ensures kept { OnOk result (StaysKept self.old self.new) }
         ensures cause { IfErr result (λ m. m ≡ Misdeed.NoMemory) }
     {
         let after = u64::from(row.number) + 1;
@@ -46,7 +46,7 @@ impl SealedArchive {
     pub(crate) fn find_record(&mut self, row: SealedRecord) -> Result<(), Misdeed>
         ensures done { IsDone (plain.FoundRecord (record_view row))
             (archive_view self.old) (archive_view self.new) result }
-        ensures kept { OnOk result (IsKept self.old → IsKept self.new) }
+        ensures kept { OnOk result (StaysKept self.old self.new) }
         ensures pushed { OnOk result (PushesRecord (record_view row) self.old self.new) }
         ensures cause { IfErr result (λ m. m ≡ Misdeed.NoMemory) }
     {
@@ -61,7 +61,7 @@ impl SealedArchive {
         requires room { first + length paths.now ≤ 2 ^ 32 }
         ensures pushed { OnOk result (PushesRecords
             (records_of first first day (map (λ p. p.now) paths.now)) self.old self.new) }
-        ensures kept { OnOk result (IsKept self.old → IsKept self.new) }
+        ensures kept { OnOk result (StaysKept self.old self.new) }
         ensures cause { IfErr result (λ m. m ≡ Misdeed.NoMemory) }
     {
         for place in 0..paths.len() {
@@ -77,7 +77,7 @@ impl SealedArchive {
         Ok(())
     }
 
-    #[tactic(auto, using(crate::proofs::SealedLemmas::capture_elsewhere, crate::proofs::SealedLemmas::capture_nothing, crate::proofs::SealedLemmas::capture_full, crate::proofs::SealedLemmas::captured_as))]
+    #[tactic(auto, using(crate::proofs::SealedLemmas::capture_laws))]
     pub(crate) fn capture(
         &mut self,
         first: u32,
@@ -88,7 +88,7 @@ impl SealedArchive {
         ensures done { IsKept self.old → (filing : Option plain.Filing) → IsDone
             (plain.Captured first (seal_view seal) day filing (map (λ p. p.now) paths.now))
             (archive_view self.old) (archive_view self.new) result }
-        ensures kept { OnOk result (IsKept self.old → IsKept self.new) }
+        ensures kept { OnOk result (StaysKept self.old self.new) }
     {
         if u64::from(first) != self.next {
             return Err(Misdeed::Refused);

@@ -2,7 +2,7 @@
 
 ghost use Rattle.std.specs.Prelude.{OnOk};
 ghost use Rattle.record_history.specs.Views.{deed_view};
-ghost use Rattle.record_judge.specs.Sealed.{IsDone, IsKept, archive_view};
+ghost use Rattle.record_judge.specs.Sealed.{IsDone, IsKept, StaysKept, archive_view};
 
 use crate::faults::Misdeed;
 use crate::sealed::{SealedArchive, SealedRecord};
@@ -16,7 +16,7 @@ impl SealedArchive {
     pub fn do_again(&mut self, deed: Deed<'_>) -> Result<(), Misdeed>
         ensures done { IsKept self.old → IsDone (deed_view deed.entry)
             (archive_view self.old) (archive_view self.new) result }
-        ensures kept { OnOk result (IsKept self.old → IsKept self.new) }
+        ensures kept { OnOk result (StaysKept self.old self.new) }
     {
         match deed {
             Deed::Captured {
@@ -35,7 +35,7 @@ impl SealedArchive {
             } => self.destroy(number, day),
             Deed::ClassAdded { path } => self.add_class(path),
             Deed::PlanReplaced(plan) => self.replace_plan(&plan),
-            Deed::ReasonsRequired | Deed::ReasonsOptional => Ok(()),
+            Deed::ReasonsRequired | Deed::ReasonsOptional | Deed::FindingsAccepted => Ok(()),
             Deed::FoundPlan(plan) => self.find_plan(&plan),
             Deed::FoundMessage { number, seal } => self.find_message(number, seal),
             Deed::FoundRecord {

@@ -6,7 +6,7 @@ ghost use Rattle.class_plan.specs.declared.schedules.Schedule.{Schedule};
 ghost use Rattle.record_archive.specs.Archive as archive;
 ghost use Rattle.record_archive.specs.Archive.{Record};
 ghost use Rattle.record_history.specs.Events as plain;
-ghost use Rattle.record_judge.specs.Sealed.{IsDone, IsKept, MayGo, MayNotGo, archive_view};
+ghost use Rattle.record_judge.specs.Sealed.{IsDone, IsKept, MayGo, MayNotGo, StaysKept, archive_view};
 
 use crate::faults::Misdeed;
 use crate::message_index::leave_message;
@@ -53,7 +53,7 @@ fn is_due(plan: &Plan, path: &[u8], captured: u32, day: u32) -> bool
 
 impl SealedArchive {
     /// The message of a record, if the record may be destroyed by a day.
-    #[tactic(auto, using(crate::proofs::DeedLemmas::gone_nowhere, crate::proofs::DeedLemmas::gone_destroyed, crate::proofs::DeedLemmas::gone_held, crate::proofs::DeedLemmas::gone_kept, crate::proofs::DeedLemmas::gone_later, crate::proofs::DeedLemmas::may_go))]
+    #[tactic(auto, using(crate::proofs::DeedLemmas::destruction_laws))]
     fn judge_destruction(&self, number: u32, day: u32) -> Result<u32, Misdeed>
         ensures ok { IsKept self.now → IfOk result (MayGo (archive_view self.now) number day) }
         ensures err { IsKept self.now → IfErr result (MayNotGo (archive_view self.now) number day) }
@@ -83,9 +83,10 @@ impl SealedArchive {
     /// Marks a record as destroyed, and removes its message with the last live record.
     #[tactic(auto, using(crate::proofs::SealedLemmas::removed, crate::proofs::SealedLemmas::kept_marked))]
     fn remove(&mut self, number: u32, message: u32)
-        ensures archive { IsKept self.old → (r : Record) → r.number ≡ number →
-            r.message ≡ message → archive_view self.new ≡ archive.without (archive_view self.old) r }
-        ensures kept { IsKept self.old → IsKept self.new }
+        ensures archive { IsKept self.old → (r : Record) → r.number ≡ number
+            → r.message ≡ message
+            → archive_view self.new ≡ archive.without (archive_view self.old) r }
+        ensures kept { StaysKept self.old self.new }
     {
         mark_destroyed(self.records.as_mut_slice(), &mut self.record_index, number);
         let shared = self.record_index.has_live(message);
@@ -94,8 +95,9 @@ impl SealedArchive {
 
     pub(crate) fn destroy(&mut self, number: u32, day: u32) -> Result<(), Misdeed>
         ensures done { IsKept self.old → (schedule : Schedule) →
-            IsDone (plain.Destroyed number day schedule) (archive_view self.old) (archive_view self.new) result }
-        ensures kept { IsKept self.old → IsKept self.new }
+            IsDone (plain.Destroyed number day schedule)
+            (archive_view self.old) (archive_view self.new) result }
+        ensures kept { StaysKept self.old self.new }
     {
         let message = self.judge_destruction(number, day)?;
         self.remove(number, message);

@@ -48,7 +48,8 @@ fn is_there(hold: &NamedHold, name: &[u8], number: u32) -> bool
 
 /// The guessed place, where the hold is there.
 fn place_of(rows: &[NamedHold], guess: Option<usize>, name: &[u8], number: u32) -> Option<usize>
-    ensures { IfSome result (λ p. option_map (is_hold_of name.now number) (slice_get rows.now p) ≡ Some true) }
+    ensures { IfSome result
+        (λ p. option_map (is_hold_of name.now number) (slice_get rows.now p) ≡ Some true) }
 {
     let place = guess?;
     if place < rows.len() && is_there(&rows[place], name, number) {

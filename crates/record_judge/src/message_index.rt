@@ -2,7 +2,7 @@
 
 ghost use Rattle.std.specs.Prelude.{◌≡◌, ◌==◌, not, true, [], Some, filter, if◌then◌else◌, option_map, slice_get, IfSome, OnOk};
 ghost use Rattle.record_judge.specs.Counts.{tally};
-ghost use Rattle.record_judge.specs.Indexes.{IsMessageIndex, IsMessageNoted, is_message};
+ghost use Rattle.record_judge.specs.Indexes.{FollowsMessages, IsMessageIndex, IsMessageNoted, is_message};
 
 use crate::counts::Counts;
 use crate::places::Places;
@@ -38,7 +38,8 @@ impl MessageIndex {
 
 /// The guessed place, where the message with the number is there.
 fn place_of(rows: &[SealedMessage], guess: Option<usize>, number: u32) -> Option<usize>
-    ensures { IfSome result (λ p. option_map (is_message number) (slice_get rows.now p) ≡ Some true) }
+    ensures { IfSome result
+        (λ p. option_map (is_message number) (slice_get rows.now p) ≡ Some true) }
 {
     let place = guess?;
     if place < rows.len() && rows[place].number == number {
@@ -82,8 +83,7 @@ fn remove_rows(rows: &mut Vec<SealedMessage>, places: &mut Places<u32>, count: u
 fn remove_message(rows: &mut Vec<SealedMessage>, index: &mut MessageIndex, number: u32)
     ensures rows { IsMessageIndex index.old rows.old.items →
         rows.new.items ≡ filter (λ m. not (m.number == number)) rows.old.items }
-    ensures index { IsMessageIndex index.old rows.old.items →
-        IsMessageIndex index.new rows.new.items }
+    ensures index { FollowsMessages index.old rows.old.items index.new rows.new.items }
 {
     let count = index.numbers.count(number);
     index.numbers.take(number, count);
@@ -99,8 +99,7 @@ pub(crate) fn leave_message(
 )
     ensures rows { IsMessageIndex index.old rows.old.items → rows.new.items ≡
         (if shared then rows.old.items else filter (λ m. not (m.number == number)) rows.old.items) }
-    ensures index { IsMessageIndex index.old rows.old.items →
-        IsMessageIndex index.new rows.new.items }
+    ensures index { FollowsMessages index.old rows.old.items index.new rows.new.items }
 {
     if !shared {
         remove_message(rows, index, number);

@@ -4,7 +4,7 @@ ghost use Rattle.std.specs.Prelude.{◌≡◌, ◌<◌, ◌==◌, ◌&&◌, not,
 ghost use Rattle.std.specs.Ordering.{nat_cmp};
 ghost use Rattle.std.specs.BTreeMap.{get};
 ghost use Rattle.record_judge.specs.Counts.{count_at};
-ghost use Rattle.record_judge.specs.Indexes.{IsNoted, IsRecordIndex, first_or, place_at};
+ghost use Rattle.record_judge.specs.Indexes.{FollowsRecords, IsNoted, IsRecordIndex, first_or, place_at};
 ghost use Rattle.record_judge.specs.Sealed.{marked};
 ghost use Rattle.record_judge.specs.declared.sealed.SealedRecord.{SealedRecord};
 
@@ -110,7 +110,7 @@ fn mark_place(rows: &mut [SealedRecord], index: &mut RecordIndex, place: usize, 
     requires { place < length rows.old }
     ensures rows { (d : SealedRecord) →
         rows.new ≡ slice_set rows.old place (marked number (slice_index_or rows.old place d)) }
-    ensures index { IsRecordIndex index.old rows.old → IsRecordIndex index.new rows.new }
+    ensures index { FollowsRecords index.old rows.old index.new rows.new }
 {
     let gone = weight_of_mark(&rows[place], number);
     let message = rows[place].message;
@@ -121,7 +121,7 @@ fn mark_place(rows: &mut [SealedRecord], index: &mut RecordIndex, place: usize, 
 /// Marks each record with a number as destroyed, whatever the index has of it.
 fn mark_each(rows: &mut [SealedRecord], index: &mut RecordIndex, number: u32)
     ensures rows { rows.new ≡ map (marked number) rows.old }
-    ensures index { IsRecordIndex index.old rows.old → IsRecordIndex index.new rows.new }
+    ensures index { FollowsRecords index.old rows.old index.new rows.new }
 {
     for place in 0..rows.len() {
         mark_place(rows, index, place, number);
@@ -131,7 +131,7 @@ fn mark_each(rows: &mut [SealedRecord], index: &mut RecordIndex, number: u32)
 /// Marks each record with a number as destroyed. It goes over all records only where more than one has the number.
 pub(crate) fn mark_destroyed(rows: &mut [SealedRecord], index: &mut RecordIndex, number: u32)
     ensures rows { IsRecordIndex index.old rows.old → rows.new ≡ map (marked number) rows.old }
-    ensures index { IsRecordIndex index.old rows.old → IsRecordIndex index.new rows.new }
+    ensures index { FollowsRecords index.old rows.old index.new rows.new }
 {
     let Some(place) = index.only(number) else {
         mark_each(rows, index, number);

@@ -4,7 +4,7 @@ ghost use Rattle.std.specs.Prelude.{◌≡◌, OnOk, IfOk, IfErr, option_map, sl
 ghost use Rattle.record_archive.specs.Archive as archive;
 ghost use Rattle.record_history.specs.Events as plain;
 ghost use Rattle.record_history.specs.Views.{listing_view};
-ghost use Rattle.record_judge.specs.Sealed.{IsDone, IsKept, archive_view, record_view};
+ghost use Rattle.record_judge.specs.Sealed.{IsDone, IsKept, StaysKept, archive_view, record_view};
 
 use crate::faults::Misdeed;
 use crate::hold_counts::hold_key;
@@ -51,11 +51,11 @@ impl SealedArchive {
         self.hold_index.records.count(number) > 0
     }
 
-    #[tactic(auto, using(crate::proofs::DeedLemmas::held_nowhere, crate::proofs::DeedLemmas::held_destroyed, crate::proofs::DeedLemmas::held_twice, crate::proofs::DeedLemmas::held_as_found))]
+    #[tactic(auto, using(crate::proofs::DeedLemmas::hold_laws))]
     pub(crate) fn hold(&mut self, name: &[u8], number: u32) -> Result<(), Misdeed>
         ensures done { IsKept self.old → IsDone (plain.Held name.now number)
             (archive_view self.old) (archive_view self.new) result }
-        ensures kept { OnOk result (IsKept self.old → IsKept self.new) }
+        ensures kept { OnOk result (StaysKept self.old self.new) }
     {
         let Some(record) = self.record_at(number) else {
             return Err(Misdeed::Refused);
@@ -74,7 +74,7 @@ impl SealedArchive {
     pub(crate) fn find_hold(&mut self, name: &[u8], number: u32) -> Result<(), Misdeed>
         ensures done { IsDone (plain.FoundHold name.now number)
             (archive_view self.old) (archive_view self.new) result }
-        ensures kept { OnOk result (IsKept self.old → IsKept self.new) }
+        ensures kept { OnOk result (StaysKept self.old self.new) }
         ensures cause { IfErr result (λ m. m ≡ Misdeed.NoMemory) }
     {
         let key = hold_key(self.alloc, name, number)?;
@@ -89,7 +89,7 @@ impl SealedArchive {
     pub(crate) fn release(&mut self, name: &[u8], number: u32) -> Result<(), Misdeed>
         ensures done { IsKept self.old → IsDone (plain.Released name.now number)
             (archive_view self.old) (archive_view self.new) result }
-        ensures kept { IsKept self.old → IsKept self.new }
+        ensures kept { StaysKept self.old self.new }
     {
         let Some(_) = self.record_at(number) else {
             return Err(Misdeed::Refused);
@@ -106,7 +106,7 @@ impl SealedArchive {
     pub(crate) fn add_class(&mut self, path: &[u8]) -> Result<(), Misdeed>
         ensures done { IsDone (plain.ClassAdded path.now)
             (archive_view self.old) (archive_view self.new) result }
-        ensures kept { IsKept self.old → IsKept self.new }
+        ensures kept { StaysKept self.old self.new }
     {
         match self.plan.add(path) {
             Ok(()) => Ok(()),
@@ -119,7 +119,7 @@ impl SealedArchive {
     pub(crate) fn replace_plan(&mut self, listing: &Listing<'_>) -> Result<(), Misdeed>
         ensures done { IsDone (plain.PlanReplaced (listing_view listing.now))
             (archive_view self.old) (archive_view self.new) result }
-        ensures kept { IsKept self.old → IsKept self.new }
+        ensures kept { StaysKept self.old self.new }
     {
         let plan = plan_of(self.alloc, listing)?;
         match self.plan.revise(plan) {

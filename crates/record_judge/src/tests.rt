@@ -50,6 +50,10 @@ fn lawful_rows_are_taken(rt: HostRuntime) {
             b"34dc505ed46f383b753c19e736d92d26e3f78b0759d90db02920a425ebaa874a".as_slice(),
         ),
         (
+            b"3 2031-01-01T09:30:00Z ann accepted findings note=1 : seen with ben".as_slice(),
+            b"5f7e2f9cb3586a9a0e66689875bf418a25284b02f1f4c2104db6592291c93ec6".as_slice(),
+        ),
+        (
             b"3 2031-01-01T09:30:00Z ann found plan (root permanent; unfiled)".as_slice(),
             b"0bd9e90a4ad19b78119f3d44d00fd0c8bd043d7adfd75be6af004e5de97a282b".as_slice(),
         ),

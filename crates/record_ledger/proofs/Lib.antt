@@ -1,3 +1,4 @@
 pub mod CarryLemmas
 pub mod LiftLemmas
+pub mod NotingLemmas
 pub mod RepositoryLemmas

@@ -13,6 +13,8 @@ use Rattle.record_store.specs.declared.store.Store.{Store}
 use Rattle.record_noted.specs.Histories.{StandsTold}
 use Rattle.record_noted.specs.Keepers as noted
 use Rattle.record_noted.specs.declared.store.NotedStore.{NotedStore}
+use Rattle.record_history.specs.Events.{Deed}
+use Rattle.record_ledger.specs.Notings.{NotesChange, NotesDeed, NotesKept}
 use Rattle.record_ledger.specs.Ledgers.{store_of, KeptFor, LedgerFate, PlainFate, NotedFate, MayMeetKept, LedgerFateKeeps, keeper_of}
 use Rattle.record_noted.specs.declared.opening.Opened.{Opened}
 use Rattle.record_noted.specs.declared.opening.Opened.TheVariants.{Plain, Noted}
@@ -108,6 +110,21 @@ module _ {S X : Type 0} (g : Ghosts S) (command : Archive → Result Archive Arc
   plain_out old new s t result was is c =
       let P : Opened S → Opened S → Type 0 = λ k m. CarriesOut (kept_keeper g) k m command Answers result in
       kept_out old new result (subst (λ m. P old.kept m) (sym is) (subst (λ k. P k (Plain t)) (sym was) (plain_kept s t result c)))
+
+  -- without a history, nothing is noted
+  pub plain_notes : {K : Type 0} (old new : Ledger S K) (s t : Store S) (IsDeed : Archive → Deed → Type 0) (result : Result X StoreFault)
+      → old.kept ≡ Plain s → new.kept ≡ Plain t → new.occasion ≡ old.occasion → NotesChange g old new command IsDeed result
+  plain_notes old new s t IsDeed result was is same =
+      let P : Opened S → Opened S → Type 0 = λ k m. NotesKept g k m old.occasion command IsDeed result in
+      record { noted = subst (λ m. P old.kept m) (sym is) (subst (λ k. P k (Plain t)) (sym was) tt); occasion = same }
+
+  -- with one, what its calls note
+  pub noted_notes : {K : Type 0} (old new : Ledger S K) (s t : NotedStore S) (IsDeed : Archive → Deed → Type 0) (result : Result X StoreFault)
+      → old.kept ≡ Noted s → new.kept ≡ Noted t → new.occasion ≡ old.occasion → NotesDeed g s t old.occasion command IsDeed result
+      → NotesChange g old new command IsDeed result
+  noted_notes old new s t IsDeed result was is same notes =
+      let P : Opened S → Opened S → Type 0 = λ k m. NotesKept g k m old.occasion command IsDeed result in
+      record { noted = subst (λ m. P old.kept m) (sym is) (subst (λ k. P k (Noted t)) (sym was) notes); occasion = same }
 
   pub noted_out : {K : Type 0} (old new : Ledger S K) (s t : NotedStore S) (result : Result X StoreFault) → old.kept ≡ Noted s
       → new.kept ≡ Noted t → CarriesOut (noted.keeper_of g) s t command Answers result → CarriesOut (keeper_of g) old new command Answers result

@@ -18,13 +18,13 @@ number_since_1970 day = unwrap_or (from_1970 (epoch_day day)) 0
 abbrev pub found_record : RecordEntry → Record
 found_record e = record { number = e.number; message = e.message; path = e.path.items; day = number_since_1970 e.day; destroyed = e.destroyed }
 
--- THE LINE TELLS OF THE DEED under a number: by whom it is done, and for what reason, on this occasion. No notes are told, and
--- the line can be read again.
+-- THE LINE TELLS OF THE DEED under a number: by whom it is done, for what reason, and what more is noted, on this occasion. The
+-- line can be read again.
 pub record TellsOf {K : Type 0} (occasion : Occasion K) (number : ℕ) (deed : Deed) (line : List ℕ) : Type 0 where
   pub event : Event
   pub line_is : line ≡ line_of number event
   pub who : event.who ≡ occasion.who.now
   pub deed_is : event.deed ≡ deed
-  pub notes : event.notes ≡ []
+  pub notes : event.notes ≡ occasion.notes.now
   pub reason : event.reason ≡ occasion.reason.now
   pub spelled : IsSpelled event

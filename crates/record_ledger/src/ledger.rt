@@ -22,8 +22,8 @@ pub struct Ledger<'a, S: Alter, K: Clock> {
 }
 
 impl<'a, S: Alter, K: Clock> Ledger<'a, S, K> {
-    /// An archive as it was opened, for changes on an occasion. What was opened is kept as it is, so
-    /// the ledger stands for what that stands for.
+    /// An archive as it was opened, for changes on an occasion. What was opened is kept as it is,
+    /// so the ledger stands for what that stands for.
     pub fn of(alloc: Global, opened: Opened<S>, occasion: Occasion<'a, K>) -> Ledger<'a, S, K>
         ensures kept { result.kept ≡ opened }
         ensures occasion { result.occasion ≡ occasion.entry }
@@ -43,6 +43,17 @@ impl<'a, S: Alter, K: Clock> Ledger<'a, S, K> {
             Opened::Plain(store) => store,
             Opened::Noted(noted) => noted.store(),
         }
+    }
+
+    /// From now on the lines of changes have these notes: `key=value` joined by `;`, one word of 1
+    /// to 64 octets from 33 to 126 that doesn't begin with a colon, or nothing. What is kept, and
+    /// the rest of the occasion, stay.
+    pub fn set_notes(&mut self, notes: &'a [u8])
+        ensures { self.new ≡ record self.old {
+          occasion = record self.old.occasion { notes = notes.entry };
+        } }
+    {
+        self.occasion.notes = notes;
     }
 
     /// Whether changes are noted in a history.

@@ -1,5 +1,5 @@
-//! Changes of a store with a history: each is noted by its line. Each first finds the connection open, so nothing is done on
-//! one that a fault of the disk has shut.
+//! Changes of a store with a history: each is noted by its line. Each first finds the connection
+//! open, so nothing is done on one that a fault of the disk has shut.
 
 ghost use Rattle.std.specs.Prelude.{◌≡◌, ◌<◌, length, map};
 ghost use Rattle.jiff.specs.Words.{epoch_day};
@@ -9,7 +9,10 @@ ghost use Rattle.record_archive.specs.Archive as archive;
 ghost use Rattle.record_archive.specs.Archive.{AreClasses, due_list_on};
 ghost use Rattle.record_archive.specs.Calls.{CarriesOut, Quietly, unchanged};
 ghost use Rattle.record_archive.specs.Lines.{line_view};
+ghost use Rattle.record_history.specs.Events.{ClassAdded, Held, PlanReplaced, Released};
 ghost use Rattle.record_noted.specs.Keepers.{keeper_of};
+ghost use Rattle.record_ledger.specs.Notes.{number_since_1970 as number_since};
+ghost use Rattle.record_ledger.specs.Notings.{captured, IsDestruction, NotesDeed};
 
 use crate::deeds::{capture_number, number_since_1970, path_list};
 use crate::occasion::Occasion;
@@ -29,8 +32,10 @@ pub(crate) fn add_class<S: Alter, K: Clock>(
     occasion: &Occasion<'_, K>,
     path: &[u8],
 ) -> Result<(), StoreFault>
-    ensures { CarriesOut (keeper_of S.Store) noted.old noted.new
+    ensures carries { CarriesOut (keeper_of S.Store) noted.old noted.new
         (λ a. archive.add_class a path.now) Quietly result }
+    ensures notes { NotesDeed S.Store noted.old noted.new occasion.now
+        (λ a. archive.add_class a path.now) (λ a d. d ≡ ClassAdded path.now) result }
 {
     noted.ensure_open()?;
     let line = occasion.line_of(alloc, noted.next(), Deed::ClassAdded { path })?;
@@ -45,8 +50,10 @@ pub(crate) fn revise<S: Alter, K: Clock>(
     occasion: &Occasion<'_, K>,
     plan: Plan,
 ) -> Result<(), StoreFault>
-    ensures { CarriesOut (keeper_of S.Store) noted.old noted.new
+    ensures carries { CarriesOut (keeper_of S.Store) noted.old noted.new
         (λ a. archive.revise a plan) Quietly result }
+    ensures notes { NotesDeed S.Store noted.old noted.new occasion.now
+        (λ a. archive.revise a plan) (λ a d. d ≡ PlanReplaced plan) result }
 {
     noted.ensure_open()?;
     let listing = Listing::of(alloc, &plan)?;
@@ -63,8 +70,10 @@ pub(crate) fn hold<S: Alter, K: Clock>(
     name: &[u8],
     number: u32,
 ) -> Result<(), StoreFault>
-    ensures { CarriesOut (keeper_of S.Store) noted.old noted.new
+    ensures carries { CarriesOut (keeper_of S.Store) noted.old noted.new
         (λ a. archive.hold a name.now number) Quietly result }
+    ensures notes { NotesDeed S.Store noted.old noted.new occasion.now
+        (λ a. archive.hold a name.now number) (λ a d. d ≡ Held name.now number) result }
 {
     noted.ensure_open()?;
     let line = occasion.line_of(alloc, noted.next(), Deed::Held { name, number })?;
@@ -80,8 +89,10 @@ pub(crate) fn release<S: Alter, K: Clock>(
     name: &[u8],
     number: u32,
 ) -> Result<(), StoreFault>
-    ensures { CarriesOut (keeper_of S.Store) noted.old noted.new
+    ensures carries { CarriesOut (keeper_of S.Store) noted.old noted.new
         (λ a. archive.release a name.now number) Quietly result }
+    ensures notes { NotesDeed S.Store noted.old noted.new occasion.now
+        (λ a. archive.release a name.now number) (λ a d. d ≡ Released name.now number) result }
 {
     noted.ensure_open()?;
     let line = occasion.line_of(alloc, noted.next(), Deed::Released { name, number })?;
@@ -101,10 +112,14 @@ pub(crate) fn capture<S: Alter, K: Clock>(
 ) -> Result<Vec<Line>, StoreFault>
     requires day { IsCaptureDay day }
     requires paths { AreClasses noted.old.store.plan paths.now }
-    ensures { CarriesOut (keeper_of S.Store) noted.old noted.new
+    ensures carries { CarriesOut (keeper_of S.Store) noted.old noted.new
         (λ a. archive.capture a body.now (number_of_day day) paths.now)
         (λ a lines. map line_view lines.items ≡
         archive.capture_lines a (number_of_day day) paths.now) result }
+    ensures notes { 0 < length paths.now → NotesDeed S.Store noted.old noted.new
+        occasion.now (λ a. archive.capture a body.now (number_of_day day) paths.now)
+        (λ a d. d ≡ captured occasion.now a body.now (number_of_day day) paths.now)
+        result }
 {
     noted.ensure_open()?;
     if paths.as_slice().is_empty() {
@@ -143,8 +158,11 @@ pub(crate) fn destroy<S: Alter, K: Clock>(
     number: u32,
     day: Date,
 ) -> Result<(), StoreFault>
-    ensures { CarriesOut (keeper_of S.Store) noted.old noted.new
+    ensures carries { CarriesOut (keeper_of S.Store) noted.old noted.new
         (λ a. archive.destroy_on a number (epoch_day day)) Quietly result }
+    ensures notes { NotesDeed S.Store noted.old noted.new occasion.now
+        (λ a. archive.destroy_on a number (epoch_day day))
+        (IsDestruction number (number_since day)) result }
 {
     noted.ensure_open()?;
     let schedule = noted.schedule_of(number)?;

@@ -1,4 +1,5 @@
-//! The ledger as a `Repository`, whose records are chosen and disposed of. Over a history each destruction is noted.
+//! The ledger as a `Repository`, whose records are chosen and disposed of. Over a history each
+//! destruction is noted.
 
 ghost use Rattle.sqlite.specs.State.{HasCleanDisk};
 ghost use Rattle.sqlite.specs.Held.{state};

@@ -1,5 +1,5 @@
 -- A store with a history after a call that only reads.
-use Rattle.std.proofs.Common.{◌≡◌, sym, subst, Result, Ok, Err}
+use Rattle.std.proofs.Common.{◌≡◌, ℕ, List, sym, subst, Result, Ok, Err}
 use Rattle.std.specs.Result.{IsErr, IsErrAnd}
 use Rattle.std.proofs.lemmas.Bool.{false≢true}
 use Rattle.sqlite.specs.Store.{Ghosts}
@@ -10,17 +10,19 @@ use Rattle.record_archive.specs.Faults.{WhereRefused}
 use Rattle.record_archive.specs.declared.fault.ArchiveRefusal.{ArchiveRefusal}
 use Rattle.record_store.specs.Faults.{StoreFault}
 use Rattle.record_store.specs.Stores.{StandsFor, StaysStill, Tells, Falls, LeavesAll}
-use Rattle.record_noted.specs.Histories.{StandsTold}
+use Rattle.record_noted.specs.Histories.{StandsTold, StandsWith}
 use Rattle.record_noted.specs.Readings.{TellsTold, ReadsTold}
 use Rattle.record_noted.specs.declared.store.NotedStore.{NotedStore}
 use Rattle.record_noted.proofs.HistoryLemmas.{stands_still}
 
 module _ {S : Type 0} (g : Ghosts S) (old new : NotedStore S) (next : new.next ≡ old.next) (mark : new.mark ≡ old.mark)
     (falls : Falls g old.store new.store) (still : StaysStill g old.store new.store) where
-  -- it stands for the same archive
+  -- it stands for the same archive, beside the same lines
+  pub lines_read : (a : Archive) (ls : List (List ℕ)) → StandsWith g old a ls → StandsFor g new.store a → StandsWith g new a ls
+  lines_read a ls s stands = stands_still g old new a ls s stands next mark falls (λ clean is_open. still a s.stands clean is_open)
+
   pub stands_read : (a : Archive) → StandsTold g old a → StandsFor g new.store a → StandsTold g new a
-  stands_read a s stands =
-      (s.0, stands_still g old new a s.0 s.1 stands next mark falls (λ clean is_open. still a s.1.stands clean is_open), s.2)
+  stands_read a s stands = (s.0, lines_read a s.0 s.1 stands, s.2)
 
   tells_read : {X : Type 0} (result : Result X StoreFault) (Answers : Archive → X → Type 0) (Refuses : Archive → ArchiveRefusal → Type 0)
       → Tells g old.store new.store result Answers Refuses → TellsTold g old new result Answers Refuses

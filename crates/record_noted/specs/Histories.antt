@@ -48,6 +48,10 @@ pub record TreesKeepWith (trees : Trees) (a : Archive) (ls : List (List ℕ)) : 
   pub kept : TreesKeep trees a
   pub lines : StoresEvents kept.db (rows_of ls)
 
+-- beside whichever lines the store stood for an archive, it stands for it beside the very same lines
+abbrev pub KeepsLines : {S : Type 0} → Ghosts S → (old new : NotedStore S) → Type 0
+KeepsLines g old new = (a : Archive) → (ls : List (List ℕ)) → StandsWith g old a ls → StandsWith g new a ls
+
 -- THE STORE STANDS FOR THE ARCHIVE, beside a history that explains it
 abbrev pub StandsTold : {S : Type 0} → Ghosts S → NotedStore S → Archive → Type 0
 StandsTold g noted a = (ls : List (List ℕ)) × StandsWith g noted a ls × Told a ls

@@ -11,7 +11,7 @@ ghost use Rattle.record_archive.specs.Archive.{Archive, due_list_on};
 ghost use Rattle.record_archive.specs.Lines.{line_view};
 ghost use Rattle.record_choice.specs.Entries.{entries_from, entry_of, entry_view, OfRecord};
 ghost use Rattle.record_store.specs.Stores.{Falls, IsOpenOnOk, LacksRecord};
-ghost use Rattle.record_noted.specs.Histories.{IsTrouble, StandsTold};
+ghost use Rattle.record_noted.specs.Histories.{IsTrouble, KeepsLines, StandsTold};
 ghost use Rattle.record_noted.specs.Readings.{IsScheduleOfRecord, LeavesToldNow, ReadsTold};
 
 use crate::store::NotedStore;
@@ -40,6 +40,7 @@ impl<S: Alter> NotedStore<S> {
     pub fn ensure_open(&mut self) -> Result<(), StoreFault>
         ensures stands { (a : Archive) → StandsTold S.Store self.old a
             → StandsTold S.Store self.new a }
+        ensures lines { KeepsLines S.Store self.old self.new }
         ensures plan { self.new.store.plan ≡ self.old.store.plan }
         ensures next { self.new.next ≡ self.old.next }
         ensures falls { Falls S.Store self.old.store self.new.store }
@@ -94,6 +95,7 @@ impl<S: Alter> NotedStore<S> {
     pub fn schedule_of(&mut self, number: u32) -> Result<Schedule, StoreFault>
         ensures reads { ReadsTold S.Store self.old self.new result (IsScheduleOfRecord number)
             (LacksRecord number) }
+        ensures lines { KeepsLines S.Store self.old self.new }
         ensures range { IfOk result (λ s. IsInRange s) }
         ensures next { self.new.next ≡ self.old.next }
         ensures open { HasCleanDisk (state S.Store self.new.store.conn)

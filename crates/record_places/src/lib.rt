@@ -2,16 +2,18 @@
 //!
 //! - `file_system`: the calls that are made of the system, as a trait, so that a contract can say which were;
 //! - `system`: the system's own file system;
+//! - `opening`: the opening of the files of a store, with a pool of pages for their size;
 //! - `places`: what lies at a path, and new files;
 //! - `standing`: what is judged of a file, as values;
 //! - `fault`: why there is no place for a store.
 //!
-//! The module `Calls` of `specs/` names the calls, and `Looks` says which files are found right. Code that has a `FileSystem`, and no `HostRuntime`, reaches files by
-//! it alone.
+//! The module `Calls` of `specs/` names the calls, `Looks` says which files are found right, and `Pool` how many pages of a
+//! file are kept in memory. Code that has a `FileSystem`, and no `HostRuntime`, reaches files by it alone.
 #![tactic(auto)]
 
 mod fault;
 mod file_system;
+mod opening;
 mod places;
 mod standing;
 mod system;

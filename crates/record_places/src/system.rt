@@ -1,6 +1,7 @@
 //! The system's own file system.
 
 use crate::file_system::FileSystem;
+use crate::opening::open_from;
 use crate::standing::Standing;
 use sqlite::{Connection, Error, FileFrom, FileStore, Leftover, Start};
 use std::alloc::Global;
@@ -98,6 +99,7 @@ impl<'a> FileSystem for System<'a> {
         new_has_sums: bool,
         start: S,
     ) -> Result<Connection<FileStore<FileFrom<S>>>, (Error, Option<Leftover<FileFrom<S>>>)> {
-        Connection::open_from(self.rt, path, new_has_sums, start)
+        let octets = self.metadata(path).map_or(0, |found| found.octets);
+        open_from(self.rt, path, octets, new_has_sums, start)
     }
 }

@@ -75,7 +75,7 @@ behaves_busy g s f settled is out = record {
 pub fits_kept : (a : Archive) (db : Database) (s : StoresArchive db a) → IsArchive a → AllByRecursion FitsRecord s.tables.records
 fits_kept a db s is = subst (AllByRecursion FitsRecord) (sym s.keeps.records) (records_fit a is)
 
-found_all : {X : Type 0} (P : X → Type 0) (p : X → Bool) (xs : List X) (x : X) → AllByRecursion P xs → find p xs ≡ Some x → P x
+pub found_all : {X : Type 0} (P : X → Type 0) (p : X → Bool) (xs : List X) (x : X) → AllByRecursion P xs → find p xs ≡ Some x → P x
 found_all P p [] x all e = absurd cc
 found_all P p (y ∷ xs) x all e = go (p y) e (found_all P p xs x all.1)
   where

@@ -28,7 +28,7 @@ use Rattle.record_store.specs.declared.store.Store.{Store}
 use Rattle.record_store.proofs.HoldLemmas.{any-map, found_passes, is_number, same_number}
 use Rattle.record_store.proofs.DueLemmas.{held_if, free_if}
 
-later_number : (m n : ℕ) → n < m → (m == n) ≡ false
+pub later_number : (m n : ℕ) → n < m → (m == n) ≡ false
 later_number m n h = grind arith
 
 and_true : (b : Bool) → (b && true) ≡ b
@@ -44,7 +44,7 @@ never l q = ap (λ b. l && b) (and_false q) ∙ and_false l
 
 -- ---- lists whose elements are tested in two ways
 
-tally-map : {X Y : Type 0} (p : Y → Bool) (q : X → Bool) (f : X → Y) → ((x : X) → q x ≡ p (f x)) → (xs : List X) → tally q xs ≡ tally p (map f xs)
+pub tally-map : {X Y : Type 0} (p : Y → Bool) (q : X → Bool) (f : X → Y) → ((x : X) → q x ≡ p (f x)) → (xs : List X) → tally q xs ≡ tally p (map f xs)
 tally-map p q f same [] = refl
 tally-map p q f same (x ∷ xs) = λ i. cond {A = ℕ} (same x i) 1 0 + tally-map p q f same xs i
 
@@ -59,7 +59,7 @@ tally_same_on p q (x ∷ xs) h = let one = h.0 in let more = tally_same_on p q x
 -- ---- a record among others
 
 -- the records, with the one of this number destroyed
-abbrev gone : ℕ → List Record → List Record
+abbrev pub gone : ℕ → List Record → List Record
 gone n rs = update_where (has_number n) destruction_of rs
 
 abbrev gone_if : Bool → Record → Record
@@ -380,14 +380,14 @@ module _ (a : Archive) (r : Record) (is : IsArchive a) (free : IsUnheld a r.numb
 -- ---- the tables
 
 -- the due days but those of the record of this number
-abbrev dues_but : ℕ → List Due → List Due
+abbrev pub dues_but : ℕ → List Due → List Due
 dues_but n ds = delete_where (λ (d : Due). int_eq (pos d.number) (pos n)) ds
 
 -- the due days of records, by the archive's plan
-abbrev dues_of : Archive → List Record → List Due
+abbrev pub dues_of : Archive → List Record → List Due
 dues_of a rs = map (due_row a) (filter (has_due a) rs)
 
-dues_without : (a : Archive) (n : ℕ) (rs : List Record) → dues_but n (dues_of a rs) ≡ dues_of a (gone n rs)
+pub dues_without : (a : Archive) (n : ℕ) (rs : List Record) → dues_but n (dues_of a rs) ≡ dues_of a (gone n rs)
 dues_without a n [] = refl
 dues_without a n (x ∷ rs) = go (has_due a x) (x.number == n) refl refl (dues_without a n rs)
   where

@@ -10,6 +10,7 @@ pub mod DueLemmas
 pub mod Causes
 pub mod AllowedLemmas
 pub mod DestroyLemmas
+pub mod RefileLemmas
 pub mod ReviseLemmas
 pub mod ClassLemmas
 pub mod AdoptLayouts

@@ -5,6 +5,7 @@ pub mod Faults
 pub mod Captures
 pub mod Dues
 pub mod Destruction
+pub mod Refiling
 pub mod Revisions
 pub mod Entries
 pub mod Companions

@@ -14,6 +14,7 @@ mod fault;
 mod holds;
 mod messages;
 mod records;
+mod refiling;
 mod repository;
 mod revisions;
 mod store;

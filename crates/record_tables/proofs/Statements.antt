@@ -7,14 +7,14 @@ use Rattle.std.specs.Ordering.{match_ordering}
 use Rattle.std.proofs.lemmas.Int.{ints}
 use Rattle.sqlite.specs.declared.types.Value.TheVariants.{Null, Int, Text, Blob}
 use Rattle.sqlite.specs.Order.{Row}
-use Rattle.sqlite.specs.Term.{Term, holds as passes}
+use Rattle.sqlite.specs.Term.{Term, eval_all, holds as passes}
 use Rattle.sqlite.specs.Tree.{Trees, put_row, rowid}
 use Rattle.sqlite.specs.Edit.{edit_of, edited, id_in}
 use Rattle.sqlite.specs.Rowids.TheVariants.{Chosen, Given}
 use Rattle.sqlite.specs.Effect.{value_rows, IsDatabase}
 use Rattle.sqlite.specs.Source.TheVariants.{Values}
 use Rattle.sqlite.specs.State.{State, ExecutesInside}
-use Rattle.sqlite.specs.Command.TheVariants.{Insert, Delete}
+use Rattle.sqlite.specs.Command.TheVariants.{Insert, Update, Delete}
 use Rattle.sqlite.proofs.Callers.{runs_as}
 use Rattle.sqlite_rules.specs.Edit.{next_rowid, without_all, put_all}
 use Rattle.sqlite_rules.specs.Calls.{ids_of}
@@ -34,13 +34,13 @@ use Rattle.sqlite.specs.Schema.{Schema}
 use Rattle.record_tables.specs.Tables.{IsArchiveSchema, in_tree, record_table}
 use Rattle.record_items.specs.Items.{Message, Record}
 use Rattle.record_tables.specs.Rows.{Tables, record_key, record_row, Hold, hold_row}
-use Rattle.record_tables.specs.Rows.{Due, Stores, StoresKeyed}
+use Rattle.record_tables.specs.Rows.{Due, due_key, Stores, StoresKeyed}
 use Rattle.record_tables.specs.Rows.{AreKeyed, as_flag}
 use Rattle.record_tables.specs.Changes.{RestBeside, Puts, Always, IsPastMessages, IsPastRecords, IsPastDues, with_message}
-use Rattle.record_tables.specs.Changes.{with_record, with_due, with_hold, with_setting, with_class, Rule, schedule_at}
+use Rattle.record_tables.specs.Changes.{with_record, with_due, with_due_placed, with_hold, with_setting, with_class, Rule, schedule_at}
 use Rattle.record_tables.specs.Changes.{with_schedule, without_dues, without_classes, without_schedules}
 use Rattle.record_tables.specs.Changes.{without_settings, without_due, without_message, without_hold, is_hold}
-use Rattle.record_tables.specs.Changes.{destruction_of, with_destruction}
+use Rattle.record_tables.specs.Changes.{destruction_of, with_destruction, in_class, with_path}
 use Rattle.record_tables.proofs.Texts
 use Rattle.record_tables.proofs.Compiling.{Means}
 use Rattle.record_tables.proofs.Texts.{deleting, alone, on_table}
@@ -94,17 +94,17 @@ puts_by old new text params count Allows change inside h made = record {
 }
 
 module _ {X : Type 0} (d : Described X) (text : List ℕ) (params : Row) where
-  -- a row that an INSERT of values puts after the others
+  -- a row that an INSERT of values puts at its place
   inserts_row : (terms : List Term) (width : ℕ) (means : (schema : Schema) (has : IsArchiveSchema schema)
       → Means schema text (Insert (place d schema has) (Values terms width))) (Allows : Tables → Type 0) (one : Tables
-      → X)
+      → X) (made : Tables → List X)
       (edit : (db : Trees) (tree : ℕ) (t : Tables) → db tree ≡ map d.to_row (d.rows t)
       → edited db (edit_of db (in_tree tree d.table) [] Chosen 0 (value_rows params width (length terms / width) terms))
       ≡ put_row (d.to_row (one t)) (db tree))
-      (last : (t : Tables) → AreKeyed t → Allows t → insert_by d.key (d.rows t) (one t) ≡ d.rows t ++ one t ∷ [])
+      (placed : (t : Tables) → AreKeyed t → Allows t → insert_by d.key (d.rows t) (one t) ≡ made t)
       (old new : State) (count : ℕ) → IsTrue old.in_transaction → ExecutesInside 0 text params old new (Ok count)
-      → Puts old new Allows (λ t. d.with_rows (d.rows t ++ one t ∷ []) t)
-  inserts_row terms width means Allows one edit last old new count inside h =
+      → Puts old new Allows (λ t. d.with_rows (made t) t)
+  inserts_row terms width means Allows one made edit placed old new count inside h =
       puts_by old new text params count Allows _ inside h (λ t s keyed allowed.
       let schema = old.now.schema in
       let has = s.schema in
@@ -112,7 +112,7 @@ module _ {X : Type 0} (d : Described X) (text : List ℕ) (params : Row) where
       let w = runs_as text params old new schema refl _ is.is is.plain count h.0 in
       let ins = inserts schema (place d schema has) (table d schema has) (quiet d schema has) old new _ terms width params count refl w in
       let rows_are = d.stored old.now t s in
-      let at_end = last t keyed allowed in
+      let at_end = placed t keyed allowed in
       let rows = ins.1.rows ∙ edit old.now.trees (tree d schema has) t rows_are ∙ ap (put_row (d.to_row (one t))) rows_are
       ∙ puts-map d.key d.to_row d.keyed (one t ∷ []) (d.rows t) ∙ ap (map d.to_row) at_end in
       let up = subst (IsKeyedBy d.key) at_end (IsKeyedBy-insert_by d.key (d.rows t) (one t) (d.ordered t keyed)) in
@@ -128,6 +128,7 @@ module _ {X : Type 0} (d : Described X) (text : List ℕ) (params : Row) where
       (old new : State) (count : ℕ) → IsTrue old.in_transaction → ExecutesInside 0 text params old new (Ok count)
       → Puts old new Always (λ t. d.with_rows (d.rows t ++ one (next_key d.key (d.rows t)) ∷ []) t)
   inserts_next terms width means one under edit = inserts_row terms width means Always (λ t. one (next_key d.key (d.rows t)))
+      (λ t. d.rows t ++ one (next_key d.key (d.rows t)) ∷ [])
       (λ db tree t has. edit db tree ∙ ap (λ id. put_row (d.to_row (one id)) (db tree)) (ap next_rowid has
       ∙ next_is d.key d.to_row (λ x. ap id_in (d.keyed x)) (d.rows t) (pos 1)))
       (λ t keyed _. insert_next d.key (d.rows t) (one (next_key d.key (d.rows t))) (d.ordered t keyed) (under _))
@@ -185,7 +186,7 @@ pub puts_message : (old new : State) (m : Message) (count : ℕ) → IsTrue old.
     → Puts old new (IsPastMessages m.number) (with_message m)
 puts_message old new m =
     inserts_row messages Texts.insert_message (message_params m) Texts.message_terms 3 Texts.insert_message_is
-    (IsPastMessages m.number) (λ _. m) (λ db tree t has. rw (cast_null, cast_int (pos m.number)))
+    (IsPastMessages m.number) (λ _. m) (λ t. t.messages ++ m ∷ []) (λ db tree t has. rw (cast_null, cast_int (pos m.number)))
     (λ t keyed past. above_last (λ (x : Message). x.number) t.messages m past) old new
 
 abbrev pub record_params : Record → Row
@@ -196,7 +197,7 @@ pub puts_record : (old new : State) (r : Record) (count : ℕ) → r.destroyed �
     → Puts old new (IsPastRecords r.number) (with_record r)
 puts_record old new r count live =
     inserts_row records Texts.insert_record (record_params r) Texts.record_terms 6 Texts.insert_record_is
-    (IsPastRecords r.number) (λ _. r)
+    (IsPastRecords r.number) (λ _. r) (λ t. t.records ++ r ∷ [])
     (λ db tree t has. rw (live, cast_null, cast_int (pos r.number), cast_int (pos r.message), cast_int (pos r.day), cast_int (pos 0)))
     (λ t keyed past. above_last (λ (x : Record). x.number) t.records r past) old new count
 
@@ -208,8 +209,18 @@ pub puts_due : (old new : State) (d : Due) (count : ℕ) → IsTrue old.in_trans
     → Puts old new (IsPastDues d.number) (with_due d)
 puts_due old new d =
     inserts_row dues Texts.insert_due (due_params d) Texts.message_terms 3 Texts.insert_due_is (IsPastDues d.number)
-    (λ _. d) (λ db tree t has. rw (cast_null, cast_int (pos d.number), cast_int (pos d.day)))
+    (λ _. d) (λ t. t.dues ++ d ∷ []) (λ db tree t has. rw (cast_null, cast_int (pos d.number), cast_int (pos d.day)))
     (λ t keyed past. above_last (λ (x : Due). x.number) t.dues d past) old new
+
+-- ---- a row among the others
+
+pub places_due : (old new : State) (d : Due) (count : ℕ) → IsTrue old.in_transaction
+    → ExecutesInside 0 Texts.insert_due (due_params d) old new (Ok count)
+    → Puts old new Always (with_due_placed d)
+places_due old new d =
+    inserts_row dues Texts.insert_due (due_params d) Texts.message_terms 3 Texts.insert_due_is Always
+    (λ _. d) (λ t. insert_by due_key t.dues d) (λ db tree t has. rw (cast_null, cast_int (pos d.number), cast_int (pos d.day)))
+    (λ t keyed _. refl) old new
 
 -- ---- rows under the next rowid
 
@@ -305,54 +316,83 @@ drops_hold old new name n =
     removes holds Texts.delete_hold (hold_params name n) Texts.hold_test Texts.delete_hold_is (is_hold name n)
     (test_hold name n) old new
 
--- ---- a record that is destroyed
+-- ---- a record that is changed
 
 abbrev pub asked : ℕ → Record → Bool
 asked n r = int_eq (pos r.number) (pos n)
 
--- the row of it that the query gives
-abbrev pub given_row : Record → Row
-given_row r = Int (pos r.number) ∷ Int (pos r.number) ∷ Null ∷ Int (pos r.message) ∷ Text r.path ∷ Int (pos r.day) ∷ Int (pos 1) ∷ []
+-- an UPDATE of the record with a number, which stays
+module _ (text : List ℕ) (params : Row) (columns : List Term) (n : ℕ) (f : Record → Record)
+    (keeps : (x : Record) → record_key (f x) ≡ record_key x) where
+  -- the row of a record that the query gives
+  abbrev given : Record → Row
+  given x = eval_all columns (params ∷ record_row x ∷ [])
 
-update_edit : (db : Trees) (tree : ℕ) (ys : List Record) → length ys ≤ 1
-    → edited db (edit_of db (in_tree tree record_table) (ids_of (map given_row ys)) Given 1 (map given_row ys))
-    ≡ put_all (without_all (db tree) (map record_key ys)) (map (λ y. record_row (destruction_of y)) ys)
-update_edit db tree [] few = refl
-update_edit db tree (y ∷ []) few = rw (cast_null, cast_int (pos y.number), cast_int (pos y.message), cast_int (pos y.day), cast_int (pos 1))
-update_edit db tree (y ∷ z ∷ zs) few = absurd (omega arith)
+  -- the row that is given becomes that of the changed record
+  abbrev Rewrites : Type 0
+  Rewrites = (db : Trees) (tree : ℕ) (y : Record)
+      → edited db (edit_of db (in_tree tree record_table) (ids_of (given y ∷ [])) Given 1 (given y ∷ []))
+      ≡ put_all (without_all (db tree) (record_key y ∷ [])) (record_row (f y) ∷ [])
 
-keyed_destroyed : (n : ℕ) (xs : List Record) → IsKeyedBy record_key xs → IsKeyedBy record_key (update_where (asked n) destruction_of xs)
-keyed_destroyed n xs up =
-    subst (IsKeyedBy record_key) (puts_update record_key (asked n) destruction_of (λ x. refl) xs up)
-    (all_put xs (map destruction_of (filter (asked n) xs)) up)
-  where
-    all_put : (xs ys : List Record) → IsKeyedBy record_key xs → IsKeyedBy record_key (fold (insert_by record_key) xs ys)
-    all_put xs [] up = up
-    all_put xs (y ∷ ys) up = all_put (insert_by record_key xs y) ys (IsKeyedBy-insert_by record_key xs y up)
+  update_edit : Rewrites → (db : Trees) (tree : ℕ) (ys : List Record) → length ys ≤ 1
+      → edited db (edit_of db (in_tree tree record_table) (ids_of (map given ys)) Given 1 (map given ys))
+      ≡ put_all (without_all (db tree) (map record_key ys)) (map (λ y. record_row (f y)) ys)
+  update_edit one db tree [] few = refl
+  update_edit one db tree (y ∷ []) few = one db tree y
+  update_edit one db tree (y ∷ z ∷ zs) few = absurd (omega arith)
+
+  keyed_changed : (xs : List Record) → IsKeyedBy record_key xs → IsKeyedBy record_key (update_where (asked n) f xs)
+  keyed_changed xs up =
+      subst (IsKeyedBy record_key) (puts_update record_key (asked n) f keeps xs up) (all_put xs (map f (filter (asked n) xs)) up)
+    where
+      all_put : (xs ys : List Record) → IsKeyedBy record_key xs → IsKeyedBy record_key (fold (insert_by record_key) xs ys)
+      all_put xs [] up = up
+      all_put xs (y ∷ ys) up = all_put (insert_by record_key xs y) ys (IsKeyedBy-insert_by record_key xs y up)
+
+  changes_record : ((schema : Schema) (has : IsArchiveSchema schema)
+      → Means schema text (Update has.common.records.place (alone (on_table has.common.records.tree Texts.key_test columns))))
+      → ((x : Record) → list_all (passes (params ∷ record_row x ∷ [])) Texts.key_test ≡ asked n x) → Rewrites
+      → (old new : State) (count : ℕ) → IsTrue old.in_transaction → ExecutesInside 0 text params old new (Ok count)
+      → Puts old new Always (λ t. record t { records = update_where (asked n) f t.records })
+  changes_record means test one old new count inside h = puts_by old new text params count Always _ inside h (λ t s keyed _.
+      let schema = old.now.schema in
+      let has = s.schema in
+      let is = means schema has in
+      let at = tree records schema has in
+      let w = runs_as text params old new schema refl _ is.is is.plain count h.0 in
+      let done = updates schema (place records schema has) (table records schema has) (quiet records schema has) old new _
+      (alone (on_table at Texts.key_test columns)) params count refl w in
+      let ys = filter (asked n) t.records in
+      let few : length ys ≤ 1 = at_most_one record_key (pos n) (asked n) (λ x e. e) t.records keyed.records in
+      let rows : done.1.0 ≡ map given ys =
+      row_alone record_key record_row (overlay old.now.trees []) at t.records (seen old.now.trees at ∙ s.records) keyed.records Texts.key_test _
+      params (asked n) test done.1.0 (done.1.1.answer Null) ys refl few in
+      let written = done.1.2.rows
+      ∙ ap (λ l. edited old.now.trees (edit_of old.now.trees (in_tree at record_table) (ids_of l) Given 1 l)) rows
+      ∙ update_edit one old.now.trees at ys few
+      ∙ ap (λ l. put_all (without_all l (map record_key ys)) (map (λ y. record_row (f y)) ys)) s.records
+      ∙ changed_rows record_key record_row (λ x. refl) (pos n) f keeps t.records keyed.records ys refl few in (
+        changed records old.now new.now t _ s keyed done.0 done.1.2.tables written (keyed_changed t.records keyed.records),
+        rest_beside records old.now new.now has done.0 done.1.2.tables,
+        w.sound,
+      ))
 
 pub destroys : (old new : State) (n : ℕ) (count : ℕ) → IsTrue old.in_transaction
     → ExecutesInside 0 Texts.set_destroyed (Int (pos n) ∷ []) old new (Ok count)
     → Puts old new Always (with_destruction n)
-destroys old new n count inside h = puts_by old new Texts.set_destroyed (Int (pos n) ∷ []) count Always _ inside h (λ t s keyed _.
-    let schema = old.now.schema in
-    let has = s.schema in
-    let is = Texts.set_destroyed_is schema has in
-    let params : Row = Int (pos n) ∷ [] in
-    let at = tree records schema has in
-    let w = runs_as Texts.set_destroyed params old new schema refl _ is.is is.plain count h.0 in
-    let done = updates schema (place records schema has) (table records schema has) (quiet records schema has) old new _
-    (alone (on_table at Texts.key_test Texts.destroyed_columns)) params count refl w in
-    let ys = filter (asked n) t.records in
-    let few : length ys ≤ 1 = at_most_one record_key (pos n) (asked n) (λ x e. e) t.records keyed.records in
-    let rows : done.1.0 ≡ map given_row ys =
-    row_alone record_key record_row (overlay old.now.trees []) at t.records (seen old.now.trees at ∙ s.records) keyed.records Texts.key_test _
-    params (asked n) (λ x. test_key n x.number) done.1.0 (done.1.1.answer Null) ys refl few in
-    let written = done.1.2.rows
-    ∙ ap (λ l. edited old.now.trees (edit_of old.now.trees (in_tree at record_table) (ids_of l) Given 1 l)) rows
-    ∙ update_edit old.now.trees at ys few
-    ∙ ap (λ l. put_all (without_all l (map record_key ys)) (map (λ y. record_row (destruction_of y)) ys)) s.records
-    ∙ changed_rows record_key record_row (λ x. refl) (pos n) destruction_of (λ x. refl) t.records keyed.records ys refl few in (
-      changed records old.now new.now t _ s keyed done.0 done.1.2.tables written (keyed_destroyed n t.records keyed.records),
-      rest_beside records old.now new.now has done.0 done.1.2.tables,
-      w.sound,
-    ))
+destroys old new n =
+    changes_record Texts.set_destroyed (Int (pos n) ∷ []) Texts.destroyed_columns n destruction_of (λ x. refl)
+    Texts.set_destroyed_is (λ x. test_key n x.number)
+    (λ db tree y. rw (cast_null, cast_int (pos y.number), cast_int (pos y.message), cast_int (pos y.day), cast_int (pos 1))) old new
+
+abbrev pub path_params : ℕ → List ℕ → Row
+path_params n path = Int (pos n) ∷ Text path ∷ []
+
+pub refiles : (old new : State) (n : ℕ) (path : List ℕ) (count : ℕ) → IsTrue old.in_transaction
+    → ExecutesInside 0 Texts.set_path (path_params n path) old new (Ok count)
+    → Puts old new Always (with_path n path)
+refiles old new n path =
+    changes_record Texts.set_path (path_params n path) Texts.path_columns n (in_class path) (λ x. refl)
+    Texts.set_path_is (λ x. test_key n x.number)
+    (λ db tree y. rw (cast_null, cast_int (pos y.number), cast_int (pos y.message), cast_int (pos y.day), cast_int (as_flag y.destroyed)))
+    old new

@@ -192,7 +192,7 @@ delete_hold_is schema has =
     means_delete schema hold_table has.common.holds delete_hold (draft_of (inner has.common.holds.tree end) hold_test (col 1 0 ∷ []) [])
     (refl, refl) refl refl (refl, refl, (tt, (tt, tt, tt), (tt, tt, tt)), refl)
 
--- ---- an update
+-- ---- updates
 
 abbrev pub set_destroyed : List ℕ
 set_destroyed = codes "UPDATE record SET destroyed = 1 WHERE number = ?1"
@@ -205,4 +205,17 @@ pub set_destroyed_is : (schema : Schema) (has : IsArchiveSchema schema)
 unfolding understood everything
 set_destroyed_is schema has =
     means_update schema record_table has.common.records set_destroyed (draft_of (inner has.common.records.tree end) key_test destroyed_columns [])
+    (refl, refl) refl refl (refl, refl, (tt, tt), (tt, tt, tt), refl)
+
+abbrev pub set_path : List ℕ
+set_path = codes "UPDATE record SET path = ?2 WHERE number = ?1"
+
+abbrev pub path_columns : List Term
+path_columns = col 1 0 ∷ col 1 0 ∷ lit Null ∷ col 1 2 ∷ col 0 1 ∷ col 1 4 ∷ col 1 5 ∷ []
+
+pub set_path_is : (schema : Schema) (has : IsArchiveSchema schema)
+    → Means schema set_path (Update has.common.records.place (alone (on_table has.common.records.tree key_test path_columns)))
+unfolding understood everything
+set_path_is schema has =
+    means_update schema record_table has.common.records set_path (draft_of (inner has.common.records.tree end) key_test path_columns [])
     (refl, refl) refl refl (refl, refl, (tt, tt), (tt, tt, tt), refl)

@@ -3,7 +3,7 @@ use Rattle.std.specs.Prelude.{◌≡◌, ◌≢◌, ◌<◌, ◌++◌, ◌&&◌,
 use Rattle.std.specs.List.{AllByRecursion}
 use Rattle.std.specs.Cmp.Lexicographic.{slice_cmp}
 use Rattle.std.specs.Ordering.{nat_cmp, is_eq, int_eq}
-use Rattle.sqlite_keyed.specs.Keyed.{next_key}
+use Rattle.sqlite_keyed.specs.Keyed.{next_key, insert_by}
 use Rattle.sqlite_keyed.specs.Lists.{delete_where, update_where}
 use Rattle.sqlite.specs.State.{State}
 use Rattle.sqlite.specs.Effect.{Database, IsDatabase}
@@ -11,7 +11,7 @@ use Rattle.sqlite.specs.Table.{Table}
 use Rattle.sqlite_trees.specs.Tree.{IsAscending}
 use Rattle.record_items.specs.Items.{Message, Record}
 use Rattle.record_tables.specs.Tables.{Stands}
-use Rattle.record_tables.specs.Rows.{Tables, Hold, Setting, Class, Schedule, Due, Stores, StoresKeyed, AreKeyed, hold_key, setting_key, class_key, schedule_key}
+use Rattle.record_tables.specs.Rows.{Tables, Hold, Setting, Class, Schedule, Due, Stores, StoresKeyed, AreKeyed, hold_key, setting_key, class_key, schedule_key, due_key}
 
 -- the table that stood in the one database stands in the other, with the same rows
 pub record Rests (old new : Database) (table : Table) (was : Stands old.schema table) : Type 0 where
@@ -70,6 +70,10 @@ with_record r t = record t { records = t.records ++ r ∷ [] }
 abbrev pub with_due : Due → Tables → Tables
 with_due d t = record t { dues = t.dues ++ d ∷ [] }
 
+-- the due day at its place, in the order of the records' numbers
+abbrev pub with_due_placed : Due → Tables → Tables
+with_due_placed d t = record t { dues = insert_by due_key t.dues d }
+
 abbrev pub without_dues : Tables → Tables
 without_dues t = record t { dues = [] }
 
@@ -87,6 +91,13 @@ destruction_of r = record r { destroyed = true }
 
 abbrev pub with_destruction : ℕ → Tables → Tables
 with_destruction n t = record t { records = update_where (λ (r : Record). int_eq (pos r.number) (pos n)) destruction_of t.records }
+
+-- the record in another class
+abbrev pub in_class : List ℕ → Record → Record
+in_class path r = record r { path = path }
+
+abbrev pub with_path : ℕ → List ℕ → Tables → Tables
+with_path n path t = record t { records = update_where (λ (r : Record). int_eq (pos r.number) (pos n)) (in_class path) t.records }
 
 abbrev pub with_class : List ℕ → Bool → Option (List ℕ) → Tables → Tables
 with_class path is_open schedule t = record t { classes = t.classes ++ record { id = next_key class_key t.classes; path = path; is_open = is_open; schedule = schedule } ∷ [] }

@@ -10,7 +10,7 @@ ghost use Rattle.sqlite.specs.declared.types.Value.TheVariants.{Text as Words};
 ghost use Rattle.sqlite_typed.specs.Columns.{or_null};
 ghost use Rattle.record_tables.specs.Steps.{Runs, Writes};
 ghost use Rattle.record_tables.specs.CodeRows.{rule_of};
-ghost use Rattle.record_tables.specs.Changes.{Always, IsPastMessages, IsPastRecords, IsPastDues, new_message, new_record, with_message, with_record, with_due, with_hold, with_setting, with_class, with_schedule, without_dues, without_classes, without_schedules, without_settings, without_due, without_message, without_hold, with_destruction};
+ghost use Rattle.record_tables.specs.Changes.{Always, IsPastMessages, IsPastRecords, IsPastDues, new_message, new_record, with_message, with_record, with_due, with_due_placed, with_hold, with_setting, with_class, with_schedule, without_dues, without_classes, without_schedules, without_settings, without_due, without_message, without_hold, with_destruction, with_path};
 
 use crate::rows::ScheduleRow;
 use sqlite::types::{ToSql, ValueRef};
@@ -76,9 +76,12 @@ pub fn insert_record<S: Alter>(
     )
 }
 
-/// Adds the due day of a record, in days since 1970-01-01. The caller gives a record after all those with due days.
+/// Adds the due day of a record, in days since 1970-01-01, at its place in the order of the records' numbers: the last
+/// one where all records with due days are before it.
 pub fn insert_due<S: Alter>(tx: &mut Transaction<'_, S>, number: u32, day: u32) -> Result<(), Error>
-    ensures { Writes S.Store tx.old.conn tx.new.conn result
+    ensures placed { Writes S.Store tx.old.conn tx.new.conn result
+        Always (with_due_placed (record { number = number; day = day })) }
+    ensures last { Writes S.Store tx.old.conn tx.new.conn result
         (IsPastDues number) (with_due (record { number = number; day = day })) }
 {
     run(
@@ -234,5 +237,20 @@ pub fn set_destroyed<S: Alter>(tx: &mut Transaction<'_, S>, number: u32) -> Resu
         tx,
         "UPDATE record SET destroyed = 1 WHERE number = ?1",
         &[number.to_sql()],
+    )
+}
+
+/// Puts the record with a number into another class; where there is none, nothing changes.
+pub fn set_path<S: Alter>(
+    tx: &mut Transaction<'_, S>,
+    number: u32,
+    path: &[u8],
+) -> Result<(), Error>
+    ensures { Writes S.Store tx.old.conn tx.new.conn result Always (with_path number path.now) }
+{
+    run(
+        tx,
+        "UPDATE record SET path = ?2 WHERE number = ?1",
+        &[number.to_sql(), ValueRef::Text(path)],
     )
 }

@@ -1,15 +1,28 @@
 -- Octets that are held.
 use Rattle.std.proofs.Common.{◌≡◌, ℕ, ◌+◌, ◌-◌, ◌++◌, [], ◌∷◌, List, Bool, true, false, length, take, drop, codes}
-use Rattle.std.proofs.Common.{arith, ap, sym, ◌∙◌, refl, append_assoc, length-append}
+use Rattle.std.proofs.Common.{◌≤◌, Option, Some, None, arith, ap, ap₂, sym, ◌∙◌, refl, append_assoc, length-append}
 use Rattle.std.specs.Prelude.{◌||◌}
 use Rattle.std.proofs.lemmas.Bool.{false≢true}
-use Rattle.std.proofs.Math.Seq.{drop-append_seam, drop-append-add}
-use Rattle.std.proofs.lemmas.List.{append-nil, take-append-drop}
+use Rattle.std.proofs.Math.Seq.{drop-append_seam, drop-append-add, take-append-add}
+use Rattle.std.specs.Io.KnownBytes.{Appends, append_known}
+use Rattle.std.proofs.lemmas.List.{append-nil, drop_all, take-append-drop}
 use Rattle.std.proofs.lemmas.List.Folds.{list_any-append}
 use Rattle.session_protocol.specs.Session.{ending_octets}
 use Rattle.session_protocol.specs.Written.{has_line_end, SendsLines}
 use Rattle.session_protocol.specs.declared.items.SessionEnd.{SessionEnd}
 use Rattle.session_protocol.specs.declared.items.SessionEnd.TheVariants as ending
+
+-- of what is held and of octets behind it all of the first were taken, and some of the others
+pub took_more : (old new : Option (List ℕ)) (held octets both rest : List ℕ) (n h : ℕ) → both ≡ held ++ octets → h ≡ length held → h ≤ n
+    → rest ≡ drop h held → Appends old new (take n both) → Appends (append_known old held) (append_known new rest) (take (n - h) octets)
+took_more None new held octets both rest n h is whole past left took = tt
+took_more (Some xs) None held octets both rest n h is whole past left took = absurd took
+took_more (Some xs) (Some ys) held octets both rest n h is whole past left took =
+    let k : ℕ = n - h in
+    let size : n ≡ length held + k = omega (arith, past, whole) in
+    let first : take n both ≡ held ++ take k octets = ap (take n) is ∙ ap (λ m. take m (held ++ octets)) size ∙ take-append-add held octets k in
+    let none : rest ≡ [] = left ∙ drop_all h held (omega (arith, whole)) in
+    ap₂ (λ p q. p ++ q) took none ∙ append-nil (xs ++ take n both) ∙ ap (λ s. xs ++ s) first ∙ sym (append_assoc xs held (take k octets))
 
 neither : (a b : Bool) → (a || b) ≡ false → (a ≡ false) × (b ≡ false)
 neither false b h = (refl, h)

@@ -1,8 +1,8 @@
 //! A writer as a session's sink. Nothing is claimed about the octets of a terminal, a file or a pipe. Where the writers
 //! of a type know what they have taken, exactly what is written is given to them.
 
-ghost use Rattle.std.specs.Prelude.{◌≡◌, ◌≤◌, ◌↔◌, ◌++◌, [], length, take, false, true, IfErr, IfOk, Ok};
-ghost use Rattle.std.specs.Io.KnownBytes.{Keeps, WriteAppends, append_known};
+ghost use Rattle.std.specs.Prelude.{◌≡◌, ◌≤◌, ◌↔◌, ◌++◌, [], length, take, false, true, IfErr, IfNone, IfOk, IfSome, OnErr, Ok};
+ghost use Rattle.std.specs.Io.KnownBytes.{Appends, Keeps, WriteAppends, append_known};
 ghost use Rattle.std.specs.IoError.{error_kind};
 ghost use Rattle.session_protocol.specs.Streams.{no_troubles};
 ghost use Rattle.session_protocol.specs.Written.{has_line_end};
@@ -73,14 +73,45 @@ impl<W: Write> Output<W> {
         Ok(true)
     }
 
-    /// Writes what is held and then these octets, and answers how many of these the writer took. The answer is 0 also
-    /// where a write of what is held took no octet.
+    /// Writes what is held and these octets by one call, and answers how many of these the writer took. None where they
+    /// have no room together, and where the writer took no more than what was held.
+    fn write_joined(&mut self, octets: &[u8]) -> io::Result<Option<usize>>
+        ensures within { IfOk result (λ r. IfSome r (λ n. n ≤ length octets.now)) }
+        ensures octets { IfOk result (λ r. IfSome r (λ n.
+            Appends (append_known (W.contents self.old.inner) self.old.held)
+            (append_known (W.contents self.new.inner) self.new.held) (take n octets.now))) }
+        ensures kept { IfOk result (λ r. IfNone r
+            (Keeps (append_known (W.contents self.old.inner) self.old.held)
+            (append_known (W.contents self.new.inner) self.new.held))) }
+        ensures failed { OnErr result
+            (Keeps (append_known (W.contents self.old.inner) self.old.held)
+            (append_known (W.contents self.new.inner) self.new.held)) }
+        ensures tally { self.new.tally ≡ self.old.tally }
+    {
+        let Some(both) = self.held.joined(octets) else {
+            return Ok(None);
+        };
+        let count = self.inner.write(both.as_slice())?;
+        let held = self.held.as_slice().len();
+        if count <= held {
+            self.held.release(count);
+            return Ok(None);
+        }
+        self.held.release(held);
+        Ok(Some(count - held))
+    }
+
+    /// Writes what is held and then these octets, by one call where they fit, and answers how many of these the writer
+    /// took. The answer is 0 also where a write of what is held took no octet.
     fn send_and_write(&mut self, octets: &[u8]) -> io::Result<usize>
         ensures within { IfOk result (λ n. n ≤ length octets.now) }
         ensures octets { WriteAppends (append_known (W.contents self.old.inner) self.old.held)
             (append_known (W.contents self.new.inner) self.new.held) result octets.now }
         ensures tally { self.new.tally ≡ self.old.tally }
     {
+        if let Some(count) = self.write_joined(octets)? {
+            return Ok(count);
+        }
         if !self.send_held()? {
             return Ok(0);
         }

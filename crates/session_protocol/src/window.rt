@@ -1,6 +1,6 @@
 //! Octets in a buffer of a fixed size: put in behind, and taken from the front.
 
-ghost use Rattle.std.specs.Prelude.{◌≡◌, ◌<◌, ◌≤◌, ◌++◌, [], length, take, drop, min, IsTrue, ◌↔◌, OnOk, OnErr};
+ghost use Rattle.std.specs.Prelude.{◌≡◌, ◌<◌, ◌≤◌, ◌++◌, [], length, take, drop, min, IsTrue, ◌↔◌, OnOk, OnErr, IfSome};
 ghost use Rattle.std.specs.Io.KnownBytes.{Consumes, IsAtEnd, Keeps};
 
 use std::io::{self, Read};
@@ -86,6 +86,22 @@ impl<const N: usize> Window<N> {
         room[self.end..self.end + count].copy_from_slice(&octets[..count]);
         self.end += count;
         count
+    }
+
+    /// A buffer with these octets and others behind them; none where there is no room for all.
+    pub fn joined(&self, octets: &[u8]) -> Option<Window<N>>
+        ensures { IfSome result (λ both. both ≡ self.now ++ octets.now) }
+    {
+        let mut both = Window {
+            octets: self.octets,
+            start: self.start,
+            end: self.end,
+        };
+        if both.put(octets) == octets.len() {
+            Some(both)
+        } else {
+            None
+        }
     }
 
     /// Lets the first `count` octets go. There is room for `N` octets once none is left.

@@ -31,6 +31,8 @@ pub enum Call {
     Due(u16),
     /// A record is destroyed on a day.
     Destroy(u32, u16),
+    /// A record gets this class.
+    Refile(u32, &'static str),
     /// The message of a record.
     Message(u32),
     /// The records from a number on, at most so many.
@@ -48,6 +50,7 @@ pub fn answer<S: Alter>(alloc: Global, store: &mut Store<S>, call: Call) -> Resu
         Call::Release(name, record) => done(alloc, store.release(name.as_bytes(), record)),
         Call::Due(day) => lines(alloc, store.due(date(day)?)),
         Call::Destroy(record, day) => done(alloc, store.destroy(record, date(day)?)),
+        Call::Refile(record, path) => done(alloc, store.refile(record, path.as_bytes())),
         Call::Message(record) => message(alloc, store.message(record)),
         Call::Entries(from, most) => entries(alloc, store.entries(from, most)),
     }

@@ -22,6 +22,10 @@ struct Archive {
 const ONE_YEAR: &str =
     "root = \"permanent\"\n[[class]]\npath = \"tax\"\nschedule = \"1 years destroy\"\n";
 
+/// The same, and `later`, which is closed and destroyed after two years.
+const TWO_CLASSES: &str =
+    "root = \"permanent\"\n[[class]]\npath = \"tax\"\nschedule = \"1 years destroy\"\n[[class]]\npath = \"later\"\nopen = false\nschedule = \"2 years destroy\"\n";
+
 /// The rows of version 1 are moved over, and are there when the store is adopted again.
 const MOVED: &[Stage] = &[
     Stage {
@@ -81,6 +85,47 @@ const CHANGED: Stage = Stage {
     ],
 };
 
+/// Records get other classes: to a due day, to none and to another one. A hold stays, and a refusal changes nothing.
+const REFILED: Stage = Stage {
+    refused: &[],
+    texts: &[],
+    calls: &[
+        (Call::Revise(TWO_CLASSES), "ok"),
+        (Call::Hold("case", 2), "ok"),
+        (Call::Refile(9, "taxes"), "refused 80"),
+        (Call::Refile(1, "taxes"), "refused 84"),
+        (Call::Refile(2, "taxes"), "refused 59"),
+        (Call::Due(60_000), "3 due 20041; "),
+        (Call::Refile(4, "tax"), "ok"),
+        (Call::Refile(2, "later"), "ok"),
+        (Call::Due(60_000), "3 due 20041; 4 due 20041; "),
+        (Call::Refile(3, "unfiled"), "ok"),
+        (Call::Refile(4, "later"), "ok"),
+        (Call::Refile(4, "later"), "ok"),
+        (Call::Due(60_000), "4 due 20406; "),
+        (Call::Destroy(2, 20_406), "refused 81"),
+        (Call::Destroy(3, 60_000), "refused 83"),
+        (Call::Destroy(4, 20_405), "refused 82"),
+        (Call::Message(4), "two"),
+    ],
+};
+
+/// What these leave.
+const IN_OTHER_CLASSES: Stage = Stage {
+    refused: &[],
+    texts: &[],
+    calls: &[
+        (
+            Call::Entries(1, 9),
+            "1 tax 19675 1 destroyed; 2 later 19675 due 20406 1 live case; 3 unfiled 19675 3 live; 4 later 19675 due 20406 3 live; ",
+        ),
+        (Call::Release("case", 2), "ok"),
+        (Call::Due(60_000), "2 due 20406; 4 due 20406; "),
+        (Call::Destroy(4, 20_406), "ok"),
+        (Call::Message(3), "two"),
+    ],
+};
+
 /// The table of two keys still has its row, of which no key can be taken again.
 const OTHER_ROW: Stage = Stage {
     refused: &[
@@ -91,11 +136,11 @@ const OTHER_ROW: Stage = Stage {
     calls: &[],
 };
 
-/// An archive alone is changed.
-const ALONE: &[Stage] = &[CHANGES, CHANGED];
+/// An archive alone is changed, and its records get other classes.
+const ALONE: &[Stage] = &[CHANGES, CHANGED, REFILED, IN_OTHER_CLASSES];
 
-/// An archive beside the table of two keys is changed.
-const BESIDE: &[Stage] = &[CHANGES, CHANGED, OTHER_ROW];
+/// The same of an archive beside the table of two keys.
+const BESIDE: &[Stage] = &[CHANGES, CHANGED, REFILED, IN_OTHER_CLASSES, OTHER_ROW];
 
 /// The due days of an archive with one message.
 const ONE_INVOICE: &[(Call, &str)] = &[

@@ -4,6 +4,7 @@ use command_lines::tools::Folders;
 use rule_folders::{GLOBAL, MAIN, SCRIPT_ENDING, is_officer};
 use std::alloc::{AllocError, Global};
 use std::fs::{self, DirEntry};
+use std::io;
 use tool_console::{Failure, is_there};
 use tool_texts::{Shown, put};
 
@@ -63,6 +64,15 @@ pub fn push_officers(rt: &HostRuntime, text: &mut Shown, folder: &str) -> Result
     push_names(text, folder, officers.as_slice())
 }
 
+/// Why the folder of all rules cannot be read, where that is not an error of its own.
+fn folder_failure(alloc: Global, folder: &str, error: &io::Error) -> Failure {
+    match error.kind() {
+        io::ErrorKind::NotFound => Failure::at(alloc, folder, &"there is no such folder of rules"),
+        io::ErrorKind::NotADirectory => Failure::at(alloc, folder, &"this is no folder"),
+        _ => Failure::at(alloc, folder, error),
+    }
+}
+
 /// What is said of a word that is no name of an officer, and of a script that is not there, with the officers whose rules the
 /// folder has.
 fn said_of(
@@ -88,6 +98,9 @@ pub fn rules_of(rt: &HostRuntime, folder: &str, officer: &str) -> Result<Officer
         return Err(Failure::of(said));
     }
     let main = format!(in alloc; "{folder}/{officer}/{MAIN}{SCRIPT_ENDING}")?;
+    if !is_there(rt, folder) {
+        return Err(Failure::at(alloc, folder, &"there is no such folder of rules"));
+    }
     if !is_there(rt, main.as_str()) {
         return Err(Failure::of(said_of(rt, folder, main.as_str(), "not there")));
     }
@@ -121,7 +134,7 @@ fn add_officer(
 /// The officers with a program in a folder of all rules, in byte order. A failure where there is none.
 pub fn officers_in(rt: &HostRuntime, folder: &str) -> Result<Vec<String>, Failure> {
     let alloc = rt.alloc();
-    let entries = fs::read_dir(rt, folder).map_err(|error| Failure::at(alloc, folder, &error))?;
+    let entries = fs::read_dir(rt, folder).map_err(|error| folder_failure(alloc, folder, &error))?;
     let mut officers = Vec::new(alloc);
     for entry in entries {
         let entry = entry.map_err(|error| Failure::at(alloc, folder, &error))?;

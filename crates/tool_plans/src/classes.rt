@@ -1,5 +1,8 @@
 //! Classes and schedules that a plan may not have (51 to 56).
 
+ghost use Rattle.std.specs.Prelude.{◌≡◌, IfOk, IfSome, is_some, string_bytes, true};
+ghost use Rattle.class_plan.specs.Texts.{schedule_of_bytes};
+
 use crate::findings::Findings;
 use crate::outline::{Key, Outline, Owner, Written};
 use class_paths::{UNFILED, fits_path};
@@ -175,6 +178,36 @@ fn judge_twice(
     }
 }
 
+/// The schedule that was likely meant by a text with its unit in the singular, as `1 month destroy`. None where that is no
+/// schedule either.
+fn meant_schedule(alloc: Global, text: &str) -> Result<Option<String>, AllocError>
+    ensures { IfOk result (λ o. IfSome o
+        (λ s. is_some (schedule_of_bytes (string_bytes s)) ≡ true)) }
+{
+    let Some((count, rest)) = text.split_once(' ') else {
+        return Ok(None);
+    };
+    let Some((unit, action)) = rest.split_once(' ') else {
+        return Ok(None);
+    };
+    if !matches!(unit, "day" | "month" | "year") {
+        return Ok(None);
+    }
+    let meant = format!(in alloc; "{count} {unit}s {action}")?;
+    match schedule_of_text(meant.as_bytes()) {
+        Some(_) => Ok(Some(meant)),
+        None => Ok(None),
+    }
+}
+
+/// What a schedule looks like: the one that was likely meant, or else each form.
+fn form_for(alloc: Global, text: &str) -> Result<String, AllocError> {
+    match meant_schedule(alloc, text)? {
+        Some(meant) => format!(in alloc; "write {meant}, with the unit in the plural"),
+        None => String::from_str(alloc, FORM),
+    }
+}
+
 /// Adds that a schedule is not well made.
 fn judge_schedule(
     alloc: Global,
@@ -186,12 +219,13 @@ fn judge_schedule(
         return Ok(());
     }
     let shown = quoted(alloc, schedule.text.as_bytes())?;
+    let form = form_for(alloc, schedule.text)?;
     let words = match owner {
         Some(path) => {
             let path = quoted(alloc, path.text.as_bytes())?;
-            format!(in alloc; "{shown} of the class {path} is no schedule; {FORM}")?
+            format!(in alloc; "{shown} of the class {path} is no schedule; {form}")?
         }
-        None => format!(in alloc; "{shown} is no schedule; {FORM}")?,
+        None => format!(in alloc; "{shown} is no schedule; {form}")?,
     };
     findings.add(PlanFault::BadSchedule, schedule.at, words)
 }

@@ -12,6 +12,6 @@ mod meant;
 mod outline;
 mod shapes;
 
-pub use dropped::dropped_paths;
+pub use dropped::{Renaming, dropped_paths, renaming_of};
 pub use findings::{Finding, Report, judge};
 pub use meant::meant_class;

@@ -16,7 +16,7 @@ check_refusals = 30 ∷ 31 ∷ 32 ∷ 33 ∷ 34 ∷ 35 ∷ 36 ∷ 37 ∷ 38 ∷ 
 
 -- plans
 abbrev pub plan_refusals : List ℕ
-plan_refusals = 50 ∷ 51 ∷ 52 ∷ 53 ∷ 54 ∷ 55 ∷ 56 ∷ 57 ∷ 58 ∷ []
+plan_refusals = 50 ∷ 51 ∷ 52 ∷ 53 ∷ 54 ∷ 55 ∷ 56 ∷ 57 ∷ 58 ∷ 59 ∷ []
 
 -- images
 abbrev pub image_refusals : List ℕ

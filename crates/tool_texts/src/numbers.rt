@@ -124,6 +124,8 @@ fn plan_text(number: u8) -> Option<&'static str>
         57 =>
             "the new plan leaves out a path of the plan before; list it, and close it by open = false if nothing is to be filed there",
         58 => "the plan has more than 1,048,576 octets; shorten it",
+        59 =>
+            "the path is no class of the plan; name a class of it, open or closed, or add the class first",
         _ => return None,
     };
     Some(text)

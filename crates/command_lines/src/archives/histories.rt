@@ -3,6 +3,7 @@
 use super::words::JSON;
 use super::{day_asked, history_words as words, numbers_asked};
 use crate::reading::{NoCommand, has_flag, value_of};
+use crate::table::Word;
 use choice_words::TypedNumbers;
 use clap::ArgMatches;
 use jiff::civil::Date;
@@ -34,6 +35,8 @@ pub enum DeedKind {
     Made,
     /// What was found when a history began, or after a program that keeps none.
     Found,
+    /// That what was found after such a program was accepted.
+    Accepted,
 }
 
 /// Which events are printed, and how.
@@ -64,15 +67,23 @@ pub enum HistoryTask<'a> {
     Begin,
     /// It is noted whether reasons are required. Who does that is told beside it.
     Reasons(Reasons),
+    /// It is noted that a person lets stand what a program that keeps no history has left. Who that is, and for what reason,
+    /// is told beside it.
+    AcceptFound,
     Print(HistoryAsked<'a>),
 }
 
 /// The greatest length of a reason.
 const LONGEST_REASON: usize = 500;
 
-/// Whether a text can be a reason: it is not too long, and is printed as it is.
+/// Whether a text has nothing that can be seen.
+fn is_blank(text: &str) -> bool {
+    !text.is_empty() && text.trim().is_empty()
+}
+
+/// Whether a text can be a reason: it is not too long, is not of blanks alone, and is printed as it is.
 fn is_reason(alloc: Global, text: &str) -> Result<bool, AllocError> {
-    if text.len() > LONGEST_REASON {
+    if text.len() > LONGEST_REASON || is_blank(text) {
         return Ok(false);
     }
     let mut shown = Shown::new(alloc);
@@ -80,10 +91,15 @@ fn is_reason(alloc: Global, text: &str) -> Result<bool, AllocError> {
     Ok(shown.as_str() == text)
 }
 
+/// Whether a word can be a name for the history. One that begins with two hyphens is an option before which a name is missing.
+fn is_name_told(word: &str) -> bool {
+    is_name(word.as_bytes()) && !word.starts_with("--")
+}
+
 /// A name for the history, where one is given.
 fn name_told<'a>(alloc: Global, asked: &ArgMatches<'a>) -> Result<Option<&'a str>, NoCommand> {
     match value_of(asked, words::BY) {
-        Some(name) if !is_name(name.as_bytes()) => {
+        Some(name) if !is_name_told(name) => {
             let reason = "who does it is told by 1 to 64 visible ASCII characters, as ann";
             Err(NoCommand::wrong(alloc, name, reason))
         }
@@ -97,7 +113,8 @@ fn reason_told<'a>(alloc: Global, asked: &ArgMatches<'a>) -> Result<&'a str, NoC
     if is_reason(alloc, text)? {
         return Ok(text);
     }
-    let reason = "a reason has at most 500 octets, and no line end or other hidden character";
+    let reason =
+        "a reason has at most 500 octets, not all of them blanks, and no line end or other hidden character";
     Err(NoCommand::wrong(alloc, text, reason))
 }
 
@@ -113,7 +130,7 @@ pub(super) fn attribution_asked<'a>(
 }
 
 /// The words for kinds of deeds.
-const KINDS: [(&str, DeedKind); 8] = [
+const KINDS: [(&str, DeedKind); 9] = [
     ("captured", DeedKind::Captured),
     ("held", DeedKind::Held),
     ("released", DeedKind::Released),
@@ -122,6 +139,7 @@ const KINDS: [(&str, DeedKind); 8] = [
     ("replaced", DeedKind::Replaced),
     ("made", DeedKind::Made),
     ("found", DeedKind::Found),
+    ("accepted", DeedKind::Accepted),
 ];
 
 /// The kind of a word.
@@ -143,8 +161,8 @@ fn kind_asked(alloc: Global, asked: &ArgMatches<'_>) -> Result<Option<DeedKind>,
         Some(kind) => Ok(Some(kind)),
         None => {
             let reason =
-                "none of captured, held, released, destroyed, added, replaced, made and found";
-            Err(NoCommand::wrong(alloc, word, reason))
+                "none of captured, held, released, destroyed, added, replaced, made, found and accepted";
+            Err(NoCommand::wrong_after(alloc, words::DEEDS, word, reason))
         }
     }
 }
@@ -165,42 +183,89 @@ fn is_chosen(events: &HistoryAsked<'_>) -> bool {
     !events.numbers.is_empty() || events.since.is_some() || events.kind.is_some() || events.is_json
 }
 
-/// The change of a history that is asked for, if one is; no two of them stand together.
-fn change_asked<'a>(
-    alloc: Global,
-    asked: &ArgMatches<'a>,
-) -> Result<Option<HistoryTask<'a>>, NoCommand> {
-    let begins = has_flag(asked, words::BEGIN);
-    let demands = has_flag(asked, words::REQUIRE_REASON);
-    let waives = has_flag(asked, words::WAIVE_REASON);
-    match (begins, demands, waives) {
-        (false, false, false) => Ok(None),
-        (true, false, false) => Ok(Some(HistoryTask::Begin)),
-        (false, true, false) => Ok(Some(HistoryTask::Reasons(Reasons::Required))),
-        (false, false, true) => Ok(Some(HistoryTask::Reasons(Reasons::Optional))),
-        _ => {
-            let reason = "of --begin, --require-reason and --waive-reason one stands alone";
-            Err(NoCommand::Wrong(String::from_str(alloc, reason)?))
+/// A change of a history that a flag asks for.
+#[derive(Clone, Copy)]
+enum Change {
+    Begin,
+    RequireReasons,
+    WaiveReasons,
+    AcceptFound,
+}
+
+/// The changes of a history, with the flags that ask for them.
+const CHANGES: [(Word, Change); 4] = [
+    (words::BEGIN, Change::Begin),
+    (words::REQUIRE_REASON, Change::RequireReasons),
+    (words::WAIVE_REASON, Change::WaiveReasons),
+    (words::ACCEPT_FOUND, Change::AcceptFound),
+];
+
+/// The change of a history that is asked for, if one is. Two at once are refused.
+fn change_asked(alloc: Global, asked: &ArgMatches<'_>) -> Result<Option<Change>, NoCommand> {
+    let mut change = None;
+    for (word, named) in CHANGES {
+        if has_flag(asked, word) {
+            if change.is_some() {
+                let reason =
+                    "of --begin, --require-reason, --waive-reason and --accept-found one stands alone";
+                return Err(NoCommand::Wrong(String::from_str(alloc, reason)?));
+            }
+            change = Some(named);
         }
+    }
+    Ok(change)
+}
+
+/// Whether a change of a history always needs a reason.
+fn needs_reason(change: Change) -> bool {
+    match change {
+        Change::WaiveReasons | Change::AcceptFound => true,
+        Change::Begin | Change::RequireReasons => false,
     }
 }
 
-/// What is done with a history. A reason is refused where it is not changed, and a choice of events where it is.
+/// The task that a change of a history is.
+fn task_of<'a>(change: Change) -> HistoryTask<'a> {
+    match change {
+        Change::Begin => HistoryTask::Begin,
+        Change::RequireReasons => HistoryTask::Reasons(Reasons::Required),
+        Change::WaiveReasons => HistoryTask::Reasons(Reasons::Optional),
+        Change::AcceptFound => HistoryTask::AcceptFound,
+    }
+}
+
+/// Finds that a change of a history has what it needs beside it, and nothing else.
+fn judge_change(
+    alloc: Global,
+    asked: &ArgMatches<'_>,
+    events: &HistoryAsked<'_>,
+    change: Change,
+) -> Result<(), NoCommand> {
+    if is_chosen(events) {
+        let reason =
+            "--begin, --require-reason, --waive-reason and --accept-found stand with --by and --reason alone";
+        return Err(NoCommand::Wrong(String::from_str(alloc, reason)?));
+    }
+    if needs_reason(change) && value_of(asked, words::REASON).unwrap_or("").is_empty() {
+        let reason = "--waive-reason and --accept-found need a reason; give it by --reason TEXT";
+        return Err(NoCommand::Wrong(String::from_str(alloc, reason)?));
+    }
+    Ok(())
+}
+
+/// What is done with a history. A reason is refused where it is not changed, and a choice of events where it is; a reason that is
+/// missing is refused where findings are accepted or reasons are waived.
 pub(super) fn history_asked<'a>(
     alloc: Global,
     asked: &ArgMatches<'a>,
 ) -> Result<HistoryTask<'a>, NoCommand> {
     let events = events_asked(alloc, asked)?;
-    if let Some(task) = change_asked(alloc, asked)? {
-        if is_chosen(&events) {
-            let reason =
-                "--begin, --require-reason and --waive-reason stand with --by and --reason alone";
-            return Err(NoCommand::Wrong(String::from_str(alloc, reason)?));
-        }
-        return Ok(task);
+    if let Some(change) = change_asked(alloc, asked)? {
+        judge_change(alloc, asked, &events, change)?;
+        return Ok(task_of(change));
     }
     if value_of(asked, words::REASON).is_some() {
-        let reason = "--reason needs --begin, --require-reason or --waive-reason";
+        let reason = "--reason needs --begin, --require-reason, --waive-reason or --accept-found";
         return Err(NoCommand::Wrong(String::from_str(alloc, reason)?));
     }
     Ok(HistoryTask::Print(events))

@@ -9,6 +9,7 @@ pub const BY: Word = Word {
     help: Some(
         "Who does this, for the history: 1 to 64 visible ASCII characters; LOGNAME or USER of the environment if none is given",
     ),
+    takes_hyphens: true,
     ..OPTION
 };
 
@@ -36,7 +37,15 @@ pub const REQUIRE_REASON: Word = Word {
 
 pub const WAIVE_REASON: Word = Word {
     name: "waive-reason",
-    help: Some("Requires it no more"),
+    help: Some("Requires it no more, for a reason that --reason says"),
+    ..FLAG
+};
+
+pub const ACCEPT_FOUND: Word = Word {
+    name: "accept-found",
+    help: Some(
+        "Accepts what a program that keeps no history has left, for a reason that --reason says; until then release, dispose --yes and a plan that keeps less are refused",
+    ),
     ..FLAG
 };
 
@@ -50,13 +59,15 @@ pub const EVENTS_SINCE: Word = Word {
 /// The name by which events are chosen, or of who changes what a history is.
 pub const CHOSEN_BY: Word = Word {
     help: Some(
-        "Events that this name stands for; with --begin, --require-reason or --waive-reason, who does it",
+        "Events that this name stands for; with --begin, --require-reason, --waive-reason or --accept-found, who does it",
     ),
     ..BY
 };
 
 pub const BEGIN_REASON: Word = Word {
-    help: Some("For what reason, with --begin, --require-reason or --waive-reason"),
+    help: Some(
+        "For what reason, with --begin, --require-reason, --waive-reason or --accept-found; the last two need one",
+    ),
     ..REASON
 };
 
@@ -64,7 +75,7 @@ pub const DEEDS: Word = Word {
     name: "deeds",
     value: "WORD",
     help: Some(
-        "Events of this kind: captured, held, released, destroyed, added, replaced, made or found",
+        "Events of this kind: captured, held, released, destroyed, added, replaced, made, found or accepted",
     ),
     ..OPTION
 };

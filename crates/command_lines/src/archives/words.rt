@@ -1,9 +1,10 @@
 //! The subcommands of `mailfile-store`, each with its words and an example.
 
 use super::history_words::{
-    BEGIN, BEGIN_REASON, BY, CHOSEN_BY, DEEDS, EVENTS_SINCE, HEAD, REASON, REQUIRE_REASON,
-    WAIVE_REASON,
+    ACCEPT_FOUND, BEGIN, BEGIN_REASON, BY, CHOSEN_BY, DEEDS, EVENTS_SINCE, HEAD, REASON,
+    REQUIRE_REASON, WAIVE_REASON,
 };
+use super::import_words::{AGAIN, AS_IS, DATED, SOURCES};
 use crate::table::{FLAG, Form, Hint, OPTION, PLACE, Program, Subcommand, Word};
 use std::alloc::{AllocError, Global};
 
@@ -113,9 +114,9 @@ pub const UNFILED_ON_FAULT: Word = Word {
 
 pub const AT: Word = Word {
     name: "at",
-    value: "SECONDS",
+    value: "MOMENT",
     help: Some(
-        "The moment of the capture, in seconds since 1970 and not later than now; now takes the clock as it is; if none is given, the clock, unless it stands before the days of the store",
+        "The moment of the capture, not later than now: in seconds since 1970, or YYYY-MM-DD for the beginning of a day in UTC; now takes the clock as it is; if none is given, the clock, unless it stands before the days of the store",
     ),
     ..OPTION
 };
@@ -139,6 +140,7 @@ const DELIVER: Subcommand = Subcommand {
         LIMIT,
         RULES,
         UNFILED_ON_FAULT,
+        AS_IS,
         BY,
         REASON,
         OFFICER,
@@ -181,6 +183,26 @@ const INTAKE: Subcommand = Subcommand {
         REASON,
         OFFICER,
         MAILDIR,
+    ],
+    has_shared: false,
+};
+
+const IMPORT: Subcommand = Subcommand {
+    name: "import",
+    about: "Captures old mail: each message of mboxes, folders of .eml files and Maildirs, once",
+    example: "Example: mailfile-store import --store records.db --rules rules --dated received ann old.mbox",
+    words: &[
+        STORE,
+        DATED,
+        LIMIT,
+        RULES,
+        UNFILED_ON_FAULT,
+        AGAIN,
+        QUIET,
+        BY,
+        REASON,
+        OFFICER,
+        SOURCES,
     ],
     has_shared: false,
 };
@@ -302,6 +324,14 @@ pub const JSON: Word = Word {
     ..FLAG
 };
 
+pub const TWICE: Word = Word {
+    name: "twice",
+    help: Some(
+        "Records that are not destroyed whose message was captured a second time, octet by octet, together with those of the other one",
+    ),
+    ..FLAG
+};
+
 const LIST: Subcommand = Subcommand {
     name: "list",
     about: "Prints a line for each record: number, class, day, due date or never, holds, and whether it is destroyed",
@@ -314,6 +344,7 @@ const LIST: Subcommand = Subcommand {
         JSON,
         ONLY_NUMBERS,
         COUNT,
+        TWICE,
         NUMBERS,
     ],
     has_shared: true,
@@ -443,12 +474,43 @@ const HOLD: Subcommand = Subcommand {
     has_shared: true,
 };
 
+pub const ALL: Word = Word {
+    name: "all",
+    help: Some("Ends the hold on each record that has it: lists these records, and asks"),
+    ..FLAG
+};
+
 const RELEASE: Subcommand = Subcommand {
     name: "release",
     about: "Ends the hold of that name on records",
     example: "Example: mailfile-store release --store records.db audit 1 5-9",
-    words: &[STORE, BY, REASON, NAME, NUMBERS],
+    words: &[
+        STORE,
+        ALL,
+        Word {
+            help: Some("With --all, ends it without asking"),
+            ..YES
+        },
+        BY,
+        REASON,
+        NAME,
+        NUMBERS,
+    ],
     has_shared: true,
+};
+
+const HOLDS: Subcommand = Subcommand {
+    name: "holds",
+    about: "Lists the holds: the name of each, how many records it keeps, and, from the history, since when, by whom and for what reason",
+    example: "Example: mailfile-store holds --store records.db",
+    words: &[
+        STORE,
+        Word {
+            conflict: None,
+            ..JSON
+        },
+    ],
+    has_shared: false,
 };
 
 const DISPOSE: Subcommand = Subcommand {
@@ -499,6 +561,7 @@ const HISTORY: Subcommand = Subcommand {
         BEGIN,
         REQUIRE_REASON,
         WAIVE_REASON,
+        ACCEPT_FOUND,
         CHOSEN_BY,
         BEGIN_REASON,
         EVENTS_SINCE,
@@ -546,7 +609,7 @@ const HINTS: &[Hint] = &[
 ];
 
 /// The subcommands that make a store and capture mail.
-const CAPTURING: &[Subcommand] = &[CREATE, PLAN, DELIVER, INTAKE];
+const CAPTURING: &[Subcommand] = &[CREATE, PLAN, DELIVER, INTAKE, IMPORT];
 
 /// Those that read records.
 const READING: &[Subcommand] = &[LIST, SHOW, EXPORT, COPY];
@@ -557,8 +620,8 @@ const JUDGING: &[Subcommand] = &[CHECK, WHY];
 /// Those that decide how long records are kept.
 const KEEPING: &[Subcommand] = &[HOLD, RELEASE, DISPOSE, REPORT];
 
-/// Those that tell what was done.
-const TELLING: &[Subcommand] = &[HISTORY, CERTIFICATES];
+/// Those that tell what was done, and what is held.
+const TELLING: &[Subcommand] = &[HOLDS, HISTORY, CERTIFICATES];
 
 fn telling() -> &'static [Subcommand] {
     TELLING

@@ -6,12 +6,14 @@ use Rattle.record_judge.proofs.RemovalLemmas.{none_left, only_left}
 use Rattle.record_judge.proofs.hold_index.remove_rows.Goals as goal
 
 pub returns-then-count-eq0 : goal.returns-then-count-eq0
-returns-then-count-eq0 c = none_left (is_hold_of c.args.name.now c.args.number) c.args.count c.args.rows.now.items (omega (arith, c.if-count-eq0.true))
+returns-then-count-eq0 c =
+    none_left (is_hold_of c.args.name.now c.args.number) c.args.count c.args.rows.now.items (omega (arith, c.if-count-eq0.true))
 
 pub returns-in-Some : goal.returns-in-Some
 returns-in-Some c =
-    only_left (is_hold_of c.args.name.now c.args.number) c.in-Some.place c.args.count c.args.rows.now.items _ (omega (arith, c.if-count-eq1.true))
-    (subst (λ l. option_map (is_hold_of c.args.name.now c.args.number) (slice_get l c.in-Some.place) ≡ Some true) c.as_slice.ensures.value c.in-Some.ensures)
+    let is = is_hold_of c.args.name.now c.args.number in
+    only_left is c.in-Some.place c.args.count c.args.rows.now.items _ (omega (arith, c.if-count-eq1.true))
+    (subst (λ l. option_map is (slice_get l c.in-Some.place) ≡ Some true) c.as_slice.ensures.value c.in-Some.ensures)
     c.remove-hold.ensures.by_index.2
 
 pub returns : goal.returns

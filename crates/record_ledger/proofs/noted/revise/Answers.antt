@@ -1,32 +1,54 @@
-use Rattle.std.proofs.Common.{ap, ◌∙◌}
+use Rattle.std.proofs.Common.{ap, ◌∙◌, ◌≡◌, refl}
 use Rattle.record_archive.specs.Calls.{Quietly}
 use Rattle.record_archive.specs.Archive as archive
 use Rattle.record_history.specs.Lines.{line_of}
 use Rattle.record_history.specs.Events.{PlanReplaced}
 use Rattle.record_ledger.proofs.CarryLemmas.{carried_out, found_open, not_open, refused_out}
+use Rattle.record_ledger.proofs.NotingLemmas.{deed_noted, unnoted}
 use Rattle.record_ledger.proofs.noted.revise.Goals as goal
 
 pub returns-in_err-ensure_open : goal.returns-in_err-ensure_open
 returns-in_err-ensure_open g c =
     let opened = c.ensure_open.ensures in
-    not_open g.S.Store c.args.noted.now c.ensure_open.new.self _ _ opened.stands opened.falls opened.crash _ c.in_err-ensure_open.field-0.0
-    c.from_residual.ensures.0 c.from_residual.ensures.1 c.in_err-ensure_open.ensures.trouble
+    record {
+      carries =
+          not_open g.S.Store c.args.noted.now c.ensure_open.new.self _ _ opened.stands opened.falls opened.crash _ c.in_err-ensure_open.field-0.0
+          c.from_residual.ensures.0 c.from_residual.ensures.1 c.in_err-ensure_open.ensures.trouble;
+      notes = unnoted g.S.Store c.args.noted.now c.ensure_open.new.self c.args.occasion.now
+          (λ a. archive.revise a c.args.plan)
+          (λ a d. d ≡ PlanReplaced c.args.plan)
+          c.from_residual.result c.from_residual.ensures.0;
+    }
 
 pub returns-in_err-listing : goal.returns-in_err-listing
 returns-in_err-listing g c =
     let opened = c.ensure_open.ensures in
     let found = found_open g.S.Store c.args.noted.now c.ensure_open.new.self opened.stands opened.falls
     c.in_ok-ensure_open.ensures.open opened.crash in
-    refused_out g.S.Store c.args.noted.now c.ensure_open.new.self found _ _ _ c.from_residual-in_err-listing.ensures.0
-    c.from_residual-in_err-listing.ensures.1
+    record {
+      carries =
+          refused_out g.S.Store c.args.noted.now c.ensure_open.new.self found _ _ _ c.from_residual-in_err-listing.ensures.0
+          c.from_residual-in_err-listing.ensures.1;
+      notes = unnoted g.S.Store c.args.noted.now c.ensure_open.new.self c.args.occasion.now
+          (λ a. archive.revise a c.args.plan)
+          (λ a d. d ≡ PlanReplaced c.args.plan)
+          c.from_residual-in_err-listing.result c.from_residual-in_err-listing.ensures.0;
+    }
 
 pub returns-in_err-line : goal.returns-in_err-line
 returns-in_err-line g c =
     let opened = c.ensure_open.ensures in
     let found = found_open g.S.Store c.args.noted.now c.ensure_open.new.self opened.stands opened.falls
     c.in_ok-ensure_open.ensures.open opened.crash in
-    refused_out g.S.Store c.args.noted.now c.ensure_open.new.self found _ _ _ c.from_residual-in_err-line.ensures.0
-    c.from_residual-in_err-line.ensures.1
+    record {
+      carries =
+          refused_out g.S.Store c.args.noted.now c.ensure_open.new.self found _ _ _ c.from_residual-in_err-line.ensures.0
+          c.from_residual-in_err-line.ensures.1;
+      notes = unnoted g.S.Store c.args.noted.now c.ensure_open.new.self c.args.occasion.now
+          (λ a. archive.revise a c.args.plan)
+          (λ a d. d ≡ PlanReplaced c.args.plan)
+          c.from_residual-in_err-line.result c.from_residual-in_err-line.ensures.0;
+    }
 
 pub returns : goal.returns
 returns g c =
@@ -35,10 +57,18 @@ returns g c =
     c.in_ok-ensure_open.ensures.open opened.crash in
     let note = c.in_ok-line.ensures in
     let done = c.revise-done.ensures in
-    carried_out g.S.Store c.args.noted.now c.ensure_open.new.self c.revise-done.new.self found (λ a. archive.revise a c.args.plan)
-    Quietly c.as_slice.result.now
-    c.is_idle-idle.ensures.left c.revise-done.result done.notes
-    (done.told note.event (record {
-      line_is = c.as_slice.ensures.value ∙ note.line_is ∙ ap (λ n. line_of n note.event) c.next.ensures;
-      deed_is = note.deed_is ∙ ap PlanReplaced c.in_ok-listing.ensures.view;
-    }))
+    record {
+      carries =
+          carried_out g.S.Store c.args.noted.now c.ensure_open.new.self c.revise-done.new.self found (λ a. archive.revise a c.args.plan)
+          Quietly c.as_slice.result.now
+          c.is_idle-idle.ensures.left c.revise-done.result done.notes
+          (done.told note.event (record {
+            line_is = c.as_slice.ensures.value ∙ note.line_is ∙ ap (λ n. line_of n note.event) c.next.ensures;
+            deed_is = note.deed_is ∙ ap PlanReplaced c.in_ok-listing.ensures.view;
+          }));
+      notes = deed_noted g.S.Store c.args.noted.now c.ensure_open.new.self c.revise-done.new.self opened.lines c.args.occasion.now
+          (λ a. archive.revise a c.args.plan) Quietly
+          _ _ _ _ c.as_slice.result.now note c.next.ensures (ap PlanReplaced c.in_ok-listing.ensures.view) c.as_slice.ensures.value
+          (λ a d. d ≡ PlanReplaced c.args.plan) c.revise-done.result done.notes
+          (λ clean a ls s told. refl);
+    }

@@ -13,5 +13,5 @@ loop-due-preserved g c =
     let dues = c.args.dues.now in
     let i = c.loop-due.due-index in
     let d : DueRow = record { «record» = 0; day = 0 } in
-    writes_next g.S.Store _ _ _ _ c.loop-due.invariant c.in_ok-insert_due.ensures
+    writes_next g.S.Store _ _ _ _ c.loop-due.invariant c.in_ok-insert_due.ensures.last
     (more_dues_next due_of _ _ _ dues (get_or dues i d) i c.loop-due-test.true (get_or_any dues i d _ c.loop-due-test.true))

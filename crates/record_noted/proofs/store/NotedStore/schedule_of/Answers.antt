@@ -1,10 +1,10 @@
-use Rattle.std.proofs.Common.{◌≡◌, ◌∙◌, refl, sym, ap}
+use Rattle.std.proofs.Common.{◌≡◌, ◌∙◌, ℕ, List, refl, sym, ap}
 use Rattle.std.specs.Option.{unwrap_or}
 use Rattle.class_plan.specs.Plans.{schedule_at}
 use Rattle.class_plan.specs.declared.schedules.Schedule.TheVariants.{Permanent}
 use Rattle.record_archive.specs.Archive.{Archive}
 use Rattle.record_tables.specs.CodeRows.{record_of}
-use Rattle.record_noted.proofs.ReadingLemmas.{passed_told, stands_read}
+use Rattle.record_noted.proofs.ReadingLemmas.{lines_read, passed_told, stands_read}
 use Rattle.record_noted.proofs.store.NotedStore.schedule_of.Goals as goal
 
 pub returns-in_err-record-clause-reads : goal.returns-in_err-record-clause-reads
@@ -35,3 +35,13 @@ returns-clause-reads g c = record {
   falls = c.record_at.ensures.behaves.falls;
   crash = c.record_at.ensures.crash;
 }
+
+pub returns-in_err-record-clause-lines : goal.returns-in_err-record-clause-lines
+returns-in_err-record-clause-lines g c = λ (a : Archive) (ls : List (List ℕ)) s.
+    lines_read g.S.Store c.args.self.now (record c.args.self.now { store = c.record_at.new.self }) refl refl
+    c.record_at.ensures.behaves.falls c.record_at.ensures.still a ls s (c.in_err-record.ensures.tells a s.stands).0
+
+pub returns-clause-lines : goal.returns-clause-lines
+returns-clause-lines g c = λ (a : Archive) (ls : List (List ℕ)) s.
+    lines_read g.S.Store c.args.self.now (record c.args.self.now { store = c.record_at.new.self }) refl refl
+    c.record_at.ensures.behaves.falls c.record_at.ensures.still a ls s (c.in_ok-record.ensures.tells a s.stands).0

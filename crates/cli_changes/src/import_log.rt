@@ -1,0 +1,115 @@
+//! What an import says of its messages.
+
+ghost use Rattle.std.specs.Prelude.{◌≡◌, is_ok};
+ghost use Rattle.cli_changes.specs.Imports.{is_complete};
+
+use cli_console::{Failure, Status, tell, write_text};
+use mail_dates::{Dated, Dating};
+use mail_intake::Reason;
+use std::alloc::{AllocError, Global};
+use tool_texts::{Shown, put};
+
+/// How many messages of an import were taken, and how many not.
+#[derive(Clone, Copy)]
+pub(crate) struct ImportTally {
+    /// Captured or discarded.
+    pub taken: u64,
+    /// Passed over, since they were captured already.
+    pub known: u64,
+    /// That stay, for a reason of their own.
+    pub unfit: u64,
+    /// That were given up, and may be taken later.
+    pub given_up: u64,
+}
+
+impl ImportTally {
+    /// Of no messages.
+    pub fn none() -> ImportTally {
+        ImportTally {
+            taken: 0,
+            known: 0,
+            unfit: 0,
+            given_up: 0,
+        }
+    }
+
+    /// Counts a message that stays for a reason.
+    pub fn count_staying(&mut self, reason: &Reason) {
+        match reason {
+            Reason::Unfit(_) => self.unfit = self.unfit.saturating_add(1),
+            Reason::NoMemory | Reason::GivenUp(_) => {
+                self.given_up = self.given_up.saturating_add(1);
+            }
+        }
+    }
+
+    /// The line of these counts.
+    fn line(&self, alloc: Global) -> Result<Shown, AllocError> {
+        let staying = self.unfit.saturating_add(self.given_up);
+        let mut text = Shown::new(alloc);
+        put!(text; "taken " value(&self.taken) ", captured already " value(&self.known)
+            ", stay " value(&staying))?;
+        text.end_line()?;
+        Ok(text)
+    }
+
+    /// Writes the counts. All is done then, so whatever happens to the line is no failure.
+    pub fn write(&self, rt: &HostRuntime) {
+        if let Ok(text) = self.line(rt.alloc()) {
+            let _ = write_text(rt, &text);
+        }
+    }
+
+    /// How an import ended that came to its end: `BadData` where messages stay, and `TryAgain` where some of them were given up.
+    pub fn status(&self) -> Result<(), Failure>
+        ensures { is_ok result ≡ is_complete self.now }
+    {
+        if self.given_up > 0 {
+            return Err(Failure::Reported(Status::TryAgain));
+        }
+        if self.unfit > 0 {
+            return Err(Failure::Reported(Status::BadData));
+        }
+        Ok(())
+    }
+}
+
+/// What is told of a message that is captured already.
+fn known_words(alloc: Global, name: &str, first: u32) -> Result<Shown, AllocError> {
+    let mut text = Shown::new(alloc);
+    put!(text; named(name.as_bytes()) " is captured already, as record " value(&first))?;
+    Ok(text)
+}
+
+/// Tells that a message is captured already, and its first record.
+pub(crate) fn tell_known(rt: &HostRuntime, name: &str, first: u32) {
+    if let Ok(text) = known_words(rt.alloc(), name, first) {
+        tell(rt, &text);
+    }
+}
+
+/// The name of a field that gives the moment of messages.
+fn field_of(dating: Dating) -> &'static str {
+    match dating {
+        Dating::Received => "Received",
+        Dating::Date | Dating::At(_) => "Date",
+    }
+}
+
+/// Why a message has no moment.
+pub(crate) fn undated_words(
+    alloc: Global,
+    dating: Dating,
+    dated: Dated,
+) -> Result<Shown, AllocError> {
+    let field = field_of(dating);
+    let mut text = Shown::new(alloc);
+    match dated {
+        Dated::NoField => put!(text; "it has no " words(field) " field")?,
+        Dated::NoDate => put!(text; "its " words(field) " field has no date")?,
+        Dated::Moment(_) | Dated::ToCome(_) => {
+            put!(text; "the date of its " words(field) " field is later than now")?;
+        }
+    }
+    Ok(text)
+}

@@ -1,0 +1,3 @@
+pub mod FindingLemmas
+mod FindingRows
+mod Rows

@@ -1,0 +1,76 @@
+//! Numbers that are asked for, and of which nothing is told.
+
+use crate::chosen::{any_touches, records_of, touches};
+use choice_words::TypedNumbers;
+use cli_console::{Failure, tell};
+use record_history::Deed;
+use std::alloc::{AllocError, Global};
+use tool_texts::{Shown, put};
+
+/// The numbers of records that are typed, and of which no event was met, in their order.
+#[derive(Drop)]
+pub struct Missing {
+    alloc: Global,
+    rest: Vec<TypedNumbers>,
+}
+
+/// Adds a number as it is typed, or a range.
+fn put_typed(text: &mut Shown, typed: &TypedNumbers) -> Result<(), AllocError> {
+    match typed {
+        TypedNumbers::One(number) => text.value(number),
+        TypedNumbers::Range { first, last } => put!(text; value(first) "-" value(last)),
+    }
+}
+
+/// What is said of numbers of which nothing is told.
+fn missed(alloc: Global, typed: &TypedNumbers, words: &'static str) -> Result<Shown, AllocError> {
+    let mut text = Shown::new(alloc);
+    put_typed(&mut text, typed)?;
+    put!(text; ": " words(words))?;
+    Ok(text)
+}
+
+/// Those of some numbers that have none from a first to a last.
+fn without(
+    alloc: Global,
+    typed: &[TypedNumbers],
+    first: u32,
+    last: u32,
+) -> Result<Vec<TypedNumbers>, AllocError> {
+    let mut rest = Vec::new(alloc);
+    for numbers in typed {
+        if !touches(numbers, first, last) {
+            rest.push(*numbers)?;
+        }
+    }
+    Ok(rest)
+}
+
+impl Missing {
+    /// All of the numbers that are typed.
+    pub fn of(alloc: Global, typed: &[TypedNumbers]) -> Result<Missing, AllocError> {
+        Ok(Missing {
+            alloc,
+            rest: Vec::from_slice(alloc, typed)?,
+        })
+    }
+
+    /// Notes that an event of a deed was met.
+    pub fn meet(&mut self, deed: &Deed<'_>) -> Result<(), AllocError> {
+        let Some((first, last)) = records_of(deed) else {
+            return Ok(());
+        };
+        if any_touches(self.rest.as_slice(), first, last) {
+            self.rest = without(self.alloc, self.rest.as_slice(), first, last)?;
+        }
+        Ok(())
+    }
+
+    /// Says in these words of each number that it was not met. Answers whether each was.
+    pub fn tell(&self, rt: &HostRuntime, words: &'static str) -> Result<bool, Failure> {
+        for typed in &self.rest {
+            tell(rt, &missed(rt.alloc(), typed, words)?);
+        }
+        Ok(self.rest.is_empty())
+    }
+}

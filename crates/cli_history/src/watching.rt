@@ -1,0 +1,81 @@
+//! A history that is judged while its events are read.
+
+ghost use Rattle.std.specs.Prelude.{◌≡◌, is_none, is_ok};
+
+use crate::flaws::words_of;
+use crate::pages::at_event;
+use cli_console::{Failure, Status, tell};
+use record_judge::{Judge, SealedArchive};
+use record_store::EventRow;
+use std::alloc::{AllocError, Global};
+use tool_texts::{Shown, put};
+
+/// A judge who looks at each event of a history as it is read, from the first one on.
+#[derive(Drop)]
+pub struct Watch {
+    judge: Judge,
+    /// The number of the first event that something stands against.
+    fault: Option<u32>,
+}
+
+/// That nothing is certain from an event on.
+fn uncertain(alloc: Global, number: u32) -> Result<Shown, AllocError> {
+    let mut text = Shown::new(alloc);
+    put!(text; "the history is damaged: nothing is certain of it from event " value(&number) " on")?;
+    Ok(text)
+}
+
+impl Watch {
+    /// A judge who has seen nothing.
+    pub fn new(alloc: Global) -> Result<Watch, AllocError> {
+        Ok(Watch {
+            judge: Judge::new(alloc)?,
+            fault: None,
+        })
+    }
+
+    /// Judges the next event, unless something stands against one before it: then nothing is known of those that follow. The
+    /// first that something stands against is told. Answers whether nothing stands against the events so far.
+    pub fn look_at(&mut self, rt: &HostRuntime, row: &EventRow) -> Result<bool, AllocError> {
+        if self.fault.is_some() {
+            return Ok(false);
+        }
+        let taken = self
+            .judge
+            .take(row.number, row.line.as_slice(), row.mark.as_slice());
+        let Err(flaw) = taken else {
+            return Ok(true);
+        };
+        let words = words_of(flaw).ok_or(AllocError)?;
+        self.fault = Some(row.number);
+        tell(rt, &at_event(rt.alloc(), row.number, words)?);
+        Ok(false)
+    }
+
+    /// Whether nothing stands against the events that were judged.
+    pub fn is_sound(&self) -> bool
+        ensures { result ≡ is_none self.now.fault }
+    {
+        self.fault.is_none()
+    }
+
+    /// Whether an event is the first that something stands against, which was told.
+    pub fn is_told(&self, number: u32) -> bool {
+        self.fault == Some(number)
+    }
+
+    /// What the events make of an archive.
+    pub fn archive(&self) -> &SealedArchive {
+        self.judge.archive()
+    }
+
+    /// Ends the walk: `BadData` where something stands against an event, with its number.
+    pub fn end(&self, alloc: Global) -> Result<(), Failure>
+        ensures { is_ok result ≡ is_none self.now.fault }
+    {
+        match self.fault {
+            Some(number) => Err(Failure::shown(Status::BadData, uncertain(alloc, number))),
+            None => Ok(()),
+        }
+    }
+}

@@ -1,0 +1,60 @@
+-- The lines of records: as they are captured, listed and destroyed.
+use Rattle.std.specs.Prelude.{◌≡◌, ℕ, Bool, if◌then◌else◌, List, [], ◌∷◌, ◌++◌, flat_map, Option, Some, None, codes}
+use Rattle.jiff.specs.Words.{date_text}
+use Rattle.jiff_core.specs.declared.civil.date.Date.{Date}
+use Rattle.record_archive.specs.declared.line.Line.{Line}
+use Rattle.cli_texts.specs.declared.certificates.Certificate.{Certificate}
+use Rattle.cli_texts.specs.declared.records.Row.{Row}
+use Rattle.cli_texts.specs.Words.{words, number, name}
+
+abbrev pub due_words : Option Date → List ℕ
+due_words None = words (codes "never")
+due_words (Some date) = words (date_text date)
+
+-- A RECORD OF A CAPTURE, as `record 1 class finance due 2030-11-14`
+unfoldable pub captured : Line → List ℕ
+captured l =
+    words (codes "record ") ++ number l.number ++ words (codes " class ") ++ name l.path.items ++ words (codes " due ") ++ due_words l.due
+
+-- ---- a listed record
+
+-- its number, its class and the day of its capture
+unfoldable pub listed_front : Row → List ℕ
+listed_front r =
+    words (codes "record ") ++ number r.number ++ words (codes " class ") ++ name r.path.now ++ words (codes " day ")
+    ++ words (date_text r.day)
+
+-- that it is destroyed, or when it is due
+abbrev pub listed_state : Row → List ℕ
+listed_state r = if r.destroyed then words (codes " destroyed") else words (codes " due ") ++ due_words r.due
+
+abbrev pub hold_words : List ℕ → List ℕ
+hold_words hold = words (codes " hold ") ++ name hold
+
+-- A LISTED RECORD, before what is said of its message's header
+abbrev pub listed : Row → List ℕ
+listed r = listed_front r ++ listed_state r ++ flat_map (λ h. hold_words h.items) r.holds.now
+
+-- ---- a certificate
+
+-- the record, and the message that it had
+unfoldable pub destroyed_record : Certificate → List ℕ
+destroyed_record c =
+    words (codes "destroyed record ") ++ number c.number ++ words (codes " class ") ++ name c.path.now ++ words (codes " due ")
+    ++ due_words c.due
+
+unfoldable pub destroyed_message : Certificate → List ℕ
+destroyed_message c = words (codes " octets ") ++ number c.octets ++ words (codes " sha256 ") ++ words c.sum.now
+
+abbrev pub kept_words : Option ℕ → List ℕ
+kept_words None = []
+kept_words (Some keeper) = words (codes " message kept by record ") ++ number keeper
+
+abbrev pub altered_words : Bool → List ℕ
+altered_words is_altered = if is_altered then words (codes "; its message was not the one captured") else []
+
+-- A CERTIFICATE, with the text of its moment
+abbrev pub certificate : Certificate → (moment : List ℕ) → List ℕ
+certificate c moment =
+    destroyed_record c ++ destroyed_message c ++ words (codes " at ") ++ words moment ++ kept_words c.kept_by ++ altered_words c.is_altered
+    ++ 10 ∷ []

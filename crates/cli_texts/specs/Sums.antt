@@ -1,0 +1,8 @@
+-- Sums as they are shown.
+use Rattle.std.specs.Prelude.{ℕ, List}
+use Rattle.sha2.specs.Sha256.{sha256}
+use Rattle.hex.specs.Hex.{encode_lower}
+
+-- the SHA-256 (FIPS 180-4) of octets, in hexadecimal digits
+abbrev pub shown_sum : List ℕ → List ℕ
+shown_sum octets = encode_lower (sha256 octets)

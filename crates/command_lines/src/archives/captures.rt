@@ -1,0 +1,76 @@
+//! What a command line says of how mail is filed: by which rules, as of which moment, and for how long.
+
+use super::{Filing, Moment, words};
+use crate::reading::{NoCommand, day_of, has_flag, required, value_of};
+use clap::ArgMatches;
+use jiff::civil::{Date, date};
+use session_words::read_number;
+use std::alloc::Global;
+
+/// The first second of a day in UTC, in seconds since 1970; none for a day before.
+fn first_second_of(day: Date) -> Option<u64> {
+    let hours = date(1970, 1, 1).duration_until(day).as_hours();
+    u64::try_from(hours).ok()?.checked_mul(3_600)
+}
+
+/// The moment that a word is: a number of seconds since 1970, of 64 bits in decimal digits without a leading zero, or a day of
+/// 1970 to 9999, which begins at midnight in UTC. None for any other word.
+fn moment_of(word: &str) -> Option<u64> {
+    match read_number(word.as_bytes(), u64::MAX) {
+        Some(seconds) => Some(seconds),
+        None => first_second_of(day_of(word)?),
+    }
+}
+
+/// The moment of a capture.
+fn moment_asked(alloc: Global, asked: &ArgMatches<'_>) -> Result<Moment, NoCommand> {
+    match value_of(asked, words::AT) {
+        None => Ok(Moment::Unnamed),
+        Some("now") => Ok(Moment::Now),
+        Some(word) => match moment_of(word) {
+            Some(moment) => Ok(Moment::At(moment)),
+            None => Err(NoCommand::wrong_after(
+                alloc,
+                words::AT,
+                word,
+                "none of now, a number of seconds since 1970, and a day written YYYY-MM-DD",
+            )),
+        },
+    }
+}
+
+/// How long the work on a message may take where it is not said, in seconds.
+const LIMIT: u64 = 60;
+
+/// The longest time that the work on a message may be given, in seconds: a day.
+const GREATEST_LIMIT: u64 = 86_400;
+
+/// How long the work on a message may take, in seconds.
+fn limit_asked(alloc: Global, asked: &ArgMatches<'_>) -> Result<u64, NoCommand> {
+    let Some(word) = value_of(asked, words::LIMIT) else {
+        return Ok(LIMIT);
+    };
+    match read_number(word.as_bytes(), GREATEST_LIMIT) {
+        Some(seconds) if seconds > 0 => Ok(seconds),
+        _ => Err(NoCommand::wrong_after(
+            alloc,
+            words::LIMIT,
+            word,
+            "not a number of seconds from 1 to 86400",
+        )),
+    }
+}
+
+/// How mail is filed.
+pub(super) fn filing_asked<'a>(
+    alloc: Global,
+    asked: &ArgMatches<'a>,
+) -> Result<Filing<'a>, NoCommand> {
+    Ok(Filing {
+        rules: required(asked, words::RULES)?,
+        officer: required(asked, words::OFFICER)?,
+        unfiled_on_fault: has_flag(asked, words::UNFILED_ON_FAULT),
+        moment: moment_asked(alloc, asked)?,
+        limit: limit_asked(alloc, asked)?,
+    })
+}

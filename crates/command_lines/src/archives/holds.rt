@@ -1,0 +1,105 @@
+//! What a command line asks of holds.
+
+use super::{ChosenTask, Command, conditions_asked, judge_place, numbers_asked, words};
+use crate::reading::{NoCommand, has_flag, required};
+use choice_words::Choice;
+use clap::ArgMatches;
+use session_words::is_name;
+use std::alloc::{AllocError, Global};
+
+/// The name of a hold.
+fn name_asked<'a>(alloc: Global, asked: &ArgMatches<'a>) -> Result<&'a str, NoCommand> {
+    let name = required(asked, words::NAME)?;
+    if is_name(name.as_bytes()) {
+        return Ok(name);
+    }
+    let reason = "a hold's name is 1 to 64 octets from 33 to 126";
+    Err(NoCommand::wrong(alloc, name, reason))
+}
+
+/// What is said of numbers of records where the name of a hold belongs.
+pub(super) const NAME_FORGOTTEN: &str =
+    "numbers of records, where the name of the hold belongs; type it before them, as audit 3 5-9";
+
+/// The name of a hold that is to be placed. One that reads as numbers is refused.
+fn new_name_asked<'a>(alloc: Global, asked: &ArgMatches<'a>) -> Result<&'a str, NoCommand> {
+    let name = name_asked(alloc, asked)?;
+    judge_place(alloc, name, NAME_FORGOTTEN)?;
+    Ok(name)
+}
+
+/// What is typed of the records of a hold.
+fn typed_of<'a>(alloc: Global, asked: &ArgMatches<'a>) -> Result<Choice<'a>, NoCommand> {
+    let mut choice = conditions_asked(alloc, asked)?;
+    choice.numbers = numbers_asked(alloc, asked)?;
+    Ok(choice)
+}
+
+/// Which records the hold of a name is about. They must be named; if they are not, `missing` says how they are.
+fn held_asked<'a>(
+    alloc: Global,
+    asked: &ArgMatches<'a>,
+    name: &str,
+    missing: &str,
+) -> Result<Choice<'a>, NoCommand> {
+    let choice = typed_of(alloc, asked)?;
+    if choice.is_empty() {
+        return Err(NoCommand::wrong(alloc, name, missing));
+    }
+    Ok(choice)
+}
+
+/// What is said where a hold is to be placed on nothing.
+const NONE_TO_HOLD: &str =
+    "the name of the hold; name the records too, by their numbers as 3 5-9, or by conditions as --sender müller";
+
+/// What is said where a hold is to end on nothing.
+const NONE_TO_RELEASE: &str =
+    "the name of the hold; name the records too, by their numbers as 3 5-9, or by conditions as --sender müller, or end the whole hold by --all";
+
+/// On which records a hold is placed.
+pub(super) fn hold_asked<'a>(
+    alloc: Global,
+    asked: &ArgMatches<'a>,
+) -> Result<Command<'a>, NoCommand> {
+    let name = new_name_asked(alloc, asked)?;
+    let choice = held_asked(alloc, asked, name, NONE_TO_HOLD)?;
+    Ok(Command::Chosen(choice, ChosenTask::Hold(name)))
+}
+
+/// A refusal in these words.
+fn refusal(alloc: Global, words: &str) -> Result<NoCommand, AllocError> {
+    Ok(NoCommand::Wrong(String::from_str(alloc, words)?))
+}
+
+/// The end of a whole hold. Records beside it are refused.
+fn whole_asked<'a>(
+    alloc: Global,
+    asked: &ArgMatches<'a>,
+    name: &'a str,
+) -> Result<Command<'a>, NoCommand> {
+    if !typed_of(alloc, asked)?.is_empty() {
+        let reason = "--all ends the hold on each record; it takes no numbers and no conditions";
+        return Err(refusal(alloc, reason)?);
+    }
+    Ok(Command::ReleaseAll {
+        name,
+        is_agreed: has_flag(asked, words::YES),
+    })
+}
+
+/// On which records a hold ends. `--yes` is refused where the whole hold does not end, since nobody is asked then.
+pub(super) fn release_asked<'a>(
+    alloc: Global,
+    asked: &ArgMatches<'a>,
+) -> Result<Command<'a>, NoCommand> {
+    let name = name_asked(alloc, asked)?;
+    if has_flag(asked, words::ALL) {
+        return whole_asked(alloc, asked, name);
+    }
+    if has_flag(asked, words::YES) {
+        return Err(refusal(alloc, "--yes needs --all")?);
+    }
+    let choice = held_asked(alloc, asked, name, NONE_TO_RELEASE)?;
+    Ok(Command::Chosen(choice, ChosenTask::Release(name)))
+}

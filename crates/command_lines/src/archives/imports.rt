@@ -1,0 +1,69 @@
+//! What a command line asks of an import.
+
+use super::import_words::{AGAIN, DATED, SOURCES};
+use super::words::QUIET;
+use super::{Filing, filing_asked};
+use crate::reading::{NoCommand, day_of, has_flag, required, values_of};
+use clap::ArgMatches;
+use jiff::civil::Date;
+use std::alloc::Global;
+
+/// What gives the moment of a message's capture.
+#[derive(Clone, Copy)]
+pub enum Dating {
+    /// The topmost `Received` field of the message.
+    Received,
+    /// Its `Date` field.
+    Date,
+    /// The clock.
+    Now,
+    /// The beginning of a day, in UTC.
+    On(Date),
+}
+
+/// Old mail that is taken in.
+#[derive(Drop)]
+pub struct Import<'a> {
+    /// The paths of mboxes, of folders of `.eml` files and of Maildirs; at least one.
+    pub sources: Vec<&'a str>,
+    /// How it is filed. Its moment is not used.
+    pub filing: Filing<'a>,
+    pub dating: Dating,
+    /// Whether nothing is told of what is captured and passed over.
+    pub is_quiet: bool,
+    /// Whether messages are captured again that the history has as captured.
+    pub is_again: bool,
+}
+
+/// What gives the moment of a message's capture.
+fn dating_asked(alloc: Global, asked: &ArgMatches<'_>) -> Result<Dating, NoCommand> {
+    let word = required(asked, DATED)?;
+    match word {
+        "received" => Ok(Dating::Received),
+        "date" => Ok(Dating::Date),
+        "now" => Ok(Dating::Now),
+        _ => match day_of(word) {
+            Some(day) => Ok(Dating::On(day)),
+            None => {
+                let reason =
+                    "none of received, date and now, nor a day of 1970 to 9999, written YYYY-MM-DD";
+                Err(NoCommand::wrong(alloc, word, reason))
+            }
+        },
+    }
+}
+
+/// What is taken in, and how.
+pub(super) fn import_asked<'a>(
+    alloc: Global,
+    asked: &ArgMatches<'a>,
+) -> Result<Import<'a>, NoCommand> {
+    let typed = values_of(asked, SOURCES).unwrap_or(&[]);
+    Ok(Import {
+        sources: Vec::from_slice(alloc, typed)?,
+        filing: filing_asked(alloc, asked)?,
+        dating: dating_asked(alloc, asked)?,
+        is_quiet: has_flag(asked, QUIET),
+        is_again: has_flag(asked, AGAIN),
+    })
+}

@@ -1,0 +1,3 @@
+pub mod LineLemmas
+pub mod Rows
+pub mod SplitLemmas

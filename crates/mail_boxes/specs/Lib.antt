@@ -1,0 +1,4 @@
+pub mod Boxes
+pub mod Marks
+pub mod NoMail
+pub mod Splitters

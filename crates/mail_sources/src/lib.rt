@@ -1,0 +1,17 @@
+//! Where old mail lies in files: mboxes, folders of `.eml` files, and Maildirs.
+//!
+//! - `sources`: what is at a path;
+//! - `files`: the files of a folder that have a message each;
+//! - `boxes`: the messages of an mbox in a file, one at a time.
+//!
+//! No contract knows what a file system does. So these calls are only proved to be safe, and tests show what they do. Which messages an
+//! mbox has is said by `mail_boxes`.
+#![tactic(auto)]
+
+mod boxes;
+mod files;
+mod sources;
+
+pub use boxes::{BoxFault, BoxReader};
+pub use files::MailFiles;
+pub use sources::{Source, SourceFault, source_at};
