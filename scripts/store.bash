@@ -14,6 +14,16 @@ run() {
     "${keeper[@]}" "$@" > "$work/said" 2> "$work/error" || status=$?
 }
 
+# Does the same once a program that was killed has let go of the file, which takes it a moment.
+run_once_free() {
+    local turn
+    for ((turn = 0; turn < 100; turn++)); do
+        run "$@"
+        ((status == 75)) || break
+        sleep 0.1
+    done
+}
+
 # Reports how the last run ended, with the beginning of what it wrote, and fails.
 shows_run() {
     printf 'status %s: %s\n' "$status" "$(head -n 3 -- "$work/error")"
@@ -366,7 +376,7 @@ keeps_its_history() {
         kill -KILL -- "-$process"
         wait "$process"
     } 2> "$work/error"
-    run check --store "$here/records.db"
+    run_once_free check --store "$here/records.db"
     ((status == 0)) && [[ ! -s $work/error ]] || shows_run || return
     sed -n 's/^events //p' "$work/said" >> "$work/events"
 }
