@@ -136,11 +136,17 @@ const OTHER_ROW: Stage = Stage {
     calls: &[],
 };
 
-/// An archive alone is changed, and its records get other classes.
-const ALONE: &[Stage] = &[CHANGES, CHANGED, REFILED, IN_OTHER_CLASSES];
+/// An archive alone is changed.
+const ALONE: &[Stage] = &[CHANGES, CHANGED];
 
 /// The same of an archive beside the table of two keys.
-const BESIDE: &[Stage] = &[CHANGES, CHANGED, REFILED, IN_OTHER_CLASSES, OTHER_ROW];
+const BESIDE: &[Stage] = &[CHANGES, CHANGED, OTHER_ROW];
+
+/// An archive whose records get other classes.
+static REFILINGS: Archive = Archive {
+    texts: &[FIRST_TABLES, CLASSES, SCHEDULES, SECOND_ROWS],
+    stages: &[CHANGES, REFILED, IN_OTHER_CLASSES],
+};
 
 /// The due days of an archive with one message.
 const ONE_INVOICE: &[(Call, &str)] = &[
@@ -302,4 +308,9 @@ fn archives(rt: HostRuntime) -> Result<(), Fail> {
         check(&rt, rt.alloc(), archive)?;
     }
     Ok(())
+}
+
+#[test]
+fn records_get_other_classes(rt: HostRuntime) -> Result<(), Fail> {
+    check(&rt, rt.alloc(), &REFILINGS)
 }
