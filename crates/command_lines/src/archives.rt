@@ -6,6 +6,7 @@ mod history_words;
 mod holds;
 mod import_words;
 mod imports;
+mod refilings;
 mod words;
 
 use crate::reading::{NoCommand, day_of, has_flag, read_words, required, value_of, values_of};
@@ -19,6 +20,8 @@ use histories::{attribution_asked, head_asked, history_asked};
 use holds::{NAME_FORGOTTEN, hold_asked, release_asked};
 use imports::import_asked;
 pub use imports::{Dating, Import};
+pub use refilings::Refiling;
+use refilings::refile_asked;
 use jiff::civil::Date;
 use session_words::read_number;
 use std::alloc::{AllocError, Global};
@@ -114,6 +117,8 @@ pub enum ChosenTask<'a> {
     Hold(&'a str),
     /// Ends the hold of such a name on them. The choice asks for something.
     Release(&'a str),
+    /// Gives them another class. The choice asks for something, and there is a reason.
+    Refile(Refiling<'a>),
     /// Writes a page of HTML on them. The choice has no numbers.
     Report {
         /// The day by which records are due, which may be later than today; none for today.
@@ -577,6 +582,7 @@ fn chosen_asked<'a>(
         }
         "hold" => return Ok(Some(hold_asked(alloc, asked)?)),
         "release" => return Ok(Some(release_asked(alloc, asked)?)),
+        "refile" => return Ok(Some(refile_asked(alloc, asked)?)),
         "report" => {
             let day = day_asked(alloc, asked, words::DAY)?;
             (conditions_asked(alloc, asked)?, ChosenTask::Report { day })

@@ -499,6 +499,36 @@ const RELEASE: Subcommand = Subcommand {
     has_shared: true,
 };
 
+/// The class that records get.
+pub const TO: Word = Word {
+    name: "to",
+    value: "CLASS",
+    is_required: true,
+    help: Some("The class that they get: one of the plan, open or closed"),
+    ..OPTION
+};
+
+const REFILE: Subcommand = Subcommand {
+    name: "refile",
+    about: "Gives records another class of the plan: shows what that changes, and asks; their numbers, days of capture and holds stay",
+    example: "Example: mailfile-store refile --store records.db --to staff --reason mistake 17",
+    words: &[
+        STORE,
+        TO,
+        Word {
+            help: Some("Gives it without asking"),
+            ..YES
+        },
+        BY,
+        Word {
+            is_required: true,
+            ..REASON
+        },
+        NUMBERS,
+    ],
+    has_shared: true,
+};
+
 const HOLDS: Subcommand = Subcommand {
     name: "holds",
     about: "Lists the holds: the name of each, how many records it keeps, and, from the history, since when, by whom and for what reason",
@@ -618,7 +648,7 @@ const READING: &[Subcommand] = &[LIST, SHOW, EXPORT, COPY];
 const JUDGING: &[Subcommand] = &[CHECK, WHY];
 
 /// Those that decide how long records are kept.
-const KEEPING: &[Subcommand] = &[HOLD, RELEASE, DISPOSE, REPORT];
+const KEEPING: &[Subcommand] = &[HOLD, RELEASE, REFILE, DISPOSE, REPORT];
 
 /// Those that tell what was done, and what is held.
 const TELLING: &[Subcommand] = &[HOLDS, HISTORY, CERTIFICATES];
