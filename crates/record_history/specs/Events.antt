@@ -23,8 +23,12 @@ pub data Deed : Type 0 where
   Released : (name : List ℕ) → (number : ℕ) → Deed
   -- the record is destroyed as due by the day, under this schedule
   Destroyed : (number day : ℕ) → Schedule → Deed
+  -- the live record gets another class, the one of this path
+  Refiled : (number : ℕ) → (path : List ℕ) → Deed
   ClassAdded : (path : List ℕ) → Deed
   PlanReplaced : Listing → Deed
+  -- The class of this path gets a title for people, and the legal basis of its schedule. It changes nothing of the archive.
+  Titled : (path title basis : List ℕ) → Deed
   -- From now on a reason is to be given for a hold, a release, a new plan and a destruction; or it need not be given any
   -- more. These change nothing of the archive.
   ReasonsRequired : Deed

@@ -3,9 +3,10 @@ use Rattle.std.specs.Prelude.{◌≡◌, ℕ, ◌++◌, ◌+◌, length, List, [
 use Rattle.class_plan.specs.declared.schedules.Schedule.{Schedule}
 use Rattle.class_plan.specs.Plans.{Listing}
 use Rattle.record_archive.specs.Archive.{Archive, empty_archive, next_number, capture, hold, release, destroy, destroy_on, add_class, revise}
+use Rattle.record_archive.specs.Refiling.{refile}
 use Rattle.record_archive.specs.declared.fault.ArchiveRefusal.{ArchiveRefusal}
 use Rattle.record_history.specs.Events.{Event, Deed, Filing}
-use Rattle.record_history.specs.Events.{Captured, Held, Released, Destroyed, ClassAdded, PlanReplaced}
+use Rattle.record_history.specs.Events.{Captured, Held, Released, Destroyed, Refiled, ClassAdded, PlanReplaced, Titled}
 use Rattle.record_history.specs.Events.{ReasonsRequired, ReasonsOptional, FindingsAccepted}
 use Rattle.record_history.specs.Lines.{line_of, lines_from}
 use Rattle.record_history.specs.Replay.{Explains, seal}
@@ -39,8 +40,11 @@ pub record CommandsAreTold : Type 0 where
   pub destructions : (n day : ℕ) (schedule : Schedule) → Tells (λ a. Destroyed n day schedule) (λ a. destroy a n day)
   -- by a day before 1970 nothing is destroyed, so there is no event of it
   pub none_before_1970 : (n k : ℕ) (a b : Archive) → destroy_on a n (negsuc k) ≡ Ok b → ⊥
+  pub refilings : (n : ℕ) (q : List ℕ) → Tells (λ a. Refiled n q) (λ a. refile a n q)
   pub additions : (path : List ℕ) → Tells (λ a. ClassAdded path) (λ a. add_class a path)
   pub plans : (p : Listing) → Tells (λ a. PlanReplaced p) (λ a. revise a p)
+  -- a title and a legal basis of a class are told, and change nothing of the archive
+  pub titles : (path title basis : List ℕ) → LeavesTold (Titled path title basis)
   -- whether reasons are required is told, and changes nothing of the archive
   pub reasons_required : LeavesTold ReasonsRequired
   pub reasons_optional : LeavesTold ReasonsOptional

@@ -2,10 +2,11 @@
 -- deed, the notes where there are any, and the reason after ` : ` where there is one. Single spaces separate these.
 --
 -- What the archive's users choose freely stands in four places: who did it, the name of a hold and that of an officer, each
--- one word at a fixed place, and the reason, which ends the line. A deed begins with its own word. Three more words are
--- kept for deeds that come later: `refiled`, `titled` and `continued`, which names the last mark of another volume. So no
--- line that stands today is ever written in another way, or read as another event.
-use Rattle.std.specs.Prelude.{ℕ, ◌+◌, ◌/◌, ◌%◌, Bool, true, false, List, [], ◌∷◌, ◌++◌, flat_map, Option, Some, None, codes, decimal}
+-- one word at a fixed place, and the reason, which ends the line. The title of a class and its legal basis stand after
+-- their lengths, so that they may have spaces. A deed begins with its own word. One more word is kept for a deed that
+-- comes later: `continued`, which names the last mark of another volume. So no line that stands today is ever written in
+-- another way, or read as another event.
+use Rattle.std.specs.Prelude.{ℕ, ◌+◌, ◌/◌, ◌%◌, Bool, true, false, List, [], ◌∷◌, ◌++◌, length, flat_map, Option, Some, None, codes, decimal}
 use Rattle.class_plan.specs.declared.schedules.Schedule.{Schedule}
 use Rattle.class_plan.specs.Texts.{text_of}
 use Rattle.class_plan.specs.Plans.{Listing, Row}
@@ -13,7 +14,7 @@ use Rattle.class_plan.specs.Calendar.{Civil, civil}
 use Rattle.record_archive.specs.Archive.{Record}
 use Rattle.record_history.specs.Events.{Event, Deed, Seal, Filing}
 use Rattle.record_history.specs.Events.{Captured, Held, Released, Destroyed, ClassAdded, PlanReplaced, FoundPlan, FoundMessage, FoundRecord, FoundHold}
-use Rattle.record_history.specs.Events.{ReasonsRequired, ReasonsOptional, FindingsAccepted}
+use Rattle.record_history.specs.Events.{ReasonsRequired, ReasonsOptional, FindingsAccepted, Refiled, Titled}
 
 -- ---- moments and days
 
@@ -90,14 +91,27 @@ abbrev pub destroyed_text : (number day : ℕ) → Schedule → List ℕ
 destroyed_text n day schedule = codes "destroyed " ++ decimal n ++ codes " as due by " ++ day_text day ++ codes " (" ++ text_of schedule
     ++ codes ")"
 
+abbrev pub refiled_text : (number : ℕ) → (path : List ℕ) → List ℕ
+refiled_text n path = codes "refiled " ++ decimal n ++ codes " to " ++ path
+
+-- a text after its length in octets, as `13:Tax documents`
+abbrev pub counted_text : List ℕ → List ℕ
+counted_text t = decimal (length t) ++ codes ":" ++ t
+
+-- as `titled finance/tax 13:Tax documents 6:AO 147`
+abbrev pub titled_text : (path title basis : List ℕ) → List ℕ
+titled_text path title basis = codes "titled " ++ path ++ codes " " ++ counted_text title ++ codes " " ++ counted_text basis
+
 -- a deed, which begins with a word of its own
 abbrev pub deed_text : Deed → List ℕ
 deed_text (Captured first seal day filing paths) = captured_text first seal day filing paths
 deed_text (Held name n) = codes "held " ++ name ++ codes " " ++ decimal n
 deed_text (Released name n) = codes "released " ++ name ++ codes " " ++ decimal n
 deed_text (Destroyed n day schedule) = destroyed_text n day schedule
+deed_text (Refiled n path) = refiled_text n path
 deed_text (ClassAdded path) = codes "added class " ++ path
 deed_text (PlanReplaced p) = codes "replaced plan (" ++ plan_text p ++ codes ")"
+deed_text (Titled path title basis) = titled_text path title basis
 deed_text ReasonsRequired = codes "made reasons required"
 deed_text ReasonsOptional = codes "made reasons optional"
 deed_text FindingsAccepted = codes "accepted findings"

@@ -1,4 +1,5 @@
--- WHICH EVENTS HAVE A LINE OF THEIR OWN: what users choose freely is words, and a reason that ends the line.
+-- WHICH EVENTS HAVE A LINE OF THEIR OWN: what users choose freely is words, a title and a legal basis after their lengths, and
+-- a reason that ends the line.
 use Rattle.std.specs.Prelude.{◌≡◌, ℕ, ◌<◌, ◌≤◌, ◌==◌, nat_le, Bool, true, false, not, ◌&&◌, ◌||◌, List, [], ◌∷◌, length, IfSome}
 use Rattle.std.specs.List.{list_all, AllByRecursion}
 use Rattle.session_words.specs.Words.{is_name}
@@ -7,7 +8,7 @@ use Rattle.class_plan.specs.Schedules.{IsInRange, IsInRangeIfAny}
 use Rattle.class_plan.specs.Plans.{Listing, Row}
 use Rattle.record_history.specs.Events.{Event, Deed, Seal, Filing}
 use Rattle.record_history.specs.Events.{Captured, Held, Released, Destroyed, ClassAdded, PlanReplaced, FoundPlan, FoundMessage, FoundRecord, FoundHold}
-use Rattle.record_history.specs.Events.{ReasonsRequired, ReasonsOptional, FindingsAccepted}
+use Rattle.record_history.specs.Events.{ReasonsRequired, ReasonsOptional, FindingsAccepted, Refiled, Titled}
 use Rattle.record_history.specs.Spelled.{IsDay, IsMoment}
 
 -- a name: 1 to 64 octets from 33 to 126
@@ -48,14 +49,24 @@ pub record IsListing (p : Listing) : Type 0 where
   pub root : IsInRange p.root
   pub rows : AllByRecursion IsRow p.rows
 
+-- a space or more, and no control
+abbrev pub is_reason_octet : ℕ → Bool
+is_reason_octet o = nat_le 32 o && not (o == 127)
+
+-- what people read: a reason, a title or a legal basis
+abbrev pub IsReason : List ℕ → Type 0
+IsReason r = (length r ≤ 500) × (list_all is_reason_octet r ≡ true)
+
 abbrev pub IsReadableDeed : Deed → Type 0
 IsReadableDeed (Captured first seal day filing paths) = IsNumber first × IsSeal seal × IsDay day × IfSome filing IsFiling × AllByRecursion
     IsPathText paths
 IsReadableDeed (Held name n) = IsName name × IsNumber n
 IsReadableDeed (Released name n) = IsName name × IsNumber n
 IsReadableDeed (Destroyed n day schedule) = IsNumber n × IsDay day × IsInRange schedule
+IsReadableDeed (Refiled n path) = IsNumber n × IsPathText path
 IsReadableDeed (ClassAdded path) = IsPathText path
 IsReadableDeed (PlanReplaced p) = IsListing p
+IsReadableDeed (Titled path title basis) = IsPathText path × IsReason title × IsReason basis
 IsReadableDeed ReasonsRequired = Unit {0}
 IsReadableDeed ReasonsOptional = Unit {0}
 IsReadableDeed FindingsAccepted = Unit {0}
@@ -63,13 +74,6 @@ IsReadableDeed (FoundPlan p) = IsListing p
 IsReadableDeed (FoundMessage n seal) = IsNumber n × IsSeal seal
 IsReadableDeed (FoundRecord r) = IsNumber r.number × IsNumber r.message × IsPathText r.path × IsDay r.day
 IsReadableDeed (FoundHold name n) = IsName name × IsNumber n
-
--- a space or more, and no control
-abbrev pub is_reason_octet : ℕ → Bool
-is_reason_octet o = nat_le 32 o && not (o == 127)
-
-abbrev pub IsReason : List ℕ → Type 0
-IsReason r = (length r ≤ 500) × (list_all is_reason_octet r ≡ true)
 
 -- a word that doesn't begin as a reason does
 abbrev pub AreNotes : List ℕ → Type 0

@@ -10,7 +10,7 @@ use Rattle.class_plan.specs.Plans.{Listing, Row}
 use Rattle.class_plan.specs.Texts.{◌>>=◌, schedule_of_bytes}
 use Rattle.record_history.specs.Events.{Event, Deed, Seal, Filing}
 use Rattle.record_history.specs.Events.{Captured, Held, Released, Destroyed, ClassAdded, PlanReplaced, FoundPlan, FoundMessage, FoundRecord, FoundHold}
-use Rattle.record_history.specs.Events.{ReasonsRequired, ReasonsOptional, FindingsAccepted}
+use Rattle.record_history.specs.Events.{ReasonsRequired, ReasonsOptional, FindingsAccepted, Refiled, Titled}
 use Rattle.record_history.specs.declared.faults.LineFault.{LineFault}
 use Rattle.record_history.specs.declared.faults.LineFault.TheVariants.{NotALine, NoMemory}
 
@@ -120,6 +120,35 @@ captured_at t = do
   filing ← filing_at seal.1
   r ← stripped (codes " in ") filing.1
   Some (Captured first.0 seal.0 day.0 filing.0 (paths_of (until 32 r)), from 32 r)
+
+unfoldable pub refiled_at : List ℕ → Option (Deed × List ℕ)
+refiled_at t = do
+  n ← number_at greatest_record t
+  r ← stripped (codes " to ") n.1
+  Some (Refiled n.0 (until 32 r), from 32 r)
+
+-- the longest text that is counted, in octets
+abbrev pub longest_counted : ℕ
+longest_counted = 500
+
+-- the first octets of a text, and the others, where it has so many
+abbrev pub cut : ℕ → List ℕ → Option (List ℕ × List ℕ)
+cut n t = if nat_le n (length t) then Some (take n t, drop n t) else None
+
+-- a text after its length, and what follows it
+unfoldable pub counted_at : List ℕ → Option (List ℕ × List ℕ)
+counted_at t = do
+  n ← number_up_to longest_counted (until 58 t)
+  r ← stripped (codes ":") (from 58 t)
+  cut n r
+
+unfoldable pub titled_at : List ℕ → Option (Deed × List ℕ)
+titled_at t = do
+  a ← stripped (codes " ") (from 32 t)
+  title ← counted_at a
+  b ← stripped (codes " ") title.1
+  basis ← counted_at b
+  Some (Titled (until 32 t) title.0 basis.0, basis.1)
 
 -- a name and a number
 unfoldable pub hold_at : List ℕ → Option (List ℕ × ℕ × List ℕ)
@@ -256,13 +285,15 @@ made_at t = case (stripped (codes "made reasons ") t) reasons_at (accepted_at t)
 unfoldable pub plan_change_at : List ℕ → Option (Deed × List ℕ)
 plan_change_at t = case (stripped (codes "added class ") t) added_at
     (case (stripped (codes "replaced plan (") t) (plan_deed PlanReplaced)
-    (case (stripped (codes "found ") t) found_at (made_at t)))
+    (case (stripped (codes "titled ") t) titled_at
+    (case (stripped (codes "found ") t) found_at (made_at t))))
 
 unfoldable pub deed_at : List ℕ → Option (Deed × List ℕ)
 deed_at t = case (stripped (codes "captured ") t) captured_at
     (case (stripped (codes "held ") t) (hold_deed Held)
     (case (stripped (codes "released ") t) (hold_deed Released)
-    (case (stripped (codes "destroyed ") t) destroyed_at (plan_change_at t))))
+    (case (stripped (codes "destroyed ") t) destroyed_at
+    (case (stripped (codes "refiled ") t) refiled_at (plan_change_at t)))))
 
 -- the reason, to the end of the line
 unfoldable pub reason_at : List ℕ → Option (List ℕ)

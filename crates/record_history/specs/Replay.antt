@@ -5,10 +5,11 @@ use Rattle.sha2.specs.Sha256.{sha256}
 use Rattle.hex.specs.Hex.{encode_lower}
 use Rattle.class_plan.specs.Plans.{schedule_at}
 use Rattle.record_archive.specs.Archive.{Archive, Message, Record, Hold, empty_archive, next_number, record_at, capture, hold, release, destroy, add_class, revise}
+use Rattle.record_archive.specs.Refiling.{refile}
 use Rattle.record_archive.specs.declared.fault.ArchiveRefusal.{ArchiveRefusal}
 use Rattle.record_history.specs.Events.{Event, Deed, Seal}
 use Rattle.record_history.specs.Events.{Captured, Held, Released, Destroyed, ClassAdded, PlanReplaced, FoundPlan, FoundMessage, FoundRecord, FoundHold}
-use Rattle.record_history.specs.Events.{ReasonsRequired, ReasonsOptional, FindingsAccepted}
+use Rattle.record_history.specs.Events.{ReasonsRequired, ReasonsOptional, FindingsAccepted, Refiled, Titled}
 use Rattle.record_history.specs.Lines.{seal_text}
 
 -- the seal of a message
@@ -43,8 +44,10 @@ after (Captured first seal day filing paths) a = if first == next_number a then 
 after (Held name n) a = made (hold a name n)
 after (Released name n) a = made (release a name n)
 after (Destroyed n day schedule) a = made (destroy a n day)
+after (Refiled n path) a = made (refile a n path)
 after (ClassAdded path) a = made (add_class a path)
 after (PlanReplaced p) a = made (revise a p)
+after (Titled path title basis) a = Some a
 after ReasonsRequired a = Some a
 after ReasonsOptional a = Some a
 after FindingsAccepted a = Some a

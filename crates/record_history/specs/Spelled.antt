@@ -4,7 +4,7 @@ use Rattle.class_plan.specs.Schedules.{IsInRange, IsInRangeIfAny}
 use Rattle.class_plan.specs.Plans.{Listing, Row}
 use Rattle.record_history.specs.Events.{Event, Deed}
 use Rattle.record_history.specs.Events.{Captured, Held, Released, Destroyed, ClassAdded, PlanReplaced, FoundPlan, FoundMessage, FoundRecord, FoundHold}
-use Rattle.record_history.specs.Events.{ReasonsRequired, ReasonsOptional, FindingsAccepted}
+use Rattle.record_history.specs.Events.{ReasonsRequired, ReasonsOptional, FindingsAccepted, Refiled, Titled}
 
 -- at most 9999-12-31
 abbrev pub IsDay : ℕ → Type 0
@@ -27,7 +27,9 @@ IsSpelledDeed (FoundPlan p) = HasSchedules p
 IsSpelledDeed (FoundRecord r) = IsDay r.day
 IsSpelledDeed (Held name n) = Unit {0}
 IsSpelledDeed (Released name n) = Unit {0}
+IsSpelledDeed (Refiled n path) = Unit {0}
 IsSpelledDeed (ClassAdded path) = Unit {0}
+IsSpelledDeed (Titled path title basis) = Unit {0}
 IsSpelledDeed ReasonsRequired = Unit {0}
 IsSpelledDeed ReasonsOptional = Unit {0}
 IsSpelledDeed FindingsAccepted = Unit {0}

@@ -9,7 +9,7 @@ use Rattle.record_history.specs.declared.events.Filing as filings
 use Rattle.record_history.specs.declared.events.Listing as listings
 use Rattle.record_history.specs.declared.events.Deed as deeds
 use Rattle.record_history.specs.declared.events.Deed.TheVariants.{Captured, Held, Released, Destroyed, ClassAdded, PlanReplaced, FoundPlan, FoundMessage, FoundRecord, FoundHold}
-use Rattle.record_history.specs.declared.events.Deed.TheVariants.{ReasonsRequired, ReasonsOptional, FindingsAccepted}
+use Rattle.record_history.specs.declared.events.Deed.TheVariants.{ReasonsRequired, ReasonsOptional, FindingsAccepted, Refiled, Titled}
 use Rattle.record_history.specs.declared.events.Event as events
 
 abbrev pub seal_view : seals.Seal → Seal
@@ -27,8 +27,10 @@ deed_view (Captured first seal day filing paths) = plain.Captured first (seal_vi
 deed_view (Held name n) = plain.Held name.now n
 deed_view (Released name n) = plain.Released name.now n
 deed_view (Destroyed n day schedule) = plain.Destroyed n day schedule
+deed_view (Refiled n path) = plain.Refiled n path.now
 deed_view (ClassAdded path) = plain.ClassAdded path.now
 deed_view (PlanReplaced p) = plain.PlanReplaced (listing_view p)
+deed_view (Titled path title basis) = plain.Titled path.now title.now basis.now
 deed_view ReasonsRequired = plain.ReasonsRequired
 deed_view ReasonsOptional = plain.ReasonsOptional
 deed_view FindingsAccepted = plain.FindingsAccepted

@@ -3,7 +3,7 @@
 ghost use Rattle.std.specs.Prelude.{◌≡◌, IfOk};
 ghost use Rattle.class_plan.specs.Schedules.{IsInRange};
 ghost use Rattle.record_history.specs.Events.{Held, Released, PlanReplaced, FoundPlan, FoundHold};
-ghost use Rattle.record_history.specs.Reading.{Gives, accepted_at as accepted_at_of, added_at as added_at_of, captured_at as captured_at_of, deed_at as deed_at_of, destroyed_at as destroyed_at_of, found_at as found_at_of, hold_at as hold_at_of, hold_deed, made_at as made_at_of, message_at as message_at_of, place_at as place_at_of, schedule_at as schedule_at_of, plan_at as plan_at_of, plan_change_at as plan_change_at_of, plan_deed, reasons_at as reasons_at_of, record_at as record_at_of};
+ghost use Rattle.record_history.specs.Reading.{Gives, accepted_at as accepted_at_of, added_at as added_at_of, captured_at as captured_at_of, deed_at as deed_at_of, destroyed_at as destroyed_at_of, found_at as found_at_of, hold_at as hold_at_of, hold_deed, made_at as made_at_of, message_at as message_at_of, place_at as place_at_of, schedule_at as schedule_at_of, plan_at as plan_at_of, plan_change_at as plan_change_at_of, plan_deed, reasons_at as reasons_at_of, record_at as record_at_of, refiled_at as refiled_at_of, titled_at as titled_at_of};
 ghost use Rattle.record_history.specs.Spelled.{HasSchedules, IsDay, IsSpelledDeed};
 ghost use Rattle.record_history.specs.Views.{deed_view, listing_view};
 
@@ -11,7 +11,7 @@ use crate::days::day_at;
 use crate::events::{Deed, Listing};
 use crate::faults::LineFault;
 use crate::readers::{filing_at, paths_of, plan_of, schedule_of, seal_at, state_of};
-use crate::words::{number_at, semicolon_parts, split, strip, strip_if, word};
+use crate::words::{counted_at, number_at, semicolon_parts, split, strip, strip_if, word};
 use class_plan::Schedule;
 use std::alloc::Global;
 
@@ -105,6 +105,31 @@ fn destroyed_at(text: &[u8]) -> Result<(Deed<'_>, &[u8]), LineFault>
         schedule,
     };
     Ok((deed, rest))
+}
+
+#[tactic(auto, unfolding(crate::specs::Reading::refiled_at))]
+fn refiled_at(text: &[u8]) -> Result<(Deed<'_>, &[u8]), LineFault>
+    ensures deed { Gives (λ x. (deed_view x.0, x.1.now)) result (refiled_at_of text.now) }
+    ensures spelled { IfOk result (λ x. IsSpelledDeed (deed_view x.0)) }
+{
+    let (number, rest) = number_at(text)?;
+    let rest = strip(rest, b" to ")?;
+    let (path, rest) = word(rest);
+    Ok((Deed::Refiled { number, path }, rest))
+}
+
+/// The title and the legal basis of a class.
+#[tactic(auto, unfolding(crate::specs::Reading::titled_at))]
+fn titled_at(text: &[u8]) -> Result<(Deed<'_>, &[u8]), LineFault>
+    ensures deed { Gives (λ x. (deed_view x.0, x.1.now)) result (titled_at_of text.now) }
+    ensures spelled { IfOk result (λ x. IsSpelledDeed (deed_view x.0)) }
+{
+    let (path, rest) = word(text);
+    let rest = strip(rest, b" ")?;
+    let (title, rest) = counted_at(rest)?;
+    let rest = strip(rest, b" ")?;
+    let (basis, rest) = counted_at(rest)?;
+    Ok((Deed::Titled { path, title, basis }, rest))
 }
 
 /// A plan, and the parenthesis after it.
@@ -262,6 +287,9 @@ fn plan_change_at(alloc: Global, text: &[u8]) -> Result<(Deed<'_>, &[u8]), LineF
     if let Some(rest) = strip_if(text, b"replaced plan (") {
         return replaced_at(alloc, rest);
     }
+    if let Some(rest) = strip_if(text, b"titled ") {
+        return titled_at(rest);
+    }
     match strip_if(text, b"found ") {
         Some(rest) => found_at(alloc, rest),
         None => made_at(text),
@@ -283,8 +311,11 @@ pub(crate) fn deed_at(alloc: Global, text: &[u8]) -> Result<(Deed<'_>, &[u8]), L
     if let Some(rest) = strip_if(text, b"released ") {
         return released_at(rest);
     }
-    match strip_if(text, b"destroyed ") {
-        Some(rest) => destroyed_at(rest),
+    if let Some(rest) = strip_if(text, b"destroyed ") {
+        return destroyed_at(rest);
+    }
+    match strip_if(text, b"refiled ") {
+        Some(rest) => refiled_at(rest),
         None => plan_change_at(alloc, text),
     }
 }

@@ -1,8 +1,8 @@
 //! The texts of deeds.
 
-ghost use Rattle.std.specs.Prelude.{◌≡◌, ◌++◌, codes, decimal, map, option_map, IfOk};
+ghost use Rattle.std.specs.Prelude.{◌≡◌, ◌++◌, codes, decimal, length, map, option_map, IfOk};
 ghost use Rattle.class_plan.specs.Schedules.{IsInRange};
-ghost use Rattle.record_history.specs.Lines.{captured_text as captured_text_of, deed_text as deed_text_of, destroyed_text as destroyed_text_of, plan_text as plan_text_of, record_text as record_text_of, seal_text as seal_text_of};
+ghost use Rattle.record_history.specs.Lines.{captured_text as captured_text_of, counted_text as counted_text_of, deed_text as deed_text_of, destroyed_text as destroyed_text_of, plan_text as plan_text_of, record_text as record_text_of, refiled_text as refiled_text_of, seal_text as seal_text_of, titled_text as titled_text_of};
 ghost use Rattle.record_history.specs.Spelled.{HasSchedules, IsDay, IsSpelledDeed};
 ghost use Rattle.record_history.specs.Views.{deed_view, filing_view, listing_view, seal_view};
 
@@ -92,6 +92,80 @@ fn destroyed_text(
             b" (".as_slice(),
             schedule.as_slice(),
             b")".as_slice(),
+        ],
+    )
+}
+
+fn refiled_text(alloc: Global, number: u32, path: &[u8]) -> Result<Vec<u8>, AllocError>
+    ensures { IfOk result (λ v. v.items ≡ refiled_text_of number path.now) }
+{
+    let number = number.to_string(alloc)?;
+    refiled_pieces(alloc, number.as_bytes(), path)
+}
+
+fn refiled_pieces<'a>(
+    alloc: Global,
+    number: &'a [u8],
+    path: &'a [u8],
+) -> Result<Vec<u8>, AllocError>
+    ensures { IfOk result
+        (λ v. v.items ≡ codes "refiled " ++ number.now ++ codes " to " ++ path.now) }
+{
+    joined(
+        alloc,
+        &[b"refiled ".as_slice(), number, b" to ".as_slice(), path],
+    )
+}
+
+/// A text after its length in octets, as `13:Tax documents`.
+fn counted_text(alloc: Global, text: &[u8]) -> Result<Vec<u8>, AllocError>
+    ensures { IfOk result (λ v. v.items ≡ counted_text_of text.now) }
+{
+    let length = text.len().to_string(alloc)?;
+    counted_pieces(alloc, length.as_bytes(), text)
+}
+
+fn counted_pieces<'a>(
+    alloc: Global,
+    length: &'a [u8],
+    text: &'a [u8],
+) -> Result<Vec<u8>, AllocError>
+    ensures { IfOk result (λ v. v.items ≡ length.now ++ codes ":" ++ text.now) }
+{
+    joined(alloc, &[length, b":".as_slice(), text])
+}
+
+fn titled_text(
+    alloc: Global,
+    path: &[u8],
+    title: &[u8],
+    basis: &[u8],
+) -> Result<Vec<u8>, AllocError>
+    ensures { IfOk result (λ v. v.items ≡ titled_text_of path.now title.now basis.now) }
+{
+    let title = counted_text(alloc, title)?;
+    let basis = counted_text(alloc, basis)?;
+    titled_pieces(alloc, path, title.as_slice(), basis.as_slice())
+}
+
+fn titled_pieces<'a>(
+    alloc: Global,
+    path: &'a [u8],
+    title: &'a [u8],
+    basis: &'a [u8],
+) -> Result<Vec<u8>, AllocError>
+    ensures { IfOk result (λ v. v.items ≡ codes "titled " ++ path.now ++ codes " " ++
+        title.now ++ codes " " ++ basis.now) }
+{
+    joined(
+        alloc,
+        &[
+            b"titled ".as_slice(),
+            path,
+            b" ".as_slice(),
+            title,
+            b" ".as_slice(),
+            basis,
         ],
     )
 }
@@ -215,8 +289,10 @@ pub(crate) fn deed_text(alloc: Global, deed: &Deed<'_>) -> Result<Vec<u8>, Alloc
             day,
             schedule,
         } => destroyed_text(alloc, *number, *day, *schedule),
+        Deed::Refiled { number, path } => refiled_text(alloc, *number, path),
         Deed::ClassAdded { path } => added_text(alloc, path),
         Deed::PlanReplaced(plan) => with_plan(alloc, b"replaced plan ", plan),
+        Deed::Titled { path, title, basis } => titled_text(alloc, path, title, basis),
         Deed::ReasonsRequired => Vec::from_slice(alloc, b"made reasons required"),
         Deed::ReasonsOptional => Vec::from_slice(alloc, b"made reasons optional"),
         Deed::FindingsAccepted => Vec::from_slice(alloc, b"accepted findings"),

@@ -71,12 +71,24 @@ pub enum Deed<'a> {
         day: u32,
         schedule: Schedule,
     },
+    /// A live record gets another class, the one of this path.
+    Refiled {
+        number: u32,
+        path: &'a [u8],
+    },
     /// A class is added, open and without a schedule of its own.
     ClassAdded {
         path: &'a [u8],
     },
     /// The plan is replaced by this one.
     PlanReplaced(Listing<'a>),
+    /// The class of this path gets a title for people, and the legal basis of its schedule. Each is at most 500 octets
+    /// without a control.
+    Titled {
+        path: &'a [u8],
+        title: &'a [u8],
+        basis: &'a [u8],
+    },
     /// From now on a reason is to be given for a hold, a release, a new plan and a destruction.
     ReasonsRequired,
     /// A reason need not be given any more.

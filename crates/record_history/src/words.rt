@@ -2,7 +2,7 @@
 
 ghost use Rattle.std.specs.Prelude.{◌≡◌, ◌==◌, map, option_map, IfOk};
 ghost use Rattle.std.specs.List.{position};
-ghost use Rattle.record_history.specs.Reading.{Gives, from as from_of, greatest_record, number_at as number_at_of, parts_at as parts_at_of, stripped, until};
+ghost use Rattle.record_history.specs.Reading.{Gives, counted_at as counted_at_of, cut as cut_of, from as from_of, greatest_record, number_at as number_at_of, parts_at as parts_at_of, stripped, until};
 ghost use Rattle.session_words.specs.Words.{greatest_number};
 
 use crate::faults::LineFault;
@@ -73,6 +73,32 @@ pub(crate) fn number_at(text: &[u8]) -> Result<(u32, &[u8]), LineFault>
         Some(number) => Ok((number as u32, rest)),
         None => Err(LineFault::NotALine),
     }
+}
+
+/// The longest text that is counted, in octets.
+const LONGEST_COUNTED: u64 = 500;
+
+/// The first octets of a text, and the others, where it has so many.
+fn cut(text: &[u8], length: usize) -> Result<(&[u8], &[u8]), LineFault>
+    ensures { Gives (λ x. (x.0.now, x.1.now)) result (cut_of length text.now) }
+{
+    if length > text.len() {
+        return Err(LineFault::NotALine);
+    }
+    Ok((&text[..length], &text[length..]))
+}
+
+/// A text after its length in octets, at most 500, as `13:Tax documents`.
+#[tactic(auto, unfolding(crate::specs::Reading::counted_at))]
+pub(crate) fn counted_at(text: &[u8]) -> Result<(&[u8], &[u8]), LineFault>
+    ensures { Gives (λ x. (x.0.now, x.1.now)) result (counted_at_of text.now) }
+{
+    let (digits, rest) = split(text, b':');
+    let Some(length) = read_number(digits, LONGEST_COUNTED) else {
+        return Err(LineFault::NotALine);
+    };
+    let rest = strip(rest, b":")?;
+    cut(rest, length as usize)
 }
 
 /// The parts of a text between its commas.

@@ -4,3 +4,4 @@ pub mod Holds
 pub mod Sealed
 pub mod Judging
 pub mod Findings
+pub mod Refilings

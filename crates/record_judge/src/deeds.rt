@@ -33,9 +33,13 @@ impl SealedArchive {
                 day,
                 schedule: _,
             } => self.destroy(number, day),
+            Deed::Refiled { number, path } => self.refile(number, path),
             Deed::ClassAdded { path } => self.add_class(path),
             Deed::PlanReplaced(plan) => self.replace_plan(&plan),
-            Deed::ReasonsRequired | Deed::ReasonsOptional | Deed::FindingsAccepted => Ok(()),
+            Deed::Titled { .. }
+            | Deed::ReasonsRequired
+            | Deed::ReasonsOptional
+            | Deed::FindingsAccepted => Ok(()),
             Deed::FoundPlan(plan) => self.find_plan(&plan),
             Deed::FoundMessage { number, seal } => self.find_message(number, seal),
             Deed::FoundRecord {

@@ -18,6 +18,7 @@ mod listings;
 mod message_index;
 mod places;
 mod record_index;
+mod refilings;
 mod replays;
 mod sealed;
 #[cfg(test)]

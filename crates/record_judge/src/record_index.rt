@@ -67,7 +67,7 @@ impl RecordIndex {
     }
 
     /// The place of a record, where no other has its number.
-    fn only(&self, number: u32) -> Option<usize>
+    pub(crate) fn only(&self, number: u32) -> Option<usize>
         ensures place { IfSome result (λ i. get nat_cmp self.now.first number ≡ Some i) }
         ensures alone { IfSome result (λ i. count_at self.now.numbers number ≡ 1) }
     {

@@ -5,6 +5,7 @@
 //! - `findings`: the lines of what is found where a history begins;
 //! - `ledger`: a store with its history, or without one;
 //! - `noted`: the changes of a store with a history;
+//! - `refiling`: a record gets another class;
 //! - `records` and `repository`: the ledger as `Records`, over which a desk delivers, and as a
 //!   `Repository`, whose records are chosen and disposed of.
 //!
@@ -18,6 +19,7 @@ mod ledger;
 mod noted;
 mod occasion;
 mod records;
+mod refiling;
 mod repository;
 
 pub use ledger::Ledger;

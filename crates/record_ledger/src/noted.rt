@@ -9,7 +9,8 @@ ghost use Rattle.record_archive.specs.Archive as archive;
 ghost use Rattle.record_archive.specs.Archive.{AreClasses, due_list_on};
 ghost use Rattle.record_archive.specs.Calls.{CarriesOut, Quietly, unchanged};
 ghost use Rattle.record_archive.specs.Lines.{line_view};
-ghost use Rattle.record_history.specs.Events.{ClassAdded, Held, PlanReplaced, Released};
+ghost use Rattle.record_archive.specs.Refiling as refiling;
+ghost use Rattle.record_history.specs.Events.{ClassAdded, Held, PlanReplaced, Refiled, Released};
 ghost use Rattle.record_noted.specs.Keepers.{keeper_of};
 ghost use Rattle.record_ledger.specs.Notes.{number_since_1970 as number_since};
 ghost use Rattle.record_ledger.specs.Notings.{captured, IsDestruction, NotesDeed};
@@ -97,6 +98,25 @@ pub(crate) fn release<S: Alter, K: Clock>(
     noted.ensure_open()?;
     let line = occasion.line_of(alloc, noted.next(), Deed::Released { name, number })?;
     let done = noted.release(line.as_slice(), name, number);
+    let _idle = noted.is_idle();
+    done
+}
+
+pub(crate) fn refile<S: Alter, K: Clock>(
+    alloc: Global,
+    noted: &mut NotedStore<S>,
+    occasion: &Occasion<'_, K>,
+    number: u32,
+    path: &[u8],
+) -> Result<(), StoreFault>
+    ensures carries { CarriesOut (keeper_of S.Store) noted.old noted.new
+        (λ a. refiling.refile a number path.now) Quietly result }
+    ensures notes { NotesDeed S.Store noted.old noted.new occasion.now
+        (λ a. refiling.refile a number path.now) (λ a d. d ≡ Refiled number path.now) result }
+{
+    noted.ensure_open()?;
+    let line = occasion.line_of(alloc, noted.next(), Deed::Refiled { number, path })?;
+    let done = noted.refile(line.as_slice(), number, path);
     let _idle = noted.is_idle();
     done
 }

@@ -11,6 +11,7 @@ mod holds;
 mod opening;
 mod plans;
 mod readings;
+mod refilings;
 mod rows;
 mod store;
 

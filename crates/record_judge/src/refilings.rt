@@ -1,0 +1,105 @@
+//! Refilings that are done again.
+
+ghost use Rattle.std.specs.Prelude.{◌≡◌, ◌<◌, map, true, false, length, slice_index_or, slice_set, OnOk, IfErr};
+ghost use Rattle.class_plan.specs.Plans.{has};
+ghost use Rattle.record_archive.specs.Archive as archive;
+ghost use Rattle.record_history.specs.Events as plain;
+ghost use Rattle.record_judge.specs.Indexes.{IsRecordIndex};
+ghost use Rattle.record_judge.specs.Refilings.{MayBeRefiled, placed};
+ghost use Rattle.record_judge.specs.Sealed.{IsDone, IsKept, IsMisdeed, StaysKept, archive_view, record_view};
+ghost use Rattle.record_judge.specs.declared.sealed.SealedRecord.{SealedRecord};
+
+use crate::faults::Misdeed;
+use crate::record_index::RecordIndex;
+use crate::sealed::{SealedArchive, SealedRecord};
+use std::alloc::{AllocError, Global};
+
+fn place_one(row: &mut SealedRecord, number: u32, path: Vec<u8>)
+    ensures { record_view row.new ≡ placed number path.items (record_view row.old) }
+{
+    if row.number == number {
+        row.path = path;
+    }
+}
+
+/// Puts the record at a place into a class, where it has the number.
+fn place_row(rows: &mut [SealedRecord], place: usize, number: u32, path: Vec<u8>)
+    requires { place < length rows.old }
+    ensures { (d : SealedRecord) → map record_view rows.new ≡ slice_set (map record_view rows.old)
+        place (placed number path.items (record_view (slice_index_or rows.old place d))) }
+{
+    place_one(&mut rows[place], number, path);
+}
+
+/// Puts each record with a number into a class.
+fn place_each(
+    alloc: Global,
+    rows: &mut [SealedRecord],
+    number: u32,
+    path: &[u8],
+) -> Result<(), AllocError>
+    ensures { OnOk result (map record_view rows.new ≡
+        map (placed number path.now) (map record_view rows.old)) }
+{
+    for place in 0..rows.len() {
+        let path = Vec::from_slice(alloc, path)?;
+        place_row(rows, place, number, path);
+    }
+    Ok(())
+}
+
+/// Puts each record with a number into a class. It goes over all records only where more than one has the number.
+fn place_rows(
+    alloc: Global,
+    rows: &mut [SealedRecord],
+    index: &RecordIndex,
+    number: u32,
+    path: &[u8],
+) -> Result<(), AllocError>
+    ensures { IsRecordIndex index.now rows.old → OnOk result (map record_view rows.new ≡
+        map (placed number path.now) (map record_view rows.old)) }
+{
+    let Some(place) = index.only(number) else {
+        return place_each(alloc, rows, number, path);
+    };
+    if place >= rows.len() {
+        return place_each(alloc, rows, number, path);
+    }
+    let path = Vec::from_slice(alloc, path)?;
+    place_row(rows, place, number, path);
+    Ok(())
+}
+
+impl SealedArchive {
+    /// Finds that a record is there and live, and that a path is a class of the plan.
+    fn judge_refiling(&self, number: u32, path: &[u8]) -> Result<(), Misdeed>
+        ensures ok { IsKept self.now → OnOk result
+            (MayBeRefiled (archive_view self.now) number path.now) }
+        ensures err { IsKept self.now → IfErr result (λ m.
+            IsMisdeed (plain.Refiled number path.now) (archive_view self.now) m) }
+    {
+        let Some(record) = self.record_at(number) else {
+            return Err(Misdeed::Refused);
+        };
+        if record.destroyed || !self.plan.contains(path) {
+            return Err(Misdeed::Refused);
+        }
+        Ok(())
+    }
+
+    pub(crate) fn refile(&mut self, number: u32, path: &[u8]) -> Result<(), Misdeed>
+        ensures done { IsKept self.old → IsDone (plain.Refiled number path.now)
+            (archive_view self.old) (archive_view self.new) result }
+        ensures kept { OnOk result (StaysKept self.old self.new) }
+    {
+        self.judge_refiling(number, path)?;
+        place_rows(
+            self.alloc,
+            self.records.as_mut_slice(),
+            &self.record_index,
+            number,
+            path,
+        )?;
+        Ok(())
+    }
+}
