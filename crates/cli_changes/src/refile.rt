@@ -269,10 +269,10 @@ pub fn refile_records<S: Alter>(
     judge_class(rt.alloc(), refiling.to, ledger.plan_kept())?;
     let to = refiling.to.as_bytes();
     let moves = moves_shown(rt, ledger, to, choice, questions)?;
-    if moves.numbers.is_empty() {
-        tell_words(rt, "none of these records gets another class");
-    } else {
+    if !moves.numbers.is_empty() {
         judge_agreed(rt, &moves, refiling.is_agreed)?;
+    } else if !moves.is_refused {
+        tell_words(rt, "none of these records gets another class");
     }
     let is_done = refile_all(rt, ledger, moves.numbers.as_slice(), to)?;
     if moves.is_refused || !is_done {

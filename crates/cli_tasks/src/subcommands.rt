@@ -21,7 +21,7 @@ use cli_readings::{
 };
 use command_lines::archives::{
     Attribution, Choice, ChosenTask, Command, CommandLine, Disposal, Filing, HistoryTask, Listing,
-    RulesChecked, Target, Telling, TypedNumber, Why,
+    Refiling, RulesChecked, Target, Telling, TypedNumber, Why,
 };
 use record_store::Store;
 use sqlite::{Alter, Connection};
@@ -302,6 +302,24 @@ fn change_holds_of<'a, A: Archives>(
     change(rt, archives, store, holds, told)
 }
 
+/// Gives the records of a choice another class.
+fn refile<'a, A: Archives>(
+    rt: &HostRuntime,
+    archives: &A,
+    store: &str,
+    choice: &Choice<'a>,
+    refiling: Refiling<'a>,
+    told: &Attribution<'a>,
+) -> Result<(), Failure> {
+    let questions = judge_choice(rt, choice)?;
+    let refile = Changing::Refile {
+        refiling,
+        choice,
+        questions,
+    };
+    change(rt, archives, store, refile, told)
+}
+
 /// Does something with the records of a choice.
 fn on_records<'a, A: Archives>(
     rt: &HostRuntime,
@@ -335,6 +353,7 @@ fn on_records<'a, A: Archives>(
             };
             change_holds_of(rt, archives, store, &choice, hold, told)
         }
+        ChosenTask::Refile(refiling) => refile(rt, archives, store, &choice, *refiling, told),
     }
 }
 
