@@ -13,6 +13,7 @@
 //! - `holds` and `whole_holds`: records that must not be destroyed, and the end of a hold on all of them; `keeping`: whether a
 //!   new plan keeps less;
 //! - `refile`: another class for records; `refilings`: which of them get it; `due_today`: what is due at once by a change;
+//! - `titles`: titles of classes, which a file gives;
 //! - `dispose`: the destruction of what is due; `runs`: records in runs, by what is noted of each.
 //!
 //! Each works on a store that is lent to it. What it writes, and what a Maildir or a terminal does, no contract speaks of:
@@ -47,6 +48,7 @@ mod rules_sum;
 mod runs;
 mod time_limit;
 mod time_of_day;
+mod titles;
 mod whole_holds;
 
 pub use deliver::{Delivered, deliver_to, read_message, report_delivery, undecoded_in};
@@ -63,4 +65,5 @@ pub use refile::refile_records;
 pub use rule_checks::check_rules;
 pub use rules::{FilingRules, NamedRules};
 pub use time_of_day::logged;
+pub use titles::{read_titles, set_titles};
 pub use whole_holds::release_all;

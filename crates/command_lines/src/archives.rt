@@ -1,6 +1,7 @@
 //! The command line of `mailfile-store`: what it asks for, with each value read and judged.
 
 mod captures;
+mod class_words;
 mod histories;
 mod history_words;
 mod holds;
@@ -103,6 +104,15 @@ pub enum Command<'a> {
     },
     /// Lists the live records whose messages stand in the archive a second time.
     Twice(Listing),
+    /// Writes the titles of classes.
+    WriteTitles {
+        /// Whether they are printed as an array of JSON objects.
+        is_json: bool,
+    },
+    /// Gives classes the titles in the file at a path.
+    SetTitles {
+        titles: &'a str,
+    },
     /// Does something with the records of a choice.
     Chosen(Choice<'a>, ChosenTask<'a>),
 }
@@ -475,6 +485,16 @@ fn plan_asked<'a>(alloc: Global, asked: &ArgMatches<'a>) -> Result<Command<'a>, 
     }
 }
 
+/// What is done with the titles of classes.
+fn titles_asked<'a>(asked: &ArgMatches<'a>) -> Command<'a> {
+    match value_of(asked, class_words::NEW_TITLES) {
+        Some(titles) => Command::SetTitles { titles },
+        None => Command::WriteTitles {
+            is_json: has_flag(asked, words::JSON),
+        },
+    }
+}
+
 /// What is to be destroyed.
 fn disposal_asked(alloc: Global, asked: &ArgMatches<'_>) -> Result<Disposal, NoCommand> {
     Ok(Disposal {
@@ -563,6 +583,7 @@ fn reading_asked<'a>(
         "holds" => Command::Holds {
             is_json: has_flag(asked, words::JSON),
         },
+        "titles" => titles_asked(asked),
         "why" => Command::Why(why_asked(alloc, asked)?),
         _ => return Ok(None),
     }))

@@ -1,7 +1,7 @@
 //! What a command line asks of a refiling.
 
 use super::holds::{refusal, typed_of};
-use super::{ChosenTask, Command, history_words, words};
+use super::{ChosenTask, Command, class_words, history_words, words};
 use crate::reading::{NoCommand, has_flag, required};
 use clap::ArgMatches;
 use std::alloc::Global;
@@ -24,7 +24,7 @@ pub(super) fn refile_asked<'a>(
     alloc: Global,
     asked: &ArgMatches<'a>,
 ) -> Result<Command<'a>, NoCommand> {
-    let to = required(asked, words::TO)?;
+    let to = required(asked, class_words::TO)?;
     if required(asked, history_words::REASON)?.is_empty() {
         return Err(refusal(alloc, "refile needs a reason; give it by --reason TEXT")?);
     }

@@ -1,5 +1,6 @@
 //! The subcommands of `mailfile-store`, each with its words and an example.
 
+use super::class_words::{NEW_TITLES, TO};
 use super::history_words::{
     ACCEPT_FOUND, BEGIN, BEGIN_REASON, BY, CHOSEN_BY, DEEDS, EVENTS_SINCE, HEAD, REASON,
     REQUIRE_REASON, WAIVE_REASON,
@@ -499,15 +500,6 @@ const RELEASE: Subcommand = Subcommand {
     has_shared: true,
 };
 
-/// The class that records get.
-pub const TO: Word = Word {
-    name: "to",
-    value: "CLASS",
-    is_required: true,
-    help: Some("The class that they get: one of the plan, open or closed"),
-    ..OPTION
-};
-
 const REFILE: Subcommand = Subcommand {
     name: "refile",
     about: "Gives records another class of the plan: shows what that changes, and asks; their numbers, days of capture and holds stay",
@@ -582,6 +574,23 @@ const REPORT: Subcommand = Subcommand {
     has_shared: true,
 };
 
+const TITLES: Subcommand = Subcommand {
+    name: "titles",
+    about: "Prints for each class that has them its title and its legal basis, from the history; with --set gives them",
+    example: "Example: mailfile-store titles --store records.db --set titles.toml",
+    words: &[
+        STORE,
+        NEW_TITLES,
+        Word {
+            conflict: Some("set"),
+            ..JSON
+        },
+        BY,
+        REASON,
+    ],
+    has_shared: false,
+};
+
 const HISTORY: Subcommand = Subcommand {
     name: "history",
     about: "Prints what was done to an archive, a line for each event, as they are hashed; all, or those of the records of some numbers",
@@ -650,8 +659,8 @@ const JUDGING: &[Subcommand] = &[CHECK, WHY];
 /// Those that decide how long records are kept.
 const KEEPING: &[Subcommand] = &[HOLD, RELEASE, REFILE, DISPOSE, REPORT];
 
-/// Those that tell what was done, and what is held.
-const TELLING: &[Subcommand] = &[HOLDS, HISTORY, CERTIFICATES];
+/// Those that tell what was done, what is held, and what classes are called.
+const TELLING: &[Subcommand] = &[HOLDS, TITLES, HISTORY, CERTIFICATES];
 
 fn telling() -> &'static [Subcommand] {
     TELLING
