@@ -1,10 +1,10 @@
 -- What was written is read again: words and numbers.
-use Rattle.std.proofs.Common.{◌≡◌, ℕ, ◌+◌, ◌<◌, ◌≤◌, ◌==◌, ◌^◌, Bool, true, false, not, List, [], ◌∷◌, ◌++◌, take, drop, length, get_or, Some}
+use Rattle.std.proofs.Common.{◌≡◌, ℕ, ◌+◌, ◌<◌, ◌≤◌, ◌==◌, ◌^◌, Bool, true, false, not, List, [], ◌∷◌, ◌++◌, take, drop, length, get_or, Some, codes}
 use Rattle.std.proofs.Common.{refl, ap, ◌∙◌, arith, rules, inl, inr, zero, suc}
 use Rattle.std.specs.Prelude.{nat_le}
 use Rattle.std.proofs.lemmas.Bool.{cases_Bool}
 use Rattle.std.proofs.lemmas.Bool.Decides.{nat_tests}
-use Rattle.std.proofs.lemmas.List.{take_at, drop_at}
+use Rattle.std.proofs.lemmas.List.{take_at, drop_at, length-append}
 use Rattle.std.proofs.lemmas.Slice.Eq.{bytes_eq-Decides}
 use Rattle.std.proofs.lemmas.Fmt.{decimal_digit, first_decimal, decimal_nonempty, digits_decimal, digits_value-decimal}
 use Rattle.std.proofs.lemmas.Str.Parse.{IsDigitsTest, IsNumeralModel, numerals_by_value}
@@ -14,7 +14,7 @@ use Rattle.std.specs.List.{list_all, position_or_len}
 use Rattle.std.specs.Str.{bytes_eq}
 use Rattle.std.specs.Str.Parse.{digits_value}
 use Rattle.session_words.specs.Words.{are_digits, digits_up_to, has_leading_zero, number_up_to}
-use Rattle.record_history.specs.Reading.{from, number_at, stripped, until}
+use Rattle.record_history.specs.Reading.{counted_at, cut, from, longest_counted, number_at, stripped, until}
 
 -- ---- words
 
@@ -72,6 +72,12 @@ digit_other c o low h = grind (arith, nat_tests)
 pub none_in_number : (c n : ℕ) → c < 48 → n < 2 ^ 64 → HasNone c (decimal n)
 none_in_number c n low h = none_in is_ascii_digit c (λ o. digit_other c o low) (decimal n) (digits_of n h)
 
+digit_no_colon : (o : ℕ) → is_ascii_digit o ≡ true → not (o == 58) ≡ true
+digit_no_colon o h = grind (arith, nat_tests)
+
+no_colon_in_number : (n : ℕ) → n < 2 ^ 64 → HasNone 58 (decimal n)
+no_colon_in_number n h = none_in is_ascii_digit 58 digit_no_colon (decimal n) (digits_of n h)
+
 no_zero : (w : List ℕ) → 48 < get_or w 0 0 → has_leading_zero w ≡ false
 no_zero w h = grind (arith, nat_tests)
 
@@ -97,3 +103,25 @@ unfolding number_at
 number_again greatest n t small h e =
     let plain = none_in_number 32 n (omega arith) h in
     rw (until_word 32 (decimal n) t plain e, from_word 32 (decimal n) t plain e, number_word greatest n small h) refl
+
+-- ---- counted texts
+
+no_more : (n m : ℕ) → nat_le n (n + m) ≡ true
+no_more n m = grind (arith, nat_tests)
+
+cut_again : (w t : List ℕ) → cut (length w) (w ++ t) ≡ Some (w, t)
+cut_again w t =
+    let fits : nat_le (length w) (length (w ++ t)) ≡ true = ap (nat_le (length w)) (length-append w t) ∙ no_more (length w) (length t) in
+    rw (fits, take_at w t (length w) refl, drop_at w t (length w) refl) refl
+
+pub counted_again : (w t : List ℕ) → length w ≤ 500 → counted_at (decimal (length w) ++ (codes ":" ++ (w ++ t))) ≡ Some (w, t)
+unfolding counted_at
+counted_again w t small =
+    let below : length w < 2 ^ 64 = omega (arith, small) in
+    let plain = no_colon_in_number (length w) below in
+    rw (
+      until_word 58 (decimal (length w)) (codes ":" ++ (w ++ t)) plain refl,
+      from_word 58 (decimal (length w)) (codes ":" ++ (w ++ t)) plain refl,
+      number_word longest_counted (length w) small below,
+      stripped_again (codes ":") (w ++ t),
+    ) (cut_again w t)

@@ -1,5 +1,5 @@
 -- Deeds are read again.
-use Rattle.std.proofs.Common.{◌≡◌, ℕ, ◌+◌, ◌<◌, ◌≤◌, List, [], ◌∷◌, ◌++◌, codes, Option, Some, None, refl, ap, sym, ◌∙◌, arith, append_assoc}
+use Rattle.std.proofs.Common.{◌≡◌, ℕ, ◌+◌, ◌<◌, ◌≤◌, List, [], ◌∷◌, ◌++◌, length, codes, Option, Some, None, refl, ap, sym, ◌∙◌, arith, append_assoc}
 use Rattle.std.specs.Fmt.{decimal}
 use Rattle.class_plan.specs.declared.schedules.Schedule.{Schedule}
 use Rattle.record_archive.specs.Archive.{Record}
@@ -7,12 +7,12 @@ use Rattle.class_plan.specs.Texts.{text_of}
 use Rattle.class_plan.specs.Plans.{Listing}
 use Rattle.record_history.specs.Events.{Event, Deed, Seal, Filing}
 use Rattle.record_history.specs.Events.{Captured, Held, Released, Destroyed, ClassAdded, PlanReplaced, FoundPlan, FoundMessage, FoundRecord}
-use Rattle.record_history.specs.Events.{FoundHold, ReasonsRequired, ReasonsOptional, FindingsAccepted}
-use Rattle.record_history.specs.Lines.{day_text, deed_text, filing_text, paths_text, plan_text, record_text, seal_text, state_word}
+use Rattle.record_history.specs.Events.{FoundHold, ReasonsRequired, ReasonsOptional, FindingsAccepted, Refiled, Titled}
+use Rattle.record_history.specs.Lines.{counted_text, day_text, deed_text, filing_text, paths_text, plan_text, record_text, seal_text, state_word}
 use Rattle.record_history.specs.Readable.{IsName, IsReadableDeed, IsListing}
 use Rattle.record_history.specs.Reading.{accepted_at, added_at, captured_at, deed_at, destroyed_at, found_at, from, hold_deed, made_at}
-use Rattle.record_history.specs.Reading.{message_at, paths_of, plan_change_at, plan_deed, reasons_at, record_at, stripped, until, greatest_record}
-use Rattle.record_history.proofs.Again.{IsAfter, from_word, number_again, stripped_again, until_word}
+use Rattle.record_history.specs.Reading.{message_at, paths_of, plan_change_at, plan_deed, reasons_at, record_at, refiled_at, stripped, titled_at, until, greatest_record}
+use Rattle.record_history.proofs.Again.{IsAfter, counted_again, from_word, number_again, stripped_again, until_word}
 use Rattle.record_history.proofs.FieldsAgain.{day_again, filing_again, hold_again, path_plain, paths_again, paths_plain, seal_again}
 use Rattle.record_history.proofs.PlansAgain.{place_again, plan_again, schedule_again}
 
@@ -40,6 +40,10 @@ is_destroyed : (x : List ℕ) → deed_at (codes "destroyed " ++ x) ≡ destroye
 unfolding deed_at stripped
 is_destroyed x = refl
 
+is_refiled : (x : List ℕ) → deed_at (codes "refiled " ++ x) ≡ refiled_at x
+unfolding deed_at stripped
+is_refiled x = refl
+
 is_captured : (x : List ℕ) → deed_at (codes "captured " ++ x) ≡ captured_at x
 unfolding deed_at stripped
 is_captured x = refl
@@ -51,6 +55,10 @@ is_added x = refl
 is_replaced : (x : List ℕ) → deed_at (codes "replaced plan (" ++ x) ≡ plan_deed PlanReplaced x
 unfolding deed_at plan_change_at stripped
 is_replaced x = refl
+
+is_titled : (x : List ℕ) → deed_at (codes "titled " ++ x) ≡ titled_at x
+unfolding deed_at plan_change_at stripped
+is_titled x = refl
 
 is_required : (x : List ℕ) → deed_at (codes "made reasons required" ++ x) ≡ Some (ReasonsRequired, x)
 unfolding deed_at plan_change_at made_at reasons_at stripped
@@ -88,6 +96,33 @@ added_again path t h e = rw (
       e,
 ) refl
 
+refiled_again : (n : ℕ) (path t : List ℕ) → IsReadableDeed (Refiled n path) → IsAfter 32 t
+    → refiled_at (decimal n ++ (codes " to " ++ (path ++ t))) ≡ Some (Refiled n path, t)
+unfolding refiled_at
+refiled_again n path t h e =
+    rw (
+      number_again greatest_record n (codes " to " ++ (path ++ t)) h.0 (let x = h.0 in omega arith) refl,
+      stripped_again (codes " to ") (path ++ t),
+      until_word 32 path t (path_plain 32 path (omega arith) h.1) e,
+      from_word 32 path t (path_plain 32 path (omega arith) h.1) e,
+    ) refl
+
+titled_again : (path title basis t : List ℕ) → IsReadableDeed (Titled path title basis)
+    → titled_at (path ++ (codes " " ++ (decimal (length title) ++ (codes ":" ++ (title ++ (codes " " ++ (decimal (length basis)
+    ++ (codes ":" ++ (basis ++ t))))))))) ≡ Some (Titled path title basis, t)
+unfolding titled_at
+titled_again path title basis t h =
+    let last = decimal (length basis) ++ (codes ":" ++ (basis ++ t)) in
+    let told = decimal (length title) ++ (codes ":" ++ (title ++ (codes " " ++ last))) in
+    rw (
+      until_word 32 path (codes " " ++ told) (path_plain 32 path (omega arith) h.0) refl,
+      from_word 32 path (codes " " ++ told) (path_plain 32 path (omega arith) h.0) refl,
+      stripped_again (codes " ") told,
+      counted_again title (codes " " ++ last) h.1.0,
+      stripped_again (codes " ") last,
+      counted_again basis t h.2.0,
+    ) refl
+
 message_again : (n : ℕ) (s : Seal) (t : List ℕ) → IsReadableDeed (FoundMessage n s) → IsAfter 32 t
     → message_at (decimal n ++ (codes " " ++ (seal_text s ++ t))) ≡ Some (FoundMessage n s, t)
 unfolding message_at
@@ -97,6 +132,10 @@ message_again n s t h e =
       stripped_again (codes " ") (seal_text s ++ t),
       seal_again s t h.1 e,
     ) refl
+
+regroup_titled : (path s n c title k basis t : List ℕ)
+    → path ++ s ++ (n ++ c ++ title) ++ s ++ (k ++ c ++ basis) ++ t ≡ path ++ (s ++ (n ++ (c ++ (title ++ (s ++ (k ++ (c ++ (basis ++ t))))))))
+regroup_titled path s n c title k basis t = simp append_assoc
 
 regroup6 : (a b c d f g t : List ℕ) → a ++ b ++ c ++ d ++ f ++ g ++ t ≡ a ++ (b ++ (c ++ (d ++ (f ++ (g ++ t)))))
 regroup6 a b c d f g t = simp append_assoc
@@ -171,6 +210,14 @@ deed_again (PlanReplaced p) t h e = is_replaced (plan_text p ++ codes ")" ++ t) 
 deed_again ReasonsRequired t h e = is_required t
 deed_again ReasonsOptional t h e = is_optional t
 deed_again FindingsAccepted t h e = is_accepted t
+deed_again (Refiled n path) t h e =
+    is_refiled (decimal n ++ codes " to " ++ path ++ t)
+    ∙ ap refiled_at (append_assoc (decimal n ++ codes " to ") path t ∙ append_assoc (decimal n) (codes " to ") (path ++ t))
+    ∙ refiled_again n path t h e
+deed_again (Titled path title basis) t h e =
+    is_titled (path ++ codes " " ++ counted_text title ++ codes " " ++ counted_text basis ++ t)
+    ∙ ap titled_at (regroup_titled path (codes " ") (decimal (length title)) (codes ":") title (decimal (length basis)) basis t)
+    ∙ titled_again path title basis t h
 deed_again (FoundPlan p) t h e = is_found_plan (plan_text p ++ codes ")" ++ t) ∙ plan_deed_again FoundPlan p t h
 deed_again (FoundMessage n s) t h e =
     is_found_message (decimal n ++ codes " " ++ seal_text s ++ t)

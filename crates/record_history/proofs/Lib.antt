@@ -11,3 +11,4 @@ mod RealDays
 mod ReplayLemmas
 mod RowLemmas
 mod Rows
+mod TitleRows

@@ -4,15 +4,16 @@ use Rattle.std.proofs.Common.{option_map, option_and_then, length, arith, Result
 use Rattle.std.proofs.lemmas.List.{map-append}
 use Rattle.std.proofs.lemmas.Bool.{eq-eqb}
 use Rattle.class_plan.specs.declared.faults.PlanFault.{PlanFault}
-use Rattle.class_plan.specs.Plans.{Listing, schedule_at, keeps}
+use Rattle.class_plan.specs.Plans.{Listing, has, schedule_at, keeps}
 use Rattle.class_plan.specs.Changes.{addition}
 use Rattle.record_archive.specs.Archive.{Archive, Message, Record, empty_archive, next_number, record_at, is_held, is_held_by, is_shared}
 use Rattle.record_archive.specs.Archive.{capture, after_capture, has_room, hold, hold_one, release, release_one, destroy, destroy_on, destroy_by}
 use Rattle.record_archive.specs.Archive.{destroys, is_by_any, due_of, without, with_hold}
 use Rattle.record_archive.specs.Archive.{without_hold, messages_without, add_class, plan_answer, revise}
+use Rattle.record_archive.specs.Refiling.{refile, refile_one, refiled}
 use Rattle.record_archive.specs.declared.fault.ArchiveRefusal.{ArchiveRefusal}
 use Rattle.record_archive.specs.declared.fault.ArchiveRefusal.TheVariants as refusal
-use Rattle.record_history.specs.Events.{Event, Deed, ReasonsRequired, ReasonsOptional, FindingsAccepted}
+use Rattle.record_history.specs.Events.{Event, Deed, Titled, ReasonsRequired, ReasonsOptional, FindingsAccepted}
 use Rattle.record_history.specs.Replay.{seal, sealed_message, sealed, made, after, replay}
 use Rattle.record_history.specs.Lines.{line_of, lines_from, seal_text}
 use Rattle.record_history.specs.Laws.{Tells, TellsInLines, LeavesTold, CommandsAreTold}
@@ -99,6 +100,15 @@ never_before a n k b = go (record_at a n)
     go None e = cc
     go (Some r) e = refused r.destroyed _ _ (refused (is_held a n) _ _ (refused (not (destroys (schedule_at a.plan r.path))) _ _ (λ e. cc))) e
 
+pub same_refile : (a : Archive) (n : ℕ) (q : List ℕ) → Same (refile a n q) (refile (sealed a) n q)
+same_refile a n q = go (record_at a n)
+  where
+    go : (o : Option Record) → Same (refile_one a n q o) (refile_one (sealed a) n q o)
+    go None = refl
+    go (Some r) =
+        same_if r.destroyed refusal.Destroyed _ _
+        (same_if (not (has a.plan.rows q)) refusal.NoClass (Ok (refiled a n q)) (Ok (refiled (sealed a) n q)) refl)
+
 pub same_addition : (a : Archive) (q : List ℕ) → Same (add_class a q) (add_class (sealed a) q)
 same_addition a q = go (addition a.plan q)
   where
@@ -169,8 +179,10 @@ all_told = record {
   releases = λ name n. told _ (λ a. release a name n) (λ a. same_release a name n);
   destructions = λ n day schedule. told _ (λ a. destroy a n day) (λ a. same_destroy a n day);
   none_before_1970 = λ n k a b. never_before a n k b;
+  refilings = λ n q. told _ (λ a. refile a n q) (λ a. same_refile a n q);
   additions = λ path. told _ (λ a. add_class a path) (λ a. same_addition a path);
   plans = λ p. told _ (λ a. revise a p) (λ a. same_revision a p);
+  titles = λ path title basis. left_told (Titled path title basis) (λ a. refl);
   reasons_required = left_told ReasonsRequired (λ a. refl);
   reasons_optional = left_told ReasonsOptional (λ a. refl);
   findings_accepted = left_told FindingsAccepted (λ a. refl);

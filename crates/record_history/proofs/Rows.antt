@@ -1,5 +1,5 @@
 -- The definitions on worked rows.
-use Rattle.std.proofs.Common.{◌≡◌, ℕ, true, false, List, [], ◌∷◌, codes, Some, None, refl}
+use Rattle.std.proofs.Common.{◌≡◌, ℕ, true, false, List, [], ◌∷◌, codes, option_and_then, Some, None, refl}
 use Rattle.std.specs.Fmt.{digits}
 use Rattle.class_plan.specs.declared.schedules.Action.TheVariants.{Destroy, Review}
 use Rattle.class_plan.specs.declared.schedules.Schedule.TheVariants.{Permanent, After}
@@ -8,7 +8,7 @@ use Rattle.class_plan.specs.Plans.{Listing, open_row}
 use Rattle.record_archive.specs.Archive.{empty_archive}
 use Rattle.record_history.specs.Events.{Event, Deed, Seal, Filing}
 use Rattle.record_history.specs.Events.{Captured, Held, Released, Destroyed, ClassAdded, PlanReplaced, FoundMessage, FoundRecord}
-use Rattle.record_history.specs.Events.{ReasonsRequired, ReasonsOptional, FindingsAccepted}
+use Rattle.record_history.specs.Events.{ReasonsRequired, ReasonsOptional, FindingsAccepted, Refiled, Titled}
 use Rattle.record_history.specs.Lines.{day_text, moment_text, line_of}
 use Rattle.record_history.specs.Replay.{after, replay}
 
@@ -57,6 +57,10 @@ destroyed : written 5 (done (Destroyed 5 22280 (After 7 Years Destroy true)))
 unfolding written
 destroyed = refl
 
+refiled : written 17 (done (Refiled 17 (codes "staff/reviewed"))) ≡ codes "17 2031-01-01T09:30:00Z ann refiled 17 to staff/reviewed"
+unfolding written
+refiled = refl
+
 abbrev a_plan : Listing
 a_plan = record {
   root = After 30 Days Review false;
@@ -71,6 +75,16 @@ planned = refl
 added : written 7 (done (ClassAdded (codes "finance"))) ≡ codes "7 2031-01-01T09:30:00Z ann added class finance"
 unfolding written
 added = refl
+
+-- the title and the legal basis have spaces; notes and a reason may follow them
+titled : written 7 (record (done (Titled (codes "finance/tax") (codes "Tax documents") (codes "AO 147"))) { reason = codes "order 12/3" })
+    ≡ codes "7 2031-01-01T09:30:00Z ann titled finance/tax 13:Tax documents 6:AO 147 : order 12/3"
+unfolding written
+titled = refl
+
+untitled : written 8 (done (Titled (codes "rent") [] [])) ≡ codes "8 2031-01-01T09:30:00Z ann titled rent 0: 0:"
+unfolding written
+untitled = refl
 
 required : written 7 (record (done ReasonsRequired) { reason = codes "order 12/3" })
     ≡ codes "7 2031-01-01T09:30:00Z ann made reasons required : order 12/3"
@@ -95,13 +109,29 @@ found_message : written 9 (done (FoundMessage 4 a_seal)) ≡ codes "9 2031-01-01
 unfolding written
 found_message = refl
 
--- neither whether reasons are required nor that findings are accepted changes anything
-nothing_changed : replay (done ReasonsRequired ∷ done ReasonsOptional ∷ done FindingsAccepted ∷ []) empty_archive ≡ Some empty_archive
+-- neither titles nor whether reasons are required nor that findings are accepted changes anything
+nothing_changed : replay (done (Titled (codes "rent") (codes "Rent") []) ∷ done ReasonsRequired ∷ done ReasonsOptional ∷ done FindingsAccepted ∷ [])
+    empty_archive ≡ Some empty_archive
 nothing_changed = refl
 
 -- a hold of a record that is not there is refused, and so is a capture with another first number
 no_record : replay (done (Held (codes "audit") 1) ∷ []) empty_archive ≡ None
 no_record = refl
+
+-- nor is a record refiled that is not there, and a live one is in the class of the path
+refiled_nowhere : replay (done (Refiled 1 (codes "unfiled")) ∷ []) empty_archive ≡ None
+refiled_nowhere = refl
+
+abbrev one_record : List ℕ → List Event
+one_record path = done (ClassAdded (codes "rent"))
+    ∷ done (FoundRecord (record { number = 1; message = 1; path = path; day = 22280; destroyed = false })) ∷ []
+
+refiled_there : option_and_then (after (Refiled 1 (codes "rent"))) (replay (one_record (codes "unfiled")) empty_archive)
+    ≡ replay (one_record (codes "rent")) empty_archive
+refiled_there = refl
+
+refiled_to_no_class : option_and_then (after (Refiled 1 (codes "tax"))) (replay (one_record (codes "unfiled")) empty_archive) ≡ None
+refiled_to_no_class = refl
 
 other_number : after (Captured 2 a_seal 22280 None (codes "unfiled" ∷ [])) empty_archive ≡ None
 other_number = refl

@@ -6,3 +6,4 @@ pub mod IndexLemmas
 pub mod RemovalLemmas
 pub mod MessageLemmas
 pub mod HoldLemmas
+pub mod RefilingLemmas

@@ -201,7 +201,7 @@ pushes_next rs r old mid new one two = record {
 
 -- ---- what a deed leaves of the indexes
 
-same_holds : (old new : SealedArchive) → new.holds ≡ old.holds → new.hold_index ≡ old.hold_index → IsKept old
+pub same_holds : (old new : SealedArchive) → new.holds ≡ old.holds → new.hold_index ≡ old.hold_index → IsKept old
     → IsHoldIndex new.hold_index new.holds.items
 same_holds old new holds index kept =
     let at : IsHoldIndex new.hold_index old.holds.items = subst (λ i. IsHoldIndex i old.holds.items) (sym index) kept.holds in
@@ -213,7 +213,7 @@ same_records old new records index kept =
     let at : IsRecordIndex new.record_index old.records.items = subst (λ i. IsRecordIndex i old.records.items) (sym index) kept.records in
     subst (λ v. IsRecordIndex new.record_index v.items) (sym records) at
 
-same_messages : (old new : SealedArchive) → new.messages ≡ old.messages → new.message_index ≡ old.message_index → IsKept old
+pub same_messages : (old new : SealedArchive) → new.messages ≡ old.messages → new.message_index ≡ old.message_index → IsKept old
     → IsMessageIndex new.message_index new.messages.items
 same_messages old new messages index kept =
     let at : IsMessageIndex new.message_index old.messages.items = subst (λ i. IsMessageIndex i old.messages.items) (sym index) kept.messages in

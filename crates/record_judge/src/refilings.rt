@@ -1,8 +1,7 @@
 //! Refilings that are done again.
 
-ghost use Rattle.std.specs.Prelude.{◌≡◌, ◌<◌, map, true, false, length, slice_index_or, slice_set, OnOk, IfErr};
-ghost use Rattle.class_plan.specs.Plans.{has};
-ghost use Rattle.record_archive.specs.Archive as archive;
+ghost use Rattle.std.specs.Prelude.{◌≡◌, ◌<◌, map, length, slice_index_or, slice_set, OnOk, IfErr};
+ghost use Rattle.record_archive.specs.Refiling.{refiled};
 ghost use Rattle.record_history.specs.Events as plain;
 ghost use Rattle.record_judge.specs.Indexes.{IsRecordIndex};
 ghost use Rattle.record_judge.specs.Refilings.{MayBeRefiled, placed};
@@ -23,6 +22,7 @@ fn place_one(row: &mut SealedRecord, number: u32, path: Vec<u8>)
 }
 
 /// Puts the record at a place into a class, where it has the number.
+#[tactic(auto, using(crate::proofs::RefilingLemmas::row_placed))]
 fn place_row(rows: &mut [SealedRecord], place: usize, number: u32, path: Vec<u8>)
     requires { place < length rows.old }
     ensures { (d : SealedRecord) → map record_view rows.new ≡ slice_set (map record_view rows.old)
@@ -72,6 +72,7 @@ fn place_rows(
 
 impl SealedArchive {
     /// Finds that a record is there and live, and that a path is a class of the plan.
+    #[tactic(auto, using(crate::proofs::RefilingLemmas::refiling_laws))]
     fn judge_refiling(&self, number: u32, path: &[u8]) -> Result<(), Misdeed>
         ensures ok { IsKept self.now → OnOk result
             (MayBeRefiled (archive_view self.now) number path.now) }
@@ -81,25 +82,38 @@ impl SealedArchive {
         let Some(record) = self.record_at(number) else {
             return Err(Misdeed::Refused);
         };
-        if record.destroyed || !self.plan.contains(path) {
+        if record.destroyed {
+            return Err(Misdeed::Refused);
+        }
+        if !self.plan.contains(path) {
             return Err(Misdeed::Refused);
         }
         Ok(())
     }
 
-    pub(crate) fn refile(&mut self, number: u32, path: &[u8]) -> Result<(), Misdeed>
-        ensures done { IsKept self.old → IsDone (plain.Refiled number path.now)
-            (archive_view self.old) (archive_view self.new) result }
+    /// The same for the records of the archive.
+    fn move_records(&mut self, number: u32, path: &[u8]) -> Result<(), AllocError>
+        ensures archive { IsKept self.old → OnOk result
+            (archive_view self.new ≡ refiled (archive_view self.old) number path.now) }
         ensures kept { OnOk result (StaysKept self.old self.new) }
     {
-        self.judge_refiling(number, path)?;
         place_rows(
             self.alloc,
             self.records.as_mut_slice(),
             &self.record_index,
             number,
             path,
-        )?;
+        )
+    }
+
+    #[tactic(auto, using(crate::proofs::RefilingLemmas::refiled_done))]
+    pub(crate) fn refile(&mut self, number: u32, path: &[u8]) -> Result<(), Misdeed>
+        ensures done { IsKept self.old → IsDone (plain.Refiled number path.now)
+            (archive_view self.old) (archive_view self.new) result }
+        ensures kept { OnOk result (StaysKept self.old self.new) }
+    {
+        self.judge_refiling(number, path)?;
+        self.move_records(number, path)?;
         Ok(())
     }
 }

@@ -42,6 +42,14 @@ fn lawful_rows_are_taken(rt: HostRuntime) {
             b"df573997db837fae3241ccb661a3100cdfc87129e0ca38949b1048c451549162".as_slice(),
         ),
         (
+            b"3 2031-01-01T09:30:00Z ann refiled 1 to unfiled : order 12/3".as_slice(),
+            b"c4cd9715f1cea1eaf75c95f3f9404e2f29964c716d357ecf0bb351cfc4e49a15".as_slice(),
+        ),
+        (
+            b"3 2031-01-01T09:30:00Z ann titled finance 13:Tax documents 6:AO 147".as_slice(),
+            b"c343a22a8e6ba0d403237634d4571fc0291668503345c2d8cfb1274a5af920d5".as_slice(),
+        ),
+        (
             b"3 2031-01-01T09:30:00Z ann made reasons required : order 12/3".as_slice(),
             b"b39d9b5d3dd291adab5647a6184b0356f872e1857a5c2ca74de3f0b2a8d2f192".as_slice(),
         ),
@@ -94,6 +102,14 @@ fn unlawful_deeds_are_refused(rt: HostRuntime) {
         (
             b"3 2031-01-01T09:30:00Z ann destroyed 1 as due by 2032-01-01 (1 years destroy)".as_slice(),
             b"d84cf821eb013d398f8aed08700a1e851d99353d3314d7b963ee92b7e0bb3796".as_slice(),
+        ),
+        (
+            b"3 2031-01-01T09:30:00Z ann refiled 9 to finance".as_slice(),
+            b"b226e94a28508147da4a8af49587bb7c5d809c4abe4a91e7cb62657d9228965e".as_slice(),
+        ),
+        (
+            b"3 2031-01-01T09:30:00Z ann refiled 1 to rent".as_slice(),
+            b"7c6580ef29e7be5ea19303e89899062b64fe052573c5f0a2ec61146f57a84ad9".as_slice(),
         ),
         (
             b"3 2031-01-01T09:30:00Z ann added class finance".as_slice(),

@@ -4,7 +4,7 @@ use Rattle.sqlite.specs.Store.{Ghosts}
 use Rattle.sqlite.specs.State.{HasCleanDisk}
 use Rattle.sqlite.specs.Held.{state}
 use Rattle.record_archive.specs.Archive.{Archive, next_number}
-use Rattle.record_archive.specs.Calls.{Makes}
+use Rattle.record_archive.specs.Calls.{CarriesOut, Makes}
 use Rattle.record_archive.specs.declared.fault.ArchiveRefusal.{ArchiveRefusal}
 use Rattle.record_history.specs.Events.{Deed, Captured, Destroyed}
 use Rattle.record_history.specs.Laws.{Told}
@@ -13,6 +13,7 @@ use Rattle.record_history.specs.Views.{filing_view}
 use Rattle.record_store.specs.Faults.{StoreFault}
 use Rattle.class_plan.specs.declared.schedules.Schedule.{Schedule}
 use Rattle.record_noted.specs.Histories.{StandsWith}
+use Rattle.record_noted.specs.Keepers.{keeper_of}
 use Rattle.record_noted.specs.Readings.{IsScheduleOfRecord}
 use Rattle.record_noted.specs.declared.store.NotedStore.{NotedStore}
 use Rattle.record_ledger.specs.Notes.{TellsOf}
@@ -38,6 +39,13 @@ abbrev pub NotesDeed : {S K X : Type 0} → Ghosts S → (old new : NotedStore S
 NotesDeed g old new occasion command IsDeed (Ok x) = HasCleanDisk (state g new.store.conn) → (a : Archive) → (ls : List (List ℕ)) →
     StandsWith g old a ls → Told a ls → Makes (IsNoted g new occasion (IsDeed a) ls) (command a)
 NotesDeed g old new occasion command IsDeed (Err f) = Unit {0}
+
+-- THE COMMAND IS CARRIED OUT, AND NOTED by its deed on the occasion
+pub record CarriesOutAndNotes {S K X : Type 0} (g : Ghosts S) (old new : NotedStore S) (occasion : Occasion K)
+    (command : Archive → Result Archive ArchiveRefusal) (Answers : Archive → X → Type 0) (IsDeed : Archive → Deed → Type 0)
+    (result : Result X StoreFault) : Type 0 where
+  pub carries : CarriesOut (keeper_of g) old new command Answers result
+  pub notes : NotesDeed g old new occasion command IsDeed result
 
 -- the same of what was opened: a history stays one, and a store without one notes nothing
 abbrev pub NotesKept : {S K X : Type 0} → Ghosts S → (old new : Opened S) → Occasion K → (Archive → Result Archive ArchiveRefusal) →

@@ -13,7 +13,7 @@ ghost use Rattle.record_archive.specs.Refiling as refiling;
 ghost use Rattle.record_history.specs.Events.{ClassAdded, Held, PlanReplaced, Refiled, Released};
 ghost use Rattle.record_noted.specs.Keepers.{keeper_of};
 ghost use Rattle.record_ledger.specs.Notes.{number_since_1970 as number_since};
-ghost use Rattle.record_ledger.specs.Notings.{captured, IsDestruction, NotesDeed};
+ghost use Rattle.record_ledger.specs.Notings.{captured, CarriesOutAndNotes, IsDestruction, NotesDeed};
 
 use crate::deeds::{capture_number, number_since_1970, path_list};
 use crate::occasion::Occasion;
@@ -33,10 +33,9 @@ pub(crate) fn add_class<S: Alter, K: Clock>(
     occasion: &Occasion<'_, K>,
     path: &[u8],
 ) -> Result<(), StoreFault>
-    ensures carries { CarriesOut (keeper_of S.Store) noted.old noted.new
-        (λ a. archive.add_class a path.now) Quietly result }
-    ensures notes { NotesDeed S.Store noted.old noted.new occasion.now
-        (λ a. archive.add_class a path.now) (λ a d. d ≡ ClassAdded path.now) result }
+    ensures { CarriesOutAndNotes S.Store noted.old noted.new occasion.now
+        (λ a. archive.add_class a path.now) Quietly
+        (λ a d. d ≡ ClassAdded path.now) result }
 {
     noted.ensure_open()?;
     let line = occasion.line_of(alloc, noted.next(), Deed::ClassAdded { path })?;
@@ -51,10 +50,9 @@ pub(crate) fn revise<S: Alter, K: Clock>(
     occasion: &Occasion<'_, K>,
     plan: Plan,
 ) -> Result<(), StoreFault>
-    ensures carries { CarriesOut (keeper_of S.Store) noted.old noted.new
-        (λ a. archive.revise a plan) Quietly result }
-    ensures notes { NotesDeed S.Store noted.old noted.new occasion.now
-        (λ a. archive.revise a plan) (λ a d. d ≡ PlanReplaced plan) result }
+    ensures { CarriesOutAndNotes S.Store noted.old noted.new occasion.now
+        (λ a. archive.revise a plan) Quietly
+        (λ a d. d ≡ PlanReplaced plan) result }
 {
     noted.ensure_open()?;
     let listing = Listing::of(alloc, &plan)?;
@@ -71,10 +69,9 @@ pub(crate) fn hold<S: Alter, K: Clock>(
     name: &[u8],
     number: u32,
 ) -> Result<(), StoreFault>
-    ensures carries { CarriesOut (keeper_of S.Store) noted.old noted.new
-        (λ a. archive.hold a name.now number) Quietly result }
-    ensures notes { NotesDeed S.Store noted.old noted.new occasion.now
-        (λ a. archive.hold a name.now number) (λ a d. d ≡ Held name.now number) result }
+    ensures { CarriesOutAndNotes S.Store noted.old noted.new occasion.now
+        (λ a. archive.hold a name.now number) Quietly
+        (λ a d. d ≡ Held name.now number) result }
 {
     noted.ensure_open()?;
     let line = occasion.line_of(alloc, noted.next(), Deed::Held { name, number })?;
@@ -90,10 +87,9 @@ pub(crate) fn release<S: Alter, K: Clock>(
     name: &[u8],
     number: u32,
 ) -> Result<(), StoreFault>
-    ensures carries { CarriesOut (keeper_of S.Store) noted.old noted.new
-        (λ a. archive.release a name.now number) Quietly result }
-    ensures notes { NotesDeed S.Store noted.old noted.new occasion.now
-        (λ a. archive.release a name.now number) (λ a d. d ≡ Released name.now number) result }
+    ensures { CarriesOutAndNotes S.Store noted.old noted.new occasion.now
+        (λ a. archive.release a name.now number) Quietly
+        (λ a d. d ≡ Released name.now number) result }
 {
     noted.ensure_open()?;
     let line = occasion.line_of(alloc, noted.next(), Deed::Released { name, number })?;
@@ -109,10 +105,9 @@ pub(crate) fn refile<S: Alter, K: Clock>(
     number: u32,
     path: &[u8],
 ) -> Result<(), StoreFault>
-    ensures carries { CarriesOut (keeper_of S.Store) noted.old noted.new
-        (λ a. refiling.refile a number path.now) Quietly result }
-    ensures notes { NotesDeed S.Store noted.old noted.new occasion.now
-        (λ a. refiling.refile a number path.now) (λ a d. d ≡ Refiled number path.now) result }
+    ensures { CarriesOutAndNotes S.Store noted.old noted.new occasion.now
+        (λ a. refiling.refile a number path.now) Quietly
+        (λ a d. d ≡ Refiled number path.now) result }
 {
     noted.ensure_open()?;
     let line = occasion.line_of(alloc, noted.next(), Deed::Refiled { number, path })?;
@@ -178,10 +173,8 @@ pub(crate) fn destroy<S: Alter, K: Clock>(
     number: u32,
     day: Date,
 ) -> Result<(), StoreFault>
-    ensures carries { CarriesOut (keeper_of S.Store) noted.old noted.new
-        (λ a. archive.destroy_on a number (epoch_day day)) Quietly result }
-    ensures notes { NotesDeed S.Store noted.old noted.new occasion.now
-        (λ a. archive.destroy_on a number (epoch_day day))
+    ensures { CarriesOutAndNotes S.Store noted.old noted.new occasion.now
+        (λ a. archive.destroy_on a number (epoch_day day)) Quietly
         (IsDestruction number (number_since day)) result }
 {
     noted.ensure_open()?;

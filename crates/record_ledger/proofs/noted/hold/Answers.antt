@@ -44,8 +44,8 @@ returns g c =
     let done = c.hold-done.ensures in
     record {
       carries =
-          carried_out g.S.Store c.args.noted.now c.ensure_open.new.self c.hold-done.new.self found (λ a. archive.hold a c.args.name.now c.args.number)
-          Quietly c.as_slice.result.now
+          carried_out g.S.Store c.args.noted.now c.ensure_open.new.self c.hold-done.new.self found
+          (λ a. archive.hold a c.args.name.now c.args.number) Quietly c.as_slice.result.now
           c.is_idle-idle.ensures.left c.hold-done.result done.notes
           (done.told note.event (record {
             line_is = c.as_slice.ensures.value ∙ note.line_is ∙ ap (λ n. line_of n note.event) c.next.ensures;
