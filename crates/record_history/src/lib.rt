@@ -3,7 +3,8 @@
 //!
 //! In `specs/`, `Events` says what an event is, `Lines` how it is written, `Spelled` which events have a line, `Chain` how
 //! lines are marked, `Replay` what events make of an archive, and `Laws` that each command of the archive with its event
-//! keeps the history true. `Readable` and `OneReading` say which events have a line of their own. `Reading` follows the code that reads a line, and `Views` leads from its types to the definitions.
+//! keeps the history true. `Readable` and `OneReading` say which events have a line of their own, and `Titles` which title
+//! a class has. `Reading` follows the code that reads a line, and `Views` leads from its types to the definitions.
 #![tactic(auto)]
 
 mod dates;

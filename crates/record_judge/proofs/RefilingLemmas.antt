@@ -1,7 +1,7 @@
 -- Records that get another class.
-use Rattle.std.proofs.Common.{◌≡◌, ◌<◌, ◌+◌, ◌==◌, ◌&&◌, ◌++◌, ℕ, suc, max, Bool, true, false, not, cond, if◌then◌else◌, List, [], ◌∷◌, map, length, take}
+use Rattle.std.proofs.Common.{◌≡◌, ◌<◌, ◌+◌, ◌==◌, ◌&&◌, ◌++◌, ℕ, zero, suc, max, Bool, true, false, not, cond, if◌then◌else◌, List, [], ◌∷◌, map, length, take}
 use Rattle.std.proofs.Common.{drop, set, get_or, Option, Some, None, option_map, Ok, Err, refl, sym, ap, subst, ◌∙◌, arith}
-use Rattle.std.proofs.lemmas.List.{get_or-map, length-map, map-set}
+use Rattle.std.proofs.lemmas.List.{drop-map, length-map, map-set, take-map}
 use Rattle.std.specs.Ordering.{nat_cmp}
 use Rattle.std.specs.BTreeMap.{get}
 use Rattle.class_plan.specs.Plans.{has}
@@ -15,7 +15,7 @@ use Rattle.record_judge.specs.Counts.{count_at, tally}
 use Rattle.record_judge.specs.Indexes.{IsRecordIndex, first_of}
 use Rattle.record_judge.specs.Refilings.{MayBeRefiled, placed}
 use Rattle.record_judge.specs.Sealed.{IsKept, archive_view, hold_view, message_view, record_view}
-use Rattle.record_judge.proofs.SealedLemmas.{same_holds, same_messages}
+use Rattle.record_judge.proofs.SealedLemmas.{one_more, same_holds, same_messages, written_back}
 use Rattle.record_judge.specs.declared.record_index.RecordIndex.{RecordIndex}
 use Rattle.record_judge.specs.declared.sealed.SealedArchive.{SealedArchive}
 use Rattle.record_judge.specs.declared.sealed.SealedRecord.{SealedRecord}
@@ -74,24 +74,26 @@ other_stays : (n : ℕ) (q : List ℕ) (r : Record) → has_number n r ≡ false
 other_stays n q r other = ap (λ b. cond b (in_class q r) r) other
 
 -- a question that the path does not answer
-module _ (n : ℕ) (q : List ℕ) (p : Record → Bool) (apart : (r : Record) → p (in_class q r) ≡ p r) where
-  same_answer : (r : Record) → p (placed n q r) ≡ p r
-  same_answer r = go (has_number n r)
-    where
-      go : (b : Bool) → p (cond b (in_class q r) r) ≡ p r
-      go true = apart r
-      go false = refl
+same_answer : (n : ℕ) (q : List ℕ) (p : Record → Bool) → ((r : Record) → p (in_class q r) ≡ p r) → (r : Record) → p (placed n q r) ≡ p r
+same_answer n q p apart r = go (has_number n r)
+  where
+    go : (b : Bool) → p (cond b (in_class q r) r) ≡ p r
+    go true = apart r
+    go false = refl
 
-  module _ (rows after : List SealedRecord) (is : map record_view after ≡ map (placed n q) (map record_view rows)) where
-    same_first : first_of (λ (r : SealedRecord). p (record_view r)) after ≡ first_of (λ (r : SealedRecord). p (record_view r)) rows
-    same_first =
-        sym (first_map p record_view after) ∙ ap (first_of p) is ∙ first_map p (placed n q) (map record_view rows)
-        ∙ (λ i. first_of (λ r. same_answer r i) (map record_view rows)) ∙ first_map p record_view rows
+same_first : (n : ℕ) (q : List ℕ) (p : Record → Bool) → ((r : Record) → p (in_class q r) ≡ p r) → (rows after : List SealedRecord)
+    → map record_view after ≡ map (placed n q) (map record_view rows)
+    → first_of (λ (r : SealedRecord). p (record_view r)) after ≡ first_of (λ (r : SealedRecord). p (record_view r)) rows
+same_first n q p apart rows after is =
+    sym (first_map p record_view after) ∙ ap (first_of p) is ∙ first_map p (placed n q) (map record_view rows)
+    ∙ (λ i. first_of (λ r. same_answer n q p apart r i) (map record_view rows)) ∙ first_map p record_view rows
 
-    same_tally : tally (λ (r : SealedRecord). p (record_view r)) after ≡ tally (λ (r : SealedRecord). p (record_view r)) rows
-    same_tally =
-        sym (tally_map p record_view after) ∙ ap (tally p) is ∙ tally_map p (placed n q) (map record_view rows)
-        ∙ (λ i. tally (λ r. same_answer r i) (map record_view rows)) ∙ tally_map p record_view rows
+same_tally : (n : ℕ) (q : List ℕ) (p : Record → Bool) → ((r : Record) → p (in_class q r) ≡ p r) → (rows after : List SealedRecord)
+    → map record_view after ≡ map (placed n q) (map record_view rows)
+    → tally (λ (r : SealedRecord). p (record_view r)) after ≡ tally (λ (r : SealedRecord). p (record_view r)) rows
+same_tally n q p apart rows after is =
+    sym (tally_map p record_view after) ∙ ap (tally p) is ∙ tally_map p (placed n q) (map record_view rows)
+    ∙ (λ i. tally (λ r. same_answer n q p apart r i) (map record_view rows)) ∙ tally_map p record_view rows
 
 -- the index of the records stays theirs
 pub placed_index : (index : RecordIndex) (n : ℕ) (q : List ℕ) (rows after : List SealedRecord)
@@ -113,6 +115,11 @@ past_placed k n q (r ∷ rs) =
 
 -- ---- the same, as the code comes to them
 
+seen_at : (rows : List SealedRecord) (i : ℕ) (d : SealedRecord) → record_view (get_or rows i d) ≡ get_or (map record_view rows) i (record_view d)
+seen_at [] i d = refl
+seen_at (r ∷ rs) zero d = refl
+seen_at (r ∷ rs) (suc i) d = seen_at rs i d
+
 pub row_placed : (rows : List SealedRecord) (i n : ℕ) (q : List ℕ) (row d : SealedRecord)
     → record_view row ≡ placed n q (record_view (get_or rows i d))
     → map record_view (set rows i row) ≡ set (map record_view rows) i (placed n q (record_view (get_or rows i d)))
@@ -120,17 +127,46 @@ row_placed rows i n q row d is = map-set record_view rows i row ∙ ap (set (map
 
 -- the only record with a number is put into a class
 pub only_placed : (index : RecordIndex) (rows after : List SealedRecord) (i n : ℕ) (q : List ℕ) → IsRecordIndex index rows
-    → i < length rows → get nat_cmp index.first n ≡ Some i → count_at index.numbers n ≡ 1
+    → get nat_cmp index.first n ≡ Some i → count_at index.numbers n ≡ 1
     → ((d : SealedRecord) → map record_view after ≡ set (map record_view rows) i (placed n q (record_view (get_or rows i d))))
     → map record_view after ≡ map (placed n q) (map record_view rows)
-only_placed index [] after i n q kept low first one is = absurd (omega (arith, low))
-only_placed index (r ∷ rs) after i n q kept low first one is =
+only_placed index [] after i n q kept first one is = absurd (let k : 0 ≡ 1 = sym (kept.numbers n) ∙ one in omega (arith, k))
+only_placed index (r ∷ rs) after i n q kept first one is =
     let vs : List Record = map record_view (r ∷ rs) in
-    is r
-    ∙ ap (λ v. set vs i (placed n q v)) (sym (get_or-map record_view (r ∷ rs) i r (record_view r) low))
+    is r ∙ ap (λ v. set vs i (placed n q v)) (seen_at (r ∷ rs) i r)
     ∙ only_changed (has_number n) (placed n q) (other_stays n q) vs i (record_view r)
     (tally_map (has_number n) record_view (r ∷ rs) ∙ sym (kept.numbers n) ∙ one)
     (first_map (has_number n) record_view (r ∷ rs) ∙ sym (kept.first n) ∙ first)
+
+-- one more record was put into a class, where it has the number
+pub one_more_placed : (n : ℕ) (q : List ℕ) (rows now after : List SealedRecord) (i : ℕ)
+    → map record_view now ≡ map (placed n q) (map record_view (take i rows)) ++ map record_view (drop i rows) → i < length rows
+    → ((d : SealedRecord) → map record_view after ≡ set (map record_view now) i (placed n q (record_view (get_or now i d))))
+    → map record_view after ≡ map (placed n q) (map record_view (take (i + 1) rows)) ++ map record_view (drop (i + 1) rows)
+one_more_placed n q [] now after i is lt each = absurd (omega (arith, lt))
+one_more_placed n q (r ∷ rs) now after i is lt each =
+    let rows : List SealedRecord = r ∷ rs in
+    let vs : List Record = map record_view rows in
+    let seen : List Record = map record_view now in
+    let low : i < length vs = omega (arith, lt, length-map rows record_view) in
+    each r ∙ ap (λ v. set seen i (placed n q v)) (seen_at now i r)
+    ∙ one_more (placed n q) vs seen i (placed n q (get_or seen i (record_view r))) (record_view r) (is ∙ parted i rows) low refl
+    ∙ sym (parted (i + 1) rows)
+  where
+    parted : (k : ℕ) (xs : List SealedRecord) → map (placed n q) (map record_view (take k xs)) ++ map record_view (drop k xs)
+        ≡ map (placed n q) (take k (map record_view xs)) ++ drop k (map record_view xs)
+    parted k xs =
+        ap (λ l. map (placed n q) l ++ map record_view (drop k xs)) (sym (take-map record_view k xs))
+        ∙ ap (λ l. map (placed n q) (take k (map record_view xs)) ++ l) (sym (drop-map record_view k xs))
+
+-- the rows that are written back
+pub rows_back : (len n : ℕ) (q : List ℕ) (items rows : List SealedRecord) → len ≡ length items
+    → map record_view rows ≡ map (placed n q) (map record_view items)
+    → map record_view (take len (rows ++ drop (length rows) items)) ≡ map (placed n q) (map record_view items)
+rows_back len n q items rows is seen =
+    let long : length rows ≡ length items = sym (length-map rows record_view) ∙ ap length seen
+    ∙ length-map (map record_view items) (placed n q) ∙ length-map items record_view in
+    ap (map record_view) (written_back len items rows is long) ∙ seen
 
 -- what is kept beside the lists
 pub kept_placed : (n : ℕ) (q : List ℕ) (old new : SealedArchive)
@@ -172,8 +208,17 @@ refiled_classless a n q r is none =
     go true = refl
     go false = ap not none
 
-pub refiled_done : (a : Archive) (n : ℕ) (q : List ℕ) → MayBeRefiled a n q → after (Refiled n q) a ≡ Some (refiled a n q)
-refiled_done a n q may = ap (λ o. made (refile_one a n q o)) may.found ∙ rw (may.live, may.class) refl
+refiling_lawful : (a : Archive) (n : ℕ) (q : List ℕ) (d c : Bool) → d ≡ false → c ≡ true
+    → made (cond d (Err refusal.Destroyed) (cond (not c) (Err refusal.NoClass) (Ok (refiled a n q)))) ≡ Some (refiled a n q)
+refiling_lawful a n q false true live class = refl
+refiling_lawful a n q false false live class = absurd (let x = class in cc)
+refiling_lawful a n q true c live class = absurd (let x = live in cc)
+
+pub refiled_done : (a b : Archive) (n : ℕ) (q : List ℕ) → MayBeRefiled a n q → b ≡ refiled a n q → after (Refiled n q) a ≡ Some b
+refiled_done a b n q may is =
+    ap (λ o. made (refile_one a n q o)) may.found
+    ∙ refiling_lawful a n q may.row.destroyed (has a.plan.rows q) may.live may.class
+    ∙ ap (λ x. Some x) (sym is)
 
 pub may_be_refiled : (a : Archive) (n : ℕ) (q : List ℕ) (r : Record) → record_at a n ≡ Some r → r.destroyed ≡ false → has a.plan.rows q ≡ true
     → MayBeRefiled a n q

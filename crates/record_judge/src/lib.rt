@@ -1,7 +1,8 @@
 //! The judge of a history: it does the events again, one by one, to an archive with the seal of each message in its place, and
 //! says whether they explain what is stored.
 //!
-//! In `specs/`, `Sealed` says which archive a sealed one is and what a deed makes of it, `Indexes` and `Holds` what is kept beside its lists, and `Judging` what the judge has seen.
+//! In `specs/`, `Sealed` says which archive a sealed one is and what a deed makes of it, `Refilings` where a refiling is lawful,
+//! `Indexes` and `Holds` what is kept beside its lists, and `Judging` what the judge has seen.
 #![tactic(auto)]
 
 mod captures;

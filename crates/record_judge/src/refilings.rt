@@ -42,8 +42,8 @@ fn place_each(
         map (placed number path.now) (map record_view rows.old)) }
 {
     for place in 0..rows.len() {
-        let path = Vec::from_slice(alloc, path)?;
-        place_row(rows, place, number, path);
+        let copy = Vec::from_slice(alloc, path)?;
+        place_row(rows, place, number, copy);
     }
     Ok(())
 }
@@ -65,8 +65,8 @@ fn place_rows(
     if place >= rows.len() {
         return place_each(alloc, rows, number, path);
     }
-    let path = Vec::from_slice(alloc, path)?;
-    place_row(rows, place, number, path);
+    let copy = Vec::from_slice(alloc, path)?;
+    place_row(rows, place, number, copy);
     Ok(())
 }
 
@@ -103,7 +103,8 @@ impl SealedArchive {
             &self.record_index,
             number,
             path,
-        )
+        )?;
+        Ok(())
     }
 
     #[tactic(auto, using(crate::proofs::RefilingLemmas::refiled_done))]
