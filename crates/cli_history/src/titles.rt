@@ -116,6 +116,21 @@ impl Titles {
         Ok(titles)
     }
 
+    /// The classes that have a title or a legal basis, in byte order of their paths.
+    pub fn listed(&self) -> Result<Vec<ListedTitle<'_>>, AllocError> {
+        let mut list = Vec::new(self.alloc);
+        for (path, kept) in &self.titles {
+            if !kept.title.is_empty() || !kept.basis.is_empty() {
+                list.push(ListedTitle {
+                    path: path.as_slice(),
+                    title: kept.title.as_slice(),
+                    basis: kept.basis.as_slice(),
+                })?;
+            }
+        }
+        Ok(list)
+    }
+
     /// Whether a class is to get another title or another basis than it has.
     fn is_changed_by(&self, wanted: &ListedTitle<'_>) -> bool {
         match self.titles.get(wanted.path) {
@@ -241,16 +256,8 @@ pub fn write_titles<S: Alter>(
     let mut is_first = true;
     let (before, after) = if is_json { ("[", "\n]\n") } else { ("", "") };
     write_data(rt, before.as_bytes())?;
-    for (path, kept) in &titles.titles {
-        if kept.title.is_empty() && kept.basis.is_empty() {
-            continue;
-        }
-        let it = ListedTitle {
-            path: path.as_slice(),
-            title: kept.title.as_slice(),
-            basis: kept.basis.as_slice(),
-        };
-        let text = text_of(rt.alloc(), &it, is_json, is_first)?;
+    for it in &titles.listed()? {
+        let text = text_of(rt.alloc(), it, is_json, is_first)?;
         write_data(rt, text.as_bytes())?;
         is_first = false;
     }
