@@ -4,7 +4,9 @@ use crate::due_today::{DueToday, put_due_today};
 use crate::refilings::{Fate, fate_of};
 use class_plan::{Date, Plan};
 use cli_choice::Questions;
-use cli_console::{Failure, Search, Status, agrees, refusal_words, tell, tell_words, today, write_text};
+use cli_console::{
+    Failure, Search, Status, agrees, refusal_words, tell, tell_words, today, write_text,
+};
 use cli_history::StoreLedger;
 use cli_texts::due_by;
 use command_lines::archives::{Choice, Refiling};
@@ -108,8 +110,7 @@ impl Moves {
     ) -> Result<(), Failure> {
         let due = due_by(plan, to, entry.day);
         write_text(rt, &move_line(rt.alloc(), entry, to, due)?)?;
-        self.before
-            .add(entry, entry.path.as_slice(), plan, today);
+        self.before.add(entry, entry.path.as_slice(), plan, today);
         self.after.add(entry, to, plan, today);
         Ok(self.numbers.push(entry.number)?)
     }

@@ -134,8 +134,8 @@ impl Titles {
     /// Whether a class is to get another title or another basis than it has.
     fn is_changed_by(&self, wanted: &ListedTitle<'_>) -> bool {
         match self.titles.get(wanted.path) {
-            Some(kept) =>
-                kept.title.as_slice() != wanted.title || kept.basis.as_slice() != wanted.basis,
+            Some(kept) => kept.title.as_slice() != wanted.title
+                || kept.basis.as_slice() != wanted.basis,
             None => !wanted.title.is_empty() || !wanted.basis.is_empty(),
         }
     }
@@ -186,9 +186,11 @@ fn note_changed<S: Alter>(
         Err((archive, failure)) => return (archive, Err(failure)),
     };
     let done = match lines_of(rt, author, noted.next(), titles) {
-        Ok(lines) => noted
-            .note_all(lines.as_slice())
-            .map_err(|fault| Failure::of_store(rt.alloc(), "the history", fault)),
+        Ok(lines) => noted.note_all(lines.as_slice()).map_err(|fault| Failure::of_store(
+            rt.alloc(),
+            "the history",
+            fault,
+        )),
         Err(failure) => Err(failure),
     };
     (noted.into_store(), done)

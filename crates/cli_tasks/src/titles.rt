@@ -25,7 +25,13 @@ impl Work for SetTitles<'_> {
         rt: &HostRuntime,
         archive: Store<S>,
     ) -> (Connection<S>, Result<Shown, Failure>) {
-        let (archive, done) = set_titles(rt, archive, &self.author, self.path, self.text.as_slice());
+        let (archive, done) = set_titles(
+            rt,
+            archive,
+            &self.author,
+            self.path,
+            self.text.as_slice(),
+        );
         (archive.into_connection(), done)
     }
 }
@@ -43,7 +49,10 @@ pub fn give_titles<A: Archives>(
     let text = read_titles(rt, path)?;
     let lines = lend(rt, archives, store, SetTitles { author, path, text })?;
     if lines.as_str().is_empty() {
-        tell_words(rt, "each of these classes has this title and this basis already");
+        tell_words(
+            rt,
+            "each of these classes has this title and this basis already",
+        );
     }
     write_text(rt, &lines)
 }

@@ -21,9 +21,9 @@ use histories::{attribution_asked, head_asked, history_asked};
 use holds::{NAME_FORGOTTEN, hold_asked, release_asked};
 use imports::import_asked;
 pub use imports::{Dating, Import};
+use jiff::civil::Date;
 pub use refilings::Refiling;
 use refilings::refile_asked;
-use jiff::civil::Date;
 use session_words::read_number;
 use std::alloc::{AllocError, Global};
 

@@ -65,7 +65,11 @@ fn wrong(alloc: Global, at: usize, words: &str) -> TitlesFault {
 /// Finds that a text can be a title or a basis, which begins at an offset: it is not too long, and is printed as it is.
 fn judge_text(alloc: Global, text: &str, at: usize) -> Result<(), TitlesFault> {
     if text.len() > LONGEST {
-        return Err(wrong(alloc, at, "a title and a basis have at most 500 octets each"));
+        return Err(wrong(
+            alloc,
+            at,
+            "a title and a basis have at most 500 octets each",
+        ));
     }
     let mut shown = Shown::new(alloc);
     shown.value(&text)?;
@@ -100,8 +104,9 @@ fn unknown_words(alloc: Global, key: &Key) -> Result<String, AllocError> {
     let name = quoted(alloc, key.name.as_bytes())?;
     match key.owner {
         Owner::Other(_) => format!(in alloc; "unknown key {name}; a class has title and basis"),
-        Owner::File | Owner::Class(_) =>
-            format!(in alloc; "unknown key {name}; a class begins with its path, as [\"finance/tax\"]"),
+        Owner::File | Owner::Class(_) => format!(in alloc;
+            "unknown key {name}; a class begins with its path, as [\"finance/tax\"]"
+        ),
     }
 }
 
@@ -116,11 +121,7 @@ fn note<'o>(alloc: Global, given: &mut Given<'o>, key: &'o Key) -> Result<(), Ti
 }
 
 /// What is said of a header that is none of a class of the plan, if it is none.
-fn header_words(
-    alloc: Global,
-    header: &Header,
-    plan: &Plan,
-) -> Result<Option<String>, AllocError> {
+fn header_words(alloc: Global, header: &Header, plan: &Plan) -> Result<Option<String>, AllocError> {
     let path = header.name.as_bytes();
     let name = quoted(alloc, path)?;
     if header.is_array {
