@@ -576,7 +576,7 @@ const REPORT: Subcommand = Subcommand {
 
 const TITLES: Subcommand = Subcommand {
     name: "titles",
-    about: "Prints for each class that has them its title and its legal basis, from the history; with --set gives them",
+    about: "Prints the titles of classes and the legal bases of their schedules, from the history, or gives them by a file",
     example: "Example: mailfile-store titles --store records.db --set titles.toml",
     words: &[
         STORE,
