@@ -5,3 +5,4 @@ pub mod Keeping
 pub mod Endings
 pub mod RuleSums
 pub mod Causes
+pub mod Refilings

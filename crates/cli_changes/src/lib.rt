@@ -12,15 +12,18 @@
 //!   `import_log`: what is said of it; `no_mail`: what looks like no message;
 //! - `holds` and `whole_holds`: records that must not be destroyed, and the end of a hold on all of them; `keeping`: whether a
 //!   new plan keeps less;
+//! - `refile`: another class for records; `refilings`: which of them get it; `due_today`: what is due at once by a change;
+//! - `titles`: titles of classes, which a file gives;
 //! - `dispose`: the destruction of what is due; `runs`: records in runs, by what is noted of each.
 //!
 //! Each works on a store that is lent to it. What it writes, and what a Maildir or a terminal does, no contract speaks of:
-//! tests of the program show it. `specs/Moments` says when a clock is refused, and `specs/Imports` what becomes
-//! of a message of old mail.
+//! tests of the program show it. `specs/Moments` says when a clock is refused, `specs/Imports` what becomes of a message of
+//! old mail, and `specs/Refilings` which records get another class.
 #![tactic(auto)]
 
 mod deliver;
 mod dispose;
+mod due_today;
 mod fault_words;
 mod holds;
 mod import;
@@ -37,12 +40,15 @@ mod no_mail;
 mod plan;
 mod plan_changes;
 mod plan_file;
+mod refile;
+mod refilings;
 mod rule_checks;
 mod rules;
 mod rules_sum;
 mod runs;
 mod time_limit;
 mod time_of_day;
+mod titles;
 mod whole_holds;
 
 pub use deliver::{Delivered, deliver_to, read_message, report_delivery, undecoded_in};
@@ -55,7 +61,9 @@ pub use moments::{MomentFault, Timing, judge_moment};
 pub use no_mail::refuse_no_mail;
 pub use plan::{replace_plan, write_plan};
 pub use plan_file::read_plan;
+pub use refile::refile_records;
 pub use rule_checks::check_rules;
 pub use rules::{FilingRules, NamedRules};
 pub use time_of_day::logged;
+pub use titles::{read_titles, set_titles};
 pub use whole_holds::release_all;

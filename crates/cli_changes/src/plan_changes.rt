@@ -1,38 +1,17 @@
 //! What a new plan changes in an archive: which due dates move, and what is due at once by it.
 
+use crate::due_today::{DueToday, put_due_today};
 use class_plan::{Date, Plan, day_number};
-use cli_console::{Failure, Walk, is_by, today};
+use cli_console::{Failure, Walk, today};
 use cli_history::StoreLedger;
 use cli_texts::due_by;
 use record_archive::Records;
-use record_choice::{Choice, destroys};
+use record_choice::Choice;
 use record_store::RecordEntry;
 use sqlite::Alter;
 use std::alloc::{AllocError, Global};
 use std::collections::BTreeMap;
 use tool_texts::{Shown, put};
-
-/// How many live records are due today by a plan.
-#[derive(Clone, Copy)]
-struct DueToday {
-    /// Held or not.
-    all: u64,
-    /// Those that no hold keeps, by a schedule that destroys.
-    destroyable: u64,
-}
-
-impl DueToday {
-    /// Adds a live record.
-    fn add(&mut self, entry: &RecordEntry, plan: &Plan, today: Date) {
-        let path = entry.path.as_slice();
-        if is_by(due_by(plan, path, entry.day), today) {
-            self.all = self.all.saturating_add(1);
-            if entry.holds.is_empty() && destroys(plan.schedule_of(path)) {
-                self.destroyable = self.destroyable.saturating_add(1);
-            }
-        }
-    }
-}
 
 /// What a new plan changes for some records.
 #[derive(Clone, Copy)]
@@ -55,24 +34,21 @@ fn is_same_day(one: Option<Date>, other: Option<Date>) -> bool {
 impl Changes {
     /// Nothing is changed for no record.
     fn none() -> Changes {
-        let none = DueToday {
-            all: 0,
-            destroyable: 0,
-        };
         Changes {
             moved: 0,
-            before: none,
-            after: none,
+            before: DueToday::none(),
+            after: DueToday::none(),
         }
     }
 
     /// Adds a live record.
     fn add(&mut self, entry: &RecordEntry, old: &Plan, new: &Plan, today: Date) {
-        if !is_same_day(due_by(new, entry.path.as_slice(), entry.day), entry.due) {
+        let path = entry.path.as_slice();
+        if !is_same_day(due_by(new, path, entry.day), entry.due) {
             self.moved = self.moved.saturating_add(1);
         }
-        self.before.add(entry, old, today);
-        self.after.add(entry, new, today);
+        self.before.add(entry, path, old, today);
+        self.after.add(entry, path, new, today);
     }
 
     /// Whether a due date moves, or another number of records is due or may be destroyed.
@@ -144,11 +120,7 @@ fn put_all(text: &mut Shown, changes: &Changes) -> Result<(), AllocError> {
     let (before, after) = (changes.before, changes.after);
     put!(text; "due dates that move: " value(&changes.moved))?;
     text.end_line()?;
-    put!(text; "records that are due at once: " value(&after.all) ", before " value(&before.all))?;
-    text.end_line()?;
-    put!(text; "records that may be destroyed at once: " value(&after.destroyable)
-        ", before " value(&before.destroyable))?;
-    text.end_line()
+    put_due_today(text, before, after)
 }
 
 /// Adds what a new plan changes for the records of a class, in a line.

@@ -1,3 +1,4 @@
 pub mod FindingLemmas
 mod FindingRows
 mod Rows
+pub mod TitleLemmas

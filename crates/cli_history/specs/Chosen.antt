@@ -8,8 +8,8 @@ use Rattle.choice_words.specs.declared.numbers.TypedNumbers.TheVariants as typed
 use Rattle.command_lines.specs.declared.archives.histories.DeedKind.{DeedKind}
 use Rattle.command_lines.specs.declared.archives.histories.DeedKind.TheVariants as kind
 use Rattle.command_lines.specs.declared.archives.histories.HistoryAsked.{HistoryAsked}
-use Rattle.record_history.specs.Events.{Deed, Event, Captured, Held, Released, Destroyed, ClassAdded, PlanReplaced, ReasonsRequired, ReasonsOptional}
-use Rattle.record_history.specs.Events.{FindingsAccepted, FoundPlan, FoundMessage, FoundRecord, FoundHold}
+use Rattle.record_history.specs.Events.{Deed, Event, Captured, Held, Released, Refiled, Destroyed, ClassAdded, PlanReplaced, Titled}
+use Rattle.record_history.specs.Events.{ReasonsRequired, ReasonsOptional, FindingsAccepted, FoundPlan, FoundMessage, FoundRecord, FoundHold}
 
 -- what is asked of something, if anything is
 abbrev pub where_asked : {X : Type 0} → (X → Bool) → Option X → Bool
@@ -21,9 +21,11 @@ abbrev pub subjects : Deed → Option (ℕ × ℕ)
 subjects (Captured first seal day filing paths) = Some (first, min (first + min (length paths - 1) 4294967295) 4294967295)
 subjects (Held name n) = Some (n, n)
 subjects (Released name n) = Some (n, n)
+subjects (Refiled n path) = Some (n, n)
 subjects (Destroyed n day schedule) = Some (n, n)
 subjects (ClassAdded path) = None
 subjects (PlanReplaced plan) = None
+subjects (Titled path title basis) = None
 subjects ReasonsRequired = None
 subjects ReasonsOptional = None
 subjects FindingsAccepted = None
@@ -50,9 +52,11 @@ abbrev pub kind_of : Deed → DeedKind
 kind_of (Captured first seal day filing paths) = kind.Captured
 kind_of (Held name n) = kind.Held
 kind_of (Released name n) = kind.Released
+kind_of (Refiled n path) = kind.Refiled
 kind_of (Destroyed n day schedule) = kind.Destroyed
 kind_of (ClassAdded path) = kind.Added
 kind_of (PlanReplaced plan) = kind.Replaced
+kind_of (Titled path title basis) = kind.Titled
 kind_of ReasonsRequired = kind.Made
 kind_of ReasonsOptional = kind.Made
 kind_of FindingsAccepted = kind.Accepted
@@ -65,9 +69,11 @@ abbrev pub is_same_kind : DeedKind → DeedKind → Bool
 is_same_kind kind.Captured kind.Captured = true
 is_same_kind kind.Held kind.Held = true
 is_same_kind kind.Released kind.Released = true
+is_same_kind kind.Refiled kind.Refiled = true
 is_same_kind kind.Destroyed kind.Destroyed = true
 is_same_kind kind.Added kind.Added = true
 is_same_kind kind.Replaced kind.Replaced = true
+is_same_kind kind.Titled kind.Titled = true
 is_same_kind kind.Made kind.Made = true
 is_same_kind kind.Found kind.Found = true
 is_same_kind kind.Accepted kind.Accepted = true

@@ -2,8 +2,8 @@
 use Rattle.std.specs.Prelude.{ℕ, ◌&&◌, ◌||◌, not, if◌then◌else◌, Bool, true, false, List, [], ◌∷◌, codes}
 use Rattle.std.specs.List.{list_any}
 use Rattle.std.specs.Str.{bytes_eq}
-use Rattle.record_history.specs.Events.{Deed, Event, Captured, Held, Released, Destroyed, ClassAdded, PlanReplaced, ReasonsRequired, ReasonsOptional}
-use Rattle.record_history.specs.Events.{FindingsAccepted, FoundPlan, FoundMessage, FoundRecord, FoundHold}
+use Rattle.record_history.specs.Events.{Deed, Event, Captured, Held, Released, Refiled, Destroyed, ClassAdded, PlanReplaced, Titled}
+use Rattle.record_history.specs.Events.{ReasonsRequired, ReasonsOptional, FindingsAccepted, FoundPlan, FoundMessage, FoundRecord, FoundHold}
 use Rattle.cli_history.specs.declared.findings.Bearing.{Bearing}
 use Rattle.cli_history.specs.declared.findings.Bearing.TheVariants.{Plan, Detail, Acceptance, Neither}
 use Rattle.cli_history.specs.declared.findings.Stage.{Stage}
@@ -22,9 +22,11 @@ bearing FindingsAccepted = Acceptance
 bearing (Captured first seal day filing paths) = Neither
 bearing (Held name n) = Neither
 bearing (Released name n) = Neither
+bearing (Refiled n path) = Neither
 bearing (Destroyed n day schedule) = Neither
 bearing (ClassAdded path) = Neither
 bearing (PlanReplaced plan) = Neither
+bearing (Titled path title basis) = Neither
 bearing ReasonsRequired = Neither
 bearing ReasonsOptional = Neither
 

@@ -7,3 +7,4 @@ pub mod Reasons
 pub mod Findings
 pub mod Authors
 pub mod Cases
+pub mod Titles

@@ -239,7 +239,7 @@ impl Cases {
 }
 
 /// The events of a history from a number on, at most so many.
-fn page_from<S: Alter>(
+pub(crate) fn page_from<S: Alter>(
     rt: &HostRuntime,
     archive: &mut Store<S>,
     first: u32,

@@ -28,12 +28,14 @@ pub fn records_of(deed: &Deed<'_>) -> Option<(u32, u32)>
         }
         Deed::Held { number, .. }
         | Deed::Released { number, .. }
+        | Deed::Refiled { number, .. }
         | Deed::Destroyed { number, .. }
         | Deed::FoundMessage { number, .. }
         | Deed::FoundRecord { number, .. }
         | Deed::FoundHold { number, .. } => Some((*number, *number)),
         Deed::ClassAdded { .. }
         | Deed::PlanReplaced(_)
+        | Deed::Titled { .. }
         | Deed::ReasonsRequired
         | Deed::ReasonsOptional
         | Deed::FindingsAccepted
@@ -109,9 +111,11 @@ fn is_of_kind(kind: DeedKind, deed: &Deed<'_>) -> bool
         DeedKind::Captured => matches!(deed, Deed::Captured { .. }),
         DeedKind::Held => matches!(deed, Deed::Held { .. }),
         DeedKind::Released => matches!(deed, Deed::Released { .. }),
+        DeedKind::Refiled => matches!(deed, Deed::Refiled { .. }),
         DeedKind::Destroyed => matches!(deed, Deed::Destroyed { .. }),
         DeedKind::Added => matches!(deed, Deed::ClassAdded { .. }),
         DeedKind::Replaced => matches!(deed, Deed::PlanReplaced(_)),
+        DeedKind::Titled => matches!(deed, Deed::Titled { .. }),
         DeedKind::Made => matches!(deed, Deed::ReasonsRequired | Deed::ReasonsOptional),
         DeedKind::Found => matches!(
             deed,
@@ -155,9 +159,11 @@ pub fn word_of(deed: &Deed<'_>) -> &'static str {
         Deed::Captured { .. } => "captured",
         Deed::Held { .. } => "held",
         Deed::Released { .. } => "released",
+        Deed::Refiled { .. } => "refiled",
         Deed::Destroyed { .. } => "destroyed",
         Deed::ClassAdded { .. } => "added",
         Deed::PlanReplaced(_) => "replaced",
+        Deed::Titled { .. } => "titled",
         Deed::ReasonsRequired | Deed::ReasonsOptional => "made",
         Deed::FindingsAccepted => "accepted",
         Deed::FoundPlan(_)

@@ -47,6 +47,18 @@ impl<'d> Fields<'d> {
         self.add("rules", Field::Text(*rules))
     }
 
+    /// The title and the legal basis that a class gets.
+    fn add_title(
+        &mut self,
+        path: &'d [u8],
+        title: &'d [u8],
+        basis: &'d [u8],
+    ) -> Result<(), AllocError> {
+        self.add_classes(&[path])?;
+        self.add("title", Field::Text(title))?;
+        self.add("basis", Field::Text(basis))
+    }
+
     /// The paths of the classes of a capture.
     fn add_classes(&mut self, paths: &[&'d [u8]]) -> Result<(), AllocError> {
         let list = Vec::from_slice(self.alloc, paths)?;
@@ -79,7 +91,8 @@ fn add_done<'d>(fields: &mut Fields<'d>, deed: &'d Deed<'_>) -> Result<(), Alloc
             let text = schedule_text(fields.alloc, *schedule)?;
             fields.add("schedule", Field::Octets(text))
         }
-        Deed::ClassAdded { path } => fields.add_classes(&[*path]),
+        Deed::Refiled { path, .. } | Deed::ClassAdded { path } => fields.add_classes(&[*path]),
+        Deed::Titled { path, title, basis } => fields.add_title(*path, *title, *basis),
         _ => Ok(()),
     }
 }
@@ -109,7 +122,8 @@ fn add_found<'d>(fields: &mut Fields<'d>, deed: &'d Deed<'_>) -> Result<(), Allo
 }
 
 /// What a deed tells, each part of it under its name: of a capture the records, the octets and the sum of the message, the day,
-/// the officer and the sum of the rules, and the classes; of each other deed what it has of these, its hold and its schedule.
+/// the officer and the sum of the rules, and the classes; of each other deed what it has of these, its hold, its schedule, and the
+/// title and the legal basis of its class.
 pub fn fields_of<'d>(alloc: Global, deed: &'d Deed<'_>) -> Result<Vec<Named<'d>>, AllocError>
     requires { IsSpelledDeed (deed_view deed.now) }
 {

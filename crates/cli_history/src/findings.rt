@@ -55,9 +55,11 @@ fn bearing_of(deed: &Deed<'_>) -> Bearing
         Deed::Captured { .. }
         | Deed::Held { .. }
         | Deed::Released { .. }
+        | Deed::Refiled { .. }
         | Deed::Destroyed { .. }
         | Deed::ClassAdded { .. }
         | Deed::PlanReplaced(_)
+        | Deed::Titled { .. }
         | Deed::ReasonsRequired
         | Deed::ReasonsOptional => Bearing::Neither,
     }

@@ -9,6 +9,7 @@
 //! - `chosen`: which events are asked for; `missing`: of which numbers none tells; `printing`: these, as lines or as JSON;
 //!   `fields`: what a deed tells, as named fields; `days` and `notes`: parts of lines;
 //! - `cases`: what the hold of each name keeps, and how that began;
+//! - `refiled`: by which event a record got its class; `titles`: what classes are called, and the legal basis of their schedules;
 //! - `certificates`: those of records that were destroyed;
 //! - `captured`: what is captured for an officer already;
 //! - `seals`: of messages, as events tell them, and what a message is beside the one that was captured; `stored`: the seals of
@@ -43,10 +44,12 @@ mod opening;
 mod pages;
 mod printing;
 mod reasons;
+mod refiled;
 mod replaying;
 mod restating;
 mod seals;
 mod stored;
+mod titles;
 mod watching;
 
 pub use author::Author;
@@ -63,5 +66,7 @@ pub use notes::notes_of;
 pub use opening::{Purpose, StoreLedger, open_history, open_ledger, open_noted, open_with_seals};
 pub use printing::write_history;
 pub use reasons::{accept_findings, note_reasons};
+pub use refiled::last_refiling;
 pub use seals::{Fidelity, Seals, altered_words};
 pub use stored::StoredSeals;
+pub use titles::{Titles, note_titles, write_titles};

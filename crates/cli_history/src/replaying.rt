@@ -37,9 +37,11 @@ fn requires_after(is_before: bool, deed: &Deed<'_>) -> bool
         Deed::Captured { .. }
         | Deed::Held { .. }
         | Deed::Released { .. }
+        | Deed::Refiled { .. }
         | Deed::Destroyed { .. }
         | Deed::ClassAdded { .. }
         | Deed::PlanReplaced(_)
+        | Deed::Titled { .. }
         | Deed::FindingsAccepted
         | Deed::FoundPlan(_)
         | Deed::FoundMessage { .. }

@@ -15,7 +15,7 @@ use crate::summary::{classes, heading, totals};
 use crate::tally::Tally;
 use crate::timeline::timeline;
 use class_plan::{Date, Plan};
-use cli_texts::Headers;
+use cli_texts::{Headers, ListedTitle};
 use std::alloc::Global;
 
 /// A record, as a report reads it.
@@ -46,6 +46,8 @@ pub struct Heading<'a> {
     pub moment: &'a str,
     /// The conditions that its records meet, as they are typed. None where it is on all records.
     pub conditions: Option<&'a str>,
+    /// The titles of classes, of those that have one.
+    pub titles: &'a [ListedTitle<'a>],
 }
 
 /// A report on an archive by a day. Its memory grows with the classes, with the holds and with what is due, and not with the
@@ -163,7 +165,7 @@ impl Report {
     ) -> Result<(), ReportFault> {
         heading(self.alloc, page, about)?;
         totals(page, about, &self.tally.all, self.due.free_count() as u64)?;
-        classes(self.alloc, page, plan, &self.tally, self.day)?;
+        classes(self.alloc, page, plan, &self.tally, about)?;
         timeline(self.alloc, page, &self.tally, self.day)?;
         self.holds.section(page)?;
         self.due.section(page, self.day)?;

@@ -8,6 +8,7 @@ use crate::page::{Page, put};
 use crate::report::Heading;
 use crate::tally::{ClassCounts, Tally};
 use class_plan::{Date, Plan, Schedule, day_number, schedule_text};
+use cli_texts::ListedTitle;
 use std::alloc::{AllocError, Global};
 
 /// Adds what comes before the body of a page.
@@ -78,18 +79,68 @@ fn push_counts(page: &mut Page, counts: &Counts) -> Result<(), AllocError> {
     )
 }
 
+/// The title of the class of a path, if it has one.
+fn title_of<'t, 'a>(titles: &'t [ListedTitle<'a>], path: &[u8]) -> Option<&'t ListedTitle<'a>> {
+    for it in titles {
+        if it.path == path {
+            return Some(it);
+        }
+    }
+    None
+}
+
+/// Adds a text below what a cell has, if there is one.
+fn push_below(page: &mut Page, text: &[u8]) -> Result<(), AllocError> {
+    if text.is_empty() {
+        return Ok(());
+    }
+    put!(page; "<br>" name(text))
+}
+
+/// Adds the path of a class, and its title below it.
+fn push_path(
+    page: &mut Page,
+    path: &[u8],
+    title: Option<&ListedTitle<'_>>,
+) -> Result<(), AllocError> {
+    page.name(path)?;
+    match title {
+        Some(it) => push_below(page, it.title),
+        None => Ok(()),
+    }
+}
+
+/// Adds the schedule of a class, and its legal basis below it.
+fn push_keeping(
+    alloc: Global,
+    page: &mut Page,
+    plan: &Plan,
+    path: &[u8],
+    title: Option<&ListedTitle<'_>>,
+) -> Result<(), AllocError> {
+    if let Some(schedule) = plan.schedule_of(path) {
+        push_schedule(alloc, page, schedule)?;
+    }
+    match title {
+        Some(it) => push_below(page, it.basis),
+        None => Ok(()),
+    }
+}
+
 /// Adds the row of a class.
 fn push_class(
     alloc: Global,
     page: &mut Page,
     plan: &Plan,
     class: &ClassCounts,
+    titles: &[ListedTitle<'_>],
 ) -> Result<(), AllocError> {
     let path = class.path.as_slice();
-    put!(page; "<tr><th scope=\"row\">" name(path) "</th><td>")?;
-    if let Some(schedule) = plan.schedule_of(path) {
-        push_schedule(alloc, page, schedule)?;
-    }
+    let title = title_of(titles, path);
+    page.markup("<tr><th scope=\"row\">")?;
+    push_path(page, path, title)?;
+    page.markup("</th><td>")?;
+    push_keeping(alloc, page, plan, path, title)?;
     put!(page; "</td><td>" markup(if plan.is_open(path) { "yes" } else { "no" }) "</td>")?;
     push_counts(page, &class.counts)?;
     page.markup("</tr>\n")
@@ -109,17 +160,17 @@ fn push_class_head(page: &mut Page, day: Date) -> Result<(), AllocError> {
     )
 }
 
-/// Adds the section of classes.
+/// Adds the section of classes: of a report by the day of its heading, with the titles that it has.
 pub fn classes(
     alloc: Global,
     page: &mut Page,
     plan: &Plan,
     tally: &Tally,
-    day: Date,
+    about: &Heading<'_>,
 ) -> Result<(), AllocError> {
-    push_class_head(page, day)?;
+    push_class_head(page, about.day)?;
     for class in tally.classes.as_slice() {
-        push_class(alloc, page, plan, class)?;
+        push_class(alloc, page, plan, class, about.titles)?;
     }
     page.markup("</tbody>\n<tfoot><tr><th scope=\"row\" colspan=\"3\">All classes</th>")?;
     push_counts(page, &tally.all)?;

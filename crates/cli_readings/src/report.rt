@@ -8,8 +8,9 @@ use crate::conditions::conditions_of;
 use class_plan::{Date, Plan};
 use cli_choice::Questions;
 use cli_console::{Failure, Search, Status, is_by, message_of, now, today, write_data};
+use cli_history::Titles;
 use cli_page::{Heading, Page, Record, Report, ReportFault};
-use cli_texts::{Headers, headers_of, moment_text};
+use cli_texts::{Headers, ListedTitle, headers_of, moment_text};
 use command_lines::archives::Choice;
 use record_store::{RecordEntry, Store};
 use sqlite::Alter;
@@ -97,6 +98,7 @@ fn heading_of<'a>(
     today: Date,
     moment: &'a str,
     conditions: Option<&'a str>,
+    titles: &'a [ListedTitle<'a>],
 ) -> Heading<'a> {
     Heading {
         file,
@@ -104,6 +106,7 @@ fn heading_of<'a>(
         today,
         moment,
         conditions,
+        titles,
     }
 }
 
@@ -115,10 +118,19 @@ fn write_page(
     file: &str,
     day: Date,
     choice: &Choice<'_>,
+    titles: &Titles,
 ) -> Result<(), Failure> {
+    let titles = titles.listed()?;
     let moment = moment_text(rt.alloc(), now(rt)?)?;
     let typed = conditions_of(rt.alloc(), choice)?;
-    let heading = heading_of(file, day, today(rt)?, moment.as_str(), typed.as_deref());
+    let heading = heading_of(
+        file,
+        day,
+        today(rt)?,
+        moment.as_str(),
+        typed.as_deref(),
+        titles.as_slice(),
+    );
     let mut page = Page::new(rt.alloc());
     report
         .write(&mut page, plan, &heading)
@@ -141,6 +153,7 @@ pub fn write_report<S: Alter>(
         rt, fault,
     ))?;
     add_records(rt, archive, &mut report, &mut search, day)?;
-    write_page(rt, archive.plan(), &report, file, day, choice)?;
+    let titles = Titles::of(rt, archive)?;
+    write_page(rt, archive.plan(), &report, file, day, choice, &titles)?;
     search.end(rt, archive)
 }

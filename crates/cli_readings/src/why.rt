@@ -4,8 +4,9 @@ use crate::list::row_of;
 use crate::show::{entry_of, message_of_entry};
 use class_plan::{Date, Plan, day_number};
 use cli_console::{Failure, Status, write_data, write_text};
+use cli_history::last_refiling;
 use cli_sources::{Script, read_rules};
-use cli_texts::{ListedHeaders, listed_line, plan_text, undecoded_lines};
+use cli_texts::{ListedHeaders, history_line, listed_line, plan_text, undecoded_lines};
 use command_lines::archives::{TypedNumber, Why};
 use desk_commands::Payload;
 use record_store::{RecordEntry, Store};
@@ -31,6 +32,8 @@ pub struct Captured {
     /// None where it is destroyed.
     message: Option<Vec<u8>>,
     plan: Plan,
+    /// The line of the event by which it got its class, where that is not the one of its capture.
+    refiling: Option<Vec<u8>>,
 }
 
 /// The failure of an inquiry.
@@ -103,7 +106,7 @@ fn read_scripts(rt: &HostRuntime, folder: &str, officer: &str) -> Result<Scripts
     Scripts::new(alloc, main, others).map_err(|fault| failure_of(rt, fault))
 }
 
-/// A record of an archive as it was captured, with the plan of today. `BadData` where there is none of its number, and where
+/// A record of an archive as it was captured, with the plan of today and with the event by which it got another class. `BadData` where there is none of its number, and where
 /// its message is not the one that was captured.
 pub fn read_captured<S: Alter>(
     rt: &HostRuntime,
@@ -117,10 +120,12 @@ pub fn read_captured<S: Alter>(
     } else {
         Some(message_of_entry(rt, archive, record, &entry)?)
     };
+    let refiling = last_refiling(rt, archive, entry.number)?;
     Ok(Captured {
         entry,
         message,
         plan,
+        refiling,
     })
 }
 
@@ -226,12 +231,17 @@ fn answer_by_rules(
     answer_by(rt, captured, message, &scripts)
 }
 
-/// Writes a record as it is listed.
-fn write_entry(rt: &HostRuntime, entry: &RecordEntry) -> Result<(), Failure> {
-    write_text(
-        rt,
-        &listed_line(rt.alloc(), &row_of(entry), ListedHeaders::Unasked)?,
-    )
+/// Writes a record as it is listed, and the event by which it got its class, if it was refiled.
+fn write_record(rt: &HostRuntime, captured: &Captured) -> Result<(), Failure> {
+    let row = row_of(&captured.entry);
+    write_text(rt, &listed_line(rt.alloc(), &row, ListedHeaders::Unasked)?)?;
+    let Some(line) = &captured.refiling else {
+        return Ok(());
+    };
+    let mut text = Shown::new(rt.alloc());
+    text.words("event ")?;
+    text.text(&history_line(rt.alloc(), line.as_slice())?)?;
+    write_text(rt, &text)
 }
 
 /// Writes a report.
@@ -243,12 +253,12 @@ fn write_report(rt: &HostRuntime, report: &Written) -> Result<(), Failure> {
 }
 
 /// Writes a record, what becomes of its message by the rules of today, and whether they file it there again.
-fn write_answer(rt: &HostRuntime, entry: &RecordEntry, answer: &Answer) -> Result<(), Failure> {
-    write_entry(rt, entry)?;
+fn write_answer(rt: &HostRuntime, captured: &Captured, answer: &Answer) -> Result<(), Failure> {
+    write_record(rt, captured)?;
     write_data(rt, b"\n")?;
     write_report(rt, &answer.text)?;
     write_text(rt, &outcome_lines(rt.alloc(), &answer.outcome)?)?;
-    write_verdict(rt, entry, answer)
+    write_verdict(rt, &captured.entry, answer)
 }
 
 /// Writes which words of a message's fields rules see undecoded.
@@ -269,7 +279,7 @@ fn explain(
     message: &[u8],
 ) -> Result<(), Failure> {
     let today = answer_by_rules(rt, asked.rules, asked.officer, captured, message)?;
-    write_answer(rt, &captured.entry, &today)?;
+    write_answer(rt, captured, &today)?;
     write_undecoded(rt, message)?;
     let Some(folder) = asked.formerly else {
         return Ok(());
@@ -278,14 +288,14 @@ fn explain(
     write_parting(rt, &today, &former)
 }
 
-/// Writes why a record is in its class: the record, a report on the run of today's rules over its message at its day,
+/// Writes why a record is in its class: the record, the event by which it was refiled, if it was, a report on the run of today's rules over its message at its day,
 /// whether that files it there again, and which words of its fields rules see undecoded; with the rules of former times
 /// also where their run differs.
 pub fn write_why(rt: &HostRuntime, asked: &Why<'_>, captured: &Captured) -> Result<(), Failure> {
     match &captured.message {
         Some(message) => explain(rt, asked, captured, message.as_slice()),
         None => {
-            write_entry(rt, &captured.entry)?;
+            write_record(rt, captured)?;
             let mut text = Shown::new(rt.alloc());
             text.words("its message is destroyed, so no rules can be run over it")?;
             text.end_line()?;

@@ -4,12 +4,12 @@ use crate::archives::Work;
 use class_plan::{Date, Plan};
 use cli_changes::{
     Delivered, FilingRules, Intake, NamedRules, Timing, change_holds, deliver_to, dispose_by,
-    keeps_less, release_all, replace_plan, take_new,
+    keeps_less, refile_records, release_all, replace_plan, take_new,
 };
 use cli_choice::{Change, Questions};
 use cli_console::Failure;
 use cli_history::{Author, Purpose, Seals, StoreLedger, open_ledger, open_with_seals};
-use command_lines::archives::{Choice, Disposal};
+use command_lines::archives::{Choice, Disposal, Refiling};
 use desk_commands::Payload;
 use record_history::Filing;
 use record_store::Store;
@@ -31,6 +31,12 @@ pub enum Changing<'a, 't> {
     Hold {
         change: Change,
         name: &'a str,
+        choice: &'t Choice<'a>,
+        questions: Questions,
+    },
+    /// Gives records another class.
+    Refile {
+        refiling: Refiling<'a>,
         choice: &'t Choice<'a>,
         questions: Questions,
     },
@@ -60,9 +66,10 @@ impl Changing<'_, '_> {
                 change: Change::Place,
                 ..
             } => Ok(Purpose::Keeping),
-            Changing::Dispose(..) | Changing::Hold { .. } | Changing::ReleaseAll { .. } => {
-                Ok(Purpose::Ending)
-            }
+            Changing::Dispose(..)
+            | Changing::Hold { .. }
+            | Changing::Refile { .. }
+            | Changing::ReleaseAll { .. } => Ok(Purpose::Ending),
         }
     }
 
@@ -86,6 +93,11 @@ impl Changing<'_, '_> {
                 choice,
                 questions,
             } => change_holds(rt, ledger, change, name, choice, &questions),
+            Changing::Refile {
+                refiling,
+                choice,
+                questions,
+            } => refile_records(rt, ledger, refiling, choice, &questions),
             Changing::ReleaseAll { name, is_agreed } => release_all(rt, ledger, name, is_agreed),
         }
     }

@@ -4,6 +4,7 @@
 //! - `subcommands`: what each subcommand does;
 //! - `changes`: what is changed in an archive, by whom and why; `imports`: old mail; `beginnings` and `histories`: its history, begun
 //!   and read;
+//! - `titles`: those of classes;
 //! - `drafts`: new archives, which get their places once they are found whole;
 //! - `copy`: a new archive with all that another one has;
 //! - `reports`: why something was not done, for a person and as a status;
@@ -23,6 +24,7 @@ mod imports;
 mod program;
 mod reports;
 mod subcommands;
+mod titles;
 
 pub use archives::{Archives, Closed, Work};
 pub use program::serve;

@@ -7,6 +7,7 @@ use crate::copy::{Paths, copy_to};
 use crate::drafts::make;
 use crate::histories::{CheckAll, ReadHistory};
 use crate::imports::import;
+use crate::titles::give_titles;
 use class_plan::Date;
 use cli_changes::{
     FilingRules, Intake, Timing, check_rules, day_of_disposal, logged, read_message, read_plan,
@@ -14,14 +15,14 @@ use cli_changes::{
 };
 use cli_choice::{Change, Questions};
 use cli_console::{Failure, day_or_today};
-use cli_history::{Author, write_cases};
+use cli_history::{Author, write_cases, write_titles};
 use cli_readings::{
     Captured, export_to, judge_choice, message_of_record, read_captured, write_list, write_message,
     write_report, write_twice, write_why,
 };
 use command_lines::archives::{
     Attribution, Choice, ChosenTask, Command, CommandLine, Disposal, Filing, HistoryTask, Listing,
-    RulesChecked, Target, Telling, TypedNumber, Why,
+    Refiling, RulesChecked, Target, Telling, TypedNumber, Why,
 };
 use record_store::Store;
 use sqlite::{Alter, Connection};
@@ -43,13 +44,15 @@ impl Work for WritePlan {
     }
 }
 
-/// What is read of all records.
+/// What is read of a whole archive.
 #[derive(Drop)]
 enum Survey {
     /// The cases, perhaps as JSON.
     Holds { is_json: bool },
     /// The records whose messages were captured twice.
     Twice(Listing),
+    /// The titles of classes, perhaps as JSON.
+    Titles { is_json: bool },
 }
 
 impl Work for Survey {
@@ -64,6 +67,7 @@ impl Work for Survey {
         let done = match self {
             Survey::Holds { is_json } => write_cases(rt, &mut archive, is_json),
             Survey::Twice(listing) => write_twice(rt, &mut archive, listing),
+            Survey::Titles { is_json } => write_titles(rt, &mut archive, is_json),
         };
         (archive.into_connection(), done)
     }
@@ -302,6 +306,24 @@ fn change_holds_of<'a, A: Archives>(
     change(rt, archives, store, holds, told)
 }
 
+/// Gives the records of a choice another class.
+fn refile<'a, A: Archives>(
+    rt: &HostRuntime,
+    archives: &A,
+    store: &str,
+    choice: &Choice<'a>,
+    refiling: Refiling<'a>,
+    told: &Attribution<'a>,
+) -> Result<(), Failure> {
+    let questions = judge_choice(rt, choice)?;
+    let refile = Changing::Refile {
+        refiling,
+        choice,
+        questions,
+    };
+    change(rt, archives, store, refile, told)
+}
+
 /// Does something with the records of a choice.
 fn on_records<'a, A: Archives>(
     rt: &HostRuntime,
@@ -335,6 +357,7 @@ fn on_records<'a, A: Archives>(
             };
             change_holds_of(rt, archives, store, &choice, hold, told)
         }
+        ChosenTask::Refile(refiling) => refile(rt, archives, store, &choice, *refiling, told),
     }
 }
 
@@ -460,6 +483,10 @@ pub fn execute<A: Archives>(
         }
         Command::Holds { is_json } => lend(rt, archives, store, Survey::Holds { is_json }),
         Command::Twice(listing) => lend(rt, archives, store, Survey::Twice(listing)),
+        Command::WriteTitles { is_json } => lend(rt, archives, store, Survey::Titles { is_json }),
+        Command::SetTitles { titles } => {
+            give_titles(rt, archives, store, titles, Author::of(rt, told)?)
+        }
         Command::History(task) => history(rt, archives, store, task, told),
         Command::Certificates { numbers } => {
             lend(rt, archives, store, ReadHistory::Certificates(numbers))

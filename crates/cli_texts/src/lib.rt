@@ -11,6 +11,7 @@ mod records;
 mod rows;
 #[cfg(test)]
 mod tests;
+mod titles;
 
 pub use cases::{CaseBeginning, ListedCase, case_line, case_object};
 pub use certificates::{Certificate, certificate_line, moment_text, sum_of, sum_text};
@@ -24,3 +25,4 @@ pub use rows::{
     Exported, Kept, LIST_HEADER, LIST_HEADER_WITH_TEXTS, MANIFEST_HEADER, csv_row, listed_row,
     manifest_row,
 };
+pub use titles::{ListedTitle, title_line, title_object};

@@ -1,11 +1,13 @@
 //! The command line of `mailfile-store`: what it asks for, with each value read and judged.
 
 mod captures;
+mod class_words;
 mod histories;
 mod history_words;
 mod holds;
 mod import_words;
 mod imports;
+mod refilings;
 mod words;
 
 use crate::reading::{NoCommand, day_of, has_flag, read_words, required, value_of, values_of};
@@ -20,6 +22,8 @@ use holds::{NAME_FORGOTTEN, hold_asked, release_asked};
 use imports::import_asked;
 pub use imports::{Dating, Import};
 use jiff::civil::Date;
+pub use refilings::Refiling;
+use refilings::refile_asked;
 use session_words::read_number;
 use std::alloc::{AllocError, Global};
 
@@ -100,6 +104,15 @@ pub enum Command<'a> {
     },
     /// Lists the live records whose messages stand in the archive a second time.
     Twice(Listing),
+    /// Writes the titles of classes.
+    WriteTitles {
+        /// Whether they are printed as an array of JSON objects.
+        is_json: bool,
+    },
+    /// Gives classes the titles in the file at a path.
+    SetTitles {
+        titles: &'a str,
+    },
     /// Does something with the records of a choice.
     Chosen(Choice<'a>, ChosenTask<'a>),
 }
@@ -114,6 +127,8 @@ pub enum ChosenTask<'a> {
     Hold(&'a str),
     /// Ends the hold of such a name on them. The choice asks for something.
     Release(&'a str),
+    /// Gives them another class. The choice asks for something, and there is a reason.
+    Refile(Refiling<'a>),
     /// Writes a page of HTML on them. The choice has no numbers.
     Report {
         /// The day by which records are due, which may be later than today; none for today.
@@ -470,6 +485,16 @@ fn plan_asked<'a>(alloc: Global, asked: &ArgMatches<'a>) -> Result<Command<'a>, 
     }
 }
 
+/// What is done with the titles of classes.
+fn titles_asked<'a>(asked: &ArgMatches<'a>) -> Command<'a> {
+    match value_of(asked, class_words::NEW_TITLES) {
+        Some(titles) => Command::SetTitles { titles },
+        None => Command::WriteTitles {
+            is_json: has_flag(asked, words::JSON),
+        },
+    }
+}
+
 /// What is to be destroyed.
 fn disposal_asked(alloc: Global, asked: &ArgMatches<'_>) -> Result<Disposal, NoCommand> {
     Ok(Disposal {
@@ -558,6 +583,7 @@ fn reading_asked<'a>(
         "holds" => Command::Holds {
             is_json: has_flag(asked, words::JSON),
         },
+        "titles" => titles_asked(asked),
         "why" => Command::Why(why_asked(alloc, asked)?),
         _ => return Ok(None),
     }))
@@ -577,6 +603,7 @@ fn chosen_asked<'a>(
         }
         "hold" => return Ok(Some(hold_asked(alloc, asked)?)),
         "release" => return Ok(Some(release_asked(alloc, asked)?)),
+        "refile" => return Ok(Some(refile_asked(alloc, asked)?)),
         "report" => {
             let day = day_asked(alloc, asked, words::DAY)?;
             (conditions_asked(alloc, asked)?, ChosenTask::Report { day })

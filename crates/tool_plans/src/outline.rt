@@ -11,8 +11,8 @@ pub(crate) enum Owner {
     File,
     /// The class of this number, counted from 0.
     Class(usize),
-    /// A table that no plan has.
-    Other,
+    /// A table that no plan has: the one of the header of this number, counted from 0.
+    Other(usize),
 }
 
 /// A value, as far as a plan has such.
@@ -43,6 +43,8 @@ pub(crate) struct Key {
 pub(crate) struct Header {
     pub(crate) name: String,
     pub(crate) at: usize,
+    /// Whether it is one of an array of tables.
+    pub(crate) is_array: bool,
 }
 
 /// What a plan file has, in the order of its text.
@@ -237,8 +239,9 @@ impl Reader<'_> {
         if closing == "]]" && name.as_str() == "class" {
             self.owner = self.begin_class(at)?;
         } else {
-            self.owner = Owner::Other;
-            self.outline.others.push(Header { name, at })?;
+            self.owner = Owner::Other(self.outline.others.len());
+            let is_array = closing == "]]";
+            self.outline.others.push(Header { name, at, is_array })?;
         }
         Ok(())
     }

@@ -48,7 +48,7 @@ fn kind_of(owner: Owner, name: &str) -> Option<Kind> {
             "open" => Some(Kind::Truth),
             _ => None,
         },
-        Owner::Other => None,
+        Owner::Other(_) => None,
     }
 }
 
@@ -56,7 +56,7 @@ fn kind_of(owner: Owner, name: &str) -> Option<Kind> {
 fn known_keys(owner: Owner) -> &'static str {
     match owner {
         Owner::Class(_) => "a class has path, open and schedule",
-        Owner::File | Owner::Other => "a plan has root and class",
+        Owner::File | Owner::Other(_) => "a plan has root and class",
     }
 }
 
@@ -107,7 +107,7 @@ pub(crate) fn judge_shapes(
 ) -> Result<(), AllocError> {
     judge_root(alloc, findings, outline)?;
     for key in outline.keys.as_slice() {
-        if key.owner != Owner::Other {
+        if !matches!(key.owner, Owner::Other(_)) {
             judge_key(alloc, findings, key)?;
         }
     }

@@ -26,11 +26,15 @@ pub enum DeedKind {
     Captured,
     Held,
     Released,
+    /// Records that got another class.
+    Refiled,
     Destroyed,
     /// Classes that were added.
     Added,
     /// Plans that were replaced.
     Replaced,
+    /// Classes that got another title or legal basis.
+    Titled,
     /// That reasons were made required, or optional.
     Made,
     /// What was found when a history began, or after a program that keeps none.
@@ -130,13 +134,15 @@ pub(super) fn attribution_asked<'a>(
 }
 
 /// The words for kinds of deeds.
-const KINDS: [(&str, DeedKind); 9] = [
+const KINDS: [(&str, DeedKind); 11] = [
     ("captured", DeedKind::Captured),
     ("held", DeedKind::Held),
     ("released", DeedKind::Released),
+    ("refiled", DeedKind::Refiled),
     ("destroyed", DeedKind::Destroyed),
     ("added", DeedKind::Added),
     ("replaced", DeedKind::Replaced),
+    ("titled", DeedKind::Titled),
     ("made", DeedKind::Made),
     ("found", DeedKind::Found),
     ("accepted", DeedKind::Accepted),
@@ -161,7 +167,7 @@ fn kind_asked(alloc: Global, asked: &ArgMatches<'_>) -> Result<Option<DeedKind>,
         Some(kind) => Ok(Some(kind)),
         None => {
             let reason =
-                "none of captured, held, released, destroyed, added, replaced, made, found and accepted";
+                "none of captured, held, released, refiled, destroyed, added, replaced, titled, made, found and accepted";
             Err(NoCommand::wrong_after(alloc, words::DEEDS, word, reason))
         }
     }

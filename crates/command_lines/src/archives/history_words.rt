@@ -44,7 +44,7 @@ pub const WAIVE_REASON: Word = Word {
 pub const ACCEPT_FOUND: Word = Word {
     name: "accept-found",
     help: Some(
-        "Accepts what a program that keeps no history has left, for a reason that --reason says; until then release, dispose --yes and a plan that keeps less are refused",
+        "Accepts what a program that keeps no history has left, for a reason that --reason says; until then release, refile, dispose --yes and a plan that keeps less are refused",
     ),
     ..FLAG
 };
@@ -75,7 +75,7 @@ pub const DEEDS: Word = Word {
     name: "deeds",
     value: "WORD",
     help: Some(
-        "Events of this kind: captured, held, released, destroyed, added, replaced, made, found or accepted",
+        "Events of this kind: captured, held, released, refiled, destroyed, added, replaced, titled, made, found or accepted",
     ),
     ..OPTION
 };

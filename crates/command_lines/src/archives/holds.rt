@@ -28,8 +28,8 @@ fn new_name_asked<'a>(alloc: Global, asked: &ArgMatches<'a>) -> Result<&'a str, 
     Ok(name)
 }
 
-/// What is typed of the records of a hold.
-fn typed_of<'a>(alloc: Global, asked: &ArgMatches<'a>) -> Result<Choice<'a>, NoCommand> {
+/// What is typed of records, from the first one on.
+pub(super) fn typed_of<'a>(alloc: Global, asked: &ArgMatches<'a>) -> Result<Choice<'a>, NoCommand> {
     let mut choice = conditions_asked(alloc, asked)?;
     choice.numbers = numbers_asked(alloc, asked)?;
     Ok(choice)
@@ -68,7 +68,7 @@ pub(super) fn hold_asked<'a>(
 }
 
 /// A refusal in these words.
-fn refusal(alloc: Global, words: &str) -> Result<NoCommand, AllocError> {
+pub(super) fn refusal(alloc: Global, words: &str) -> Result<NoCommand, AllocError> {
     Ok(NoCommand::Wrong(String::from_str(alloc, words)?))
 }
 

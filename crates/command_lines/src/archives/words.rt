@@ -1,5 +1,6 @@
 //! The subcommands of `mailfile-store`, each with its words and an example.
 
+use super::class_words::{NEW_TITLES, TO};
 use super::history_words::{
     ACCEPT_FOUND, BEGIN, BEGIN_REASON, BY, CHOSEN_BY, DEEDS, EVENTS_SINCE, HEAD, REASON,
     REQUIRE_REASON, WAIVE_REASON,
@@ -499,6 +500,27 @@ const RELEASE: Subcommand = Subcommand {
     has_shared: true,
 };
 
+const REFILE: Subcommand = Subcommand {
+    name: "refile",
+    about: "Gives records another class of the plan: shows what that changes, and asks; their numbers, days of capture and holds stay",
+    example: "Example: mailfile-store refile --store records.db --to staff --reason mistake 17",
+    words: &[
+        STORE,
+        TO,
+        Word {
+            help: Some("Gives it without asking"),
+            ..YES
+        },
+        BY,
+        Word {
+            is_required: true,
+            ..REASON
+        },
+        NUMBERS,
+    ],
+    has_shared: true,
+};
+
 const HOLDS: Subcommand = Subcommand {
     name: "holds",
     about: "Lists the holds: the name of each, how many records it keeps, and, from the history, since when, by whom and for what reason",
@@ -550,6 +572,23 @@ const REPORT: Subcommand = Subcommand {
         },
     ],
     has_shared: true,
+};
+
+const TITLES: Subcommand = Subcommand {
+    name: "titles",
+    about: "Prints the titles of classes and the legal bases of their schedules, from the history, or gives them by a file",
+    example: "Example: mailfile-store titles --store records.db --set titles.toml",
+    words: &[
+        STORE,
+        NEW_TITLES,
+        Word {
+            conflict: Some("set"),
+            ..JSON
+        },
+        BY,
+        REASON,
+    ],
+    has_shared: false,
 };
 
 const HISTORY: Subcommand = Subcommand {
@@ -618,10 +657,10 @@ const READING: &[Subcommand] = &[LIST, SHOW, EXPORT, COPY];
 const JUDGING: &[Subcommand] = &[CHECK, WHY];
 
 /// Those that decide how long records are kept.
-const KEEPING: &[Subcommand] = &[HOLD, RELEASE, DISPOSE, REPORT];
+const KEEPING: &[Subcommand] = &[HOLD, RELEASE, REFILE, DISPOSE, REPORT];
 
-/// Those that tell what was done, and what is held.
-const TELLING: &[Subcommand] = &[HOLDS, HISTORY, CERTIFICATES];
+/// Those that tell what was done, what is held, and what classes are called.
+const TELLING: &[Subcommand] = &[HOLDS, TITLES, HISTORY, CERTIFICATES];
 
 fn telling() -> &'static [Subcommand] {
     TELLING

@@ -1,0 +1,121 @@
+//! `titles --set`: titles of classes that are read from a file, and noted in the history.
+
+use class_plan::Plan;
+use cli_console::{Failure, Status};
+use cli_history::{Author, note_titles, open_noted};
+use cli_sources::payload_of_file;
+use cli_texts::{ListedTitle, title_line};
+use desk_commands::Payload;
+use record_store::Store;
+use sqlite::Alter;
+use std::alloc::{AllocError, Global};
+use std::io::ErrorKind;
+use tool_plans::{GivenTitle, TitleFinding, TitlesFault, titles_of};
+use tool_texts::{Shown, place_of, put};
+
+/// How many octets a file of titles has at most.
+const MAX_TITLES_OCTETS: usize = 8_388_608;
+
+/// The text of the file of titles at a path. `NoInput` where it cannot be read, and `BadData` where it has more than 8,388,608 octets.
+pub fn read_titles(rt: &HostRuntime, path: &str) -> Result<Vec<u8>, Failure> {
+    match payload_of_file(rt, path, MAX_TITLES_OCTETS) {
+        Ok(Payload::Whole(text)) => Ok(text),
+        Ok(Payload::TooLong) => {
+            let reason = "a file of titles has at most 8,388,608 octets";
+            Err(Failure::at(rt.alloc(), Status::BadData, path, &reason))
+        }
+        Ok(Payload::NoMemory) => Err(Failure::NoMemory),
+        Err(error) if error.kind() == ErrorKind::OutOfMemory => Err(Failure::NoMemory),
+        Err(error) => Err(Failure::at(rt.alloc(), Status::NoInput, path, &error)),
+    }
+}
+
+/// What is wrong with a file of titles, after its path, the line and the column.
+fn wrong_words(
+    alloc: Global,
+    path: &str,
+    text: &[u8],
+    finding: &TitleFinding,
+) -> Result<Shown, AllocError> {
+    let place = place_of(text, finding.at);
+    let mut words = Shown::new(alloc);
+    put!(words; named(path.as_bytes()) ":" value(&place.line) ":" value(&place.column) ": "
+        value(&finding.words))?;
+    Ok(words)
+}
+
+/// The titles that the text of a file gives classes of a plan. `BadData` with the place where it gives none.
+fn judge_titles(
+    alloc: Global,
+    path: &str,
+    text: &[u8],
+    plan: &Plan,
+) -> Result<Vec<GivenTitle>, Failure> {
+    titles_of(alloc, text, plan).map_err(|fault| match fault {
+        TitlesFault::NoMemory => Failure::NoMemory,
+        TitlesFault::Wrong(finding) => {
+            Failure::shown(Status::BadData, wrong_words(alloc, path, text, &finding))
+        }
+    })
+}
+
+/// Titles as they are listed.
+fn listed(alloc: Global, titles: &[GivenTitle]) -> Result<Vec<ListedTitle<'_>>, AllocError> {
+    let mut list = Vec::with_capacity(alloc, titles.len())?;
+    for it in titles {
+        list.push(ListedTitle {
+            path: it.path.as_bytes(),
+            title: it.title.as_bytes(),
+            basis: it.basis.as_bytes(),
+        })?;
+    }
+    Ok(list)
+}
+
+/// The lines of classes with their titles.
+fn lines_of(alloc: Global, titles: &[ListedTitle<'_>]) -> Result<Shown, AllocError> {
+    let mut text = Shown::new(alloc);
+    for it in titles {
+        text.text(&title_line(alloc, it)?)?;
+    }
+    Ok(text)
+}
+
+/// Notes titles in the history of a store. Answers the lines of those that change something.
+fn note_given<S: Alter>(
+    rt: &HostRuntime,
+    archive: Store<S>,
+    author: &Author<'_>,
+    given: &[GivenTitle],
+) -> (Store<S>, Result<Shown, Failure>) {
+    let wanted = match listed(rt.alloc(), given) {
+        Ok(wanted) => wanted,
+        Err(AllocError) => return (archive, Err(Failure::NoMemory)),
+    };
+    let noted = match open_noted(rt, archive) {
+        Ok(noted) => noted,
+        Err((archive, failure)) => return (archive, Err(failure)),
+    };
+    let (archive, done) = note_titles(rt, noted, author, wanted.as_slice());
+    let lines = match done {
+        Ok(changed) => lines_of(rt.alloc(), changed.as_slice()).map_err(|_| Failure::NoMemory),
+        Err(failure) => Err(failure),
+    };
+    (archive, lines)
+}
+
+/// Gives classes the titles that the text of the file at a path has for them, each by an event of the history, all in one
+/// transaction. Answers a line for each class that has another title or another legal basis now. `BadData` with the place where the
+/// text gives no titles, and where the store has no history; other failures are those of `note_titles`. The store is handed back.
+pub fn set_titles<S: Alter>(
+    rt: &HostRuntime,
+    archive: Store<S>,
+    author: &Author<'_>,
+    path: &str,
+    text: &[u8],
+) -> (Store<S>, Result<Shown, Failure>) {
+    match judge_titles(rt.alloc(), path, text, archive.plan()) {
+        Ok(given) => note_given(rt, archive, author, given.as_slice()),
+        Err(failure) => (archive, Err(failure)),
+    }
+}

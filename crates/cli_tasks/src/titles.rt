@@ -1,0 +1,58 @@
+//! Titles of classes, which the history of an archive keeps.
+
+use crate::archives::{Archives, Work, lend};
+use cli_changes::{read_titles, set_titles};
+use cli_console::{Failure, tell_words, write_text};
+use cli_history::Author;
+use record_store::Store;
+use sqlite::{Alter, Connection};
+use tool_texts::Shown;
+
+/// Gives classes the titles of a file. Answers a line for each that has another one now.
+#[derive(Drop)]
+struct SetTitles<'a> {
+    author: Author<'a>,
+    /// The path of the file, and what it has.
+    path: &'a str,
+    text: Vec<u8>,
+}
+
+impl Work for SetTitles<'_> {
+    type Answer = Shown;
+
+    fn work<S: Alter>(
+        self,
+        rt: &HostRuntime,
+        archive: Store<S>,
+    ) -> (Connection<S>, Result<Shown, Failure>) {
+        let (archive, done) = set_titles(
+            rt,
+            archive,
+            &self.author,
+            self.path,
+            self.text.as_slice(),
+        );
+        (archive.into_connection(), done)
+    }
+}
+
+/// Gives classes the titles of the file at a path, and writes which have another one now. `BadData` where the file gives no titles,
+/// and where the store has no history.
+pub fn give_titles<A: Archives>(
+    rt: &HostRuntime,
+    archives: &A,
+    store: &str,
+    path: &str,
+    author: Author<'_>,
+) -> Result<(), Failure> {
+    author.named(rt)?;
+    let text = read_titles(rt, path)?;
+    let lines = lend(rt, archives, store, SetTitles { author, path, text })?;
+    if lines.as_str().is_empty() {
+        tell_words(
+            rt,
+            "each of these classes has this title and this basis already",
+        );
+    }
+    write_text(rt, &lines)
+}

@@ -1,0 +1,40 @@
+//! What a command line asks of a refiling.
+
+use super::holds::{refusal, typed_of};
+use super::{ChosenTask, Command, class_words, history_words, words};
+use crate::reading::{NoCommand, has_flag, required};
+use clap::ArgMatches;
+use std::alloc::Global;
+
+/// Another class for records.
+#[derive(Clone, Copy)]
+pub struct Refiling<'a> {
+    /// The path of the class, as it is typed.
+    pub to: &'a str,
+    /// Whether nobody is asked before.
+    pub is_agreed: bool,
+}
+
+/// What is said where no record is to get another class.
+const NONE_TO_REFILE: &str =
+    "the class that records get; name the records too, by their numbers as 3 5-9, or by conditions as --sender müller";
+
+/// Which records get another class, and which one. A reason must be given.
+pub(super) fn refile_asked<'a>(
+    alloc: Global,
+    asked: &ArgMatches<'a>,
+) -> Result<Command<'a>, NoCommand> {
+    let to = required(asked, class_words::TO)?;
+    if required(asked, history_words::REASON)?.is_empty() {
+        return Err(refusal(alloc, "refile needs a reason; give it by --reason TEXT")?);
+    }
+    let choice = typed_of(alloc, asked)?;
+    if choice.is_empty() {
+        return Err(NoCommand::wrong(alloc, to, NONE_TO_REFILE));
+    }
+    let refiling = Refiling {
+        to,
+        is_agreed: has_flag(asked, words::YES),
+    };
+    Ok(Command::Chosen(choice, ChosenTask::Refile(refiling)))
+}
