@@ -15,7 +15,7 @@ use choice_words::{read_numbers, reads_as_numbers, reversed_range};
 pub use choice_words::{Choice, TypedNumbers};
 use clap::ArgMatches;
 pub use histories::{Attribution, DeedKind, HistoryAsked, HistoryTask, Reasons};
-use histories::{attribution_asked, head_asked, history_asked};
+use histories::{attribution_asked, head_asked, history_asked, judge_author};
 use holds::{NAME_FORGOTTEN, hold_asked, release_asked};
 use imports::import_asked;
 pub use imports::{Dating, Import};
@@ -229,6 +229,8 @@ pub struct Disposal {
     pub day: Option<Date>,
     /// Whether records are destroyed, and not only listed.
     pub destroys: bool,
+    /// Whether those are destroyed too whose messages are not the ones that were captured.
+    pub is_damaged: bool,
     /// The records that are meant; all that are due, where there is none.
     pub numbers: Vec<TypedNumbers>,
 }
@@ -470,11 +472,18 @@ fn plan_asked<'a>(alloc: Global, asked: &ArgMatches<'a>) -> Result<Command<'a>, 
     }
 }
 
-/// What is to be destroyed.
+/// What is to be destroyed. `--damaged` is refused where nothing is.
 fn disposal_asked(alloc: Global, asked: &ArgMatches<'_>) -> Result<Disposal, NoCommand> {
+    let destroys = has_flag(asked, words::YES);
+    let is_damaged = has_flag(asked, words::DAMAGED);
+    if is_damaged && !destroys {
+        let reason = "--damaged needs --yes; without it records are only listed";
+        return Err(NoCommand::Wrong(String::from_str(alloc, reason)?));
+    }
     Ok(Disposal {
         day: day_asked(alloc, asked, words::DAY)?,
-        destroys: has_flag(asked, words::YES),
+        destroys,
+        is_damaged,
         numbers: numbers_asked(alloc, asked)?,
     })
 }
@@ -609,14 +618,13 @@ fn line_asked<'a>(
 ) -> Result<CommandLine<'a>, NoCommand> {
     let store = required(asked, words::STORE)?;
     let attribution = attribution_asked(alloc, asked)?;
-    match command_asked(alloc, name, asked) {
-        Ok(command) => Ok(CommandLine {
-            store,
-            attribution,
-            command,
-        }),
-        Err(none) => Err(none),
-    }
+    let command = command_asked(alloc, name, asked)?;
+    judge_author(alloc, &attribution, &command)?;
+    Ok(CommandLine {
+        store,
+        attribution,
+        command,
+    })
 }
 
 /// What the words that were found ask for.
