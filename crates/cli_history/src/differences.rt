@@ -99,7 +99,7 @@ struct Fitted {
 }
 
 /// Whether a reason has room for a change in these words, and for what may stand behind it.
-fn has_room(text: &String, words: &String) -> bool {
+fn has_room(text: &str, words: &str) -> bool {
     let length = text.len().saturating_add(words.len());
     length.saturating_add(2 + ROOM) <= LONGEST
 }
@@ -117,9 +117,9 @@ impl Fitted {
     }
 
     /// Adds words to the last text.
-    fn push(&mut self, words: &String) -> Result<(), AllocError> {
+    fn push(&mut self, words: &str) -> Result<(), AllocError> {
         self.text.push_str("; ")?;
-        self.text.push_str(words.as_str())
+        self.text.push_str(words)
     }
 
     /// Begins another text.
@@ -134,10 +134,10 @@ impl Fitted {
     fn add_all(&mut self, changes: &[Change]) -> Result<(), AllocError> {
         for change in changes {
             let words = words_of(self.alloc, change)?;
-            if !has_room(&self.text, &words) {
+            if !has_room(self.text.as_str(), words.as_str()) {
                 self.go_on()?;
             }
-            self.push(&words)?;
+            self.push(words.as_str())?;
         }
         Ok(())
     }
@@ -146,8 +146,8 @@ impl Fitted {
     fn add_fitting(&mut self, changes: &[Change]) -> Result<(), AllocError> {
         for change in changes {
             let words = words_of(self.alloc, change)?;
-            if has_room(&self.text, &words) {
-                self.push(&words)?;
+            if has_room(self.text.as_str(), words.as_str()) {
+                self.push(words.as_str())?;
             } else {
                 self.more = self.more.saturating_add(1);
             }
