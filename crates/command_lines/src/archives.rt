@@ -1,6 +1,7 @@
 //! The command line of `mailfile-store`: what it asks for, with each value read and judged.
 
 mod captures;
+mod disposals;
 mod histories;
 mod history_words;
 mod holds;
@@ -14,6 +15,7 @@ use captures::filing_asked;
 use choice_words::{read_numbers, reads_as_numbers, reversed_range};
 pub use choice_words::{Choice, TypedNumbers};
 use clap::ArgMatches;
+use disposals::damage_asked;
 pub use histories::{Attribution, DeedKind, HistoryAsked, HistoryTask, Reasons};
 use histories::{attribution_asked, head_asked, history_asked, judge_author};
 use holds::{NAME_FORGOTTEN, hold_asked, release_asked};
@@ -472,18 +474,12 @@ fn plan_asked<'a>(alloc: Global, asked: &ArgMatches<'a>) -> Result<Command<'a>, 
     }
 }
 
-/// What is to be destroyed. `--damaged` is refused where nothing is.
+/// What is to be destroyed.
 fn disposal_asked(alloc: Global, asked: &ArgMatches<'_>) -> Result<Disposal, NoCommand> {
-    let destroys = has_flag(asked, words::YES);
-    let is_damaged = has_flag(asked, words::DAMAGED);
-    if is_damaged && !destroys {
-        let reason = "--damaged needs --yes; without it records are only listed";
-        return Err(NoCommand::Wrong(String::from_str(alloc, reason)?));
-    }
     Ok(Disposal {
         day: day_asked(alloc, asked, words::DAY)?,
-        destroys,
-        is_damaged,
+        destroys: has_flag(asked, words::YES),
+        is_damaged: damage_asked(alloc, asked)?,
         numbers: numbers_asked(alloc, asked)?,
     })
 }
