@@ -6,7 +6,6 @@ ghost use Rattle.record_history.specs.Views.{deed_view};
 
 use crate::author::Author;
 use crate::opening::occasion_by;
-use class_plan::Plan;
 use cli_console::{Failure, Walk, message_of, now};
 use record_choice::Choice;
 use record_history::{Deed, Event, LAST_MOMENT, Seal, event_line};
@@ -85,59 +84,19 @@ struct Findings<'k, 's> {
     /// The number of the first of these events.
     first: u32,
     lines: Vec<Vec<u8>>,
-    /// The reasons of the first of these events, where they have reasons of their own.
-    reasons: &'k [String],
     known: &'k Known<'s>,
     /// The messages that were found.
     messages: BTreeSet<u32>,
 }
 
 impl<'k, 's> Findings<'k, 's> {
-    fn new(
-        alloc: Global,
-        first: u32,
-        reasons: &'k [String],
-        known: &'k Known<'s>,
-    ) -> Findings<'k, 's> {
+    fn new(alloc: Global, first: u32, known: &'k Known<'s>) -> Findings<'k, 's> {
         Findings {
             first,
             lines: Vec::new(alloc),
-            reasons,
             known,
             messages: BTreeSet::new(alloc),
         }
-    }
-
-    /// The occasion of the next event: this one, or the same for a reason of the event's own.
-    fn next_occasion<'o>(
-        &'o self,
-        occasion: &'o Occasion<'_, HostRuntime>,
-    ) -> Occasion<'o, HostRuntime> {
-        let reason = match self.reasons.get(self.lines.len()) {
-            Some(reason) => reason.as_bytes(),
-            None => occasion.reason,
-        };
-        Occasion {
-            clock: occasion.clock,
-            begun: occasion.begun,
-            who: occasion.who,
-            reason,
-            notes: occasion.notes,
-            filing: None,
-        }
-    }
-
-    /// Adds the line of a plan.
-    fn add_plan(
-        &mut self,
-        alloc: Global,
-        occasion: &Occasion<'_, HostRuntime>,
-        plan: &Plan,
-    ) -> Result<(), AllocError> {
-        let line = self
-            .next_occasion(occasion)
-            .plan_found(alloc, self.next(), plan)?;
-        Ok(self.lines.push(line)?)
     }
 
     /// The number of the next event.
@@ -155,11 +114,10 @@ impl<'k, 's> Findings<'k, 's> {
         entry: &RecordEntry,
     ) -> Result<Vec<u8>, Failure> {
         let number = entry.message;
-        let occasion = self.next_occasion(occasion);
         if let Some(seal) = self.known.seal(number)? {
             return line_now(
                 rt,
-                &occasion,
+                occasion,
                 self.next(),
                 Deed::FoundMessage { number, seal },
             );
@@ -190,14 +148,10 @@ impl<'k, 's> Findings<'k, 's> {
         occasion: &Occasion<'_, HostRuntime>,
         entry: &RecordEntry,
     ) -> Result<(), AllocError> {
-        let line = self
-            .next_occasion(occasion)
-            .record_found(alloc, self.next(), entry)?;
+        let line = occasion.record_found(alloc, self.next(), entry)?;
         self.lines.push(line)?;
         for name in &entry.holds {
-            let line = self
-                .next_occasion(occasion)
-                .hold_found(alloc, self.next(), name.as_slice(), entry.number)?;
+            let line = occasion.hold_found(alloc, self.next(), name.as_slice(), entry.number)?;
             self.lines.push(line)?;
         }
         Ok(())
@@ -219,18 +173,19 @@ impl<'k, 's> Findings<'k, 's> {
     }
 }
 
-/// The lines of what is found in a store, from the event of a number on: its plan, and each message, record and hold. The
-/// first of them have these reasons, and the others that of the occasion.
+/// The lines of what is found in a store, from the event of a number on: its plan, on an occasion of its own, and each message,
+/// record and hold.
 pub fn findings_in<S: Alter>(
     rt: &HostRuntime,
     archive: &mut Store<S>,
+    heading: &Occasion<'_, HostRuntime>,
     occasion: &Occasion<'_, HostRuntime>,
-    reasons: &[String],
     first: u32,
     known: &Known<'_>,
 ) -> Result<Vec<Vec<u8>>, Failure> {
-    let mut findings = Findings::new(rt.alloc(), first, reasons, known);
-    findings.add_plan(rt.alloc(), occasion, archive.plan())?;
+    let mut findings = Findings::new(rt.alloc(), first, known);
+    let line = heading.plan_found(rt.alloc(), findings.next(), archive.plan())?;
+    findings.lines.push(line)?;
     let every = Choice::every();
     let mut walk = Walk::from(&every, 1);
     for _ in 0..u64::MAX {
@@ -258,7 +213,14 @@ fn first_lines<'a, S: Alter>(
         author.reason()
     };
     let occasion = occasion_by(rt, who, reason, None)?;
-    findings_in(rt, archive, &occasion, &[], 1, &Known::none(rt.alloc()))
+    findings_in(
+        rt,
+        archive,
+        &occasion,
+        &occasion,
+        1,
+        &Known::none(rt.alloc()),
+    )
 }
 
 /// Begins the history of a store that has none with what is found there, and answers how many events that are. `Usage`

@@ -161,7 +161,7 @@ impl Whole {
         let fault = fault.as_str();
         let reason = format!(in alloc; "noted by {who}; the history was damaged: {fault}")?;
         let made = self.judge.archive();
-        let found = lines_found(rt, archive, self.next(), made, &[], reason.as_str())?;
+        let found = lines_found(rt, archive, self.next(), made, reason.as_str())?;
         for line in found {
             lines.push(line)?;
         }

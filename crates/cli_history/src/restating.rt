@@ -81,19 +81,39 @@ fn look_at<S: Alter>(
     Ok(Sight { replayed, changes })
 }
 
-/// The lines of all that is there in a store, from the event of a number on. Nobody knows who did it: the reasons say who
-/// notes it, and those of the first lines what was done. A message that the history knows keeps the seal that it has there.
+/// The lines of all that is there in a store, from the event of a number on. Nobody knows who did it: the reason says who
+/// notes it. A message that the history knows keeps the seal that it has there.
 pub fn lines_found<'a, S: Alter>(
     rt: &'a HostRuntime,
     archive: &mut Store<S>,
     first: u32,
     made: &SealedArchive,
-    first_reasons: &[String],
     reason: &'a str,
 ) -> Result<Vec<Vec<u8>>, Failure> {
     let known = Known::of(rt.alloc(), made)?;
     let occasion = occasion_by(rt, UNKNOWN, reason, None)?;
-    findings_in(rt, archive, &occasion, first_reasons, first, &known)
+    findings_in(rt, archive, &occasion, &occasion, first, &known)
+}
+
+/// Puts another reason in the place of the one with which a line ends.
+fn give_reason(line: &mut Vec<u8>, plain: &str, reason: &str) -> Result<(), AllocError> {
+    let kept = line.len().saturating_sub(plain.len());
+    line.truncate(kept);
+    line.extend_from_slice(reason.as_bytes())
+}
+
+/// Gives the first of some lines, which all end with the same reason, reasons of their own.
+fn give_reasons(
+    lines: &mut Vec<Vec<u8>>,
+    plain: &str,
+    reasons: &[String],
+) -> Result<(), AllocError> {
+    for (place, reason) in reasons.iter().enumerate() {
+        if let Some(line) = lines.get_mut(place) {
+            give_reason(line, plain, reason.as_str())?;
+        }
+    }
+    Ok(())
 }
 
 /// Tells the reasons for which there are no lines: what was done was more than the events have room for.
@@ -118,14 +138,8 @@ fn lines_apart<S: Alter>(
     let who = author.named(rt)?;
     let reasons = changes.reasons(who)?;
     let reason = plain_reason(rt.alloc(), who)?;
-    let lines = lines_found(
-        rt,
-        archive,
-        first,
-        made,
-        reasons.as_slice(),
-        reason.as_str(),
-    )?;
+    let mut lines = lines_found(rt, archive, first, made, reason.as_str())?;
+    give_reasons(&mut lines, reason.as_str(), reasons.as_slice())?;
     tell_left(rt, reasons.as_slice(), lines.as_slice())?;
     Ok(lines)
 }
