@@ -1,11 +1,12 @@
 //! `dispose`: what is due, and its destruction. Which records these are, `record_choice` decides.
 
+use crate::altered::{Damage, altered_in, due_line, end_list, judge_altered};
 use crate::runs::{Run, runs_of};
 use class_plan::{Action, Date, Schedule};
 use cli_choice::{Meant, meant_of};
 use cli_console::{Failure, Status, judge_day, now, tell, tell_words, today, write_text};
 use cli_history::{Fidelity, Seals, StoreLedger};
-use cli_texts::{Certificate, captured_line, certificate_line, sum_text};
+use cli_texts::{CapturedMessage, Certificate, certificate_line, sum_text};
 use command_lines::archives::{Disposal, TypedNumbers};
 use record_choice::{
     Destroyed, DisposeFault, Disposed, End, Reason, Registrar, asked_lines, dispose,
@@ -33,7 +34,20 @@ struct Draft {
     is_gone: bool,
 }
 
-/// The certificate of a record that is about to be destroyed. It says where the message is not the one that was captured.
+/// The message that was captured, where that of a record is another one.
+fn captured_beside<'s>(
+    seals: &'s Seals,
+    message: u32,
+    fidelity: Fidelity,
+) -> Option<CapturedMessage<'s>> {
+    match (fidelity, seals.length_and_sum(message)) {
+        (Fidelity::Altered(_), Some((octets, sum))) => Some(CapturedMessage { octets, sum }),
+        _ => None,
+    }
+}
+
+/// The certificate of a record that is about to be destroyed. Where the message is not the one that was captured, it says so,
+/// and which one that was.
 fn certificate_of(
     rt: &HostRuntime,
     seals: &Seals,
@@ -50,7 +64,7 @@ fn certificate_of(
         sum: sum.as_str(),
         moment: now(rt)?,
         kept_by: destroyed.kept_by,
-        is_altered: matches!(fidelity, Fidelity::Altered(_)),
+        captured: captured_beside(seals, destroyed.entry.message, fidelity),
     };
     Ok(certificate_line(rt.alloc(), &facts)?)
 }
@@ -206,16 +220,19 @@ fn destroy_runs<S: Alter>(
 }
 
 /// Destroys the records of some numbers, all that are due where there is no number, with a certificate for each. None is
-/// destroyed unless each of them may be.
+/// destroyed unless each of them may be. Which messages are not the ones that were captured is told before.
 fn destroy_asked<S: Alter>(
     rt: &HostRuntime,
     archive: &mut StoreLedger<'_, S>,
     seals: &Seals,
+    damage: Damage,
     numbers: &[u32],
     day: Date,
 ) -> Result<(), Failure> {
     let lines = asked_lines(rt.alloc(), archive, numbers, day).map_err(|fault| refused(rt, fault))?;
-    let runs = runs_of(rt, archive, seals, lines)?;
+    let runs = runs_of(rt, archive, seals, lines.as_slice())?;
+    let altered = altered_in(rt.alloc(), runs.as_slice())?;
+    judge_altered(rt, altered.as_slice(), damage)?;
     let mut certificates = Certificates {
         rt,
         seals,
@@ -234,43 +251,57 @@ fn destroy_asked<S: Alter>(
     Ok(())
 }
 
-/// Lists the records of some numbers, all that are due where there is no number, a line each.
+/// Lists the records of some numbers, all that are due where there is no number, a line each. `BadData` in the end where the
+/// message of one is not the one that was captured, which is told.
 fn list_asked<S: Alter>(
     rt: &HostRuntime,
     archive: &mut StoreLedger<'_, S>,
+    seals: &Seals,
     numbers: &[u32],
     day: Date,
 ) -> Result<(), Failure> {
     let lines = asked_lines(rt.alloc(), archive, numbers, day).map_err(|fault| refused(rt, fault))?;
+    let runs = runs_of(rt, archive, seals, lines.as_slice())?;
+    let altered = altered_in(rt.alloc(), runs.as_slice())?;
     for line in lines.as_slice() {
-        write_text(rt, &captured_line(rt.alloc(), line)?)?;
+        write_text(rt, &due_line(rt.alloc(), line, altered.as_slice())?)?;
     }
     if lines.is_empty() {
         tell_none(rt, "no record", day)?;
     }
-    Ok(())
+    end_list(rt, altered.as_slice())
 }
 
 /// What is done with records that are due.
 #[derive(Clone, Copy)]
-enum Fate<'s> {
+enum Fate {
     /// They are listed.
     Listed,
-    /// They are destroyed, and their messages are judged by these seals.
-    Destroyed(&'s Seals),
+    /// They are destroyed.
+    Destroyed(Damage),
+}
+
+/// What is done with the records that a disposal is about.
+fn fate_of(asked: &Disposal) -> Fate {
+    match (asked.destroys, asked.is_damaged) {
+        (false, _) => Fate::Listed,
+        (true, false) => Fate::Destroyed(Damage::Refused),
+        (true, true) => Fate::Destroyed(Damage::Destroyed),
+    }
 }
 
 /// Lists or destroys the records of some numbers, all that are due where there is no number.
 fn dispose_of<S: Alter>(
     rt: &HostRuntime,
     archive: &mut StoreLedger<'_, S>,
-    fate: Fate<'_>,
+    seals: &Seals,
+    fate: Fate,
     numbers: &[u32],
     day: Date,
 ) -> Result<(), Failure> {
     match fate {
-        Fate::Listed => list_asked(rt, archive, numbers, day),
-        Fate::Destroyed(seals) => destroy_asked(rt, archive, seals, numbers, day),
+        Fate::Listed => list_asked(rt, archive, seals, numbers, day),
+        Fate::Destroyed(damage) => destroy_asked(rt, archive, seals, damage, numbers, day),
     }
 }
 
@@ -287,7 +318,8 @@ pub fn day_of_disposal(rt: &HostRuntime, asked: &Disposal) -> Result<Date, Failu
 
 /// Writes what is due by a day and may be destroyed, or destroys it; where numbers are typed, these records alone. A range
 /// passes over what may not be destroyed; `BadData` with the reason where that is a record whose number is typed by itself. Where
-/// there is none, this is told. The seals of the history are those by which certificates and events judge messages.
+/// there is none, this is told. By the seals of the history messages are judged: `BadData` where that of a record is not the
+/// one that was captured, and then none is destroyed, unless damage is asked for; what is listed is listed all the same.
 pub fn dispose_by<S: Alter>(
     rt: &HostRuntime,
     archive: &mut StoreLedger<'_, S>,
@@ -295,14 +327,10 @@ pub fn dispose_by<S: Alter>(
     day: Date,
     seals: &Seals,
 ) -> Result<(), Failure> {
-    let fate = if asked.destroys {
-        Fate::Destroyed(seals)
-    } else {
-        Fate::Listed
-    };
+    let fate = fate_of(asked);
     match meant_by(rt, archive, asked.numbers.as_slice(), day)? {
-        Meant::All => dispose_of(rt, archive, fate, &[], day),
+        Meant::All => dispose_of(rt, archive, seals, fate, &[], day),
         Meant::Nothing => tell_none(rt, "none of these records", day),
-        Meant::Numbers(numbers) => dispose_of(rt, archive, fate, numbers.as_slice(), day),
+        Meant::Numbers(numbers) => dispose_of(rt, archive, seals, fate, numbers.as_slice(), day),
     }
 }

@@ -14,13 +14,15 @@
 //!   new plan keeps less;
 //! - `refile`: another class for records; `refilings`: which of them get it; `due_today`: what is due at once by a change;
 //! - `titles`: titles of classes, which a file gives;
-//! - `dispose`: the destruction of what is due; `runs`: records in runs, by what is noted of each.
+//! - `dispose`: the destruction of what is due; `runs`: records in runs, by what is noted of each; `altered`: those of them whose
+//!   messages are not the ones that were captured.
 //!
 //! Each works on a store that is lent to it. What it writes, and what a Maildir or a terminal does, no contract speaks of:
 //! tests of the program show it. `specs/Moments` says when a clock is refused, `specs/Imports` what becomes of a message of
 //! old mail, and `specs/Refilings` which records get another class.
 #![tactic(auto)]
 
+mod altered;
 mod deliver;
 mod dispose;
 mod due_today;

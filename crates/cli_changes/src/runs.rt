@@ -1,7 +1,7 @@
 //! Records that are to be destroyed, in runs of those of whose destruction the same is noted.
 
 use cli_console::Failure;
-use cli_history::{Seals, StoreLedger, notes_of};
+use cli_history::{Seals, StoreLedger, is_altered, notes_of};
 use record_archive::Line;
 use record_choice::Repository;
 use record_store::StoreFault;
@@ -25,10 +25,15 @@ impl Run {
     pub fn numbers(&self) -> &[u32] {
         self.numbers.as_slice()
     }
+
+    /// Whether the messages of its records are not the ones that were captured.
+    pub fn is_altered(&self) -> bool {
+        is_altered(self.notes)
+    }
 }
 
 /// The numbers of the records of lines, upwards.
-fn numbers_of(alloc: Global, lines: Vec<Line>) -> Result<Vec<u32>, AllocError> {
+fn numbers_of(alloc: Global, lines: &[Line]) -> Result<Vec<u32>, AllocError> {
     let mut numbers = Vec::with_capacity(alloc, lines.len())?;
     for line in lines {
         numbers.push(line.number)?;
@@ -101,7 +106,7 @@ pub fn runs_of<S: Alter>(
     rt: &HostRuntime,
     archive: &mut StoreLedger<'_, S>,
     seals: &Seals,
-    lines: Vec<Line>,
+    lines: &[Line],
 ) -> Result<Vec<Run>, Failure> {
     let alloc = rt.alloc();
     let numbers = numbers_of(alloc, lines)?;

@@ -1,8 +1,11 @@
 //! Who changes an archive, and for what reason.
 
-ghost use Rattle.std.specs.Prelude.{◌≡◌, Some, option_map, is_ok, is_some, string_bytes, true, IfOk, IfSome};
+ghost use Rattle.std.specs.Prelude.{◌≡◌, ◌&&◌, not, Some, option_map, is_ok, is_some, string_bytes, true, IfOk, IfSome};
+ghost use Rattle.session_words.specs.Words.{is_name as is_name_of};
 ghost use Rattle.cli_history.specs.Authors.{name_or};
+ghost use Rattle.cli_history.specs.Findings.{is_unknown as is_unknown_name};
 
+use crate::findings::is_unknown;
 use cli_console::{Failure, Status};
 use command_lines::archives::Attribution;
 use session_words::is_name;
@@ -16,10 +19,17 @@ pub struct Author<'a> {
     reason: &'a str,
 }
 
+/// Whether a name can stand for a person. That of programs that keep no history can not.
+fn is_of_person(name: &[u8]) -> bool
+    ensures { result ≡ is_name_of name.now && not (is_unknown_name name.now) }
+{
+    is_name(name) && !is_unknown(name)
+}
+
 /// The value of a variable of the environment that can stand for a person.
 fn name_in(rt: &HostRuntime, variable: &str) -> Result<Option<String>, AllocError> {
     match var(rt, variable) {
-        Ok(name) if is_name(name.as_bytes()) => Ok(Some(name)),
+        Ok(name) if is_of_person(name.as_bytes()) => Ok(Some(name)),
         Ok(_) | Err(VarError::NotPresent | VarError::NotUnicode) => Ok(None),
         Err(VarError::OutOfMemory) => Err(AllocError),
     }

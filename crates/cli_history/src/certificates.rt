@@ -9,17 +9,19 @@ use crate::days::day_text;
 use crate::missing::Missing;
 use crate::notes::is_altered;
 use crate::pages::{Events, event_of};
+use crate::untold::tell_untold;
 use crate::watching::Watch;
 use choice_words::TypedNumbers;
 use class_plan::schedule_text;
 use cli_console::{Failure, Status, write_text};
 use cli_texts::{ToldCertificate, told_certificate};
 use record_history::{Deed, Event, Seal};
+use record_judge::SealedArchive;
 use record_noted::NotedStore;
 use record_store::{ArchiveRefusal, EventRow, RecordEntry, StoreFault};
 use sqlite::Alter;
 use std::alloc::{AllocError, Global};
-use std::collections::BTreeMap;
+use std::collections::{BTreeMap, BTreeSet};
 use tool_texts::Shown;
 
 /// The seal of a message, as a history has it.
@@ -170,12 +172,36 @@ fn find_seals<S: Alter>(
     Ok(())
 }
 
+/// The first live record with a message, of what a history makes of an archive.
+fn keeper_in(made: &SealedArchive, message: u32) -> Option<u32> {
+    let records = made.records();
+    let first = records.partition_point(|record| record.number < message);
+    for record in &records[first..] {
+        if record.message == message && !record.destroyed {
+            return Some(record.number);
+        }
+        if record.message != message {
+            return None;
+        }
+    }
+    None
+}
+
+/// What is known beside an event that destroys a record.
+#[derive(Clone, Copy)]
+struct Beside<'e> {
+    /// The record, if the archive has it.
+    entry: Option<&'e RecordEntry>,
+    /// The live record that kept its message, if there was one.
+    kept_by: Option<u32>,
+}
+
 /// The certificate of an event that destroys a record; none of any other event.
 fn certificate_of(
     alloc: Global,
     row: &EventRow,
     event: &Event<'_>,
-    entry: Option<&RecordEntry>,
+    beside: Beside<'_>,
     messages: &Messages,
 ) -> Result<Option<Shown>, AllocError>
     requires { IsSpelledDeed (deed_view event.now.deed) }
@@ -190,6 +216,7 @@ fn certificate_of(
     };
     let day = day_text(alloc, *day)?;
     let schedule = schedule_text(alloc, *schedule)?;
+    let entry = beside.entry;
     let sealed = entry.and_then(|entry| messages.seals.get(&entry.message));
     let seal = match sealed {
         Some(Some(sealed)) => Some((sealed.octets, sealed.sum.as_slice())),
@@ -205,6 +232,7 @@ fn certificate_of(
         who: event.who,
         reason: event.reason,
         event: row.number,
+        kept_by: beside.kept_by,
         is_altered: is_altered(event.notes),
     };
     Ok(Some(told_certificate(alloc, &told)?))
@@ -217,9 +245,23 @@ struct Printing<'n> {
     messages: Messages,
     watch: Watch,
     missing: Missing,
+    /// The records of which an event tells that they were destroyed.
+    told: BTreeSet<u32>,
 }
 
 impl<'n> Printing<'n> {
+    /// What is known beside the event that was judged last, which destroys a record. Where something stands against an event, no
+    /// record is known to have kept a message.
+    fn beside<'e>(&self, entry: Option<&'e RecordEntry>) -> Beside<'e> {
+        let kept_by = match entry {
+            Some(entry) if self.watch.is_sound() => {
+                keeper_in(self.watch.archive(), entry.message)
+            }
+            _ => None,
+        };
+        Beside { entry, kept_by }
+    }
+
     /// Prints the certificate of an event, where it destroys a record that is asked for.
     fn print_one<S: Alter>(
         &mut self,
@@ -234,8 +276,10 @@ impl<'n> Printing<'n> {
             return Ok(());
         };
         self.missing.meet(&event.deed)?;
+        self.told.insert(number)?;
         let entry = entry_of(rt, noted, number)?;
-        match certificate_of(rt.alloc(), row, &event, entry.as_ref(), &self.messages)? {
+        let beside = self.beside(entry.as_ref());
+        match certificate_of(rt.alloc(), row, &event, beside, &self.messages)? {
             Some(text) => write_text(rt, &text),
             None => Ok(()),
         }
@@ -271,6 +315,18 @@ impl<'n> Printing<'n> {
         Ok(())
     }
 
+    /// Tells which records are destroyed of which no event tells that, where no numbers are asked for.
+    fn tell_untold<S: Alter>(
+        &self,
+        rt: &HostRuntime,
+        noted: &mut NotedStore<S>,
+    ) -> Result<(), Failure> {
+        if self.typed.is_empty() {
+            return tell_untold(rt, noted, &self.told);
+        }
+        Ok(())
+    }
+
     /// What it came to: `BadData` where something stands against an event, and where a number is asked for of whose record no
     /// event tells that it was destroyed. Both are told.
     fn end(&self, rt: &HostRuntime) -> Result<(), Failure> {
@@ -287,7 +343,8 @@ impl<'n> Printing<'n> {
 
 /// Prints a certificate for each record that was destroyed, by the history: all, or those of the numbers that are typed. The
 /// events are judged as they are read. `BadData` in the end where something stands against one, which is told, and where a
-/// number is typed of whose record no event tells that it was destroyed.
+/// number is typed of whose record no event tells that it was destroyed. Where no number is typed, such records are told, and
+/// that is no fault: a program without a history may have destroyed them, or they were destroyed before the history began.
 pub fn write_certificates<S: Alter>(
     rt: &HostRuntime,
     noted: &mut NotedStore<S>,
@@ -300,7 +357,9 @@ pub fn write_certificates<S: Alter>(
         messages,
         watch: Watch::new(rt.alloc())?,
         missing: Missing::of(rt.alloc(), typed)?,
+        told: BTreeSet::new(rt.alloc()),
     };
     printing.print_all(rt, noted)?;
+    printing.tell_untold(rt, noted)?;
     printing.end(rt)
 }

@@ -1,11 +1,20 @@
 //! The events of a history, taken over into another store.
 
 use crate::pages::Events;
+use crate::watching::Watch;
 use cli_console::{Failure, Status};
 use record_noted::NotedStore;
 use record_store::{EventRow, Store};
 use sqlite::Alter;
 use std::alloc::{AllocError, Global};
+
+/// Judges the events of a page.
+fn look_at_page(rt: &HostRuntime, watch: &mut Watch, page: &[EventRow]) -> Result<(), AllocError> {
+    for row in page {
+        watch.look_at(rt, row)?;
+    }
+    Ok(())
+}
 
 /// The lines of a history, and its last mark.
 #[derive(Drop)]
@@ -32,17 +41,32 @@ impl Lines {
         Ok(())
     }
 
-    /// The lines of a history. The failure is that of the store.
+    /// The lines of a history against which nothing stands. `BadData` where something stands against an event, which is told;
+    /// another failure is that of the store.
     pub fn of<S: Alter>(rt: &HostRuntime, noted: &mut NotedStore<S>) -> Result<Lines, Failure> {
         let mut lines = Lines::new(rt.alloc());
+        let mut watch = Watch::new(rt.alloc())?;
         let mut events = Events::all();
         for _ in 0..u64::MAX {
             let Some(page) = events.next_page(rt, noted)? else {
                 break;
             };
+            look_at_page(rt, &mut watch, page.as_slice())?;
             lines.add_page(page)?;
         }
-        Ok(lines)
+        lines.judged(rt.alloc(), &watch)
+    }
+
+    /// The same lines, where nothing stands against an event; else `BadData`.
+    fn judged(self, alloc: Global, watch: &Watch) -> Result<Lines, Failure> {
+        if watch.is_sound() {
+            return Ok(self);
+        }
+        Err(Failure::told(
+            alloc,
+            Status::BadData,
+            "nothing is copied; with --damaged the history is copied as far as it is whole, and what is there is noted behind it as found",
+        ))
     }
 
     /// Begins the history of a store that has none with these lines. `BadData` where the last mark is another one then: the
@@ -55,7 +79,7 @@ impl Lines {
         match NotedStore::begin_with(rt.alloc(), archive, self.lines.as_slice()) {
             Ok(noted) => {
                 let is_same = noted.mark() == self.mark.as_slice();
-                (noted.into_store(), judged(rt.alloc(), is_same))
+                (noted.into_store(), taken_over(rt.alloc(), is_same))
             }
             Err((fault, archive)) => (
                 archive,
@@ -66,13 +90,13 @@ impl Lines {
 }
 
 /// That a history was taken over whole; or the failure where it was not.
-fn judged(alloc: Global, is_same: bool) -> Result<(), Failure> {
+fn taken_over(alloc: Global, is_same: bool) -> Result<(), Failure> {
     if is_same {
         return Ok(());
     }
     Err(Failure::told(
         alloc,
         Status::BadData,
-        "the marks of the history are not those of its lines; check says where, and --damaged copies what is whole",
+        "the history of the copy has another last mark than that of the store; nothing is copied",
     ))
 }

@@ -1,7 +1,7 @@
 //! A damaged history, as far as it is whole.
 
 use crate::author::Author;
-use crate::flaws::words_of;
+use crate::flaws::words_at;
 use crate::pages::{PAGE, at_event};
 use crate::restating::lines_found;
 use cli_console::Failure;
@@ -61,8 +61,8 @@ impl Whole {
                 Ok(self.lines.push(line)?)
             }
             Err(flaw) => {
-                let words = words_of(flaw).ok_or(AllocError)?;
-                self.end(alloc, row.number, words)
+                self.fault = Some(words_at(alloc, row.number, flaw, u64::from(self.count()))?);
+                Ok(())
             }
         }
     }
@@ -161,8 +161,7 @@ impl Whole {
         let fault = fault.as_str();
         let reason = format!(in alloc; "noted by {who}; the history was damaged: {fault}")?;
         let made = self.judge.archive();
-        let reason = reason.as_str();
-        let found = lines_found(rt, archive, self.next(), made, reason, reason)?;
+        let found = lines_found(rt, archive, self.next(), made, reason.as_str())?;
         for line in found {
             lines.push(line)?;
         }

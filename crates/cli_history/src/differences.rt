@@ -1,6 +1,7 @@
-//! What a program that keeps no history has done, in words that fit into a reason.
+//! What a program that keeps no history has done, in words that fit into reasons.
 
 use std::alloc::{AllocError, Global};
+use std::mem::swap;
 
 /// What such a program has done.
 #[derive(Drop)]
@@ -38,73 +39,135 @@ fn words_of(alloc: Global, change: &Change) -> Result<String, AllocError> {
     }
 }
 
-/// Whether a change can end the keeping of a record.
-fn ends_keeping(change: &Change) -> bool {
+/// Where a change stands in a summary.
+#[derive(Clone, Copy)]
+enum Rank {
+    /// It ends a hold.
+    EndsHold,
+    /// It can end the keeping of a record in another way.
+    EndsKeeping,
+    /// It can not.
+    Keeps,
+}
+
+/// Where a change stands in a summary.
+fn rank_of(change: &Change) -> Rank {
     match change {
-        Change::PlanReplaced
-        | Change::HoldEnded(..)
-        | Change::Destroyed(_)
-        | Change::Gone(_)
-        | Change::Changed(_) => true,
-        Change::HoldPlaced(..) | Change::Captured(_) => false,
+        Change::HoldEnded(..) => Rank::EndsHold,
+        Change::PlanReplaced | Change::Destroyed(_) | Change::Gone(_) | Change::Changed(_) => {
+            Rank::EndsKeeping
+        }
+        Change::HoldPlaced(..) | Change::Captured(_) => Rank::Keeps,
     }
 }
 
-/// The greatest number of changes that are kept of those that end the keeping of records, and of the others. A reason has
-/// room for fewer.
+/// The greatest number of changes that are kept of those that cannot end the keeping of records. Each of these is told by an
+/// event of its own.
 const MAX_KEPT: usize = 32;
 
 /// The greatest length of a reason, in octets.
 const LONGEST: usize = 500;
 
-/// How many octets the words on the changes take that a reason has no room for.
+/// How many octets the words take that stand at the end of a reason which has no room for more.
 const ROOM: usize = 32;
 
-/// What a program that keeps no history has done. What can end the keeping of records comes first.
+/// The end of a reason whose summary goes on in that of the next event.
+pub const GOES_ON: &str = "; more in the next event";
+
+/// What a program that keeps no history has done. The holds that it has ended come first, then what else can end the keeping of
+/// records.
 #[derive(Drop)]
 pub struct Changes {
     alloc: Global,
+    ended: Vec<Change>,
     ends: Vec<Change>,
     others: Vec<Change>,
-    /// How many more there are.
+    /// How many more of the others there are.
     more: u64,
 }
 
-/// Adds a change where not too many are kept. Answers whether it was added.
-fn push_kept(changes: &mut Vec<Change>, change: Change) -> Result<bool, AllocError> {
-    if changes.len() >= MAX_KEPT {
-        return Ok(false);
-    }
-    changes.push(change)?;
-    Ok(true)
-}
-
-/// A text that has no more octets than a reason, with the number of what it has no room for.
+/// Texts that have no more octets than a reason, with the number of what the last one has no room for.
 #[derive(Drop)]
 struct Fitted {
+    alloc: Global,
+    /// How each begins.
+    beginning: String,
+    texts: Vec<String>,
+    /// The last text.
     text: String,
     more: u64,
 }
 
+/// Whether a reason has room for a change in these words, and for what may stand behind it.
+fn has_room(text: &str, words: &str) -> bool {
+    let length = text.len().saturating_add(words.len());
+    length.saturating_add(2 + ROOM) <= LONGEST
+}
+
 impl Fitted {
-    /// Adds the words of a change where there is room for them.
-    fn add(&mut self, alloc: Global, change: &Change) -> Result<(), AllocError> {
-        let words = words_of(alloc, change)?;
-        let length = self.text.len().saturating_add(words.len());
-        if length.saturating_add(2 + ROOM) > LONGEST {
-            self.more = self.more.saturating_add(1);
-            return Ok(());
-        }
-        self.text.push_str("; ")?;
-        self.text.push_str(words.as_str())
+    fn new(alloc: Global, who: &str, more: u64) -> Result<Fitted, AllocError> {
+        let beginning = noted_by(alloc, who)?;
+        Ok(Fitted {
+            alloc,
+            text: beginning.clone()?,
+            beginning,
+            texts: Vec::new(alloc),
+            more,
+        })
     }
 
-    /// Adds the words of changes, each where there is room for them.
-    fn add_all(&mut self, alloc: Global, changes: &[Change]) -> Result<(), AllocError> {
+    /// Adds words to the last text.
+    fn push(&mut self, words: &str) -> Result<(), AllocError> {
+        self.text.push_str("; ")?;
+        self.text.push_str(words)
+    }
+
+    /// Begins another text.
+    fn go_on(&mut self) -> Result<(), AllocError> {
+        let mut full = self.beginning.clone()?;
+        swap(&mut full, &mut self.text);
+        full.push_str(GOES_ON)?;
+        Ok(self.texts.push(full)?)
+    }
+
+    /// Adds the words of changes, in as many texts as they take.
+    fn add_all(&mut self, changes: &[Change]) -> Result<(), AllocError> {
         for change in changes {
-            self.add(alloc, change)?;
+            let words = words_of(self.alloc, change)?;
+            if !has_room(self.text.as_str(), words.as_str()) {
+                self.go_on()?;
+            }
+            self.push(words.as_str())?;
         }
         Ok(())
+    }
+
+    /// Adds the words of changes, each where the last text has room for them.
+    fn add_fitting(&mut self, changes: &[Change]) -> Result<(), AllocError> {
+        for change in changes {
+            let words = words_of(self.alloc, change)?;
+            if has_room(self.text.as_str(), words.as_str()) {
+                self.push(words.as_str())?;
+            } else {
+                self.more = self.more.saturating_add(1);
+            }
+        }
+        Ok(())
+    }
+
+    /// The texts. The last one says how many changes are not among them.
+    fn into_texts(self) -> Result<Vec<String>, AllocError> {
+        let Fitted {
+            mut text,
+            mut texts,
+            more,
+            ..
+        } = self;
+        if more > 0 {
+            write!(text, "; and {more} more")?;
+        }
+        texts.push(text)?;
+        Ok(texts)
     }
 }
 
@@ -112,6 +175,7 @@ impl Changes {
     pub fn none(alloc: Global) -> Changes {
         Changes {
             alloc,
+            ended: Vec::new(alloc),
             ends: Vec::new(alloc),
             others: Vec::new(alloc),
             more: 0,
@@ -120,15 +184,15 @@ impl Changes {
 
     /// Adds a change.
     pub fn add(&mut self, change: Change) -> Result<(), AllocError> {
-        let is_kept = if ends_keeping(&change) {
-            push_kept(&mut self.ends, change)?
-        } else {
-            push_kept(&mut self.others, change)?
-        };
-        if !is_kept {
-            self.more = self.more.saturating_add(1);
+        match rank_of(&change) {
+            Rank::EndsHold => Ok(self.ended.push(change)?),
+            Rank::EndsKeeping => Ok(self.ends.push(change)?),
+            Rank::Keeps if self.others.len() < MAX_KEPT => Ok(self.others.push(change)?),
+            Rank::Keeps => {
+                self.more = self.more.saturating_add(1);
+                Ok(())
+            }
         }
-        Ok(())
     }
 
     /// Adds that the hold of a name on a record has ended.
@@ -143,19 +207,14 @@ impl Changes {
         self.add(Change::HoldPlaced(name, number))
     }
 
-    /// The reason for which the first finding is noted: who notes it, and what was done, as far as there is room.
-    pub fn reason(&self, who: &str) -> Result<String, AllocError> {
-        let mut fitted = Fitted {
-            text: noted_by(self.alloc, who)?,
-            more: self.more,
-        };
-        fitted.add_all(self.alloc, self.ends.as_slice())?;
-        fitted.add_all(self.alloc, self.others.as_slice())?;
-        let Fitted { text, more } = fitted;
-        if more == 0 {
-            return Ok(text);
-        }
-        format!(in self.alloc; "{text}; and {more} more")
+    /// The reasons for which the first findings are noted: who notes them, and what was done. There is one at least, and as many
+    /// as it takes to tell all that can end the keeping of records.
+    pub fn reasons(&self, who: &str) -> Result<Vec<String>, AllocError> {
+        let mut fitted = Fitted::new(self.alloc, who, self.more)?;
+        fitted.add_all(self.ended.as_slice())?;
+        fitted.add_all(self.ends.as_slice())?;
+        fitted.add_fitting(self.others.as_slice())?;
+        fitted.into_texts()
     }
 }
 
@@ -164,7 +223,7 @@ fn noted_by(alloc: Global, who: &str) -> Result<String, AllocError> {
     format!(in alloc; "noted by {who}")
 }
 
-/// The reason for which what stands behind the first finding is noted: who notes it.
+/// The reason for which what stands behind these findings is noted: who notes it.
 pub fn plain_reason(alloc: Global, who: &str) -> Result<String, AllocError> {
     format!(in alloc; "noted by {who}; left by a program without a history")
 }

@@ -6,7 +6,9 @@ ghost use Rattle.record_history.specs.Views.{deed_view, event_view};
 ghost use Rattle.cli_history.specs.Reasons.{ends};
 ghost use Rattle.cli_history.specs.Findings.{bearing as bearing_in, is_blocked as is_blocked_by, is_open_at, is_unaccepted, is_unknown as is_unknown_name, stage_after, stage_behind as stage_after_it, stage_of, stage_step};
 
+use crate::differences::GOES_ON;
 use crate::opening::Purpose;
+use crate::seals::after_blank;
 use cli_console::{Failure, Status, tell};
 use record_history::{Deed, Event};
 use std::alloc::{AllocError, Global};
@@ -66,7 +68,7 @@ fn bearing_of(deed: &Deed<'_>) -> Bearing
 }
 
 /// Whether a name stands for a program that keeps no history.
-fn is_unknown(who: &[u8]) -> bool
+pub(crate) fn is_unknown(who: &[u8]) -> bool
     ensures { result ≡ is_unknown_name who.now }
 {
     who == UNKNOWN
@@ -117,7 +119,7 @@ struct Group {
     first: u32,
     /// The number of its last event.
     last: u32,
-    /// That of its first event.
+    /// That of its first event, with those in which it goes on.
     reason: Vec<u8>,
 }
 
@@ -128,6 +130,20 @@ impl Group {
             return put!(text; "event " value(&self.first));
         }
         put!(text; "events " value(&self.first) " to " value(&self.last))
+    }
+
+    /// Adds an event behind the others. Where the summary of what was done goes on in its reason, that is added too, without who
+    /// notes it.
+    fn extend(&mut self, number: u32, reason: &[u8]) -> Result<(), AllocError> {
+        self.last = number;
+        if !self.reason.ends_with(GOES_ON.as_bytes()) {
+            return Ok(());
+        }
+        let kept = self.reason.len().saturating_sub(GOES_ON.len());
+        self.reason.truncate(kept);
+        self.reason.extend_from_slice(b"; ")?;
+        let done = after_blank(after_blank(after_blank(reason)));
+        self.reason.extend_from_slice(done)
     }
 
     /// Who has accepted it first, of those who have accepted findings, in the order of their events.
@@ -200,8 +216,7 @@ impl Groups {
     fn extend(&mut self, number: u32, reason: &[u8]) -> Result<(), AllocError> {
         if let Some(group) = self.groups.last_mut() {
             if group.last.checked_add(1) == Some(number) {
-                group.last = number;
-                return Ok(());
+                return group.extend(number, reason);
             }
         }
         self.begin(number, reason)

@@ -3,7 +3,8 @@
 use crate::pages::at_event;
 use cli_console::{Failure, Status};
 use record_judge::Flaw;
-use std::alloc::Global;
+use std::alloc::{AllocError, Global};
+use tool_texts::{Shown, put};
 
 /// What stands against an event, in words; none where that is no memory.
 pub fn words_of(flaw: Flaw) -> Option<&'static str> {
@@ -16,6 +17,28 @@ pub fn words_of(flaw: Flaw) -> Option<&'static str> {
         Flaw::NoPlan => Some("the plan that it tells is none"),
         Flaw::LateDay => Some("it destroys a record that was captured after 2199"),
         Flaw::NoMemory => None,
+    }
+}
+
+/// That the events from a first one on are missing before an event.
+fn missing_before(alloc: Global, number: u32, first: u64) -> Result<Shown, AllocError> {
+    let last = u64::from(number).saturating_sub(1);
+    let mut text = Shown::new(alloc);
+    put!(text; "event " value(&number) ": ")?;
+    if first == last {
+        put!(text; "event " value(&first) " before it is missing")?;
+    } else {
+        put!(text; "events " value(&first) " to " value(&last) " before it are missing")?;
+    }
+    Ok(text)
+}
+
+/// What stands against an event, in words with its number, where so many events before it are whole. It says which events are
+/// missing.
+pub fn words_at(alloc: Global, number: u32, flaw: Flaw, whole: u64) -> Result<Shown, AllocError> {
+    match flaw {
+        Flaw::OutOfTurn => missing_before(alloc, number, whole.saturating_add(1)),
+        _ => at_event(alloc, number, words_of(flaw).ok_or(AllocError)?),
     }
 }
 

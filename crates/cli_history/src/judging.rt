@@ -43,15 +43,14 @@ fn met_line(alloc: Global, mark: &str, number: u32) -> Result<Shown, AllocError>
     Ok(line)
 }
 
-/// That no event has a mark; of those that were judged, where something stands against one.
-fn unmet_words(alloc: Global, mark: &str, is_sound: bool) -> Result<Shown, AllocError> {
+/// That no event has a mark; of those that were judged, where something stands against one, which has this number.
+fn unmet_words(alloc: Global, mark: &str, fault: Option<u32>) -> Result<Shown, AllocError> {
     let mut words = Shown::new(alloc);
     put!(words; value(&mark) ": ")?;
-    words.words(if is_sound {
-        "no event of the history has this mark"
-    } else {
-        "no event before that one has this mark"
-    })?;
+    match fault {
+        None => words.words("no event of the history has this mark")?,
+        Some(number) => put!(words; "no event before event " value(&number) " has this mark")?,
+    }
     Ok(words)
 }
 
@@ -178,7 +177,7 @@ impl<'h> Judgement<'h> {
             (None, _) => Ok(()),
             (Some(mark), Some(number)) => write_text(rt, &met_line(alloc, mark, number)?),
             (Some(mark), None) => {
-                tell(rt, &unmet_words(alloc, mark, self.watch.is_sound())?);
+                tell(rt, &unmet_words(alloc, mark, self.watch.fault())?);
                 Ok(())
             }
         }

@@ -10,7 +10,7 @@
 //!   `fields`: what a deed tells, as named fields; `days` and `notes`: parts of lines;
 //! - `cases`: what the hold of each name keeps, and how that began;
 //! - `refiled`: by which event a record got its class; `titles`: what classes are called, and the legal basis of their schedules;
-//! - `certificates`: those of records that were destroyed;
+//! - `certificates`: those of records that were destroyed; `untold`: records that are, and of which no event tells that;
 //! - `captured`: what is captured for an officer already;
 //! - `seals`: of messages, as events tell them, and what a message is beside the one that was captured; `stored`: the seals of
 //!   those that a store has;
@@ -50,6 +50,7 @@ mod restating;
 mod seals;
 mod stored;
 mod titles;
+mod untold;
 mod watching;
 
 pub use author::Author;
@@ -62,7 +63,7 @@ pub use damaged::Whole;
 pub use extracts::{Extract, Subjects};
 pub use findings::findings_are_told;
 pub use judging::judge_history;
-pub use notes::notes_of;
+pub use notes::{is_altered, notes_of};
 pub use opening::{Purpose, StoreLedger, open_history, open_ledger, open_noted, open_with_seals};
 pub use printing::write_history;
 pub use reasons::{accept_findings, note_reasons};

@@ -15,7 +15,7 @@ pub struct Missing {
 }
 
 /// Adds a number as it is typed, or a range.
-fn put_typed(text: &mut Shown, typed: &TypedNumbers) -> Result<(), AllocError> {
+pub fn put_typed(text: &mut Shown, typed: &TypedNumbers) -> Result<(), AllocError> {
     match typed {
         TypedNumbers::One(number) => text.value(number),
         TypedNumbers::Range { first, last } => put!(text; value(first) "-" value(last)),

@@ -30,6 +30,15 @@ struct Printing<'q, 'a> {
     missing: Missing,
 }
 
+/// What is said of a number of which no event is printed.
+fn unmet_words(asked: &HistoryAsked<'_>) -> &'static str {
+    if asked.since.is_none() && asked.by.is_none() && asked.kind.is_none() {
+        "no event tells of a record of this number"
+    } else {
+        "no event that is asked for tells of a record of this number"
+    }
+}
+
 /// The text of an event: its line, or a JSON object that comes after so many others.
 fn text_of(
     alloc: Global,
@@ -141,9 +150,7 @@ impl<'q, 'a> Printing<'q, 'a> {
     /// tells. Both are told.
     fn end(&self, rt: &HostRuntime) -> Result<(), Failure> {
         self.watch.end(rt.alloc())?;
-        let is_all_met = self
-            .missing
-            .tell(rt, "no event that is asked for tells of it")?;
+        let is_all_met = self.missing.tell(rt, unmet_words(self.asked))?;
         if self.is_any_unread || !is_all_met {
             return Err(Failure::Reported(Status::BadData));
         }

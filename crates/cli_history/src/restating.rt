@@ -10,12 +10,13 @@ use crate::differences::{Changes, plain_reason};
 use crate::findings::UNKNOWN;
 use crate::opening::{Purpose, occasion_by, open_noted};
 use crate::replaying::Replayed;
-use cli_console::{Failure, Status, tell_words};
+use cli_console::{Failure, Status, tell, tell_words};
 use record_judge::SealedArchive;
 use record_noted::NotedStore;
 use record_store::Store;
 use sqlite::Alter;
-use std::alloc::Global;
+use std::alloc::{AllocError, Global};
+use tool_texts::Shown;
 
 /// Whether a reason is lacking.
 fn lacks_reason(purpose: Purpose, is_required: bool, reason: &str) -> bool
@@ -80,20 +81,49 @@ fn look_at<S: Alter>(
     Ok(Sight { replayed, changes })
 }
 
-/// The lines of all that is there in a store, from the event of a number on. Nobody knows who did it: the reasons say who
-/// notes it, and the first one what was done. A message that the history knows keeps the seal that it has there.
+/// The lines of all that is there in a store, from the event of a number on. Nobody knows who did it: the reason says who
+/// notes it. A message that the history knows keeps the seal that it has there.
 pub fn lines_found<'a, S: Alter>(
     rt: &'a HostRuntime,
     archive: &mut Store<S>,
     first: u32,
     made: &SealedArchive,
-    first_reason: &'a str,
     reason: &'a str,
 ) -> Result<Vec<Vec<u8>>, Failure> {
     let known = Known::of(rt.alloc(), made)?;
-    let heading = occasion_by(rt, UNKNOWN, first_reason, None)?;
     let occasion = occasion_by(rt, UNKNOWN, reason, None)?;
-    findings_in(rt, archive, &heading, &occasion, first, &known)
+    findings_in(rt, archive, &occasion, &occasion, first, &known)
+}
+
+/// Puts another reason in the place of the one with which a line ends.
+fn give_reason(line: &mut Vec<u8>, plain: &str, reason: &str) -> Result<(), AllocError> {
+    let kept = line.len().saturating_sub(plain.len());
+    line.truncate(kept);
+    line.extend_from_slice(reason.as_bytes())
+}
+
+/// Gives the first of some lines, which all end with the same reason, reasons of their own.
+fn give_reasons(
+    lines: &mut Vec<Vec<u8>>,
+    plain: &str,
+    reasons: &[String],
+) -> Result<(), AllocError> {
+    for (place, reason) in reasons.iter().enumerate() {
+        if let Some(line) = lines.get_mut(place) {
+            give_reason(line, plain, reason.as_str())?;
+        }
+    }
+    Ok(())
+}
+
+/// Tells the reasons for which there are no lines: what was done was more than the events have room for.
+fn tell_left(rt: &HostRuntime, reasons: &[String], lines: &[Vec<u8>]) -> Result<(), AllocError> {
+    for reason in reasons.iter().skip(lines.len()) {
+        let mut words = Shown::new(rt.alloc());
+        words.value(reason)?;
+        tell(rt, &words);
+    }
+    Ok(())
 }
 
 /// The lines of all that is there in a store after another program has changed it.
@@ -106,16 +136,12 @@ fn lines_apart<S: Alter>(
     changes: &Changes,
 ) -> Result<Vec<Vec<u8>>, Failure> {
     let who = author.named(rt)?;
-    let first_reason = changes.reason(who)?;
+    let reasons = changes.reasons(who)?;
     let reason = plain_reason(rt.alloc(), who)?;
-    lines_found(
-        rt,
-        archive,
-        first,
-        made,
-        first_reason.as_str(),
-        reason.as_str(),
-    )
+    let mut lines = lines_found(rt, archive, first, made, reason.as_str())?;
+    give_reasons(&mut lines, reason.as_str(), reasons.as_slice())?;
+    tell_left(rt, reasons.as_slice(), lines.as_slice())?;
+    Ok(lines)
 }
 
 /// Notes lines behind the events of a history, in one transaction, and takes them. A failure hands the store back.

@@ -59,7 +59,7 @@ struct Beginnings {
 }
 
 /// What follows the first blank of a text; nothing where there is none.
-fn after_blank(text: &[u8]) -> &[u8] {
+pub(crate) fn after_blank(text: &[u8]) -> &[u8] {
     let blank = text
         .iter()
         .position(|octet| *octet == b' ')

@@ -2,8 +2,7 @@
 
 ghost use Rattle.std.specs.Prelude.{◌≡◌, is_none, is_ok};
 
-use crate::flaws::words_of;
-use crate::pages::at_event;
+use crate::flaws::words_at;
 use cli_console::{Failure, Status, tell};
 use record_judge::{Judge, SealedArchive};
 use record_store::EventRow;
@@ -46,9 +45,9 @@ impl Watch {
         let Err(flaw) = taken else {
             return Ok(true);
         };
-        let words = words_of(flaw).ok_or(AllocError)?;
+        let words = words_at(rt.alloc(), row.number, flaw, self.judge.count())?;
         self.fault = Some(row.number);
-        tell(rt, &at_event(rt.alloc(), row.number, words)?);
+        tell(rt, &words);
         Ok(false)
     }
 
@@ -57,6 +56,13 @@ impl Watch {
         ensures { result ≡ is_none self.now.fault }
     {
         self.fault.is_none()
+    }
+
+    /// The number of the first event that something stands against, which was told; none where nothing does.
+    pub fn fault(&self) -> Option<u32>
+        ensures { result ≡ self.now.fault }
+    {
+        self.fault
     }
 
     /// Whether an event is the first that something stands against, which was told.

@@ -58,7 +58,8 @@ struct Row {
     path: Vec<u8>,
     day: Date,
     due: Option<Date>,
-    /// None where it is destroyed.
+    is_destroyed: bool,
+    /// None where it is destroyed, and where its message is not the one that was captured.
     letter: Option<Letter>,
 }
 
@@ -138,15 +139,20 @@ impl Row {
             "</th><td>" path(self.path.as_slice())
             "</td><td class=\"d\">" date(self.day) "</td><td class=\"d\">"
         )?;
-        match (&self.letter, self.due) {
-            (None, _) => page.markup("destroyed")?,
-            (Some(_), Some(due)) => page.date(due)?,
-            (Some(_), None) => page.markup("never")?,
+        match self.due {
+            _ if self.is_destroyed => page.markup("destroyed")?,
+            Some(due) => page.date(due)?,
+            None => page.markup("never")?,
         }
         page.markup("</td>")?;
         match &self.letter {
             Some(letter) => letter.cells(page),
-            None => page.markup("<td></td><td></td><td></td><td></td></tr>\n"),
+            None if self.is_destroyed => {
+                page.markup("<td></td><td></td><td></td><td></td></tr>\n")
+            }
+            None => page.markup(
+                "<td></td><td></td><td></td><td>message altered, not exported</td></tr>\n",
+            ),
         }
     }
 }
@@ -179,7 +185,7 @@ impl Index {
     }
 
     /// Adds a record, after those with smaller numbers: with the number of its message's file `N.eml` and what its header
-    /// says, or with none where it is destroyed.
+    /// says, or with none where it is destroyed, and where its message is not the one that was captured.
     pub fn add(
         &mut self,
         record: &Record<'_>,
@@ -194,6 +200,7 @@ impl Index {
             path: Vec::from_slice(self.alloc, record.path)?,
             day: record.day,
             due: record.due,
+            is_destroyed: record.is_destroyed,
             letter,
         };
         self.rows.push(row)?;

@@ -230,14 +230,17 @@ fn row_beside(
     manifest_row(alloc, &row_of(entry), Exported::Written(written.kept()))
 }
 
-/// The row of a record in the manifest whose message is not the one that was captured. The record is noted.
+/// The row of a record in the manifest whose message is not the one that was captured, which the index has too. The record is
+/// noted.
 fn row_of_altered(
     alloc: Global,
+    index: &mut Index,
     altered: &mut Altered,
     seals: &Seals,
     entry: &RecordEntry,
 ) -> Result<Vec<u8>, AllocError> {
     altered.add(entry.number)?;
+    index.add(&record_of(entry), None)?;
     let captured = seals.length_and_sum(entry.message);
     manifest_row(alloc, &row_of(entry), Exported::Altered(captured))
 }
@@ -250,7 +253,13 @@ fn row_with_last(
 ) -> Result<Vec<u8>, AllocError> {
     match written_last(&export.last) {
         Some(written) => row_beside(alloc, &mut export.index, entry, written),
-        None => row_of_altered(alloc, &mut export.altered, &export.seals, entry),
+        None => row_of_altered(
+            alloc,
+            &mut export.index,
+            &mut export.altered,
+            &export.seals,
+            entry,
+        ),
     }
 }
 

@@ -103,6 +103,19 @@ impl Changing<'_, '_> {
     }
 }
 
+/// The seals by which the messages are judged of records that are only listed; of no message where they are to be destroyed,
+/// since the history is done again then.
+fn seals_for_list<S: Alter>(
+    rt: &HostRuntime,
+    archive: &mut Store<S>,
+    purpose: Purpose,
+) -> Result<Option<Seals>, Failure> {
+    match purpose {
+        Purpose::Listing => Ok(Some(Seals::of(rt, archive)?)),
+        Purpose::Capturing | Purpose::Keeping | Purpose::Ending => Ok(None),
+    }
+}
+
 /// A change of an archive, and who makes it.
 #[derive(Drop)]
 pub struct ChangeBy<'a, 't> {
@@ -123,13 +136,18 @@ impl Work for ChangeBy<'_, '_> {
             Ok(purpose) => purpose,
             Err(AllocError) => return (archive.into_connection(), Err(Failure::NoMemory)),
         };
+        let mut archive = archive;
+        let listed = match seals_for_list(rt, &mut archive, purpose) {
+            Ok(listed) => listed,
+            Err(failure) => return (archive.into_connection(), Err(failure)),
+        };
         let no_rules = None;
         let filing = filing_of(&no_rules);
         let (mut ledger, seals) = match open_with_seals(rt, archive, &author, filing, purpose) {
             Ok(open) => open,
             Err((archive, failure)) => return (archive.into_connection(), Err(failure)),
         };
-        let done = change.perform(rt, &mut ledger, &seals);
+        let done = change.perform(rt, &mut ledger, &listed.unwrap_or(seals));
         (ledger.into_store().into_connection(), done)
     }
 }

@@ -1,7 +1,7 @@
 //! What is read of histories.
 
 use crate::archives::Work;
-use cli_console::{Failure, write_text};
+use cli_console::{Failure, Status, write_text};
 use cli_history::{judge_history, open_history, open_noted, write_certificates, write_history};
 use cli_readings::write_contents;
 use command_lines::archives::{HistoryAsked, TypedNumbers};
@@ -50,18 +50,22 @@ impl Work for ReadHistory<'_> {
     }
 }
 
-/// Opens the history of a store, if it keeps one; where a mark is looked for, it has to.
+/// Opens the history of a store, if it keeps one; where a mark is looked for, it has to: else `BadData`.
 fn open_for<S: Alter>(
     rt: &HostRuntime,
     archive: Store<S>,
     head: Option<&str>,
 ) -> Result<Opened<S>, (Store<S>, Failure)> {
-    if head.is_none() {
-        return open_history(rt, archive);
-    }
-    match open_noted(rt, archive) {
-        Ok(noted) => Ok(Opened::Noted(noted)),
-        Err(refusal) => Err(refusal),
+    match open_history(rt, archive) {
+        Ok(Opened::Plain(archive)) if head.is_some() => {
+            let failure = Failure::told(
+                rt.alloc(),
+                Status::BadData,
+                "the store has no history, and so not that of the mark: it is another store, or its history was removed; compare it with a back-up",
+            );
+            Err((archive, failure))
+        }
+        opened => opened,
     }
 }
 

@@ -3,9 +3,10 @@ use Rattle.std.specs.Prelude.{◌≡◌, ℕ, Bool, if◌then◌else◌, List, [
 use Rattle.jiff.specs.Words.{date_text}
 use Rattle.jiff_core.specs.declared.civil.date.Date.{Date}
 use Rattle.record_archive.specs.declared.line.Line.{Line}
+use Rattle.cli_texts.specs.declared.certificates.CapturedMessage.{CapturedMessage}
 use Rattle.cli_texts.specs.declared.certificates.Certificate.{Certificate}
 use Rattle.cli_texts.specs.declared.records.Row.{Row}
-use Rattle.cli_texts.specs.Words.{words, number, name}
+use Rattle.cli_texts.specs.Words.{words, number, name, escaped}
 
 abbrev pub due_words : Option Date → List ℕ
 due_words None = words (codes "never")
@@ -50,11 +51,24 @@ abbrev pub kept_words : Option ℕ → List ℕ
 kept_words None = []
 kept_words (Some keeper) = words (codes " message kept by record ") ++ number keeper
 
+-- that the message was not this one, which was captured
+abbrev pub other_message : CapturedMessage → List ℕ
+other_message m =
+    words (codes "; its message was not the one captured, which had octets ") ++ number m.octets ++ words (codes " sha256 ") ++ escaped m.sum.now
+
+abbrev pub replaced_words : Option CapturedMessage → List ℕ
+replaced_words None = []
+replaced_words (Some captured) = other_message captured
+
+-- the same from a history, which has the sum of the captured message alone
 abbrev pub altered_words : Bool → List ℕ
-altered_words is_altered = if is_altered then words (codes "; its message was not the one captured") else []
+altered_words is_altered =
+    if is_altered then
+    words (codes "; its message was not the one captured: octets and sha256 are of the one captured, and no event tells those of the one destroyed")
+    else []
 
 -- A CERTIFICATE, with the text of its moment
 abbrev pub certificate : Certificate → (moment : List ℕ) → List ℕ
 certificate c moment =
-    destroyed_record c ++ destroyed_message c ++ words (codes " at ") ++ words moment ++ kept_words c.kept_by ++ altered_words c.is_altered
+    destroyed_record c ++ destroyed_message c ++ words (codes " at ") ++ words moment ++ kept_words c.kept_by ++ replaced_words c.captured
     ++ 10 ∷ []

@@ -3,7 +3,7 @@
 ghost use Rattle.std.specs.Prelude.{◌≡◌, ◌++◌, ℕ, List, IfOk, OnOk, string_bytes};
 ghost use Rattle.sha2.specs.Sha256.{sha256};
 ghost use Rattle.hex.specs.Hex.{encode_lower};
-ghost use Rattle.cli_texts.specs.Lines.{destroyed_record, destroyed_message, kept_words, altered_words, certificate};
+ghost use Rattle.cli_texts.specs.Lines.{destroyed_record, destroyed_message, kept_words, other_message, replaced_words, altered_words, certificate};
 
 use crate::records::put_due;
 use class_plan::{Date, day_of};
@@ -25,8 +25,16 @@ pub struct Certificate<'a> {
     pub moment: u64,
     /// A live record that keeps the same message, if there is one.
     pub kept_by: Option<u32>,
-    /// Whether its message was not the one that was captured.
-    pub is_altered: bool,
+    /// The one that was captured, where its message was another one.
+    pub captured: Option<CapturedMessage<'a>>,
+}
+
+/// A message as it was captured.
+#[derive(Clone, Copy)]
+pub struct CapturedMessage<'a> {
+    pub octets: u64,
+    /// Its SHA-256, in hexadecimal digits.
+    pub sum: &'a [u8],
 }
 
 /// The SHA-256 of octets, in hexadecimal digits.
@@ -77,7 +85,7 @@ fn put_message(line: &mut Shown, it: &Certificate<'_>) -> Result<(), AllocError>
 }
 
 /// Adds which record keeps the message, if one does.
-fn put_keeper(line: &mut Shown, keeper: Option<u32>) -> Result<(), AllocError>
+pub(crate) fn put_keeper(line: &mut Shown, keeper: Option<u32>) -> Result<(), AllocError>
     ensures { OnOk result (line.new ≡ line.old ++ kept_words keeper) }
 {
     match keeper {
@@ -86,12 +94,33 @@ fn put_keeper(line: &mut Shown, keeper: Option<u32>) -> Result<(), AllocError>
     }
 }
 
-/// Adds that the message was not the one that was captured, where that is so.
-fn put_altered(line: &mut Shown, is_altered: bool) -> Result<(), AllocError>
+/// Adds that the message was not the one that was captured, and which one that was.
+fn put_captured(line: &mut Shown, captured: &CapturedMessage<'_>) -> Result<(), AllocError>
+    ensures { OnOk result (line.new ≡ line.old ++ other_message captured.now) }
+{
+    put!(line; "; its message was not the one captured, which had octets " value(&captured.octets)
+        " sha256 " escaped(captured.sum))
+}
+
+/// Adds the message that was captured, where that of the record was another one.
+fn put_replaced(line: &mut Shown, it: &Certificate<'_>) -> Result<(), AllocError>
+    ensures { OnOk result (line.new ≡ line.old ++ replaced_words it.now.captured) }
+{
+    match &it.captured {
+        Some(captured) => put_captured(line, captured),
+        None => Ok(()),
+    }
+}
+
+/// Adds that the message was not the one that was captured, where that is so, and that the length and the sum before it are
+/// those of the one that was.
+pub(crate) fn put_altered(line: &mut Shown, is_altered: bool) -> Result<(), AllocError>
     ensures { OnOk result (line.new ≡ line.old ++ altered_words is_altered) }
 {
     if is_altered {
-        line.words("; its message was not the one captured")?;
+        line.words(
+            "; its message was not the one captured: octets and sha256 are of the one captured, and no event tells those of the one destroyed",
+        )?;
     }
     Ok(())
 }
@@ -105,7 +134,7 @@ fn line_with(alloc: Global, it: &Certificate<'_>, moment: &String) -> Result<Sho
     put_message(&mut line, it)?;
     put!(line; " at " value(moment))?;
     put_keeper(&mut line, it.kept_by)?;
-    put_altered(&mut line, it.is_altered)?;
+    put_replaced(&mut line, it)?;
     line.end_line()?;
     Ok(line)
 }

@@ -1,6 +1,6 @@
 //! Events of a history, as JSON and as certificates.
 
-use crate::certificates::moment_text;
+use crate::certificates::{moment_text, put_altered, put_keeper};
 use crate::records::{in_ascii, shown};
 use serde_json::{Map, Value, json};
 use std::alloc::{AllocError, Global};
@@ -144,6 +144,8 @@ pub struct ToldCertificate<'a> {
     pub reason: &'a [u8],
     /// The number of its event.
     pub event: u32,
+    /// A live record that kept the same message, if there was one.
+    pub kept_by: Option<u32>,
     /// Whether the event notes that its message was not the one that was captured.
     pub is_altered: bool,
 }
@@ -180,9 +182,8 @@ pub fn told_certificate(alloc: Global, it: &ToldCertificate<'_>) -> Result<Shown
     put!(line; " at " value(&moment) " by ")?;
     put_text(&mut line, it.who)?;
     put!(line; " event " value(&it.event))?;
-    if it.is_altered {
-        line.words("; its message was not the one captured")?;
-    }
+    put_keeper(&mut line, it.kept_by)?;
+    put_altered(&mut line, it.is_altered)?;
     if !it.reason.is_empty() {
         line.words(" : ")?;
         put_text(&mut line, it.reason)?;

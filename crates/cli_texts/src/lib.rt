@@ -14,7 +14,9 @@ mod tests;
 mod titles;
 
 pub use cases::{CaseBeginning, ListedCase, case_line, case_object};
-pub use certificates::{Certificate, certificate_line, moment_text, sum_of, sum_text};
+pub use certificates::{
+    CapturedMessage, Certificate, certificate_line, moment_text, sum_of, sum_text,
+};
 pub use events::{
     Field, ListedEvent, Named, ToldCertificate, event_object, history_line, told_certificate,
 };

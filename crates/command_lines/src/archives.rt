@@ -2,6 +2,7 @@
 
 mod captures;
 mod class_words;
+mod disposals;
 mod histories;
 mod history_words;
 mod holds;
@@ -16,8 +17,9 @@ use captures::filing_asked;
 use choice_words::{read_numbers, reads_as_numbers, reversed_range};
 pub use choice_words::{Choice, TypedNumbers};
 use clap::ArgMatches;
+use disposals::damage_asked;
 pub use histories::{Attribution, DeedKind, HistoryAsked, HistoryTask, Reasons};
-use histories::{attribution_asked, head_asked, history_asked};
+use histories::{attribution_asked, head_asked, history_asked, judge_author};
 use holds::{NAME_FORGOTTEN, hold_asked, release_asked};
 use imports::import_asked;
 pub use imports::{Dating, Import};
@@ -244,6 +246,8 @@ pub struct Disposal {
     pub day: Option<Date>,
     /// Whether records are destroyed, and not only listed.
     pub destroys: bool,
+    /// Whether those are destroyed too whose messages are not the ones that were captured.
+    pub is_damaged: bool,
     /// The records that are meant; all that are due, where there is none.
     pub numbers: Vec<TypedNumbers>,
 }
@@ -500,6 +504,7 @@ fn disposal_asked(alloc: Global, asked: &ArgMatches<'_>) -> Result<Disposal, NoC
     Ok(Disposal {
         day: day_asked(alloc, asked, words::DAY)?,
         destroys: has_flag(asked, words::YES),
+        is_damaged: damage_asked(alloc, asked)?,
         numbers: numbers_asked(alloc, asked)?,
     })
 }
@@ -636,14 +641,13 @@ fn line_asked<'a>(
 ) -> Result<CommandLine<'a>, NoCommand> {
     let store = required(asked, words::STORE)?;
     let attribution = attribution_asked(alloc, asked)?;
-    match command_asked(alloc, name, asked) {
-        Ok(command) => Ok(CommandLine {
-            store,
-            attribution,
-            command,
-        }),
-        Err(none) => Err(none),
-    }
+    let command = command_asked(alloc, name, asked)?;
+    judge_author(alloc, &attribution, &command)?;
+    Ok(CommandLine {
+        store,
+        attribution,
+        command,
+    })
 }
 
 /// What the words that were found ask for.

@@ -1,7 +1,7 @@
 //! What a command line asks of a history, and what it tells for one.
 
 use super::words::JSON;
-use super::{day_asked, history_words as words, numbers_asked};
+use super::{Command, day_asked, history_words as words, numbers_asked};
 use crate::reading::{NoCommand, has_flag, value_of};
 use crate::table::Word;
 use choice_words::TypedNumbers;
@@ -98,6 +98,27 @@ fn is_reason(alloc: Global, text: &str) -> Result<bool, AllocError> {
 /// Whether a word can be a name for the history. One that begins with two hyphens is an option before which a name is missing.
 fn is_name_told(word: &str) -> bool {
     is_name(word.as_bytes()) && !word.starts_with("--")
+}
+
+/// Who stands in a history for programs that keep none.
+const NOBODY: &str = "unknown";
+
+/// Finds that whoever a command notes in a history has a name that stands for a person or a program. The events that are printed
+/// may be chosen by any name.
+pub(super) fn judge_author(
+    alloc: Global,
+    told: &Attribution<'_>,
+    command: &Command<'_>,
+) -> Result<(), NoCommand> {
+    let is_printing = matches!(command, Command::History(HistoryTask::Print(_)));
+    match told.by {
+        Some(name) if name == NOBODY && !is_printing => Err(NoCommand::wrong(
+            alloc,
+            name,
+            "this name stands for programs that keep no history; name yourself by another one, as --by ann",
+        )),
+        _ => Ok(()),
+    }
 }
 
 /// A name for the history, where one is given.
@@ -292,7 +313,8 @@ pub(super) fn head_asked<'a>(
 ) -> Result<Option<&'a str>, NoCommand> {
     match value_of(asked, words::HEAD) {
         Some(mark) if !is_mark(mark) => {
-            let reason = "a mark is 64 hexadecimal digits, as check prints it";
+            let reason =
+                "a mark is 64 hexadecimal digits, a to f as small letters, as check prints it";
             Err(NoCommand::wrong(alloc, mark, reason))
         }
         mark => Ok(mark),

@@ -551,6 +551,12 @@ const DISPOSE: Subcommand = Subcommand {
             help: Some("Destroys the records"),
             ..YES
         },
+        Word {
+            help: Some(
+                "With --yes, destroys records too whose messages are not the ones that were captured",
+            ),
+            ..DAMAGED
+        },
         BY,
         REASON,
         NUMBERS,

@@ -1,0 +1,72 @@
+//! Records that are destroyed, and of which no event tells that.
+
+use crate::missing::put_typed;
+use crate::pages::Entries;
+use choice_words::{TypedNumbers, add_number};
+use cli_console::{Failure, tell};
+use record_noted::NotedStore;
+use record_store::RecordEntry;
+use sqlite::Alter;
+use std::alloc::{AllocError, Global};
+use std::collections::BTreeSet;
+use tool_texts::{Shown, put};
+
+/// Adds those records of a page that are destroyed, and are none of those of which an event tells that.
+fn add_untold(
+    untold: &mut Vec<TypedNumbers>,
+    page: &[RecordEntry],
+    told: &BTreeSet<u32>,
+) -> Result<(), AllocError> {
+    for entry in page {
+        if entry.destroyed && !told.contains(&entry.number) {
+            add_number(untold, entry.number)?;
+        }
+    }
+    Ok(())
+}
+
+/// The records of a store that are destroyed, and are none of those of which an event tells that, as they can be typed.
+fn untold_of<S: Alter>(
+    rt: &HostRuntime,
+    noted: &mut NotedStore<S>,
+    told: &BTreeSet<u32>,
+) -> Result<Vec<TypedNumbers>, Failure> {
+    let mut untold = Vec::new(rt.alloc());
+    let mut entries = Entries::all();
+    for _ in 0..u64::MAX {
+        let Some(page) = entries.next_page(rt, noted)? else {
+            break;
+        };
+        add_untold(&mut untold, page.as_slice(), told)?;
+    }
+    Ok(untold)
+}
+
+/// That some records are destroyed, and have no certificate.
+fn untold_words(alloc: Global, untold: &[TypedNumbers]) -> Result<Shown, AllocError> {
+    let mut words = Shown::new(alloc);
+    words.words(if let [TypedNumbers::One(_)] = untold {
+        "record"
+    } else {
+        "records"
+    })?;
+    for typed in untold {
+        words.words(" ")?;
+        put_typed(&mut words, typed)?;
+    }
+    put!(words; ": destroyed, and no event tells by whom; there is no certificate here")?;
+    Ok(words)
+}
+
+/// Tells which records of a store are destroyed, and are none of those of which an event tells that, where there is one.
+pub fn tell_untold<S: Alter>(
+    rt: &HostRuntime,
+    noted: &mut NotedStore<S>,
+    told: &BTreeSet<u32>,
+) -> Result<(), Failure> {
+    let untold = untold_of(rt, noted, told)?;
+    if !untold.is_empty() {
+        tell(rt, &untold_words(rt.alloc(), untold.as_slice())?);
+    }
+    Ok(())
+}
