@@ -12,13 +12,15 @@
 //!   `import_log`: what is said of it; `no_mail`: what looks like no message;
 //! - `holds` and `whole_holds`: records that must not be destroyed, and the end of a hold on all of them; `keeping`: whether a
 //!   new plan keeps less;
-//! - `dispose`: the destruction of what is due; `runs`: records in runs, by what is noted of each.
+//! - `dispose`: the destruction of what is due; `approved`: the numbers in a file of what was approved; `runs`: records in runs,
+//!   by what is noted of each.
 //!
 //! Each works on a store that is lent to it. What it writes, and what a Maildir or a terminal does, no contract speaks of:
 //! tests of the program show it. `specs/Moments` says when a clock is refused, and `specs/Imports` what becomes
 //! of a message of old mail.
 #![tactic(auto)]
 
+mod approved;
 mod deliver;
 mod dispose;
 mod fault_words;
@@ -45,6 +47,7 @@ mod time_limit;
 mod time_of_day;
 mod whole_holds;
 
+pub use approved::with_approved;
 pub use deliver::{Delivered, deliver_to, read_message, report_delivery, undecoded_in};
 pub use dispose::{day_of_disposal, dispose_by};
 pub use holds::change_holds;

@@ -86,7 +86,7 @@ pub enum Command<'a> {
     /// Judges rules by the plan of the store.
     CheckRules(RulesChecked<'a>),
     Why(Why<'a>),
-    Dispose(Disposal),
+    Dispose(DisposalAsked<'a>),
     /// Ends the hold of a name, which is 1 to 64 octets from 33 to 126, on each record.
     ReleaseAll {
         name: &'a str,
@@ -231,6 +231,15 @@ pub struct Disposal {
     pub destroys: bool,
     /// The records that are meant; all that are due, where there is none.
     pub numbers: Vec<TypedNumbers>,
+}
+
+/// What is asked of the destruction of what is due.
+#[derive(Drop)]
+pub struct DisposalAsked<'a> {
+    /// What is typed.
+    pub typed: Disposal,
+    /// The path of the file of the numbers that are meant, `-` for standard input. Where there is one, no number is typed.
+    pub approved: Option<&'a str>,
 }
 
 /// The number of a record, as it is typed: one of 32 bits, in decimal digits without a leading zero.
@@ -470,13 +479,22 @@ fn plan_asked<'a>(alloc: Global, asked: &ArgMatches<'a>) -> Result<Command<'a>, 
     }
 }
 
-/// What is to be destroyed.
-fn disposal_asked(alloc: Global, asked: &ArgMatches<'_>) -> Result<Disposal, NoCommand> {
-    Ok(Disposal {
+/// What is to be destroyed. Numbers beside a file of numbers are refused.
+fn disposal_asked<'a>(
+    alloc: Global,
+    asked: &ArgMatches<'a>,
+) -> Result<DisposalAsked<'a>, NoCommand> {
+    let typed = Disposal {
         day: day_asked(alloc, asked, words::DAY)?,
         destroys: has_flag(asked, words::YES),
         numbers: numbers_asked(alloc, asked)?,
-    })
+    };
+    let approved = value_of(asked, words::APPROVED);
+    if approved.is_some() && !typed.numbers.is_empty() {
+        let reason = "--approved takes the numbers from its file; type none beside it";
+        return Err(NoCommand::Wrong(String::from_str(alloc, reason)?));
+    }
+    Ok(DisposalAsked { typed, approved })
 }
 
 /// The Maildir whose new messages are captured, and how.

@@ -513,9 +513,19 @@ const HOLDS: Subcommand = Subcommand {
     has_shared: false,
 };
 
+/// The file of the numbers that were approved for destruction.
+pub const APPROVED: Word = Word {
+    name: "approved",
+    value: "FILE",
+    help: Some(
+        "The records whose numbers stand in this file, as list --numbers prints them, in place of numbers here; - for standard input; a file without any number is refused",
+    ),
+    ..OPTION
+};
+
 const DISPOSE: Subcommand = Subcommand {
     name: "dispose",
-    about: "Lists the records that are due and may be destroyed, all or those of some numbers; with --yes destroys them, and prints a certificate for each",
+    about: "Lists the records that are due and may be destroyed, all or those of some numbers; with --yes destroys them, and prints a certificate for each. A range passes over what may not be destroyed",
     example: "Example: mailfile-store dispose --store records.db --yes >> certificates.txt",
     words: &[
         STORE,
@@ -529,6 +539,7 @@ const DISPOSE: Subcommand = Subcommand {
             help: Some("Destroys the records"),
             ..YES
         },
+        APPROVED,
         BY,
         REASON,
         NUMBERS,
