@@ -1,13 +1,13 @@
 //! What is asked of the records that a command is about.
 
 use cli_choice::{Questions, QuestionsFault};
-use cli_console::{Failure, Status, judge_day, refusal_words};
+use cli_console::{Failure, Status, judge_day, refusal_words, tell};
 use command_lines::archives::Choice;
 use mail_display::FieldGroup;
 use record_question::QuestionFault;
-use sieve_text::{ScanRefusal, TextRefusal};
+use sieve_text::{ScanRefusal, TextRefusal, scan};
 use std::alloc::{AllocError, Global};
-use tool_findings::{finding_in_test, push_words};
+use tool_findings::{finding_in_test, impossible_fields, push_words};
 use tool_texts::{Shown, place_of, put};
 
 /// Why a text is not exactly one test.
@@ -76,14 +76,45 @@ fn question_failure(alloc: Global, test: Option<&str>, fault: QuestionsFault) ->
     }
 }
 
-/// Finds that the day of a choice has come, and reads what it asks of messages.
+/// That no field can have a name that stands in a test, at an offset in octets.
+fn impossible_words(
+    alloc: Global,
+    test: &str,
+    name: &[u8],
+    offset: usize,
+) -> Result<Shown, AllocError> {
+    let place = place_of(test.as_bytes(), offset);
+    let mut text = Shown::new(alloc);
+    put!(text; "--where:" value(&place.line) ":" value(&place.column)
+        ": warning: no field can have the name " quoted(name))?;
+    Ok(text)
+}
+
+/// Warns of each name in a good test that no field of a message can have, as `mailfile-tool check` does of those in a rule.
+fn warn_of_fields(rt: &HostRuntime, test: &str) -> Result<(), AllocError> {
+    let alloc = rt.alloc();
+    let Ok(tokens) = scan(alloc, test.as_bytes()) else {
+        return Ok(());
+    };
+    for (name, at) in impossible_fields(alloc, tokens.as_slice())?.iter() {
+        tell(rt, &impossible_words(alloc, test, *name, *at)?);
+    }
+    Ok(())
+}
+
+/// Finds that the day of a choice has come, and reads what it asks of messages. It warns of names in a test that no field can
+/// have, for which nothing is found.
 pub fn judge_choice(rt: &HostRuntime, choice: &Choice<'_>) -> Result<Questions, Failure> {
     if let Some(day) = choice.due {
         judge_day(rt, day)?;
     }
-    Questions::read(rt.alloc(), choice).map_err(|fault| question_failure(
+    let questions = Questions::read(rt.alloc(), choice).map_err(|fault| question_failure(
         rt.alloc(),
         choice.test,
         fault,
-    ))
+    ))?;
+    if let Some(test) = choice.test {
+        warn_of_fields(rt, test)?;
+    }
+    Ok(questions)
 }
