@@ -48,11 +48,7 @@ fn numbers_of(alloc: Global, word: &[u8]) -> Result<TypedNumbers, NoNumbers> {
 }
 
 /// Adds the numbers of a line. A word that begins with # ends them.
-fn add_line(
-    alloc: Global,
-    numbers: &mut Vec<TypedNumbers>,
-    line: &[u8],
-) -> Result<(), NoNumbers> {
+fn add_line(alloc: Global, numbers: &mut Vec<TypedNumbers>, line: &[u8]) -> Result<(), NoNumbers> {
     for word in line.split(|octet| octet.is_ascii_whitespace()) {
         if word.starts_with(b"#") {
             break;
@@ -65,11 +61,7 @@ fn add_line(
 }
 
 /// Adds the numbers of lines.
-fn add_lines(
-    alloc: Global,
-    numbers: &mut Vec<TypedNumbers>,
-    text: &[u8],
-) -> Result<(), NoNumbers> {
+fn add_lines(alloc: Global, numbers: &mut Vec<TypedNumbers>, text: &[u8]) -> Result<(), NoNumbers> {
     for line in text.split(|octet| *octet == b'\n') {
         add_line(alloc, numbers, line)?;
     }

@@ -72,6 +72,9 @@ fn dating_at(rt: &HostRuntime, asked: AskedDating, now: u64) -> Result<Dating, F
 /// The failure of a source of mail. `NoInput` where nothing is there, and `BadData` where it is no mbox.
 fn source_failure(rt: &HostRuntime, path: &str, fault: SourceFault) -> Failure {
     match fault {
+        SourceFault::Io(error) if error.kind() == io::ErrorKind::NotFound => {
+            Failure::at(rt.alloc(), Status::NoInput, path, &"no such file or folder")
+        }
         SourceFault::Io(error) => maildir_failure(rt, path, error),
         SourceFault::NoMbox => {
             let reason =

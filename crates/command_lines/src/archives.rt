@@ -1,5 +1,6 @@
 //! The command line of `mailfile-store`: what it asks for, with each value read and judged.
 
+mod approvals;
 mod captures;
 mod histories;
 mod history_words;
@@ -8,8 +9,12 @@ mod import_words;
 mod imports;
 mod words;
 
-use crate::reading::{NoCommand, day_of, has_flag, read_words, required, value_of, values_of};
+use crate::reading::{
+    NoCommand, day_of, has_flag, read_words, required, seen, value_of, values_of,
+};
 use crate::table::Word;
+pub use approvals::DisposalAsked;
+use approvals::approved_asked;
 use captures::filing_asked;
 use choice_words::{read_numbers, reads_as_numbers, reversed_range};
 pub use choice_words::{Choice, TypedNumbers};
@@ -233,15 +238,6 @@ pub struct Disposal {
     pub numbers: Vec<TypedNumbers>,
 }
 
-/// What is asked of the destruction of what is due.
-#[derive(Drop)]
-pub struct DisposalAsked<'a> {
-    /// What is typed.
-    pub typed: Disposal,
-    /// The path of the file of the numbers that are meant, `-` for standard input. Where there is one, no number is typed.
-    pub approved: Option<&'a str>,
-}
-
 /// The number of a record, as it is typed: one of 32 bits, in decimal digits without a leading zero.
 fn number_of(alloc: Global, word: &str, reason: &str) -> Result<u32, NoCommand> {
     match read_number(word.as_bytes(), u64::from(u32::MAX)) {
@@ -270,7 +266,8 @@ fn no_numbers(alloc: Global, word: &str) -> Result<String, AllocError> {
             format!(in alloc; "{word}: a range begins with its smaller number; type {first}-{last}")
         }
         _ => format!(in alloc;
-            "{word}: neither a number of a record, as 3, nor a range of numbers, as 5-9"
+            "{}: neither a number of a record, as 3, nor a range of numbers, as 5-9",
+            seen(word)
         ),
     }
 }
@@ -338,6 +335,12 @@ fn first_asked(alloc: Global, asked: &ArgMatches<'_>) -> Result<u32, NoCommand> 
     }
 }
 
+/// The text that is looked for, where it is given: without the white space at its ends, which no one sees who types it.
+fn text_asked<'a>(asked: &ArgMatches<'a>, word: Word) -> Option<&'a str> {
+    let text = value_of(asked, word)?;
+    Some(text.trim())
+}
+
 /// The conditions of a choice, without numbers.
 fn conditions_asked<'a>(alloc: Global, asked: &ArgMatches<'a>) -> Result<Choice<'a>, NoCommand> {
     let (since, until) = days_asked(alloc, asked)?;
@@ -352,9 +355,9 @@ fn conditions_asked<'a>(alloc: Global, asked: &ArgMatches<'a>) -> Result<Choice<
         is_live: has_flag(asked, words::LIVE),
         is_destroyed: has_flag(asked, words::DESTROYED),
         test: value_of(asked, words::WHERE),
-        sender: value_of(asked, words::SENDER),
-        recipient: value_of(asked, words::RECIPIENT),
-        subject: value_of(asked, words::SUBJECT),
+        sender: text_asked(asked, words::SENDER),
+        recipient: text_asked(asked, words::RECIPIENT),
+        subject: text_asked(asked, words::SUBJECT),
     })
 }
 
@@ -479,22 +482,13 @@ fn plan_asked<'a>(alloc: Global, asked: &ArgMatches<'a>) -> Result<Command<'a>, 
     }
 }
 
-/// What is to be destroyed. Numbers beside a file of numbers are refused.
-fn disposal_asked<'a>(
-    alloc: Global,
-    asked: &ArgMatches<'a>,
-) -> Result<DisposalAsked<'a>, NoCommand> {
-    let typed = Disposal {
+/// What is to be destroyed.
+fn disposal_asked(alloc: Global, asked: &ArgMatches<'_>) -> Result<Disposal, NoCommand> {
+    Ok(Disposal {
         day: day_asked(alloc, asked, words::DAY)?,
         destroys: has_flag(asked, words::YES),
         numbers: numbers_asked(alloc, asked)?,
-    };
-    let approved = value_of(asked, words::APPROVED);
-    if approved.is_some() && !typed.numbers.is_empty() {
-        let reason = "--approved takes the numbers from its file; type none beside it";
-        return Err(NoCommand::Wrong(String::from_str(alloc, reason)?));
-    }
-    Ok(DisposalAsked { typed, approved })
+    })
 }
 
 /// The Maildir whose new messages are captured, and how.
@@ -551,7 +545,10 @@ fn change_asked<'a>(
         },
         "intake" => intake_asked(alloc, asked)?,
         "import" => Command::Import(import_asked(alloc, asked)?),
-        "dispose" => Command::Dispose(disposal_asked(alloc, asked)?),
+        "dispose" => {
+            let typed = disposal_asked(alloc, asked)?;
+            Command::Dispose(approved_asked(alloc, asked, typed)?)
+        }
         _ => return Ok(None),
     }))
 }

@@ -1,5 +1,6 @@
 //! The subcommands of `mailfile-store`, each with its words and an example.
 
+use super::approvals::{APPROVED, STRAYS};
 use super::history_words::{
     ACCEPT_FOUND, BEGIN, BEGIN_REASON, BY, CHOSEN_BY, DEEDS, EVENTS_SINCE, HEAD, REASON,
     REQUIRE_REASON, WAIVE_REASON,
@@ -513,16 +514,6 @@ const HOLDS: Subcommand = Subcommand {
     has_shared: false,
 };
 
-/// The file of the numbers that were approved for destruction.
-pub const APPROVED: Word = Word {
-    name: "approved",
-    value: "FILE",
-    help: Some(
-        "The records whose numbers stand in this file, as list --numbers prints them, in place of numbers here; - for standard input; a file without any number is refused",
-    ),
-    ..OPTION
-};
-
 const DISPOSE: Subcommand = Subcommand {
     name: "dispose",
     about: "Lists the records that are due and may be destroyed, all or those of some numbers; with --yes destroys them, and prints a certificate for each. A range passes over what may not be destroyed",
@@ -666,5 +657,6 @@ pub fn program(alloc: Global) -> Result<Program, AllocError> {
         groups: vec![in alloc; capturing(), reading(), judging(), keeping(), telling()]?,
         shared: conditions(),
         hints: HINTS,
+        strays: STRAYS,
     })
 }
