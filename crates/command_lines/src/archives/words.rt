@@ -5,7 +5,7 @@ use super::history_words::{
     ACCEPT_FOUND, BEGIN, BEGIN_REASON, BY, CHOSEN_BY, DEEDS, EVENTS_SINCE, HEAD, REASON,
     REQUIRE_REASON, WAIVE_REASON,
 };
-use super::import_words::{AGAIN, AS_IS, DATED, SOURCES};
+use super::import_words::{AGAIN, AS_IS, DATED, SOURCES, VERBOSE};
 use crate::table::{FLAG, Form, Hint, OPTION, PLACE, Program, Subcommand, Word};
 use std::alloc::{AllocError, Global};
 
@@ -199,6 +199,7 @@ const IMPORT: Subcommand = Subcommand {
         RULES,
         UNFILED_ON_FAULT,
         AGAIN,
+        VERBOSE,
         QUIET,
         BY,
         REASON,
