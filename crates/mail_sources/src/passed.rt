@@ -95,8 +95,9 @@ impl PassedOver {
             folders: 0,
             maildirs: Vec::new(rt.alloc()),
         };
-        let (Source::Folder(path) | Source::Maildir(path)) = source else {
-            return Ok(passed);
+        let path = match source {
+            Source::Mbox(_) => return Ok(passed),
+            Source::Folder(path) | Source::Maildir(path) => path,
         };
         for entry in fs::read_dir(rt, path)? {
             passed.add(rt, source, path, entry)?;
