@@ -168,12 +168,9 @@ pub fn with_approved(rt: &HostRuntime, asked: DisposalAsked<'_>) -> Result<Dispo
     match approved {
         None => Ok(typed),
         Some(path) => {
-            let numbers = approved_at(rt, path)?;
-            Ok(Disposal {
-                day: typed.day,
-                destroys: typed.destroys,
-                numbers,
-            })
+            let mut meant = typed;
+            meant.numbers = approved_at(rt, path)?;
+            Ok(meant)
         }
     }
 }

@@ -1,5 +1,6 @@
 //! `dispose`: what is due, and its destruction. Which records these are, `record_choice` decides.
 
+use crate::passed_over::tell_passed_over;
 use crate::runs::{Run, runs_of};
 use class_plan::{Action, Date, Schedule};
 use cli_choice::{Meant, meant_of};
@@ -286,7 +287,7 @@ pub fn day_of_disposal(rt: &HostRuntime, asked: &Disposal) -> Result<Date, Failu
 }
 
 /// Writes what is due by a day and may be destroyed, or destroys it; where numbers are typed, these records alone. A range
-/// passes over what may not be destroyed; `BadData` with the reason where that is a record whose number is typed by itself. Where
+/// passes over what may not be destroyed, which is told; `BadData` with the reason where that is a record whose number is typed by itself. Where
 /// there is none, this is told. The seals of the history are those by which certificates and events judge messages.
 pub fn dispose_by<S: Alter>(
     rt: &HostRuntime,
@@ -300,6 +301,7 @@ pub fn dispose_by<S: Alter>(
     } else {
         Fate::Listed
     };
+    tell_passed_over(rt, archive, asked.numbers.as_slice(), day)?;
     match meant_by(rt, archive, asked.numbers.as_slice(), day)? {
         Meant::All => dispose_of(rt, archive, fate, &[], day),
         Meant::Nothing => tell_none(rt, "none of these records", day),

@@ -12,7 +12,8 @@
 //!   `import_log`: what is said of it; `no_mail`: what looks like no message;
 //! - `holds` and `whole_holds`: records that must not be destroyed, and the end of a hold on all of them; `keeping`: whether a
 //!   new plan keeps less;
-//! - `dispose`: the destruction of what is due; `approved`: the numbers in a file of what was approved; `runs`: records in runs,
+//! - `dispose`: the destruction of what is due; `approved`: the numbers in a file of what was approved;
+//!   `passed_over`: what it passes over; `runs`: records in runs,
 //!   by what is noted of each.
 //!
 //! Each works on a store that is lent to it. What it writes, and what a Maildir or a terminal does, no contract speaks of:
@@ -36,6 +37,7 @@ mod intake_room;
 mod keeping;
 mod moments;
 mod no_mail;
+mod passed_over;
 mod plan;
 mod plan_changes;
 mod plan_file;
