@@ -120,7 +120,7 @@ fn is_known_to_rules(alloc: Global, charset: &[u8]) -> Result<bool, AllocError> 
     let mut word = Vec::from_slice(alloc, b"=?")?;
     word.extend_from_slice(charset)?;
     word.extend_from_slice(b"?q?a?=")?;
-    Ok(value_of(alloc, word.as_slice())?.as_slice() == b"a")
+    Ok(value_of(alloc, word.as_slice())?.as_slice() == b"a".as_slice())
 }
 
 /// A line for a word that rules see undecoded, without its end: `Subject has a word in windows-1252, which rules see
