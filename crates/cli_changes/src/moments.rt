@@ -82,7 +82,7 @@ fn behind_words(alloc: Global, today: u64, last: u32) -> Result<Shown, AllocErro
     Ok(text)
 }
 
-/// The day that begins with a moment, where one of the years 1970 to 2199 does.
+/// The day that begins with a moment, where one of the years 1970 to 9999 does.
 fn day_begun(moment: u64) -> Option<Date> {
     if moment % DAY != 0 {
         return None;
