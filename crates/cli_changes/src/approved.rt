@@ -8,6 +8,7 @@ use cli_sources::{payload_of_file, read_payload};
 use command_lines::archives::{Disposal, DisposalAsked, TypedNumbers};
 use desk_commands::Payload;
 use std::alloc::{AllocError, AllocFailed, Global};
+use std::fmt::Display;
 use std::io::{self, ErrorKind};
 use tool_texts::{Shown, put};
 
@@ -80,12 +81,12 @@ fn numbers_in(alloc: Global, text: &[u8]) -> Result<Vec<TypedNumbers>, NoNumbers
     Ok(numbers)
 }
 
-/// How a file of numbers is called.
-fn called(path: &str) -> &str {
+/// The failure of a file of numbers, or of standard input, for a reason.
+fn failure_at<T: Display>(alloc: Global, status: Status, path: &str, reason: &T) -> Failure {
     if path == STANDARD_INPUT {
-        "standard input"
+        Failure::at_thing(alloc, status, "standard input", reason)
     } else {
-        path
+        Failure::at(alloc, status, path, reason)
     }
 }
 
@@ -102,10 +103,8 @@ fn octets_at(rt: &HostRuntime, path: &str) -> io::Result<Payload> {
 fn unread(rt: &HostRuntime, path: &str, error: &io::Error) -> Failure {
     match error.kind() {
         ErrorKind::OutOfMemory => Failure::NoMemory,
-        ErrorKind::NotFound => {
-            Failure::at(rt.alloc(), Status::NoInput, called(path), &"no such file")
-        }
-        _ => Failure::at(rt.alloc(), Status::NoInput, called(path), error),
+        ErrorKind::NotFound => { failure_at(rt.alloc(), Status::NoInput, path, &"no such file") }
+        _ => failure_at(rt.alloc(), Status::NoInput, path, error),
     }
 }
 
@@ -113,20 +112,20 @@ fn unread(rt: &HostRuntime, path: &str, error: &io::Error) -> Failure {
 fn text_at(rt: &HostRuntime, path: &str) -> Result<Vec<u8>, Failure> {
     match octets_at(rt, path).map_err(|error| unread(rt, path, &error))? {
         Payload::Whole(text) => Ok(text),
-        Payload::TooLong => Err(Failure::at(
+        Payload::TooLong => Err(failure_at(
             rt.alloc(),
             Status::Usage,
-            called(path),
+            path,
             &"more than 16,777,216 octets",
         )),
         Payload::NoMemory => Err(Failure::NoMemory),
     }
 }
 
-/// That a word of a file is no numbers.
-fn word_words(alloc: Global, path: &str, word: &[u8]) -> Result<Shown, AllocError> {
+/// That a word is no numbers.
+fn word_words(alloc: Global, word: &[u8]) -> Result<Shown, AllocError> {
     let mut text = Shown::new(alloc);
-    put!(text; named(called(path).as_bytes()) ": " quoted(word)
+    put!(text; quoted(word)
         " is neither a number of a record, as 3, nor a range of numbers, as 5-9")?;
     Ok(text)
 }
@@ -134,13 +133,14 @@ fn word_words(alloc: Global, path: &str, word: &[u8]) -> Result<Shown, AllocErro
 /// The failure of a file without numbers.
 fn refused(alloc: Global, path: &str, why: NoNumbers) -> Failure {
     match why {
-        NoNumbers::Word(word) => {
-            Failure::shown(Status::Usage, word_words(alloc, path, word.as_slice()))
-        }
-        NoNumbers::Empty => Failure::at(
+        NoNumbers::Word(word) => match word_words(alloc, word.as_slice()) {
+            Ok(words) => failure_at(alloc, Status::Usage, path, &words),
+            Err(AllocError) => Failure::NoMemory,
+        },
+        NoNumbers::Empty => failure_at(
             alloc,
             Status::Usage,
-            called(path),
+            path,
             &"no number of a record stands in it, so nothing is approved",
         ),
         NoNumbers::NoMemory => Failure::NoMemory,

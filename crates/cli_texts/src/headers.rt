@@ -6,7 +6,6 @@ ghost use Rattle.mail_display.specs.Fields.{IsShownOf};
 ghost use Rattle.cli_texts.specs.Headers.{sender_of, subject_of, date_of, has_texts};
 
 use mail_display::{DisplayText, UndecodedWord, date, sender, subject, undecoded_words};
-use mail_words::value_of;
 use std::alloc::{AllocError, Global};
 use tool_texts::{Shown, put};
 use unicode_width::UnicodeWidthChar;
@@ -115,12 +114,14 @@ impl Headers {
     }
 }
 
-/// Whether rules know a charset: whether they decode a well-formed word of it.
-fn is_known_to_rules(alloc: Global, charset: &[u8]) -> Result<bool, AllocError> {
-    let mut word = Vec::from_slice(alloc, b"=?")?;
-    word.extend_from_slice(charset)?;
-    word.extend_from_slice(b"?q?a?=")?;
-    Ok(value_of(alloc, word.as_slice())?.as_slice() == b"a".as_slice())
+/// The charsets of which rules decode each word that is written as it has to be. Of the others they decode ASCII at most.
+const KNOWN_TO_RULES: [&str; 3] = ["us-ascii", "utf-8", "iso-8859-1"];
+
+/// Whether rules know all of a charset.
+fn is_known_to_rules(charset: &[u8]) -> bool {
+    KNOWN_TO_RULES
+        .iter()
+        .any(|name| charset.eq_ignore_ascii_case(name.as_bytes()))
 }
 
 /// A line for a word that rules see undecoded, without its end: `Subject has a word in windows-1252, which rules see
@@ -128,7 +129,7 @@ fn is_known_to_rules(alloc: Global, charset: &[u8]) -> Result<bool, AllocError> 
 fn undecoded_line(alloc: Global, word: &UndecodedWord) -> Result<Shown, AllocError> {
     let mut line = Shown::new(alloc);
     put!(line; named(word.field()) " has a word in " named(word.charset()))?;
-    line.words(if is_known_to_rules(alloc, word.charset())? {
+    line.words(if is_known_to_rules(word.charset()) {
         ", in a form that rules do not decode"
     } else {
         ", which rules see undecoded"
