@@ -20,9 +20,9 @@ abbrev pub fate_of : Option ℕ → (is_again : Bool) → Dated → Fate
 fate_of None is_again dated = by_moment dated
 fate_of (Some first) is_again dated = if is_again then by_moment dated else Known first
 
--- all messages were captured, now or before
+-- all messages were captured, now or before, and each folder has one
 abbrev pub is_complete : ImportTally → Bool
-is_complete tally = (tally.unfit == 0) && (tally.given_up == 0)
+is_complete tally = (tally.unfit == 0) && (tally.given_up == 0) && (tally.empty == 0)
 
 -- what the history notes of each capture
 abbrev pub notes_of : Dating → List ℕ

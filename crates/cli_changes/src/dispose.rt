@@ -1,6 +1,7 @@
 //! `dispose`: what is due, and its destruction. Which records these are, `record_choice` decides.
 
 use crate::altered::{Damage, altered_in, due_line, end_list, judge_altered};
+use crate::passed_over::tell_passed_over;
 use crate::runs::{Run, runs_of};
 use class_plan::{Action, Date, Schedule};
 use cli_choice::{Meant, meant_of};
@@ -317,7 +318,8 @@ pub fn day_of_disposal(rt: &HostRuntime, asked: &Disposal) -> Result<Date, Failu
 }
 
 /// Writes what is due by a day and may be destroyed, or destroys it; where numbers are typed, these records alone. A range
-/// passes over what may not be destroyed; `BadData` with the reason where that is a record whose number is typed by itself. Where
+/// Writes what is due by a day and may be destroyed, or destroys it; where numbers are typed, these records alone. A range
+/// passes over what may not be destroyed, which is told; `BadData` with the reason where that is a record whose number is typed by itself. Where
 /// there is none, this is told. By the seals of the history messages are judged: `BadData` where that of a record is not the
 /// one that was captured, and then none is destroyed, unless damage is asked for; what is listed is listed all the same.
 pub fn dispose_by<S: Alter>(
@@ -328,6 +330,7 @@ pub fn dispose_by<S: Alter>(
     seals: &Seals,
 ) -> Result<(), Failure> {
     let fate = fate_of(asked);
+    tell_passed_over(rt, archive, asked.numbers.as_slice(), day)?;
     match meant_by(rt, archive, asked.numbers.as_slice(), day)? {
         Meant::All => dispose_of(rt, archive, seals, fate, &[], day),
         Meant::Nothing => tell_none(rt, "none of these records", day),

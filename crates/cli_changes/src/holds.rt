@@ -1,5 +1,6 @@
 //! `hold` and `release`: records that must not be destroyed.
 
+use choice_words::reads_as_numbers;
 use cli_choice::{Change, Questions, is_meant};
 use cli_console::{Failure, Search, Status, Walk, tell, write_text};
 use cli_history::StoreLedger;
@@ -72,13 +73,39 @@ pub(crate) fn change_on<S: Alter>(
     }
 }
 
-/// What became of the records that are meant.
+/// What became of the records that were found.
 #[derive(Clone, Copy)]
 struct Changed {
     /// Whether the archive did it on one.
     is_any: bool,
     /// Whether it refused one.
     is_refused: bool,
+    /// How many live records were passed over, which are as they are to be already.
+    passed: u64,
+    /// How many destroyed ones were passed over.
+    destroyed: u64,
+}
+
+impl Changed {
+    /// Of no records.
+    fn none() -> Changed {
+        Changed {
+            is_any: false,
+            is_refused: false,
+            passed: 0,
+            destroyed: 0,
+        }
+    }
+
+    /// Counts a record that is passed over.
+    fn pass_over(&mut self, entry: &RecordEntry) {
+        let count = if entry.destroyed {
+            &mut self.destroyed
+        } else {
+            &mut self.passed
+        };
+        *count = count.saturating_add(1);
+    }
 }
 
 /// Changes the hold of a name on those records of a page that are meant, and adds what becomes of them.
@@ -99,6 +126,8 @@ fn change_page<S: Alter>(
             } else {
                 changed.is_refused = true;
             }
+        } else {
+            changed.pass_over(entry);
         }
     }
     Ok(())
@@ -131,8 +160,20 @@ fn said_of(alloc: Global, name: &str, words: &'static str) -> Result<Shown, Allo
     Ok(text)
 }
 
+/// The failure of the end of a hold that no record has. `Usage` where its name reads as numbers of records: then it was more
+/// likely forgotten.
+fn not_held(alloc: Global, name: &str) -> Failure {
+    if reads_as_numbers(name.as_bytes()) {
+        let words =
+            "numbers of records, where the name of the hold belongs; type it before them, as audit 3 5-9";
+        return Failure::shown(Status::Usage, said_of(alloc, name, words));
+    }
+    let words = "no record has a hold of this name; the subcommand holds lists the holds";
+    Failure::shown(Status::BadData, said_of(alloc, name, words))
+}
+
 /// Tells that no hold ended. `BadData` where a record is refused, which was told, and where no record of the archive has a hold
-/// of that name.
+/// of that name, or `Usage` where that name reads as numbers.
 pub(crate) fn end_of_none<S: Alter>(
     rt: &HostRuntime,
     archive: &mut StoreLedger<'_, S>,
@@ -141,20 +182,38 @@ pub(crate) fn end_of_none<S: Alter>(
 ) -> Result<(), Failure> {
     let alloc = rt.alloc();
     if !is_held_by(rt, archive, name)? {
-        let words = "no record has a hold of this name; list --held shows the holds";
-        return Err(Failure::shown(Status::BadData, said_of(alloc, name, words)));
+        return Err(not_held(alloc, name));
     }
     if is_refused {
         return Err(Failure::Reported(Status::BadData));
     }
-    let words = "none of these records has this hold; list --held shows the holds";
+    let words = "none of these records has this hold; the subcommand holds lists the holds";
     tell(rt, &said_of(alloc, name, words)?);
     Ok(())
 }
 
+/// That a hold was placed on no record, and why: none was found, or it keeps those that were found already.
+fn no_more_line(alloc: Global, name: &str, changed: Changed) -> Result<Shown, AllocError> {
+    let mut line = Shown::new(alloc);
+    put!(line; "hold " named(name.as_bytes()) " keeps no record more: ")?;
+    match (changed.passed, changed.destroyed) {
+        (0, 0) => line.words("no record is found")?,
+        (0, destroyed) => put!(line; "found 0 live, " value(&destroyed) " destroyed")?,
+        (passed, _) => put!(line; "0 new, " value(&passed) " kept already")?,
+    }
+    line.end_line()?;
+    Ok(line)
+}
+
+/// Writes that a hold was placed on no record. That is no failure: a hold is placed again after each intake.
+fn write_no_more(rt: &HostRuntime, name: &str, changed: Changed) -> Result<(), Failure> {
+    write_text(rt, &no_more_line(rt.alloc(), name, changed)?)
+}
+
 /// Changes the hold of a name on the records that are found. Those that are typed by themselves, and that are not found or
 /// that the archive refuses, are told, and are a failure in the end. So is the end of a hold that no record has; where it is
-/// none of the records that are found that has it, and none is refused, this is told. `BadData` where the class is none of the plan.
+/// none of the records that are found that has it, and none is refused, this is told; where a hold is placed on none, and none is
+/// refused, that is written. `BadData` where the class is none of the plan.
 pub fn change_holds<S: Alter>(
     rt: &HostRuntime,
     archive: &mut StoreLedger<'_, S>,
@@ -164,10 +223,7 @@ pub fn change_holds<S: Alter>(
     questions: &Questions,
 ) -> Result<(), Failure> {
     let mut search = Search::new(rt, archive, choice, questions)?;
-    let mut changed = Changed {
-        is_any: false,
-        is_refused: false,
-    };
+    let mut changed = Changed::none();
     for _ in 0..u64::MAX {
         let Some(page) = search.next_page(rt, archive)? else {
             break;
@@ -179,6 +235,7 @@ pub fn change_holds<S: Alter>(
     match change {
         Change::End if !changed.is_any => end_of_none(rt, archive, name, changed.is_refused),
         _ if changed.is_refused => Err(Failure::Reported(Status::BadData)),
+        Change::Place if !changed.is_any => write_no_more(rt, name, changed),
         _ => Ok(()),
     }
 }

@@ -14,7 +14,7 @@ use cli_history::StoreLedger;
 use command_lines::archives::{Dating as AskedDating, Import, Moment, Telling};
 use mail_boxes::BoxMessage;
 use mail_dates::Dating;
-use mail_sources::{BoxReader, MailFiles, Source, SourceFault, source_at};
+use mail_sources::{BoxReader, MailFiles, PassedOver, Source, SourceFault, source_at};
 use record_archive::Records;
 use record_known::Known;
 use sqlite::Alter;
@@ -39,6 +39,8 @@ pub struct MailImport<'a> {
     pub(crate) is_again: bool,
     /// Whether nothing is told of what is captured and passed over.
     pub(crate) is_quiet: bool,
+    /// Whether each message is told that is captured already.
+    pub(crate) is_verbose: bool,
     pub(crate) log: IntakeLog<'a>,
 }
 
@@ -72,6 +74,9 @@ fn dating_at(rt: &HostRuntime, asked: AskedDating, now: u64) -> Result<Dating, F
 /// The failure of a source of mail. `NoInput` where nothing is there, and `BadData` where it is no mbox.
 fn source_failure(rt: &HostRuntime, path: &str, fault: SourceFault) -> Failure {
     match fault {
+        SourceFault::Io(error) if error.kind() == io::ErrorKind::NotFound => {
+            Failure::at(rt.alloc(), Status::NoInput, path, &"no such file or folder")
+        }
         SourceFault::Io(error) => maildir_failure(rt, path, error),
         SourceFault::NoMbox => {
             let reason =
@@ -118,6 +123,7 @@ impl<'a> MailImport<'a> {
             now,
             is_again: asked.is_again,
             is_quiet: asked.is_quiet,
+            is_verbose: asked.is_verbose,
             log: IntakeLog::new(rt, telling),
         })
     }
@@ -180,12 +186,23 @@ fn listed(
     files.map_err(|error| maildir_failure(rt, path, error))
 }
 
-/// Takes the messages of files.
-fn take_files<A: Records>(room: &mut ImportRoom<'_, A>, files: &MailFiles) -> Result<(), Failure> {
-    for path in &files.paths {
-        room.take_file(path.as_str())?;
+/// Takes the messages of the files of a source at a path, and notes what lies beside them.
+fn take_files<A: Records>(
+    room: &mut ImportRoom<'_, A>,
+    source: Source<'_>,
+    path: &str,
+    files: &MailFiles,
+) -> Result<(), Failure> {
+    for file in &files.paths {
+        room.take_file(file.as_str())?;
     }
     room.leave_nameless(files.nameless);
+    if files.paths.is_empty() && files.nameless == 0 {
+        room.note_empty(path);
+    }
+    let rt = room.job.rt;
+    let passed = PassedOver::of(rt, source).map_err(|error| maildir_failure(rt, path, error))?;
+    room.note_passed(&passed);
     Ok(())
 }
 
@@ -199,12 +216,12 @@ fn take_source<A: Records>(
         Source::Folder(path) => {
             let rt = room.job.rt;
             let files = listed(rt, path, MailFiles::of_folder(rt, path))?;
-            take_files(room, &files)
+            take_files(room, source, path, &files)
         }
         Source::Maildir(path) => {
             let rt = room.job.rt;
             let files = listed(rt, path, MailFiles::of_maildir(rt, path))?;
-            take_files(room, &files)
+            take_files(room, source, path, &files)
         }
     }
 }
@@ -219,6 +236,7 @@ fn take_sources<A: Records>(
     }
     if !room.job.is_quiet {
         room.tally.write(room.job.rt);
+        room.tally.tell_passed(room.job.rt);
     }
     room.tally.status()
 }
@@ -243,8 +261,9 @@ fn import_into<A: Records>(
 }
 
 /// Captures old mail in a store: each message once, in the order of the sources, of the messages of an mbox, and of the names of
-/// files. A message that is captured already is passed over, and one without a moment stays. Both are told, and the others are
-/// captured all the same. `BadData` where messages stay; where some were given up they may be taken later, `TryAgain`.
+/// files. A message that is captured already is passed over, and one without a moment stays, which is told. The the others are
+/// captured all the same. What lies beside the messages of a folder is told in the end. `BadData` where messages stay, and where a folder
+/// has none; where some were given up they may be taken later, `TryAgain`.
 pub fn import_mail<'a, S: Alter>(
     archive: StoreLedger<'a, S>,
     job: MailImport<'_>,

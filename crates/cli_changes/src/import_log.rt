@@ -6,6 +6,7 @@ ghost use Rattle.cli_changes.specs.Imports.{is_complete};
 use cli_console::{Failure, Status, tell, write_text};
 use mail_dates::{Dated, Dating};
 use mail_intake::Reason;
+use mail_sources::PassedOver;
 use std::alloc::{AllocError, Global};
 use tool_texts::{Shown, put};
 
@@ -20,6 +21,22 @@ pub(crate) struct ImportTally {
     pub unfit: u64,
     /// That were given up, and may be taken later.
     pub given_up: u64,
+    /// Folders and Maildirs in which no message was found.
+    pub empty: u64,
+    /// Files beside the messages of folders.
+    pub files: u64,
+    /// Folders beside them.
+    pub folders: u64,
+}
+
+/// Adds how many there are of something.
+fn put_count(
+    text: &mut Shown,
+    count: u64,
+    one: &'static str,
+    many: &'static str,
+) -> Result<(), AllocError> {
+    put!(text; value(&count) " " words(if count == 1 { one } else { many }))
 }
 
 impl ImportTally {
@@ -30,7 +47,16 @@ impl ImportTally {
             known: 0,
             unfit: 0,
             given_up: 0,
+            empty: 0,
+            files: 0,
+            folders: 0,
         }
+    }
+
+    /// Counts what lies beside the messages of a source.
+    pub fn count_passed(&mut self, passed: &PassedOver) {
+        self.files = self.files.saturating_add(passed.files as u64);
+        self.folders = self.folders.saturating_add(passed.folders as u64);
     }
 
     /// Counts a message that stays for a reason.
@@ -60,14 +86,41 @@ impl ImportTally {
         }
     }
 
-    /// How an import ended that came to its end: `BadData` where messages stay, and `TryAgain` where some of them were given up.
+    /// That files and folders were passed over.
+    fn passed_words(&self, alloc: Global) -> Result<Shown, AllocError> {
+        let mut text = Shown::new(alloc);
+        text.words("passed over: ")?;
+        if self.files > 0 {
+            put_count(&mut text, self.files, "file", "files")?;
+        }
+        if self.files > 0 && self.folders > 0 {
+            text.words(", ")?;
+        }
+        if self.folders > 0 {
+            put_count(&mut text, self.folders, "folder", "folders")?;
+        }
+        Ok(text)
+    }
+
+    /// Tells how many files and folders were passed over, if any.
+    pub fn tell_passed(&self, rt: &HostRuntime) {
+        if self.files == 0 && self.folders == 0 {
+            return;
+        }
+        if let Ok(text) = self.passed_words(rt.alloc()) {
+            tell(rt, &text);
+        }
+    }
+
+    /// How an import ended that came to its end: `BadData` where messages stay, or a folder has none, and `TryAgain` where some of
+    /// them were given up.
     pub fn status(&self) -> Result<(), Failure>
         ensures { is_ok result ≡ is_complete self.now }
     {
         if self.given_up > 0 {
             return Err(Failure::Reported(Status::TryAgain));
         }
-        if self.unfit > 0 {
+        if self.unfit > 0 || self.empty > 0 {
             return Err(Failure::Reported(Status::BadData));
         }
         Ok(())
@@ -84,6 +137,36 @@ fn known_words(alloc: Global, name: &str, first: u32) -> Result<Shown, AllocErro
 /// Tells that a message is captured already, and its first record.
 pub(crate) fn tell_known(rt: &HostRuntime, name: &str, first: u32) {
     if let Ok(text) = known_words(rt.alloc(), name, first) {
+        tell(rt, &text);
+    }
+}
+
+/// What is told of a Maildir in a source.
+fn maildir_words(alloc: Global, path: &str) -> Result<Shown, AllocError> {
+    let mut text = Shown::new(alloc);
+    put!(text; named(path.as_bytes()) ": a Maildir too, which is not taken; name it to import it")?;
+    Ok(text)
+}
+
+/// Tells of the Maildirs in a source, which are not taken.
+pub(crate) fn tell_maildirs(rt: &HostRuntime, passed: &PassedOver) {
+    for path in &passed.maildirs {
+        if let Ok(text) = maildir_words(rt.alloc(), path.as_str()) {
+            tell(rt, &text);
+        }
+    }
+}
+
+/// What is told of a folder without a message.
+fn empty_words(alloc: Global, path: &str) -> Result<Shown, AllocError> {
+    let mut text = Shown::new(alloc);
+    put!(text; "no message is found in " named(path.as_bytes()))?;
+    Ok(text)
+}
+
+/// Tells that a folder has no message.
+pub(crate) fn tell_empty(rt: &HostRuntime, path: &str) {
+    if let Ok(text) = empty_words(rt.alloc(), path) {
         tell(rt, &text);
     }
 }

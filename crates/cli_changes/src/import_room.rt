@@ -4,7 +4,7 @@ use crate::deliver::{desk_failure, undecoded_in};
 use crate::fault_words::given_up_words;
 use crate::import::MailImport;
 use crate::import_fate::{Fate, fate_of};
-use crate::import_log::{ImportTally, tell_known, undated_words};
+use crate::import_log::{ImportTally, tell_empty, tell_known, tell_maildirs, undated_words};
 use crate::intake_room::{given_up, unfit, unread, words_of};
 use crate::no_mail::imported_words;
 use crate::time_limit::{TimeLimit, too_slow_reason};
@@ -16,6 +16,7 @@ use filing_desk::{Delivery, Desk, deliver};
 use mail_boxes::{BoxMessage, judge_message};
 use mail_dates::date_message;
 use mail_intake::Reason;
+use mail_sources::PassedOver;
 use record_archive::Records;
 use record_history::seal_of;
 use record_known::{Known, SealKey, key_of};
@@ -103,7 +104,7 @@ impl<'a, A: Records> ImportRoom<'a, A> {
     /// Passes over a message that is captured already.
     fn pass_over(&mut self, name: &str, first: u32) {
         self.tally.known = self.tally.known.saturating_add(1);
-        if !self.job.is_quiet {
+        if self.job.is_verbose {
             self.speak();
             tell_known(self.job.rt, name, first);
         }
@@ -265,6 +266,21 @@ impl<'a, A: Records> ImportRoom<'a, A> {
                 self.leave(path, reason);
                 Ok(())
             }
+        }
+    }
+
+    /// Tells that a source has no message.
+    pub fn note_empty(&mut self, path: &str) {
+        self.speak();
+        tell_empty(self.job.rt, path);
+        self.tally.empty = self.tally.empty.saturating_add(1);
+    }
+
+    /// Notes what lies beside the messages of a source, and tells of the Maildirs among that.
+    pub fn note_passed(&mut self, passed: &PassedOver) {
+        self.tally.count_passed(passed);
+        if !self.job.is_quiet {
+            tell_maildirs(self.job.rt, passed);
         }
     }
 

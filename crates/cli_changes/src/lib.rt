@@ -14,8 +14,9 @@
 //!   new plan keeps less;
 //! - `refile`: another class for records; `refilings`: which of them get it; `due_today`: what is due at once by a change;
 //! - `titles`: titles of classes, which a file gives;
-//! - `dispose`: the destruction of what is due; `runs`: records in runs, by what is noted of each; `altered`: those of them whose
-//!   messages are not the ones that were captured.
+//! - `dispose`: the destruction of what is due; `approved`: the numbers in a file of what was approved; `passed_over`: what it
+//!   passes over; `runs`: records in runs, by what is noted of each; `altered`: those of them whose messages are not the ones
+//!   that were captured.
 //!
 //! Each works on a store that is lent to it. What it writes, and what a Maildir or a terminal does, no contract speaks of:
 //! tests of the program show it. `specs/Moments` says when a clock is refused, `specs/Imports` what becomes of a message of
@@ -23,6 +24,7 @@
 #![tactic(auto)]
 
 mod altered;
+mod approved;
 mod deliver;
 mod dispose;
 mod due_today;
@@ -39,6 +41,7 @@ mod intake_room;
 mod keeping;
 mod moments;
 mod no_mail;
+mod passed_over;
 mod plan;
 mod plan_changes;
 mod plan_file;
@@ -53,6 +56,7 @@ mod time_of_day;
 mod titles;
 mod whole_holds;
 
+pub use approved::with_approved;
 pub use deliver::{Delivered, deliver_to, read_message, report_delivery, undecoded_in};
 pub use dispose::{day_of_disposal, dispose_by};
 pub use holds::change_holds;

@@ -82,10 +82,22 @@ fn behind_words(alloc: Global, today: u64, last: u32) -> Result<Shown, AllocErro
     Ok(text)
 }
 
-/// What is told of a moment that has not come.
+/// The day that begins with a moment, where one of the years 1970 to 9999 does.
+fn day_begun(moment: u64) -> Option<Date> {
+    if moment % DAY != 0 {
+        return None;
+    }
+    date_of(i64::try_from(day_of_moment(moment)).ok()?)
+}
+
+/// What is told of a moment that has not come: as a day, where one begins with it, and else in seconds since 1970.
 fn not_come_words(alloc: Global, moment: u64) -> Result<Shown, AllocError> {
     let mut text = Shown::new(alloc);
-    put!(text; value(&moment) ": this moment has not come yet")?;
+    text.words("--at ")?;
+    match day_begun(moment) {
+        Some(day) => put!(text; value(&day) ": this day has not come yet")?,
+        None => put!(text; value(&moment) ": this moment has not come yet")?,
+    }
     Ok(text)
 }
 

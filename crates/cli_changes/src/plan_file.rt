@@ -38,6 +38,9 @@ fn read_text(rt: &HostRuntime, path: &str) -> Result<Vec<u8>, Failure> {
         Ok(Payload::TooLong) => Err(plan_refused(rt, path, TOO_LONG)),
         Ok(Payload::NoMemory) => Err(Failure::NoMemory),
         Err(error) if error.kind() == ErrorKind::OutOfMemory => Err(Failure::NoMemory),
+        Err(error) if error.kind() == ErrorKind::NotFound => {
+            Err(Failure::at(rt.alloc(), Status::NoInput, path, &"no such file"))
+        }
         Err(error) => Err(Failure::at(rt.alloc(), Status::NoInput, path, &error)),
     }
 }

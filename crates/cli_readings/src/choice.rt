@@ -1,26 +1,52 @@
 //! What is asked of the records that a command is about.
 
 use cli_choice::{Questions, QuestionsFault};
-use cli_console::{Failure, Status, judge_day, refusal_words};
+use cli_console::{Failure, Status, judge_day, refusal_words, tell};
 use command_lines::archives::Choice;
 use mail_display::FieldGroup;
 use record_question::QuestionFault;
-use sieve_text::{ScanRefusal, TextRefusal};
+use sieve_text::{ScanRefusal, TextRefusal, scan};
 use std::alloc::{AllocError, Global};
-use tool_findings::{finding_in_test, push_words};
+use tool_findings::{finding_in_test, impossible_fields, push_words};
 use tool_texts::{Shown, place_of, put};
 
-/// Why a text is not exactly one test.
-fn words_of(refusal: TextRefusal) -> &'static str {
-    match refusal {
-        TextRefusal::Scan(ScanRefusal::NotUtf8) => "the test is not UTF-8",
-        TextRefusal::Scan(ScanRefusal::ScriptTooLong) => {
-            "the test has more than 262,144 octets; write a shorter one"
+/// Why a text does not go on as a test does, which is seen at an octet.
+fn syntax_words(test: &str, octet: Option<u8>) -> &'static str {
+    let front = test.trim_start();
+    if front.is_empty() {
+        return "there is no test; write one as in a rule, as header :contains \"subject\" \"invoice\"";
+    }
+    if front.starts_with('[') || front.starts_with('"') {
+        return "a test begins with its name, which is one of header, exists, size, not, allof, anyof, true and false";
+    }
+    match octet {
+        Some(b';' | b'{') => {
+            "a test alone is wanted, as it stands after if in a rule, and no command; leave out what is here and after it"
         }
-        TextRefusal::Scan(refusal) => refusal_words(refusal.number()),
-        TextRefusal::Syntax => {
+        _ => {
             "the test cannot go on like this; look for a missing comma, bracket or quotation mark just before this place, and for a mark behind the test"
         }
+    }
+}
+
+/// Why a text has something that is no token, at an octet.
+fn scan_words(refusal: ScanRefusal, octet: Option<u8>) -> &'static str {
+    match (refusal, octet) {
+        (ScanRefusal::NotUtf8, _) => "the test is not UTF-8",
+        (ScanRefusal::ScriptTooLong, _) => {
+            "the test has more than 262,144 octets; write a shorter one"
+        }
+        (_, Some(b'\'')) => "a text in a test stands between quotation marks, as \"invoice\"",
+        (refusal, _) => refusal_words(refusal.number()),
+    }
+}
+
+/// Why a text is not exactly one test, which is seen at an offset in octets.
+fn words_of(test: &str, refusal: TextRefusal, offset: usize) -> &'static str {
+    let octet = test.as_bytes().get(offset).copied();
+    match refusal {
+        TextRefusal::Scan(refusal) => scan_words(refusal, octet),
+        TextRefusal::Syntax => syntax_words(test, octet),
         TextRefusal::Nesting =>
             "more than 32 tests stand inside one another here; write fewer levels",
     }
@@ -39,7 +65,7 @@ fn refused_test(alloc: Global, test: &str, fault: QuestionFault) -> Result<Shown
         QuestionFault::NoMemory => return Err(AllocError),
         QuestionFault::Text(refusal, at) => {
             put_refusal(&mut text, test, at, refusal.number())?;
-            text.words(words_of(refusal))?;
+            text.words(words_of(test, refusal, at))?;
         }
         QuestionFault::Test(fault) => {
             let finding = finding_in_test(alloc, test.as_bytes(), fault)?;
@@ -76,14 +102,45 @@ fn question_failure(alloc: Global, test: Option<&str>, fault: QuestionsFault) ->
     }
 }
 
-/// Finds that the day of a choice has come, and reads what it asks of messages.
+/// That no field can have a name that stands in a test, at an offset in octets.
+fn impossible_words(
+    alloc: Global,
+    test: &str,
+    name: &[u8],
+    offset: usize,
+) -> Result<Shown, AllocError> {
+    let place = place_of(test.as_bytes(), offset);
+    let mut text = Shown::new(alloc);
+    put!(text; "--where:" value(&place.line) ":" value(&place.column)
+        ": warning: no field can have the name " quoted(name))?;
+    Ok(text)
+}
+
+/// Warns of each name in a good test that no field of a message can have, as `mailfile-tool check` does of those in a rule.
+fn warn_of_fields(rt: &HostRuntime, test: &str) -> Result<(), AllocError> {
+    let alloc = rt.alloc();
+    let Ok(tokens) = scan(alloc, test.as_bytes()) else {
+        return Ok(());
+    };
+    for (name, at) in impossible_fields(alloc, tokens.as_slice())?.iter() {
+        tell(rt, &impossible_words(alloc, test, *name, *at)?);
+    }
+    Ok(())
+}
+
+/// Finds that the day of a choice has come, and reads what it asks of messages. It warns of names in a test that no field can
+/// have, for which nothing is found.
 pub fn judge_choice(rt: &HostRuntime, choice: &Choice<'_>) -> Result<Questions, Failure> {
     if let Some(day) = choice.due {
         judge_day(rt, day)?;
     }
-    Questions::read(rt.alloc(), choice).map_err(|fault| question_failure(
+    let questions = Questions::read(rt.alloc(), choice).map_err(|fault| question_failure(
         rt.alloc(),
         choice.test,
         fault,
-    ))
+    ))?;
+    if let Some(test) = choice.test {
+        warn_of_fields(rt, test)?;
+    }
+    Ok(questions)
 }

@@ -11,7 +11,7 @@ use crate::titles::give_titles;
 use class_plan::Date;
 use cli_changes::{
     FilingRules, Intake, Timing, check_rules, day_of_disposal, logged, read_message, read_plan,
-    refuse_no_mail, report_delivery, undecoded_in, write_plan,
+    refuse_no_mail, report_delivery, undecoded_in, with_approved, write_plan,
 };
 use cli_choice::{Change, Questions};
 use cli_console::{Failure, day_or_today};
@@ -21,8 +21,8 @@ use cli_readings::{
     write_report, write_twice, write_why,
 };
 use command_lines::archives::{
-    Attribution, Choice, ChosenTask, Command, CommandLine, Disposal, Filing, HistoryTask, Listing,
-    Refiling, RulesChecked, Target, Telling, TypedNumber, Why,
+    Attribution, Choice, ChosenTask, Command, CommandLine, DisposalAsked, Filing, HistoryTask,
+    Listing, Refiling, RulesChecked, Target, Telling, TypedNumber, Why,
 };
 use record_store::Store;
 use sqlite::{Alter, Connection};
@@ -366,9 +366,10 @@ fn dispose<A: Archives>(
     rt: &HostRuntime,
     archives: &A,
     store: &str,
-    asked: Disposal,
+    asked: DisposalAsked<'_>,
     told: &Attribution<'_>,
 ) -> Result<(), Failure> {
+    let asked = with_approved(rt, asked)?;
     let day = day_of_disposal(rt, &asked)?;
     let author = if asked.destroys {
         Author::of(rt, told)?

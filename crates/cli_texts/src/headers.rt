@@ -114,14 +114,26 @@ impl Headers {
     }
 }
 
+/// The charsets of which rules decode each word that is written as it has to be. Of the others they decode ASCII at most.
+const KNOWN_TO_RULES: [&str; 3] = ["us-ascii", "utf-8", "iso-8859-1"];
+
+/// Whether rules know all of a charset.
+fn is_known_to_rules(charset: &[u8]) -> bool {
+    KNOWN_TO_RULES
+        .iter()
+        .any(|name| charset.eq_ignore_ascii_case(name.as_bytes()))
+}
+
 /// A line for a word that rules see undecoded, without its end: `Subject has a word in windows-1252, which rules see
-/// undecoded`.
+/// undecoded`; where they know its charset, that its form is the cause.
 fn undecoded_line(alloc: Global, word: &UndecodedWord) -> Result<Shown, AllocError> {
     let mut line = Shown::new(alloc);
-    put!(line;
-        named(word.field()) " has a word in " named(word.charset())
+    put!(line; named(word.field()) " has a word in " named(word.charset()))?;
+    line.words(if is_known_to_rules(word.charset()) {
+        ", in a form that rules do not decode"
+    } else {
         ", which rules see undecoded"
-    )?;
+    })?;
     Ok(line)
 }
 

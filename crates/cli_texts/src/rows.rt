@@ -2,7 +2,7 @@
 
 use crate::headers::{Headers, ListedHeaders};
 use crate::records::{Row, listed_due, shown};
-use csv::WriterBuilder;
+use csv::{QuoteStyle, WriterBuilder};
 use std::alloc::{AllocError, Global};
 use tool_texts::Shown;
 
@@ -63,9 +63,25 @@ fn cell_of(alloc: Global, field: &[u8]) -> Result<Vec<u8>, AllocError> {
     Ok(cell)
 }
 
+/// Whether a field has a semicolon, at which spreadsheets of many languages begin another cell.
+fn has_semicolon(field: &[u8]) -> bool {
+    field.iter().any(|octet| *octet == b';')
+}
+
+/// Which fields of a row stand in quotation marks: all, where one has a semicolon, and else those that have to.
+fn style_of(fields: &[&[u8]]) -> QuoteStyle {
+    if fields.iter().any(|field| has_semicolon(*field)) {
+        QuoteStyle::Always
+    } else {
+        QuoteStyle::Necessary
+    }
+}
+
 /// A row of CSV, with its line end.
 pub fn csv_row(alloc: Global, fields: &[&[u8]]) -> Result<Vec<u8>, AllocError> {
-    let mut writer = WriterBuilder::new().from_writer(Vec::new(alloc));
+    let mut writer = WriterBuilder::new()
+        .quote_style(style_of(fields))
+        .from_writer(Vec::new(alloc));
     for field in fields {
         let cell = cell_of(alloc, *field)?;
         writer.write_field(cell.as_slice()).map_err(|_| AllocError)?;

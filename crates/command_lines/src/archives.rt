@@ -1,5 +1,6 @@
 //! The command line of `mailfile-store`: what it asks for, with each value read and judged.
 
+mod approvals;
 mod captures;
 mod class_words;
 mod disposals;
@@ -11,8 +12,12 @@ mod imports;
 mod refilings;
 mod words;
 
-use crate::reading::{NoCommand, day_of, has_flag, read_words, required, value_of, values_of};
+use crate::reading::{
+    NoCommand, day_of, has_flag, read_words, required, seen, value_of, values_of,
+};
 use crate::table::Word;
+pub use approvals::DisposalAsked;
+use approvals::approved_asked;
 use captures::filing_asked;
 use choice_words::{read_numbers, reads_as_numbers, reversed_range};
 pub use choice_words::{Choice, TypedNumbers};
@@ -92,7 +97,7 @@ pub enum Command<'a> {
     /// Judges rules by the plan of the store.
     CheckRules(RulesChecked<'a>),
     Why(Why<'a>),
-    Dispose(Disposal),
+    Dispose(DisposalAsked<'a>),
     /// Ends the hold of a name, which is 1 to 64 octets from 33 to 126, on each record.
     ReleaseAll {
         name: &'a str,
@@ -280,7 +285,8 @@ fn no_numbers(alloc: Global, word: &str) -> Result<String, AllocError> {
             format!(in alloc; "{word}: a range begins with its smaller number; type {first}-{last}")
         }
         _ => format!(in alloc;
-            "{word}: neither a number of a record, as 3, nor a range of numbers, as 5-9"
+            "{}: neither a number of a record, as 3, nor a range of numbers, as 5-9",
+            seen(word)
         ),
     }
 }
@@ -348,6 +354,12 @@ fn first_asked(alloc: Global, asked: &ArgMatches<'_>) -> Result<u32, NoCommand> 
     }
 }
 
+/// The text that is looked for, where it is given: without the white space at its ends, which no one sees who types it.
+fn text_asked<'a>(asked: &ArgMatches<'a>, word: Word) -> Option<&'a str> {
+    let text = value_of(asked, word)?;
+    Some(text.trim())
+}
+
 /// The conditions of a choice, without numbers.
 fn conditions_asked<'a>(alloc: Global, asked: &ArgMatches<'a>) -> Result<Choice<'a>, NoCommand> {
     let (since, until) = days_asked(alloc, asked)?;
@@ -362,9 +374,9 @@ fn conditions_asked<'a>(alloc: Global, asked: &ArgMatches<'a>) -> Result<Choice<
         is_live: has_flag(asked, words::LIVE),
         is_destroyed: has_flag(asked, words::DESTROYED),
         test: value_of(asked, words::WHERE),
-        sender: value_of(asked, words::SENDER),
-        recipient: value_of(asked, words::RECIPIENT),
-        subject: value_of(asked, words::SUBJECT),
+        sender: text_asked(asked, words::SENDER),
+        recipient: text_asked(asked, words::RECIPIENT),
+        subject: text_asked(asked, words::SUBJECT),
     })
 }
 
@@ -563,7 +575,10 @@ fn change_asked<'a>(
         },
         "intake" => intake_asked(alloc, asked)?,
         "import" => Command::Import(import_asked(alloc, asked)?),
-        "dispose" => Command::Dispose(disposal_asked(alloc, asked)?),
+        "dispose" => {
+            let typed = disposal_asked(alloc, asked)?;
+            Command::Dispose(approved_asked(alloc, asked, typed)?)
+        }
         _ => return Ok(None),
     }))
 }

@@ -1,6 +1,6 @@
-//! Hints: which option is meant by an argument that is none of a subcommand's.
+//! Hints: which option is meant by an argument that is none of a subcommand's, and what else is said of one.
 
-use crate::table::{Hint, Program, Subcommand, Word};
+use crate::table::{Hint, Program, StrayKind, Subcommand, Word};
 
 /// What stands before and after such an argument where `clap` reports it.
 const REPORTED: (&str, &str) = ("error: unexpected argument '", "' found");
@@ -51,6 +51,29 @@ pub fn hint_on(program: &Program, name: &str, report: &str) -> Option<Hint> {
     for hint in program.hints {
         if hint.typed == argument && is_option(program, name, hint.meant) {
             return Some(*hint);
+        }
+    }
+    None
+}
+
+/// Whether a stray argument is of this kind.
+fn is_of(program: &Program, argument: &str, kind: StrayKind) -> bool {
+    match kind {
+        StrayKind::Shared => is_among(argument, program.shared),
+        StrayKind::Place => !argument.starts_with('-'),
+    }
+}
+
+/// The argument that is none of the subcommand of a name, as `clap` reports it, and what a program has to say of it.
+pub fn stray_on<'r>(
+    program: &Program,
+    name: &str,
+    report: &'r str,
+) -> Option<(&'r str, &'static str)> {
+    let argument = argument_of(report)?;
+    for stray in program.strays {
+        if stray.subcommand == name && is_of(program, argument, stray.kind) {
+            return Some((argument, stray.said));
         }
     }
     None

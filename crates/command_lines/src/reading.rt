@@ -1,6 +1,6 @@
 //! Words of a command line, which `clap` reads by a program's table.
 
-use crate::hints::hint_on;
+use crate::hints::{hint_on, stray_on};
 use crate::table::{Hint, Program, Word, command_of};
 use crate::wrapping::push_wrapped;
 use clap::error::ErrorKind;
@@ -28,10 +28,15 @@ pub enum NoCommand {
     NoMemory,
 }
 
+/// A word as it is typed; one without a character in quotation marks, so that it is seen.
+pub(crate) fn seen(typed: &str) -> &str {
+    if typed.is_empty() { "\"\"" } else { typed }
+}
+
 impl NoCommand {
     /// The refusal of a value as it is typed, with the reason.
     pub(crate) fn wrong(alloc: Global, typed: &str, reason: &str) -> NoCommand {
-        match format!(in alloc; "{typed}: {reason}") {
+        match format!(in alloc; "{}: {reason}", seen(typed)) {
             Ok(text) => NoCommand::Wrong(text),
             Err(_) => NoCommand::NoMemory,
         }
@@ -39,7 +44,7 @@ impl NoCommand {
 
     /// The refusal of the value of an option, with the option, the value as it is typed, and the reason.
     pub(crate) fn wrong_after(alloc: Global, word: Word, typed: &str, reason: &str) -> NoCommand {
-        match format!(in alloc; "--{} {typed}: {reason}", word.name) {
+        match format!(in alloc; "--{} {}: {reason}", word.name, seen(typed)) {
             Ok(text) => NoCommand::Wrong(text),
             Err(_) => NoCommand::NoMemory,
         }
@@ -137,8 +142,8 @@ pub(crate) fn read_by<'a>(
         .map_err(|_| tell_refusal(rt, shown))
 }
 
-/// Which option is meant by words that `clap` refuses, where that is told: after the name of their subcommand, which is the
-/// first word that is typed.
+/// What a program says of words that `clap` refuses: of an argument that is none of their subcommand's, whose name is the first
+/// word that is typed, or which option is meant by it.
 fn hinted(
     alloc: Global,
     program: &Program,
@@ -149,6 +154,9 @@ fn hinted(
         return Ok(None);
     };
     let report = error.to_string(alloc)?;
+    if let Some((argument, said)) = stray_on(program, name, report.as_str()) {
+        return Ok(Some(format!(in alloc; "{}: {said}", seen(argument))?));
+    }
     match hint_on(program, name, &report) {
         Some(Hint { typed, meant }) => Ok(Some(format!(in alloc;
             "{typed}: no such option; {meant} is meant?"

@@ -88,6 +88,24 @@ pub struct Hint {
     pub meant: &'static str,
 }
 
+/// Which arguments that are none of a subcommand's have something said of them.
+#[derive(Clone, Copy)]
+pub enum StrayKind {
+    /// The options that other subcommands of the program share.
+    Shared,
+    /// A word that is no option.
+    Place,
+}
+
+/// What is said of arguments that are none of a subcommand's.
+#[derive(Clone, Copy)]
+pub struct Stray {
+    /// The name of the subcommand.
+    pub subcommand: &'static str,
+    pub kind: StrayKind,
+    pub said: &'static str,
+}
+
 /// The command line of a program, which always has a subcommand.
 ///
 /// Its subcommands are in groups, each of which a function hands over: a function that names a whole large table takes too
@@ -103,6 +121,7 @@ pub struct Program {
     /// The words that several of them have.
     pub shared: &'static [Word],
     pub hints: &'static [Hint],
+    pub strays: &'static [Stray],
 }
 
 /// An argument in the form of a word. A number with a sign is a value too, so that its own reason refuses it.

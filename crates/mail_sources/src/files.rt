@@ -31,6 +31,11 @@ fn has_message(name: &str, naming: Naming) -> bool {
     is_named && !name.starts_with('.')
 }
 
+/// Whether a name is that of a file of a folder that has a message.
+pub(crate) fn is_eml(name: &str) -> bool {
+    has_message(name, Naming::Eml)
+}
+
 /// Adds the name of an entry to those of a folder's messages, if it is one of them. Answers whether it has a name.
 fn add_name(
     alloc: Global,

@@ -40,7 +40,7 @@ impl From<BoxFault> for SourceFault {
 }
 
 /// Whether a folder is a Maildir: it has a folder `cur`.
-fn is_maildir(rt: &HostRuntime, folder: &str) -> io::Result<bool> {
+pub(crate) fn is_maildir(rt: &HostRuntime, folder: &str) -> io::Result<bool> {
     let cur = format!(in rt.alloc(); "{folder}/cur")?;
     match fs::metadata(rt, cur.as_str()) {
         Ok(found) => Ok(found.is_dir()),

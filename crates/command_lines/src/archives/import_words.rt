@@ -21,6 +21,13 @@ pub const AGAIN: Word = Word {
     ..FLAG
 };
 
+pub const VERBOSE: Word = Word {
+    name: "verbose",
+    help: Some("Names each message that is captured already, with its first record"),
+    conflict: Some("quiet"),
+    ..FLAG
+};
+
 /// Where old mail is.
 pub const SOURCES: Word = Word {
     name: "sources",

@@ -1,6 +1,6 @@
 //! What a command line asks of an import.
 
-use super::import_words::{AGAIN, DATED, SOURCES};
+use super::import_words::{AGAIN, DATED, SOURCES, VERBOSE};
 use super::words::QUIET;
 use super::{Filing, filing_asked};
 use crate::reading::{NoCommand, day_of, has_flag, required, values_of};
@@ -31,6 +31,8 @@ pub struct Import<'a> {
     pub dating: Dating,
     /// Whether nothing is told of what is captured and passed over.
     pub is_quiet: bool,
+    /// Whether each message is told that is captured already. Not where it is quiet.
+    pub is_verbose: bool,
     /// Whether messages are captured again that the history has as captured.
     pub is_again: bool,
 }
@@ -64,6 +66,7 @@ pub(super) fn import_asked<'a>(
         filing: filing_asked(alloc, asked)?,
         dating: dating_asked(alloc, asked)?,
         is_quiet: has_flag(asked, QUIET),
+        is_verbose: has_flag(asked, VERBOSE),
         is_again: has_flag(asked, AGAIN),
     })
 }

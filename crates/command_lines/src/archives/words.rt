@@ -1,11 +1,12 @@
 //! The subcommands of `mailfile-store`, each with its words and an example.
 
 use super::class_words::{NEW_TITLES, TO};
+use super::approvals::{APPROVED, STRAYS};
 use super::history_words::{
     ACCEPT_FOUND, BEGIN, BEGIN_REASON, BY, CHOSEN_BY, DEEDS, EVENTS_SINCE, HEAD, REASON,
     REQUIRE_REASON, WAIVE_REASON,
 };
-use super::import_words::{AGAIN, AS_IS, DATED, SOURCES};
+use super::import_words::{AGAIN, AS_IS, DATED, SOURCES, VERBOSE};
 use crate::table::{FLAG, Form, Hint, OPTION, PLACE, Program, Subcommand, Word};
 use std::alloc::{AllocError, Global};
 
@@ -199,6 +200,7 @@ const IMPORT: Subcommand = Subcommand {
         RULES,
         UNFILED_ON_FAULT,
         AGAIN,
+        VERBOSE,
         QUIET,
         BY,
         REASON,
@@ -537,7 +539,7 @@ const HOLDS: Subcommand = Subcommand {
 
 const DISPOSE: Subcommand = Subcommand {
     name: "dispose",
-    about: "Lists the records that are due and may be destroyed, all or those of some numbers; with --yes destroys them, and prints a certificate for each",
+    about: "Lists the records that are due and may be destroyed, all or those of some numbers; with --yes destroys them, and prints a certificate for each. A range passes over what may not be destroyed",
     example: "Example: mailfile-store dispose --store records.db --yes >> certificates.txt",
     words: &[
         STORE,
@@ -557,6 +559,7 @@ const DISPOSE: Subcommand = Subcommand {
             ),
             ..DAMAGED
         },
+        APPROVED,
         BY,
         REASON,
         NUMBERS,
@@ -700,5 +703,6 @@ pub fn program(alloc: Global) -> Result<Program, AllocError> {
         groups: vec![in alloc; capturing(), reading(), judging(), keeping(), telling()]?,
         shared: conditions(),
         hints: HINTS,
+        strays: STRAYS,
     })
 }

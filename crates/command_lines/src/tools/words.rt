@@ -224,5 +224,6 @@ pub fn program(alloc: Global) -> Result<Program, AllocError> {
         groups: vec![in alloc; SUBCOMMANDS]?,
         shared: &[],
         hints: &[],
+        strays: &[],
     })
 }

@@ -1,0 +1,176 @@
+//! `dispose --approved`: the numbers of records that stand in a file.
+
+ghost use Rattle.std.specs.Prelude.{◌<◌, length, IfOk, IfSome};
+
+use choice_words::read_numbers;
+use cli_console::{Failure, Status};
+use cli_sources::{payload_of_file, read_payload};
+use command_lines::archives::{Disposal, DisposalAsked, TypedNumbers};
+use desk_commands::Payload;
+use std::alloc::{AllocError, AllocFailed, Global};
+use std::fmt::Display;
+use std::io::{self, ErrorKind};
+use tool_texts::{Shown, put};
+
+/// How many octets a file of numbers may have.
+const MOST: usize = 16_777_216;
+
+/// What stands for standard input.
+const STANDARD_INPUT: &str = "-";
+
+/// Why a text has no numbers of records.
+#[derive(Drop)]
+enum NoNumbers {
+    /// This word of it is none.
+    Word(Vec<u8>),
+    /// There is no word.
+    Empty,
+    NoMemory,
+}
+
+impl From<AllocError> for NoNumbers {
+    fn from(_error: AllocError) -> NoNumbers {
+        NoNumbers::NoMemory
+    }
+}
+
+impl<T: Drop> From<AllocFailed<T>> for NoNumbers {
+    fn from(_error: AllocFailed<T>) -> NoNumbers {
+        NoNumbers::NoMemory
+    }
+}
+
+/// The numbers that a word is.
+fn numbers_of(alloc: Global, word: &[u8]) -> Result<TypedNumbers, NoNumbers> {
+    match read_numbers(word) {
+        Some(numbers) => Ok(numbers),
+        None => Err(NoNumbers::Word(Vec::from_slice(alloc, word)?)),
+    }
+}
+
+/// Adds the numbers of a line. A word that begins with # ends them.
+fn add_line(alloc: Global, numbers: &mut Vec<TypedNumbers>, line: &[u8]) -> Result<(), NoNumbers> {
+    for word in line.split(|octet| octet.is_ascii_whitespace()) {
+        if word.starts_with(b"#") {
+            break;
+        }
+        if !word.is_empty() {
+            numbers.push(numbers_of(alloc, word)?)?;
+        }
+    }
+    Ok(())
+}
+
+/// Adds the numbers of lines.
+fn add_lines(alloc: Global, numbers: &mut Vec<TypedNumbers>, text: &[u8]) -> Result<(), NoNumbers> {
+    for line in text.split(|octet| *octet == b'\n') {
+        add_line(alloc, numbers, line)?;
+    }
+    Ok(())
+}
+
+/// The numbers in a text, of which there is one at least.
+fn numbers_in(alloc: Global, text: &[u8]) -> Result<Vec<TypedNumbers>, NoNumbers>
+    ensures { IfOk result (λ v. 0 < length v.items) }
+{
+    let mut numbers = Vec::new(alloc);
+    add_lines(alloc, &mut numbers, text)?;
+    if numbers.is_empty() {
+        return Err(NoNumbers::Empty);
+    }
+    Ok(numbers)
+}
+
+/// The failure of a file of numbers, or of standard input, for a reason.
+fn failure_at<T: Display>(alloc: Global, status: Status, path: &str, reason: &T) -> Failure {
+    if path == STANDARD_INPUT {
+        Failure::at_thing(alloc, status, "standard input", reason)
+    } else {
+        Failure::at(alloc, status, path, reason)
+    }
+}
+
+/// The octets of a file, or of standard input.
+fn octets_at(rt: &HostRuntime, path: &str) -> io::Result<Payload> {
+    if path == STANDARD_INPUT {
+        read_payload(rt.alloc(), rt.stdin(), MOST)
+    } else {
+        payload_of_file(rt, path, MOST)
+    }
+}
+
+/// The failure of a file that cannot be read.
+fn unread(rt: &HostRuntime, path: &str, error: &io::Error) -> Failure {
+    match error.kind() {
+        ErrorKind::OutOfMemory => Failure::NoMemory,
+        ErrorKind::NotFound => { failure_at(rt.alloc(), Status::NoInput, path, &"no such file") }
+        _ => failure_at(rt.alloc(), Status::NoInput, path, error),
+    }
+}
+
+/// The text of a file of numbers.
+fn text_at(rt: &HostRuntime, path: &str) -> Result<Vec<u8>, Failure> {
+    match octets_at(rt, path).map_err(|error| unread(rt, path, &error))? {
+        Payload::Whole(text) => Ok(text),
+        Payload::TooLong => Err(failure_at(
+            rt.alloc(),
+            Status::Usage,
+            path,
+            &"more than 16,777,216 octets",
+        )),
+        Payload::NoMemory => Err(Failure::NoMemory),
+    }
+}
+
+/// That a word is no numbers.
+fn word_words(alloc: Global, word: &[u8]) -> Result<Shown, AllocError> {
+    let mut text = Shown::new(alloc);
+    put!(text; quoted(word)
+        " is neither a number of a record, as 3, nor a range of numbers, as 5-9")?;
+    Ok(text)
+}
+
+/// The failure of a file without numbers.
+fn refused(alloc: Global, path: &str, why: NoNumbers) -> Failure {
+    match why {
+        NoNumbers::Word(word) => match word_words(alloc, word.as_slice()) {
+            Ok(words) => failure_at(alloc, Status::Usage, path, &words),
+            Err(AllocError) => Failure::NoMemory,
+        },
+        NoNumbers::Empty => failure_at(
+            alloc,
+            Status::Usage,
+            path,
+            &"no number of a record stands in it, so nothing is approved",
+        ),
+        NoNumbers::NoMemory => Failure::NoMemory,
+    }
+}
+
+/// The numbers in a file, of which there is one at least.
+fn approved_at(rt: &HostRuntime, path: &str) -> Result<Vec<TypedNumbers>, Failure>
+    ensures { IfOk result (λ v. 0 < length v.items) }
+{
+    let text = text_at(rt, path)?;
+    match numbers_in(rt.alloc(), text.as_slice()) {
+        Ok(numbers) => Ok(numbers),
+        Err(why) => Err(refused(rt.alloc(), path, why)),
+    }
+}
+
+/// A disposal of the records whose numbers are typed, or stand in the file of those that were approved: words with blanks and
+/// line ends between them, each a number or a range. What stands after a # in a line is passed over. `Usage` where a word is
+/// none, and where there is no word: an empty file never stands for all records. `NoInput` where the file cannot be read.
+pub fn with_approved(rt: &HostRuntime, asked: DisposalAsked<'_>) -> Result<Disposal, Failure>
+    ensures { IfOk result (λ d. IfSome asked.approved (λ path. 0 < length d.numbers.items)) }
+{
+    let DisposalAsked { typed, approved } = asked;
+    match approved {
+        None => Ok(typed),
+        Some(path) => {
+            let mut meant = typed;
+            meant.numbers = approved_at(rt, path)?;
+            Ok(meant)
+        }
+    }
+}

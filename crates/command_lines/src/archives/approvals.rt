@@ -1,0 +1,54 @@
+//! What a command line says of the records that were approved for destruction.
+
+use super::Disposal;
+use crate::reading::{NoCommand, value_of};
+use crate::table::{OPTION, Stray, StrayKind, Word};
+use clap::ArgMatches;
+use std::alloc::Global;
+
+/// The file of the numbers that were approved for destruction.
+pub const APPROVED: Word = Word {
+    name: "approved",
+    value: "FILE",
+    help: Some(
+        "The records whose numbers stand in this file, as list --numbers prints them, in place of numbers here; - for standard input; a file without any number is refused",
+    ),
+    ..OPTION
+};
+
+/// What is said of arguments that are none of a subcommand's.
+pub const STRAYS: &[Stray] = &[
+    Stray {
+        subcommand: "dispose",
+        kind: StrayKind::Shared,
+        said: "dispose takes numbers; list finds them, and --approved takes them from a file",
+    },
+    Stray {
+        subcommand: "deliver",
+        kind: StrayKind::Place,
+        said: "the message comes on standard input; type < before the name of its file",
+    },
+];
+
+/// What is asked of the destruction of what is due.
+#[derive(Drop)]
+pub struct DisposalAsked<'a> {
+    /// What is typed.
+    pub typed: Disposal,
+    /// The path of the file of the numbers that are meant, `-` for standard input. Where there is one, no number is typed.
+    pub approved: Option<&'a str>,
+}
+
+/// What is to be destroyed, as it is typed, with the file of what was approved. Numbers beside that are refused.
+pub(super) fn approved_asked<'a>(
+    alloc: Global,
+    asked: &ArgMatches<'a>,
+    typed: Disposal,
+) -> Result<DisposalAsked<'a>, NoCommand> {
+    let approved = value_of(asked, APPROVED);
+    if approved.is_some() && !typed.numbers.is_empty() {
+        let reason = "--approved takes the numbers from its file; type none beside it";
+        return Err(NoCommand::Wrong(String::from_str(alloc, reason)?));
+    }
+    Ok(DisposalAsked { typed, approved })
+}
