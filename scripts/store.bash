@@ -210,7 +210,7 @@ meanwhile() {
     local call=$1 path=$2 command=$3 started tries
     rm -f -- "$work/trace"
     timeout 60 strace -f -P "$path" -o "$work/trace" -e trace="$call" -e inject="$call:delay_enter=5000000" "$(program_of mailfile_store)" \
-        "${@:4}" > "$work/said" 2> "$work/error" &
+        "${@:4}" <&0 > "$work/said" 2> "$work/error" &
     started=$!
     for ((tries = 0; tries < 1000; tries++)); do
         [[ ! -s $work/trace ]] || break
