@@ -1,7 +1,7 @@
 //! The subcommands of `mailfile-store`, each with its words and an example.
 
-use super::class_words::{NEW_TITLES, TO};
 use super::approvals::{APPROVED, STRAYS};
+use super::class_words::{NEW_TITLES, TO};
 use super::history_words::{
     ACCEPT_FOUND, BEGIN, BEGIN_REASON, BY, CHOSEN_BY, DEEDS, EVENTS_SINCE, HEAD, REASON,
     REQUIRE_REASON, WAIVE_REASON,
