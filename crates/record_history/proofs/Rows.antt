@@ -7,7 +7,7 @@ use Rattle.class_plan.specs.declared.schedules.Unit.TheVariants.{Days, Years}
 use Rattle.class_plan.specs.Plans.{Listing, open_row}
 use Rattle.record_archive.specs.Archive.{empty_archive}
 use Rattle.record_history.specs.Events.{Event, Deed, Seal, Filing}
-use Rattle.record_history.specs.Events.{Captured, Held, Released, Destroyed, ClassAdded, PlanReplaced, FoundMessage, FoundRecord}
+use Rattle.record_history.specs.Events.{Captured, Held, Released, Destroyed, ClassAdded, PlanReplaced, FoundPlan, FoundMessage, FoundRecord}
 use Rattle.record_history.specs.Events.{ReasonsRequired, ReasonsOptional, FindingsAccepted, Refiled, Titled}
 use Rattle.record_history.specs.Lines.{day_text, moment_text, line_of}
 use Rattle.record_history.specs.Replay.{after, replay}
@@ -118,12 +118,12 @@ nothing_changed = refl
 no_record : replay (done (Held (codes "audit") 1) ∷ []) empty_archive ≡ None
 no_record = refl
 
--- nor is a record refiled that is not there, and a live one is in the class of the path
+-- a record that is not there is not refiled; one that is there gets the class, also a closed one, if it is a class
 refiled_nowhere : replay (done (Refiled 1 (codes "unfiled")) ∷ []) empty_archive ≡ None
 refiled_nowhere = refl
 
 abbrev one_record : List ℕ → List Event
-one_record path = done (ClassAdded (codes "rent"))
+one_record path = done (FoundPlan a_plan)
     ∷ done (FoundRecord (record { number = 1; message = 1; path = path; day = 22280; destroyed = false })) ∷ []
 
 refiled_there : option_and_then (after (Refiled 1 (codes "rent"))) (replay (one_record (codes "unfiled")) empty_archive)

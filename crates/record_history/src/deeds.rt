@@ -1,6 +1,6 @@
 //! The texts of deeds.
 
-ghost use Rattle.std.specs.Prelude.{◌≡◌, ◌++◌, codes, decimal, length, map, option_map, IfOk};
+ghost use Rattle.std.specs.Prelude.{◌≡◌, ◌++◌, codes, decimal, map, option_map, IfOk};
 ghost use Rattle.class_plan.specs.Schedules.{IsInRange};
 ghost use Rattle.record_history.specs.Lines.{captured_text as captured_text_of, counted_text as counted_text_of, deed_text as deed_text_of, destroyed_text as destroyed_text_of, plan_text as plan_text_of, record_text as record_text_of, refiled_text as refiled_text_of, seal_text as seal_text_of, titled_text as titled_text_of};
 ghost use Rattle.record_history.specs.Spelled.{HasSchedules, IsDay, IsSpelledDeed};

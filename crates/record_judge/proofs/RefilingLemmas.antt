@@ -1,5 +1,5 @@
 -- Records that get another class.
-use Rattle.std.proofs.Common.{◌≡◌, ◌<◌, ◌+◌, ◌==◌, ◌&&◌, ◌++◌, ℕ, zero, suc, max, Bool, true, false, not, cond, if◌then◌else◌, List, [], ◌∷◌, map, length, take}
+use Rattle.std.proofs.Common.{◌≡◌, ◌<◌, ◌+◌, ◌==◌, ◌&&◌, ◌++◌, ℕ, zero, suc, max, Bool, true, false, not, cond, List, [], ◌∷◌, map, length, take}
 use Rattle.std.proofs.Common.{drop, set, get_or, Option, Some, None, option_map, Ok, Err, refl, sym, ap, subst, ◌∙◌, arith}
 use Rattle.std.proofs.lemmas.List.{drop-map, length-map, map-set, take-map}
 use Rattle.std.specs.Ordering.{nat_cmp}
@@ -8,13 +8,12 @@ use Rattle.class_plan.specs.Plans.{has}
 use Rattle.record_archive.specs.Archive.{Archive, Record, has_number, past_all, record_at}
 use Rattle.record_archive.specs.Refiling.{in_class, refile_one, refiled}
 use Rattle.record_archive.specs.declared.fault.ArchiveRefusal.TheVariants as refusal
-use Rattle.record_archive.specs.declared.fault.ArchiveRefusal.{ArchiveRefusal}
 use Rattle.record_history.specs.Events.{Refiled}
 use Rattle.record_history.specs.Replay.{after, made}
 use Rattle.record_judge.specs.Counts.{count_at, tally}
 use Rattle.record_judge.specs.Indexes.{IsRecordIndex, first_of}
 use Rattle.record_judge.specs.Refilings.{MayBeRefiled, placed}
-use Rattle.record_judge.specs.Sealed.{IsKept, archive_view, hold_view, message_view, record_view}
+use Rattle.record_judge.specs.Sealed.{IsKept, record_view}
 use Rattle.record_judge.proofs.SealedLemmas.{one_more, same_holds, same_messages, written_back}
 use Rattle.record_judge.specs.declared.record_index.RecordIndex.{RecordIndex}
 use Rattle.record_judge.specs.declared.sealed.SealedArchive.{SealedArchive}

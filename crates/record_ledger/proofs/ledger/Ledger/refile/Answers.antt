@@ -8,14 +8,14 @@ use Rattle.record_ledger.proofs.ledger.Ledger.refile.Goals as goal
 
 pub returns-in-Plain : goal.returns-in-Plain
 returns-in-Plain g c =
-    let new = record c.args.self.now { kept = Plain c.refile_plain.new.self } in
+    let new = record c.args.self.now { kept = Plain c.refile_plain.new.store } in
     record {
       carries =
           plain_out g.S.Store (λ a. archive.refile a c.args.number c.args.path.now)
-          Quietly c.args.self.now new _ c.refile_plain.new.self c.refile_plain.result c.in-Plain.is refl c.refile_plain.ensures;
+          Quietly c.args.self.now new _ c.refile_plain.new.store c.refile_plain.result c.in-Plain.is refl c.refile_plain.ensures;
       notes =
           plain_notes g.S.Store (λ a. archive.refile a c.args.number c.args.path.now)
-          Quietly c.args.self.now new _ c.refile_plain.new.self
+          Quietly c.args.self.now new _ c.refile_plain.new.store
           (λ a d. d ≡ Refiled c.args.number c.args.path.now) c.refile_plain.result c.in-Plain.is refl refl;
     }
 
