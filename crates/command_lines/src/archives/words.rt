@@ -465,7 +465,9 @@ const WHY: Subcommand = Subcommand {
 pub const NAME: Word = Word {
     name: "name",
     value: "NAME",
-    help: Some("The name of the hold, as audit: 1 to 64 visible characters of ASCII, no blank"),
+    help: Some(
+        "The name of the hold, as audit: 1 to 64 visible characters of ASCII, no blank; a new one may not read as numbers, as 12",
+    ),
     ..PLACE
 };
 
