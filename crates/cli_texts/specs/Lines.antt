@@ -35,8 +35,8 @@ listed_state r = if r.destroyed then words (codes " destroyed") else words (code
 -- the texts of its message's header, each cut to 80 columns
 unfoldable pub header_words : Headers → List ℕ
 header_words h =
-    words (codes " sender ") ++ quotation (cut_octets (string_bytes h.sender)) ++ words (codes " subject ") ++ quotation (cut_octets (string_bytes h.subject))
-    ++ words (codes " date ") ++ quotation (cut_octets (string_bytes h.date))
+    words (codes " sender ") ++ quotation (cut_octets (string_bytes h.sender)) ++ words (codes " subject ")
+    ++ quotation (cut_octets (string_bytes h.subject)) ++ words (codes " date ") ++ quotation (cut_octets (string_bytes h.date))
 
 -- the same, where there are any
 abbrev pub texts_words : Option Headers → List ℕ
