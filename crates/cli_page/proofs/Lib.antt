@@ -8,3 +8,4 @@ pub mod MarkLemmas
 pub mod KeptLemmas
 pub mod SeenLemmas
 pub mod PushLemmas
+pub mod HoldLemmas

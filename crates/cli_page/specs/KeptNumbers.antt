@@ -1,5 +1,10 @@
 -- The numbers of the records that a hold keeps, and how a page shows them.
-use Rattle.std.specs.Prelude.{ℕ, zero, suc, ◌+◌, ◌==◌, if◌then◌else◌, List, [], ◌∷◌, ◌++◌, flat_map, codes, decimal}
+use Rattle.std.specs.Prelude.{◌≡◌, ℕ, zero, suc, ◌+◌, ◌-◌, ◌^◌, ◌==◌, min, if◌then◌else◌, List, [], ◌∷◌, ◌++◌, length, map, flat_map, codes, decimal, Vec}
+use Rattle.std.specs.Cmp.Lexicographic.{slice_cmp}
+use Rattle.std.specs.List.Sorted.{IsStrictlySortedBy}
+use Rattle.std.specs.Ordering.{nat_cmp}
+use Rattle.std.specs.Str.{bytes_eq}
+use Rattle.std.specs.declared.alloc.Global.{Global}
 use Rattle.cli_page.specs.declared.holds.Stretch.{Stretch}
 use Rattle.cli_page.specs.Pages.{name_piece, number_cell_piece}
 
@@ -40,3 +45,61 @@ numbers_cell stretches = codes "<td>" ++ stretches_text stretches ++ codes "</td
 -- THE ROW OF A HOLD: its name, how many records it keeps, and their numbers
 abbrev pub hold_row : (name : List ℕ) → (count : ℕ) → List Stretch → List ℕ
 hold_row name count stretches = hold_head name ++ number_cell_piece count ++ numbers_cell stretches
+
+-- ---- the holds of a report
+
+-- a hold by its name, and the records that it keeps
+abbrev pub Entry : Type 0
+Entry = Vec ℕ Global × Vec Stretch Global
+
+-- THE RECORDS THAT THE HOLD OF A NAME KEEPS; none where no hold has the name
+abbrev pub kept_by : (name : List ℕ) → List Entry → List ℕ
+kept_by name [] = []
+kept_by name (e ∷ es) = if bytes_eq name e.0.items then numbers_of e.1.items else kept_by name es
+
+-- the number of a record, where its hold has the name
+abbrev pub number_for : (name hold : List ℕ) → ℕ → List ℕ
+number_for name hold n = if bytes_eq name hold then n ∷ [] else []
+
+-- the same for each of its holds
+abbrev pub numbers_for : (name : List ℕ) → (holds : List (List ℕ)) → ℕ → List ℕ
+numbers_for name holds n = flat_map (λ h. number_for name h n) holds
+
+-- a hold keeps one record more, which is its last, and no other hold does
+abbrev pub KeepsOneMore : (hold : List ℕ) → ℕ → (old new : List Entry) → Type 0
+KeepsOneMore hold n old new = (name : List ℕ) → kept_by name new ≡ kept_by name old ++ number_for name hold n
+
+-- EACH OF THE HOLDS keeps one record more, and no other hold does
+abbrev pub KeepAlso : (holds : List (List ℕ)) → ℕ → (old new : List Entry) → Type 0
+KeepAlso holds n old new = (name : List ℕ) → kept_by name new ≡ kept_by name old ++ numbers_for name holds n
+
+-- in byte order of their names, of which each stands there once
+abbrev pub AreInOrder : List Entry → Type 0
+AreInOrder holds = IsStrictlySortedBy (λ (x y : Vec ℕ Global). slice_cmp nat_cmp x.items y.items) (map (λ (e : Entry). e.0) holds)
+
+-- ---- as a page shows them
+
+-- how many records some stretches have, up to 2^64 - 1
+abbrev pub count_shown : List Stretch → ℕ
+count_shown stretches = min (length (numbers_of stretches)) (2 ^ 64 - 1)
+
+abbrev pub entry_row : Entry → List ℕ
+entry_row e = hold_row e.0.items (count_shown e.1.items) e.1.items
+
+unfoldable pub holds_head : List ℕ
+holds_head = codes "<section aria-labelledby=\"holds\">\n<h2 id=\"holds\">Holds</h2>\n"
+
+unfoldable pub no_holds : List ℕ
+no_holds = codes "<p>No hold keeps a record.</p>\n</section>\n"
+
+unfoldable pub holds_table_head : List ℕ
+holds_table_head =
+    codes "<p>A record is not destroyed while any hold keeps it.</p>\n<table>\n<caption>Holds and the records that they keep</caption>\n<thead><tr><th scope=\"col\">Hold</th><th scope=\"col\" class=\"n\">Records</th><th scope=\"col\">Numbers of the records</th></tr></thead>\n<tbody>\n"
+
+unfoldable pub holds_table_end : List ℕ
+holds_table_end = codes "</tbody>\n</table>\n</section>\n"
+
+-- THE SECTION OF HOLDS: a row for each, in their order
+abbrev pub holds_section : List Entry → List ℕ
+holds_section holds =
+    holds_head ++ (if length holds == 0 then no_holds else holds_table_head ++ flat_map entry_row holds ++ holds_table_end)

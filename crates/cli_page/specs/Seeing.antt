@@ -9,6 +9,7 @@ use Rattle.cli_page.specs.declared.report.Record.{Record}
 use Rattle.cli_page.specs.declared.report.Report.{Report}
 use Rattle.cli_page.specs.Counting.{is_due, is_by}
 use Rattle.cli_page.specs.DueLists.{DueRecord, due_record, due_view}
+use Rattle.cli_page.specs.KeptNumbers.{KeepAlso}
 use Rattle.cli_page.specs.Tallies.{CountsOne}
 
 -- a date from 1970-01-01 on, by its day, counted from that day, and its year
@@ -24,10 +25,12 @@ abbrev pub listed_if : (is_due : Bool) → Listing → Record → Option Date �
 listed_if is_due plan r None = []
 listed_if is_due plan r (Some due) = if is_due then due_record plan r due ∷ [] else []
 
--- A RECORD IS ADDED: it is counted once, and listed where it is live and due by the day
+-- A RECORD IS ADDED: it is counted once, is listed where it is live and due by the day, and is one more of those that each of
+-- its holds keeps
 pub record AddsRecord (plan : Listing) (r : Record) (old new : Report) : Type 0 where
   pub counted : CountsOne r.path.now (seen_for r) old.tally new.tally
   pub listed : map due_view new.due.items.items ≡ map due_view old.due.items.items ++ listed_if (is_due old.day_number (seen_for r)) plan r r.due
+  pub held : KeepAlso (map (λ h. h.items) r.holds.now) r.number old.holds.holds.entries new.holds.holds.entries
   pub day : new.day_number ≡ old.day_number
 
 -- ---- by numbers alone, for those who add records

@@ -1,7 +1,7 @@
 //! The holds of an archive, by name, and the records that each keeps.
 
 ghost use Rattle.std.specs.Prelude.{◌≡◌, ◌++◌, ◌∷◌, [], ◌+◌, flat_map, IfSome, OnOk};
-ghost use Rattle.cli_page.specs.KeptNumbers.{numbers_in, numbers_of, stretch_text, more_stretch, stretches_text, hold_head, numbers_cell, hold_row};
+ghost use Rattle.cli_page.specs.KeptNumbers.{numbers_in, numbers_of, stretch_text, more_stretch, stretches_text, hold_head, numbers_cell, hold_row, KeepsOneMore, AreInOrder, count_shown, entry_row, holds_head, no_holds, holds_table_head, holds_table_end, holds_section};
 
 use crate::fault::ReportFault;
 use crate::page::{Page, put};
@@ -75,8 +75,10 @@ fn push_number(stretches: &mut Vec<Stretch>, number: u32) -> Result<(), ReportFa
     Ok(())
 }
 
-/// How many records there are in some stretches.
-fn count_of(stretches: &[Stretch]) -> u64 {
+/// How many records there are in some stretches, up to 2^64 - 1.
+fn count_of(stretches: &[Stretch]) -> u64
+    ensures { result ≡ count_shown stretches.now }
+{
     let mut count = 0u64;
     for stretch in stretches {
         count = count.saturating_add(u64::from(stretch.more) + 1);
@@ -151,15 +153,57 @@ fn push_hold(
     push_numbers(page, stretches)
 }
 
+/// Adds the heading of the section of holds.
+#[tactic(auto, unfolding(crate::specs::KeptNumbers::holds_head))]
+fn open_section(page: &mut Page) -> Result<(), AllocError>
+    ensures { OnOk result (page.new ≡ page.old ++ holds_head) }
+{
+    page.markup("<section aria-labelledby=\"holds\">\n<h2 id=\"holds\">Holds</h2>\n")
+}
+
+/// Adds that there are no holds.
+#[tactic(auto, unfolding(crate::specs::KeptNumbers::no_holds))]
+fn push_none(page: &mut Page) -> Result<(), AllocError>
+    ensures { OnOk result (page.new ≡ page.old ++ no_holds) }
+{
+    page.markup("<p>No hold keeps a record.</p>\n</section>\n")
+}
+
+/// Adds what comes before the rows of holds.
+#[tactic(auto, unfolding(crate::specs::KeptNumbers::holds_table_head))]
+fn open_table(page: &mut Page) -> Result<(), AllocError>
+    ensures { OnOk result (page.new ≡ page.old ++ holds_table_head) }
+{
+    page.markup(
+        "<p>A record is not destroyed while any hold keeps it.</p>\n\
+        <table>\n<caption>Holds and the records that they keep</caption>\n<thead><tr>\
+        <th scope=\"col\">Hold</th><th scope=\"col\" class=\"n\">Records</th>\
+        <th scope=\"col\">Numbers of the records</th></tr></thead>\n<tbody>\n",
+    )
+}
+
+/// Adds what comes after the rows of holds.
+#[tactic(auto, unfolding(crate::specs::KeptNumbers::holds_table_end))]
+fn close_table(page: &mut Page) -> Result<(), AllocError>
+    ensures { OnOk result (page.new ≡ page.old ++ holds_table_end) }
+{
+    page.markup("</tbody>\n</table>\n</section>\n")
+}
+
 impl Holds {
     /// No holds.
-    pub fn new(alloc: Global) -> Holds {
+    pub fn new(alloc: Global) -> Holds
+        ensures { result.holds.entries ≡ [] }
+    {
         let holds = BTreeMap::new(alloc);
         Holds { alloc, holds }
     }
 
     /// Adds a record that a hold keeps.
-    pub fn add(&mut self, name: &[u8], number: u32) -> Result<(), ReportFault> {
+    pub fn add(&mut self, name: &[u8], number: u32) -> Result<(), ReportFault>
+        ensures { OnOk result
+            (KeepsOneMore name.now number self.old.holds.entries self.new.holds.entries) }
+    {
         if let Some(stretches) = self.holds.get_mut(name) {
             return push_number(stretches, number);
         }
@@ -170,8 +214,12 @@ impl Holds {
         Ok(())
     }
 
-    /// Adds the rows of the table.
-    fn rows(&self, page: &mut Page) -> Result<(), AllocError> {
+    /// Adds a row for each hold, in byte order of their names.
+    fn rows(&self, page: &mut Page) -> Result<(), AllocError>
+        ensures rows { OnOk result
+            (page.new ≡ page.old ++ flat_map entry_row self.now.holds.entries) }
+        ensures order { OnOk result (AreInOrder self.now.holds.entries) }
+    {
         for (name, stretches) in &self.holds {
             let stretches = stretches.as_slice();
             push_hold(page, name.as_slice(), count_of(stretches), stretches)?;
@@ -180,18 +228,15 @@ impl Holds {
     }
 
     /// Adds the section of holds.
-    pub fn section(&self, page: &mut Page) -> Result<(), AllocError> {
-        page.markup("<section aria-labelledby=\"holds\">\n<h2 id=\"holds\">Holds</h2>\n")?;
+    pub fn section(&self, page: &mut Page) -> Result<(), AllocError>
+        ensures { OnOk result (page.new ≡ page.old ++ holds_section self.now.holds.entries) }
+    {
+        open_section(page)?;
         if self.holds.is_empty() {
-            return page.markup("<p>No hold keeps a record.</p>\n</section>\n");
+            return push_none(page);
         }
-        page.markup(
-            "<p>A record is not destroyed while any hold keeps it.</p>\n\
-            <table>\n<caption>Holds and the records that they keep</caption>\n<thead><tr>\
-            <th scope=\"col\">Hold</th><th scope=\"col\" class=\"n\">Records</th>\
-            <th scope=\"col\">Numbers of the records</th></tr></thead>\n<tbody>\n",
-        )?;
+        open_table(page)?;
         self.rows(page)?;
-        page.markup("</tbody>\n</table>\n</section>\n")
+        close_table(page)
     }
 }

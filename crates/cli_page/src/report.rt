@@ -3,6 +3,7 @@
 ghost use Rattle.std.specs.Prelude.{◌≡◌, ◌++◌, ◌&&◌, [], pos, map, is_some, option_map, IfOk, OnOk};
 ghost use Rattle.jiff.specs.Words.{epoch_day};
 ghost use Rattle.cli_page.specs.DueLists.{due_view};
+ghost use Rattle.cli_page.specs.KeptNumbers.{KeepAlso};
 ghost use Rattle.cli_page.specs.Seeing.{due_seen, seen_for, listed_if, AddsRecord, report_day, listed_numbers, is_listed, number_if};
 
 use crate::counts::Seen;
@@ -88,7 +89,11 @@ fn seen_of(record: &Record<'_>) -> Result<Seen, ReportFault>
 }
 
 /// Adds a record to those of each of its holds.
-fn add_holds(holds: &mut Holds, record: &Record<'_>) -> Result<(), ReportFault> {
+#[tactic(auto, using(crate::proofs::HoldLemmas::held_next))]
+fn add_holds(holds: &mut Holds, record: &Record<'_>) -> Result<(), ReportFault>
+    ensures { OnOk result (KeepAlso (map (λ h. h.items) «record».now.holds.now) «record».now.number
+        holds.old.holds.entries holds.new.holds.entries) }
+{
     for name in record.holds {
         holds.add(name.as_slice(), record.number)?;
     }
@@ -121,6 +126,7 @@ impl Report {
     pub fn new(alloc: Global, plan: &Plan, day: Date) -> Result<Report, ReportFault>
         ensures day { IfOk result (λ r. epoch_day day ≡ pos r.day_number) }
         ensures tally { IfOk result (λ r. r.tally.day ≡ r.day_number) }
+        ensures holds { IfOk result (λ r. r.holds.holds.entries ≡ []) }
         ensures due { IfOk result (λ r. r.due.items.items ≡ []) }
     {
         let day_number = due_day(day).ok_or(ReportFault::NoDay)?.day;

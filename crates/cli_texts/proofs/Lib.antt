@@ -1,1 +1,4 @@
 mod HeaderLemmas
+pub mod CutLemmas
+pub mod MomentLemmas
+pub mod TextLemmas

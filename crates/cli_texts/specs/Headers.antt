@@ -1,6 +1,7 @@
 -- The texts that a record has of its message's header.
-use Rattle.std.specs.Prelude.{ℕ, Bool, true, false, List, [], Option, Some, None, codes}
+use Rattle.std.specs.Prelude.{ℕ, List, [], Option, Some, None, codes}
 use Rattle.std.specs.Option.{option_or}
+use Rattle.cli_texts.specs.declared.headers.Headers.{Headers}
 use Rattle.cli_texts.specs.declared.headers.ListedHeaders.{ListedHeaders}
 use Rattle.cli_texts.specs.declared.headers.ListedHeaders.TheVariants.{Unasked, Destroyed, Texts}
 use Rattle.mail_head.specs.Fields.{fields_of}
@@ -22,8 +23,8 @@ subject_of message = text_of (body_called (codes "subject") (fields_of message))
 abbrev pub date_of : List ℕ → List ℕ
 date_of message = text_of (body_called (codes "date") (fields_of message))
 
--- there are texts to be listed: they are asked for, and the message is not destroyed
-abbrev pub has_texts : ListedHeaders → Bool
-has_texts Unasked = false
-has_texts Destroyed = false
-has_texts (Texts headers) = true
+-- the texts that are to be listed: they are asked for, and the message is not destroyed
+abbrev pub texts_in : ListedHeaders → Option Headers
+texts_in Unasked = None
+texts_in Destroyed = None
+texts_in (Texts headers) = Some headers.now

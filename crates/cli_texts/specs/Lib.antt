@@ -1,4 +1,6 @@
+pub mod Cuts
 pub mod Headers
+pub mod Moments
 pub mod Sums
 pub mod Words
 pub mod Lines

@@ -1,12 +1,16 @@
 -- The lines of records: as they are captured, listed and destroyed.
-use Rattle.std.specs.Prelude.{◌≡◌, ℕ, Bool, if◌then◌else◌, List, [], ◌∷◌, ◌++◌, flat_map, Option, Some, None, codes}
+use Rattle.std.specs.Prelude.{ℕ, Bool, if◌then◌else◌, List, [], ◌∷◌, ◌++◌, flat_map, Option, Some, None, codes, string_bytes}
+use Rattle.std.specs.Borrow.{Bor}
 use Rattle.jiff.specs.Words.{date_text}
 use Rattle.jiff_core.specs.declared.civil.date.Date.{Date}
 use Rattle.record_archive.specs.declared.line.Line.{Line}
 use Rattle.cli_texts.specs.declared.certificates.CapturedMessage.{CapturedMessage}
 use Rattle.cli_texts.specs.declared.certificates.Certificate.{Certificate}
 use Rattle.cli_texts.specs.declared.records.Row.{Row}
-use Rattle.cli_texts.specs.Words.{words, number, name, escaped}
+use Rattle.cli_texts.specs.declared.events.ToldCertificate.{ToldCertificate}
+use Rattle.cli_texts.specs.declared.headers.Headers.{Headers}
+use Rattle.cli_texts.specs.Cuts.{cut_octets}
+use Rattle.cli_texts.specs.Words.{words, number, name, quotation, escaped, free_words}
 
 abbrev pub due_words : Option Date → List ℕ
 due_words None = words (codes "never")
@@ -28,6 +32,17 @@ listed_front r =
 -- that it is destroyed, or when it is due
 abbrev pub listed_state : Row → List ℕ
 listed_state r = if r.destroyed then words (codes " destroyed") else words (codes " due ") ++ due_words r.due
+
+-- the texts of its message's header, each cut to 80 columns
+unfoldable pub header_words : Headers → List ℕ
+header_words h =
+    words (codes " sender ") ++ quotation (cut_octets (string_bytes h.sender)) ++ words (codes " subject ")
+    ++ quotation (cut_octets (string_bytes h.subject)) ++ words (codes " date ") ++ quotation (cut_octets (string_bytes h.date))
+
+-- the same, where there are any
+abbrev pub texts_words : Option Headers → List ℕ
+texts_words None = []
+texts_words (Some h) = header_words h
 
 abbrev pub hold_words : List ℕ → List ℕ
 hold_words hold = words (codes " hold ") ++ name hold
@@ -72,3 +87,34 @@ abbrev pub certificate : Certificate → (moment : List ℕ) → List ℕ
 certificate c moment =
     destroyed_record c ++ destroyed_message c ++ words (codes " at ") ++ words moment ++ kept_words c.kept_by ++ replaced_words c.captured
     ++ 10 ∷ []
+
+-- ---- a certificate from a history
+
+abbrev pub class_words : Option (Bor (List ℕ)) → List ℕ
+class_words None = []
+class_words (Some path) = words (codes " class ") ++ name path.now
+
+-- the record, and the day by which it was due
+unfoldable pub told_record : ToldCertificate → List ℕ
+told_record c =
+    words (codes "destroyed record ") ++ number c.number ++ class_words c.path ++ words (codes " as due by ") ++ words c.day.now
+    ++ words (codes " (") ++ escaped c.schedule.now ++ words (codes ")")
+
+-- the length and the sum of its message, where they are known
+abbrev pub seal_words : Option (ℕ × Bor (List ℕ)) → List ℕ
+seal_words None = []
+seal_words (Some seal) = words (codes " octets ") ++ number seal.0 ++ words (codes " sha256 ") ++ escaped seal.1.now
+
+-- when it was destroyed, by whom and by which event
+unfoldable pub told_deed : ToldCertificate → (moment : List ℕ) → List ℕ
+told_deed c moment = words (codes " at ") ++ words moment ++ words (codes " by ") ++ free_words c.who.now ++ words (codes " event ") ++ number c.event
+
+abbrev pub reason_words : List ℕ → List ℕ
+reason_words [] = []
+reason_words (b ∷ bs) = words (codes " : ") ++ free_words (b ∷ bs)
+
+-- A CERTIFICATE FROM A HISTORY, with the text of its moment
+abbrev pub told_certificate : ToldCertificate → (moment : List ℕ) → List ℕ
+told_certificate c moment =
+    told_record c ++ seal_words c.seal ++ told_deed c moment ++ kept_words c.kept_by ++ altered_words c.is_altered
+    ++ reason_words c.reason.now ++ 10 ∷ []

@@ -1,6 +1,6 @@
 -- Words for a terminal or a log, in octets of UTF-8.
-use Rattle.std.specs.Prelude.{ℕ, List, decimal}
-use Rattle.std.specs.Str.{encode_utf8_all}
+use Rattle.std.specs.Prelude.{ℕ, List, decimal, if◌then◌else◌}
+use Rattle.std.specs.Str.{encode_utf8_all, is_utf8}
 use Rattle.tool_texts.specs.Quoting.{visible_text, escaped_text, quoted_text, named_text}
 
 -- words of the program, and what a value displays
@@ -21,3 +21,7 @@ quotation octets = encode_utf8_all (quoted_text octets)
 -- octets as they are shown between quotation marks, without these
 abbrev pub escaped : List ℕ → List ℕ
 escaped octets = encode_utf8_all (escaped_text octets)
+
+-- what a user wrote: as a text, and with escapes where it is none
+abbrev pub free_words : List ℕ → List ℕ
+free_words octets = if is_utf8 octets then words octets else escaped octets

@@ -1,9 +1,10 @@
 //! Certificates of destruction, sums and moments.
 
-ghost use Rattle.std.specs.Prelude.{◌≡◌, ◌++◌, ℕ, List, IfOk, OnOk, string_bytes};
+ghost use Rattle.std.specs.Prelude.{◌≡◌, ◌<◌, ◌++◌, ℕ, List, IfOk, OnOk, string_bytes};
 ghost use Rattle.sha2.specs.Sha256.{sha256};
 ghost use Rattle.hex.specs.Hex.{encode_lower};
 ghost use Rattle.cli_texts.specs.Lines.{destroyed_record, destroyed_message, kept_words, other_message, replaced_words, altered_words, certificate};
+ghost use Rattle.cli_texts.specs.Moments.{two_digits, time_text, day_and_time as day_and_time_of, IsMomentText};
 
 use crate::records::put_due;
 use class_plan::{Date, day_of};
@@ -53,16 +54,46 @@ pub fn sum_text(alloc: Global, sum: &[u8]) -> Result<String, AllocError>
     hex::encode(alloc, sum)
 }
 
-/// A day, and a time of it in seconds since midnight.
-fn day_and_time(alloc: Global, day: Date, seconds: u64) -> Result<String, AllocError> {
-    let (hour, minute, second) = (seconds / 3_600, seconds / 60 % 60, seconds % 60);
-    format!(in alloc; "{day}T{hour:02}:{minute:02}:{second:02}Z")
+/// Adds a number below 100 with two digits.
+fn push_two(text: &mut String, number: u64) -> Result<(), AllocError>
+    requires { number < 100 }
+    ensures { OnOk result (string_bytes text.new ≡ string_bytes text.old ++ two_digits number) }
+{
+    text.push(char::from(b'0' + (number / 10) as u8))?;
+    text.push(char::from(b'0' + (number % 10) as u8))
+}
+
+/// Adds a time of day, in seconds since midnight.
+fn push_time(text: &mut String, seconds: u64) -> Result<(), AllocError>
+    requires { seconds < 86400 }
+    ensures { OnOk result (string_bytes text.new ≡ string_bytes text.old ++ time_text seconds) }
+{
+    text.push_str("T")?;
+    push_two(text, seconds / 3_600)?;
+    text.push_str(":")?;
+    push_two(text, seconds / 60 % 60)?;
+    text.push_str(":")?;
+    push_two(text, seconds % 60)?;
+    text.push_str("Z")
+}
+
+/// A day, with the time of a moment.
+fn day_and_time(alloc: Global, day: Date, moment: u64) -> Result<String, AllocError>
+    ensures { IfOk result (λ t. string_bytes t ≡ day_and_time_of day moment) }
+{
+    let mut text = format!(in alloc; "{day}")?;
+    push_time(&mut text, moment % 86_400)?;
+    Ok(text)
 }
 
 /// A moment in UTC, as `2023-11-14T22:13:20Z`; in seconds where it is after 2199.
-pub fn moment_text(alloc: Global, moment: u64) -> Result<String, AllocError> {
+///
+/// The only refusal is no memory (99).
+pub fn moment_text(alloc: Global, moment: u64) -> Result<String, AllocError>
+    ensures { IfOk result (λ t. IsMomentText moment (string_bytes t)) }
+{
     match day_of(moment) {
-        Some(day) => day_and_time(alloc, day, moment % 86_400),
+        Some(day) => day_and_time(alloc, day, moment),
         None => format!(in alloc; "{moment}"),
     }
 }
@@ -141,7 +172,8 @@ fn line_with(alloc: Global, it: &Certificate<'_>, moment: &String) -> Result<Sho
 
 /// The line of a record that was destroyed.
 pub fn certificate_line(alloc: Global, it: &Certificate<'_>) -> Result<Shown, AllocError>
-    ensures { IfOk result (λ line. (moment : List ℕ) × (line ≡ certificate it.now moment)) }
+    ensures { IfOk result (λ line. (moment : List ℕ) × IsMomentText it.now.moment moment
+        × (line ≡ certificate it.now moment)) }
 {
     let moment = moment_text(alloc, it.moment)?;
     line_with(alloc, it, &moment)

@@ -1,5 +1,10 @@
 //! Events of a history, as JSON and as certificates.
 
+ghost use Rattle.std.specs.Prelude.{◌≡◌, ◌++◌, ℕ, List, IfOk, OnOk, string_bytes};
+ghost use Rattle.cli_texts.specs.Lines.{class_words, told_record, seal_words, told_deed, reason_words, told_certificate as told_certificate_of};
+ghost use Rattle.cli_texts.specs.Moments.{IsMomentText};
+ghost use Rattle.cli_texts.specs.Words.{free_words};
+
 use crate::certificates::{moment_text, put_altered, put_keeper};
 use crate::records::{in_ascii, shown};
 use serde_json::{Map, Value, json};
@@ -151,43 +156,95 @@ pub struct ToldCertificate<'a> {
 }
 
 /// Adds a text that a user chose.
-pub(crate) fn put_text(line: &mut Shown, octets: &[u8]) -> Result<(), AllocError> {
+pub(crate) fn put_text(line: &mut Shown, octets: &[u8]) -> Result<(), AllocError>
+    ensures { OnOk result (line.new ≡ line.old ++ free_words octets.now) }
+{
     match str::from_utf8(octets) {
         Ok(text) => line.value(&text),
         Err(_) => line.escaped(octets),
     }
 }
 
-/// Adds the length and the sum of the message, where they are known.
-fn put_seal(line: &mut Shown, seal: Option<(u64, &[u8])>) -> Result<(), AllocError> {
-    if let Some((octets, sum)) = seal {
-        put!(line; " octets " value(&octets) " sha256 ")?;
-        line.escaped(sum)?;
+/// Adds the class of a record, where it is known.
+fn put_class(line: &mut Shown, path: Option<&[u8]>) -> Result<(), AllocError>
+    ensures { OnOk result (line.new ≡ line.old ++ class_words path.entry) }
+{
+    match path {
+        Some(path) => put!(line; " class " named(path)),
+        None => Ok(()),
     }
-    Ok(())
 }
 
-/// The line of a certificate from a history.
-pub fn told_certificate(alloc: Global, it: &ToldCertificate<'_>) -> Result<Shown, AllocError> {
-    let moment = moment_text(alloc, it.moment)?;
-    let mut line = Shown::new(alloc);
+/// Adds the record that was destroyed, and the day by which it was due.
+#[tactic(auto, unfolding(crate::specs::Lines::told_record))]
+fn put_told_record(line: &mut Shown, it: &ToldCertificate<'_>) -> Result<(), AllocError>
+    ensures { OnOk result (line.new ≡ line.old ++ told_record it.now) }
+{
     put!(line; "destroyed record " value(&it.number))?;
-    if let Some(path) = it.path {
-        put!(line; " class " named(path))?;
+    put_class(line, it.path)?;
+    put!(line; " as due by " value(&it.day) " (" escaped(it.schedule) ")")
+}
+
+/// Adds the length and the sum of the message, where they are known.
+fn put_seal(line: &mut Shown, seal: Option<(u64, &[u8])>) -> Result<(), AllocError>
+    ensures { OnOk result (line.new ≡ line.old ++ seal_words seal.entry) }
+{
+    match seal {
+        Some((octets, sum)) => put!(line; " octets " value(&octets) " sha256 " escaped(sum)),
+        None => Ok(()),
     }
-    put!(line; " as due by " value(&it.day) " (")?;
-    line.escaped(it.schedule)?;
-    line.words(")")?;
+}
+
+/// Adds when the record was destroyed, by whom and by which event.
+#[tactic(auto, unfolding(crate::specs::Lines::told_deed))]
+fn put_told_deed(
+    line: &mut Shown,
+    it: &ToldCertificate<'_>,
+    moment: &String,
+) -> Result<(), AllocError>
+    ensures { OnOk result (line.new ≡ line.old ++ told_deed it.now (string_bytes moment.now)) }
+{
+    put!(line; " at " value(moment) " by ")?;
+    put_text(line, it.who)?;
+    put!(line; " event " value(&it.event))
+}
+
+/// Adds the reason of a deed, where it has one.
+fn put_reason(line: &mut Shown, reason: &[u8]) -> Result<(), AllocError>
+    ensures { OnOk result (line.new ≡ line.old ++ reason_words reason.now) }
+{
+    if reason.is_empty() {
+        return Ok(());
+    }
+    line.words(" : ")?;
+    put_text(line, reason)
+}
+
+/// The line of a certificate from a history, with the text of its moment.
+fn told_line(alloc: Global, it: &ToldCertificate<'_>, moment: &String) -> Result<Shown, AllocError>
+    ensures { IfOk result
+        (λ line. line ≡ told_certificate_of it.now (string_bytes moment.now)) }
+{
+    let mut line = Shown::new(alloc);
+    put_told_record(&mut line, it)?;
     put_seal(&mut line, it.seal)?;
-    put!(line; " at " value(&moment) " by ")?;
-    put_text(&mut line, it.who)?;
-    put!(line; " event " value(&it.event))?;
+    put_told_deed(&mut line, it, moment)?;
     put_keeper(&mut line, it.kept_by)?;
     put_altered(&mut line, it.is_altered)?;
-    if !it.reason.is_empty() {
-        line.words(" : ")?;
-        put_text(&mut line, it.reason)?;
-    }
+    put_reason(&mut line, it.reason)?;
     line.end_line()?;
     Ok(line)
+}
+
+/// The line of a certificate from a history: `destroyed record 7 class finance as due by 2030-11-14 (7 years destroy) octets 83
+/// sha256 SUM at 2030-12-01T09:00:00Z by bea event 12`, and its reason after ` : ` where it has one. The class, the length and
+/// the sum are left out where they are not known.
+///
+/// The only refusal is no memory (99).
+pub fn told_certificate(alloc: Global, it: &ToldCertificate<'_>) -> Result<Shown, AllocError>
+    ensures { IfOk result (λ line. (moment : List ℕ) × IsMomentText it.now.moment moment
+        × (line ≡ told_certificate_of it.now moment)) }
+{
+    let moment = moment_text(alloc, it.moment)?;
+    told_line(alloc, it, &moment)
 }

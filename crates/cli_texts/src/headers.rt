@@ -1,9 +1,11 @@
 //! What a message's header says, as people read it.
 
-ghost use Rattle.std.specs.Prelude.{◌≡◌, [], IfOk, MatchOption, is_some, string_bytes};
+ghost use Rattle.std.specs.Prelude.{◌≡◌, [], IfOk, MatchOption, chars, option_map, string_bytes};
+ghost use Rattle.std.specs.Str.{encode_utf8_all};
 ghost use Rattle.mail_head.specs.Fields.{fields_of};
 ghost use Rattle.mail_display.specs.Fields.{IsShownOf};
-ghost use Rattle.cli_texts.specs.Headers.{sender_of, subject_of, date_of, has_texts};
+ghost use Rattle.cli_texts.specs.Cuts.{columns_of as columns_of_character, fits_in, front_in, cut_text, cut_octets};
+ghost use Rattle.cli_texts.specs.Headers.{sender_of, subject_of, date_of, texts_in};
 
 use mail_display::{DisplayText, UndecodedWord, date, sender, subject, undecoded_words};
 use std::alloc::{AllocError, Global};
@@ -38,7 +40,7 @@ pub enum ListedHeaders<'a> {
 impl<'a> ListedHeaders<'a> {
     /// The texts, if there are any.
     pub(crate) fn texts(self) -> Option<&'a Headers>
-        ensures { is_some result ≡ has_texts self.entry }
+        ensures { option_map (λ h. h.now) result ≡ texts_in self.entry }
     {
         match self {
             ListedHeaders::Texts(headers) => Some(headers),
@@ -73,30 +75,51 @@ pub fn headers_of(alloc: Global, message: &[u8]) -> Result<Headers, AllocError>
 }
 
 /// How many columns a character is counted as: one at least, so that a text is never longer than its columns.
-fn columns_of(c: char) -> usize {
+#[tactic(auto, unfolding(crate::specs::Cuts::columns_of))]
+fn columns_of(c: char) -> usize
+    ensures { result ≡ columns_of_character c }
+{
     c.width().unwrap_or(1).max(1)
 }
 
-/// The front of a text that has at most so many columns.
-fn front_of(alloc: Global, text: &str, most: usize) -> Result<String, AllocError> {
+/// Whether a text has at most so many columns.
+fn fits(text: &str, most: usize) -> bool
+    ensures { result ≡ fits_in most (chars text.now) }
+{
+    let mut left = most;
+    for c in text.chars() {
+        match left.checked_sub(columns_of(c)) {
+            Some(rest) => left = rest,
+            None => return false,
+        }
+    }
+    true
+}
+
+/// The longest front of a text that has at most so many columns.
+fn front_of(alloc: Global, text: &str, most: usize) -> Result<String, AllocError>
+    ensures { IfOk result
+        (λ front. string_bytes front ≡ encode_utf8_all (front_in most (chars text.now))) }
+{
     let mut front = String::new(alloc);
     let mut left = most;
     for c in text.chars() {
-        let Some(rest) = left.checked_sub(columns_of(c)) else {
-            break;
-        };
+        match left.checked_sub(columns_of(c)) {
+            Some(rest) => left = rest,
+            None => return Ok(front),
+        }
         front.push(c)?;
-        left = rest;
     }
     Ok(front)
 }
 
 /// A text of at most 80 columns: the whole text, or its front and an ellipsis. A character that takes no column is counted
 /// as one, so there are at most 80 characters.
-fn cut(alloc: Global, text: &str) -> Result<String, AllocError> {
-    let whole = front_of(alloc, text, COLUMNS)?;
-    if whole.len() == text.len() {
-        return Ok(whole);
+fn cut(alloc: Global, text: &str) -> Result<String, AllocError>
+    ensures { IfOk result (λ t. string_bytes t ≡ cut_octets text.now) }
+{
+    if fits(text, COLUMNS) {
+        return String::from_str(alloc, text);
     }
     let mut front = front_of(alloc, text, COLUMNS - 1)?;
     front.push('…')?;
@@ -105,7 +128,16 @@ fn cut(alloc: Global, text: &str) -> Result<String, AllocError> {
 
 impl Headers {
     /// The texts, each cut to at most 80 columns, with an ellipsis where something is left out.
-    pub fn cut(&self, alloc: Global) -> Result<Headers, AllocError> {
+    ///
+    /// The only refusal is no memory (99).
+    pub fn cut(&self, alloc: Global) -> Result<Headers, AllocError>
+        ensures sender { IfOk result
+            (λ h. string_bytes h.sender ≡ cut_octets (string_bytes self.now.sender)) }
+        ensures subject { IfOk result
+            (λ h. string_bytes h.subject ≡ cut_octets (string_bytes self.now.subject)) }
+        ensures date { IfOk result
+            (λ h. string_bytes h.date ≡ cut_octets (string_bytes self.now.date)) }
+    {
         Ok(Headers {
             sender: cut(alloc, self.sender.as_str())?,
             subject: cut(alloc, self.subject.as_str())?,

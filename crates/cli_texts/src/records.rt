@@ -1,8 +1,8 @@
 //! Records as lines and as JSON.
 
-ghost use Rattle.std.specs.Prelude.{◌≡◌, ◌++◌, ◌∷◌, [], false, flat_map, IfOk, OnOk};
-ghost use Rattle.cli_texts.specs.Headers.{has_texts};
-ghost use Rattle.cli_texts.specs.Lines.{due_words, captured, listed_front, listed_state, hold_words, listed};
+ghost use Rattle.std.specs.Prelude.{◌≡◌, ◌++◌, ◌∷◌, [], flat_map, option_map, IfOk, OnOk};
+ghost use Rattle.cli_texts.specs.Headers.{texts_in};
+ghost use Rattle.cli_texts.specs.Lines.{due_words, captured, listed_front, listed_state, hold_words, listed, header_words, texts_words};
 
 use crate::headers::{Headers, ListedHeaders};
 use class_plan::Date;
@@ -86,13 +86,27 @@ pub fn captured_line(alloc: Global, line: &Line) -> Result<Shown, AllocError>
 }
 
 /// Adds the texts of a header in quotation marks, each cut to 80 columns.
-fn put_headers(line: &mut Shown, headers: &Headers) -> Result<(), AllocError> {
+#[tactic(auto, unfolding(crate::specs::Lines::header_words))]
+fn put_headers(line: &mut Shown, headers: &Headers) -> Result<(), AllocError>
+    ensures { OnOk result (line.new ≡ line.old ++ header_words headers.now) }
+{
     let cut = headers.cut(line.allocator())?;
     put!(line;
         " sender " quoted(cut.sender.as_bytes())
         " subject " quoted(cut.subject.as_bytes())
         " date " quoted(cut.date.as_bytes())
     )
+}
+
+/// Adds the texts of a header, where there are any.
+fn put_texts(line: &mut Shown, texts: Option<&Headers>) -> Result<(), AllocError>
+    ensures { OnOk result
+        (line.new ≡ line.old ++ texts_words (option_map (λ h. h.now) texts.entry)) }
+{
+    match texts {
+        Some(texts) => put_headers(line, texts),
+        None => Ok(()),
+    }
 }
 
 /// Adds the number of a record, its class and the day of its capture.
@@ -144,13 +158,11 @@ pub fn listed_line(
     row: &Row<'_>,
     headers: ListedHeaders<'_>,
 ) -> Result<Shown, AllocError>
-    ensures { has_texts headers.entry ≡ false
-        → IfOk result (λ line. line ≡ listed row.now ++ 10 ∷ []) }
+    ensures { IfOk result
+        (λ line. line ≡ listed row.now ++ texts_words (texts_in headers.entry) ++ 10 ∷ []) }
 {
     let mut line = record_text(alloc, row)?;
-    if let Some(texts) = headers.texts() {
-        put_headers(&mut line, texts)?;
-    }
+    put_texts(&mut line, headers.texts())?;
     line.end_line()?;
     Ok(line)
 }

@@ -1,0 +1,18 @@
+-- Octets that are a text, and octets that are none.
+use Rattle.std.proofs.Common.{◌≡◌, refl, ℕ, Bool, true, false, List, IsUtf8}
+use Rattle.std.proofs.lemmas.Str.{IsUtf8-from_is_utf8, is_utf8-from_IsUtf8}
+use Rattle.std.specs.Str.{is_utf8}
+use Rattle.cli_texts.specs.Words.{words, escaped, free_words}
+
+not_utf8 : (bs : List ℕ) → (IsUtf8 bs → ⊥) → is_utf8 bs ≡ false
+not_utf8 bs stray = go (is_utf8 bs) refl
+  where
+    go : (b : Bool) → is_utf8 bs ≡ b → is_utf8 bs ≡ false
+    go false e = e
+    go true e = absurd (stray (IsUtf8-from_is_utf8 bs e))
+
+pub text_words : (bs : List ℕ) → IsUtf8 bs → words bs ≡ free_words bs
+text_words bs u = rw (is_utf8-from_IsUtf8 bs u) refl
+
+pub escaped_words : (bs : List ℕ) → (IsUtf8 bs → ⊥) → escaped bs ≡ free_words bs
+escaped_words bs stray = rw (not_utf8 bs stray) refl

@@ -1,0 +1,28 @@
+use Rattle.std.proofs.Common.{◌∙◌, sym, map-id, refl, chars}
+use Rattle.std.proofs.lemmas.Iterator.{YieldsList-from_chars}
+use Rattle.std.proofs.lemmas.Iterator.Consumers.{YieldsList-so_far, YieldsList-turn, YieldsList-end}
+use Rattle.cli_texts.proofs.CutLemmas.{split_at, fits_more, fits_ends, fits_all}
+use Rattle.cli_texts.proofs.headers.fits.Goals as goal
+
+pub loop-c-init : goal.loop-c-init
+loop-c-init c = λ rest. refl
+
+pub loop-c-preserved : goal.loop-c-preserved
+loop-c-preserved c =
+    fits_more c.args.most c.loop-c.left _ c.columns_of.result c.in-Some.c c.loop-c.yielded c.columns_of.ensures c.in-Some-checked_sub.ensures.0
+    c.in-Some-checked_sub.ensures.1 c.loop-c.invariant
+
+pub returns-in-None-checked_sub : goal.returns-in-None-checked_sub
+returns-in-None-checked_sub c =
+    let road = YieldsList-from_chars c.args.text.now c.utf8.text cc in
+    let so_far = sym (map-id c.loop-c.yielded) ∙ YieldsList-so_far road c.loop-c.yielded _ c.loop-c.yielded_by in
+    let turn = YieldsList-turn road c.loop-c.yielded _ c.loop-c.yielded_by _ _ c.in-Some.c c.in-Some.is c.next.ensures.steps in
+    fits_ends (chars c.args.text.now) c.loop-c.yielded c.args.most c.loop-c.left c.columns_of.result c.in-Some.c
+    (split_at (chars c.args.text.now) c.loop-c.yielded c.in-Some.c so_far turn.0 turn.1) c.columns_of.ensures c.in-None-checked_sub.ensures
+    c.loop-c.invariant
+
+pub returns : goal.returns
+returns c =
+    let end = YieldsList-end (YieldsList-from_chars c.args.text.now c.utf8.text cc) c.loop-c.yielded _ c.loop-c.yielded_by
+    _ _ c.in-None.is c.next.ensures.steps in
+    fits_all (chars c.args.text.now) c.loop-c.yielded c.args.most c.loop-c.left (sym (map-id c.loop-c.yielded) ∙ end.0) c.loop-c.invariant
