@@ -52,7 +52,7 @@ kept_words None = []
 kept_words (Some keeper) = words (codes " message kept by record ") ++ number keeper
 
 -- that the message was not this one, which was captured
-abbrev pub other_message : CapturedMessage → List ℕ
+unfoldable pub other_message : CapturedMessage → List ℕ
 other_message m =
     words (codes "; its message was not the one captured, which had octets ") ++ number m.octets ++ words (codes " sha256 ") ++ escaped m.sum.now
 

@@ -95,6 +95,7 @@ pub(crate) fn put_keeper(line: &mut Shown, keeper: Option<u32>) -> Result<(), Al
 }
 
 /// Adds that the message was not the one that was captured, and which one that was.
+#[tactic(auto, unfolding(crate::specs::Lines::other_message))]
 fn put_captured(line: &mut Shown, captured: &CapturedMessage<'_>) -> Result<(), AllocError>
     ensures { OnOk result (line.new ≡ line.old ++ other_message captured.now) }
 {
