@@ -6,7 +6,7 @@ use Rattle.record_archive.specs.declared.line.Line.{Line}
 use Rattle.cli_texts.specs.declared.certificates.CapturedMessage.{CapturedMessage}
 use Rattle.cli_texts.specs.declared.certificates.Certificate.{Certificate}
 use Rattle.cli_texts.specs.declared.records.Row.{Row}
-use Rattle.cli_texts.specs.Words.{words, number, name, escaped}
+use Rattle.cli_texts.specs.Words.{words, number, name}
 
 abbrev pub due_words : Option Date → List ℕ
 due_words None = words (codes "never")
@@ -54,7 +54,7 @@ kept_words (Some keeper) = words (codes " message kept by record ") ++ number ke
 -- that the message was not this one, which was captured
 unfoldable pub other_message : CapturedMessage → List ℕ
 other_message m =
-    words (codes "; its message was not the one captured, which had octets ") ++ number m.octets ++ words (codes " sha256 ") ++ escaped m.sum.now
+    words (codes "; its message was not the one captured, which had octets ") ++ number m.octets ++ words (codes " sha256 ") ++ words m.sum.now
 
 abbrev pub replaced_words : Option CapturedMessage → List ℕ
 replaced_words None = []

@@ -1,7 +1,7 @@
 -- Words for a terminal or a log, in octets of UTF-8.
 use Rattle.std.specs.Prelude.{ℕ, List, decimal}
 use Rattle.std.specs.Str.{encode_utf8_all}
-use Rattle.tool_texts.specs.Quoting.{visible_text, escaped_text, quoted_text, named_text}
+use Rattle.tool_texts.specs.Quoting.{visible_text, quoted_text, named_text}
 
 -- words of the program, and what a value displays
 abbrev pub words : List ℕ → List ℕ
@@ -17,7 +17,3 @@ name octets = encode_utf8_all (named_text octets)
 -- octets in quotation marks
 abbrev pub quotation : List ℕ → List ℕ
 quotation octets = encode_utf8_all (quoted_text octets)
-
--- octets as they are shown between quotation marks, without these
-abbrev pub escaped : List ℕ → List ℕ
-escaped octets = encode_utf8_all (escaped_text octets)
