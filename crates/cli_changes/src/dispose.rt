@@ -15,6 +15,7 @@ use record_choice::{
 use record_store::StoreFault;
 use sqlite::Alter;
 use std::alloc::{AllocError, Global};
+use std::str;
 use tool_texts::{Shown, put};
 
 /// Writes certificates to standard output.
@@ -42,7 +43,10 @@ fn captured_beside<'s>(
     fidelity: Fidelity,
 ) -> Option<CapturedMessage<'s>> {
     match (fidelity, seals.length_and_sum(message)) {
-        (Fidelity::Altered(_), Some((octets, sum))) => Some(CapturedMessage { octets, sum }),
+        (Fidelity::Altered(_), Some((octets, sum))) => Some(CapturedMessage {
+            octets: octets as usize,
+            sum: str::from_utf8(sum).unwrap_or(""),
+        }),
         _ => None,
     }
 }

@@ -67,9 +67,9 @@ kept_words None = []
 kept_words (Some keeper) = words (codes " message kept by record ") ++ number keeper
 
 -- that the message was not this one, which was captured
-abbrev pub other_message : CapturedMessage → List ℕ
+unfoldable pub other_message : CapturedMessage → List ℕ
 other_message m =
-    words (codes "; its message was not the one captured, which had octets ") ++ number m.octets ++ words (codes " sha256 ") ++ escaped m.sum.now
+    words (codes "; its message was not the one captured, which had octets ") ++ number m.octets ++ words (codes " sha256 ") ++ words m.sum.now
 
 abbrev pub replaced_words : Option CapturedMessage → List ℕ
 replaced_words None = []

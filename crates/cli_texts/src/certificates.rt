@@ -33,9 +33,10 @@ pub struct Certificate<'a> {
 /// A message as it was captured.
 #[derive(Clone, Copy)]
 pub struct CapturedMessage<'a> {
-    pub octets: u64,
+    /// How many octets it had.
+    pub octets: usize,
     /// Its SHA-256, in hexadecimal digits.
-    pub sum: &'a [u8],
+    pub sum: &'a str,
 }
 
 /// The SHA-256 of octets, in hexadecimal digits.
@@ -126,11 +127,12 @@ pub(crate) fn put_keeper(line: &mut Shown, keeper: Option<u32>) -> Result<(), Al
 }
 
 /// Adds that the message was not the one that was captured, and which one that was.
+#[tactic(auto, unfolding(crate::specs::Lines::other_message))]
 fn put_captured(line: &mut Shown, captured: &CapturedMessage<'_>) -> Result<(), AllocError>
     ensures { OnOk result (line.new ≡ line.old ++ other_message captured.now) }
 {
     put!(line; "; its message was not the one captured, which had octets " value(&captured.octets)
-        " sha256 " escaped(captured.sum))
+        " sha256 " value(&captured.sum))
 }
 
 /// Adds the message that was captured, where that of the record was another one.
