@@ -33,7 +33,9 @@ impl DueToday {
             self.all = self.all.saturating_add(1);
         }
         let is_held = !entry.holds.is_empty();
-        if is_destroyable(due, plan.schedule_of(path), is_held, today) {
+        let schedule = plan.schedule_of(path);
+        let is_destroyable = is_destroyable(due, schedule, is_held, today);
+        if is_destroyable {
             self.destroyable = self.destroyable.saturating_add(1);
         }
     }

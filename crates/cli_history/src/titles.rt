@@ -153,9 +153,9 @@ impl Titles {
 }
 
 /// The lines of the events that give classes titles, from the event of a number on.
-fn lines_of(
-    rt: &HostRuntime,
-    author: &Author<'_>,
+fn lines_of<'a>(
+    rt: &'a HostRuntime,
+    author: &'a Author<'_>,
     first: u32,
     titles: &[ListedTitle<'_>],
 ) -> Result<Vec<Vec<u8>>, Failure> {

@@ -11,7 +11,8 @@ use Rattle.record_history.specs.Events.{FoundHold, ReasonsRequired, ReasonsOptio
 use Rattle.record_history.specs.Lines.{counted_text, day_text, deed_text, filing_text, paths_text, plan_text, record_text, seal_text, state_word}
 use Rattle.record_history.specs.Readable.{IsName, IsReadableDeed, IsListing}
 use Rattle.record_history.specs.Reading.{accepted_at, added_at, captured_at, deed_at, destroyed_at, found_at, from, hold_deed, made_at}
-use Rattle.record_history.specs.Reading.{message_at, paths_of, plan_change_at, plan_deed, reasons_at, record_at, refiled_at, stripped, titled_at, until, greatest_record}
+use Rattle.record_history.specs.Reading.{message_at, paths_of, plan_change_at, plan_deed, reasons_at, record_at, refiled_at}
+use Rattle.record_history.specs.Reading.{stripped, titled_at, until, greatest_record}
 use Rattle.record_history.proofs.Again.{IsAfter, counted_again, from_word, number_again, stripped_again, until_word}
 use Rattle.record_history.proofs.FieldsAgain.{day_again, filing_again, hold_again, path_plain, paths_again, paths_plain, seal_again}
 use Rattle.record_history.proofs.PlansAgain.{place_again, plan_again, schedule_again}

@@ -13,7 +13,8 @@ returns-clause-archive c = λ kept.
     let q = c.args.path.now in
     let here = subst (IsRecordIndex was.record_index) (sym c.as_mut_slice.ensures.value) kept.records in
     let seen = c.in_ok-place_rows.ensures here ∙ ap (λ l. map (placed n q) (map record_view l)) c.as_mut_slice.ensures.value in
-    ap (λ rs. record (archive_view was) { records = rs }) (rows_back was.records.len n q was.records.items c.place_rows.new.rows was.records.ok.0 seen)
+    ap (λ rs. record (archive_view was) { records = rs })
+    (rows_back was.records.len n q was.records.items c.place_rows.new.rows was.records.ok.0 seen)
 
 pub returns-clause-kept : goal.returns-clause-kept
 returns-clause-kept c = λ kept.
