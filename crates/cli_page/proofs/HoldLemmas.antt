@@ -1,6 +1,8 @@
 -- A map of holds, and the numbers that it has under a name.
-use Rattle.std.proofs.Common.{◌≡◌, ℕ, ◌+◌, ◌-◌, ◌^◌, ◌<◌, ◌≤◌, suc, zero, min, Bool, true, false, cond, List, [], ◌∷◌, ◌++◌, length, get_or, drop, map, flat_map}
-use Rattle.std.proofs.Common.{Option, Some, None, Vec, Global, Ordering, Less, Equal, Greater, nat_cmp, refl, sym, ap, ◌∙◌, subst, append-nil, append_assoc, arith, length-append}
+use Rattle.std.proofs.Common.{◌≡◌, ℕ, ◌+◌, ◌-◌, ◌^◌, ◌<◌, ◌≤◌, suc, zero, min, Bool, true, false, cond, List, [], ◌∷◌, ◌++◌, length, get_or, drop}
+use Rattle.std.proofs.Common.{map, flat_map}
+use Rattle.std.proofs.Common.{Option, Some, None, Vec, Global, Ordering, Less, Equal, Greater, nat_cmp, refl, sym, ap, ◌∙◌, subst, append-nil}
+use Rattle.std.proofs.Common.{append_assoc, arith, length-append}
 use Rattle.std.proofs.Math.ListN.{drop_of_length-le}
 use Rattle.std.proofs.lemmas.List.{drop_more}
 use Rattle.std.proofs.lemmas.Map.Text.{is_eq-slice_cmp}
