@@ -179,7 +179,7 @@ fn store_text(number: u8) -> Option<&'static str>
         81 => "a hold keeps the record; it can be destroyed once its last hold is released",
         82 => "the record is due later than that day",
         83 => "the schedule of the record's class does not destroy; change the plan if it should",
-        84 => "the record is destroyed already; its number, class and day are left, and where the store has a history, what mailfile-store history NUMBER prints",
+        84 => "the record is destroyed already; its number, class and day are all that is left",
         85 => "the record has no hold of that name",
         86 => "the record has a hold of that name already",
         87 => "the record numbers are used up: none may pass 4,294,967,295; begin another store",
