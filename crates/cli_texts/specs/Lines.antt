@@ -66,10 +66,14 @@ abbrev pub kept_words : Option ℕ → List ℕ
 kept_words None = []
 kept_words (Some keeper) = words (codes " message kept by record ") ++ number keeper
 
+-- that the message was not the one that follows
+unfoldable pub other_words : List ℕ
+other_words = words (codes "; its message was not the one captured, which had")
+
 -- that the message was not this one, which was captured
 unfoldable pub other_message : CapturedMessage → List ℕ
 other_message m =
-    words (codes "; its message was not the one captured, which had octets ") ++ number m.octets ++ words (codes " sha256 ") ++ words m.sum.now
+    other_words ++ words (codes " octets ") ++ number m.octets ++ words (codes " sha256 ") ++ words m.sum.now
 
 abbrev pub replaced_words : Option CapturedMessage → List ℕ
 replaced_words None = []

@@ -3,8 +3,12 @@
 ghost use Rattle.std.specs.Prelude.{◌≡◌, ◌<◌, ◌++◌, ℕ, List, IfOk, OnOk, string_bytes};
 ghost use Rattle.sha2.specs.Sha256.{sha256};
 ghost use Rattle.hex.specs.Hex.{encode_lower};
+<<<<<<< HEAD
 ghost use Rattle.cli_texts.specs.Lines.{destroyed_record, destroyed_message, kept_words, other_message, replaced_words, altered_words, certificate};
 ghost use Rattle.cli_texts.specs.Moments.{two_digits, time_text, day_and_time as day_and_time_of, IsMomentText};
+=======
+ghost use Rattle.cli_texts.specs.Lines.{destroyed_record, destroyed_message, kept_words, other_words, other_message, replaced_words, altered_words, certificate};
+>>>>>>> help-A
 
 use crate::records::put_due;
 use class_plan::{Date, day_of};
@@ -126,13 +130,21 @@ pub(crate) fn put_keeper(line: &mut Shown, keeper: Option<u32>) -> Result<(), Al
     }
 }
 
+/// Adds that the message was not the one that follows.
+#[tactic(auto, unfolding(crate::specs::Lines::other_words))]
+fn put_other(line: &mut Shown) -> Result<(), AllocError>
+    ensures { OnOk result (line.new ≡ line.old ++ other_words) }
+{
+    line.words("; its message was not the one captured, which had")
+}
+
 /// Adds that the message was not the one that was captured, and which one that was.
 #[tactic(auto, unfolding(crate::specs::Lines::other_message))]
 fn put_captured(line: &mut Shown, captured: &CapturedMessage<'_>) -> Result<(), AllocError>
     ensures { OnOk result (line.new ≡ line.old ++ other_message captured.now) }
 {
-    put!(line; "; its message was not the one captured, which had octets " value(&captured.octets)
-        " sha256 " value(&captured.sum))
+    put_other(line)?;
+    put!(line; " octets " value(&captured.octets) " sha256 " value(&captured.sum))
 }
 
 /// Adds the message that was captured, where that of the record was another one.
