@@ -17,6 +17,16 @@ pub struct DueToday {
     pub destroyable: u64,
 }
 
+/// Whether a live record may be destroyed today, as if it were in the class of a path, by a plan.
+fn is_destroyable_in(entry: &RecordEntry, path: &[u8], plan: &Plan, today: Date) -> bool {
+    is_destroyable(
+        due_by(plan, path, entry.day),
+        plan.schedule_of(path),
+        !entry.holds.is_empty(),
+        today,
+    )
+}
+
 impl DueToday {
     /// None of no record.
     pub fn none() -> DueToday {
@@ -28,14 +38,10 @@ impl DueToday {
 
     /// Adds a live record, as if it were in the class of a path, by a plan.
     pub fn add(&mut self, entry: &RecordEntry, path: &[u8], plan: &Plan, today: Date) {
-        let due = due_by(plan, path, entry.day);
-        if is_by(due, today) {
+        if is_by(due_by(plan, path, entry.day), today) {
             self.all = self.all.saturating_add(1);
         }
-        let is_held = !entry.holds.is_empty();
-        let schedule = plan.schedule_of(path);
-        let is_destroyable = is_destroyable(due, schedule, is_held, today);
-        if is_destroyable {
+        if is_destroyable_in(entry, path, plan, today) {
             self.destroyable = self.destroyable.saturating_add(1);
         }
     }

@@ -3,12 +3,8 @@
 ghost use Rattle.std.specs.Prelude.{◌≡◌, ◌<◌, ◌++◌, ℕ, List, IfOk, OnOk, string_bytes};
 ghost use Rattle.sha2.specs.Sha256.{sha256};
 ghost use Rattle.hex.specs.Hex.{encode_lower};
-<<<<<<< HEAD
-ghost use Rattle.cli_texts.specs.Lines.{destroyed_record, destroyed_message, kept_words, other_message, replaced_words, altered_words, certificate};
-ghost use Rattle.cli_texts.specs.Moments.{two_digits, time_text, day_and_time as day_and_time_of, IsMomentText};
-=======
 ghost use Rattle.cli_texts.specs.Lines.{destroyed_record, destroyed_message, kept_words, other_words, other_message, replaced_words, altered_words, certificate};
->>>>>>> help-A
+ghost use Rattle.cli_texts.specs.Moments.{two_digits, time_text, day_and_time as day_and_time_of, IsMomentText};
 
 use crate::records::put_due;
 use class_plan::{Date, day_of};
