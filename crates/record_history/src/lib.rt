@@ -16,7 +16,6 @@ mod faults;
 mod laws;
 mod lines;
 mod marks;
-mod readable;
 mod readers;
 mod reading;
 mod seals;
