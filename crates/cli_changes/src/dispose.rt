@@ -322,10 +322,10 @@ pub fn day_of_disposal(rt: &HostRuntime, asked: &Disposal) -> Result<Date, Failu
 }
 
 /// Writes what is due by a day and may be destroyed, or destroys it; where numbers are typed, these records alone. A range
-/// Writes what is due by a day and may be destroyed, or destroys it; where numbers are typed, these records alone. A range
-/// passes over what may not be destroyed, which is told; `BadData` with the reason where that is a record whose number is typed by itself. Where
-/// there is none, this is told. By the seals of the history messages are judged: `BadData` where that of a record is not the
-/// one that was captured, and then none is destroyed, unless damage is asked for; what is listed is listed all the same.
+/// passes over what may not be destroyed, which is told; `BadData` with the reason where that is a record whose number is
+/// typed by itself. Where there is none, this is told. By the seals of the history messages are judged: `BadData` where that of
+/// a record is not the one that was captured, and then none is destroyed, unless damage is asked for; what is listed is listed
+/// all the same.
 pub fn dispose_by<S: Alter>(
     rt: &HostRuntime,
     archive: &mut StoreLedger<'_, S>,
