@@ -162,7 +162,7 @@ fn approved_at(rt: &HostRuntime, path: &str) -> Result<Vec<TypedNumbers>, Failur
 /// line ends between them, each a number or a range. What stands after a # in a line is passed over. `Usage` where a word is
 /// none, and where there is no word: an empty file never stands for all records. `NoInput` where the file cannot be read.
 pub fn with_approved(rt: &HostRuntime, asked: DisposalAsked<'_>) -> Result<Disposal, Failure>
-    ensures { IfOk result (λ d. IfSome asked.approved (λ path. 0 < length d.numbers.items)) }
+    ensures { IfOk result (λ d. IfSome asked.entry.approved (λ path. 0 < length d.numbers.items)) }
 {
     let DisposalAsked { typed, approved } = asked;
     match approved {
