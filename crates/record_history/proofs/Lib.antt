@@ -7,6 +7,7 @@ mod LinesAgain
 mod FieldsAgain
 mod PlansAgain
 mod MarkRows
+mod ReadableLemmas
 mod RealDays
 mod ReplayLemmas
 mod RowLemmas

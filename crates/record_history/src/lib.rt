@@ -16,6 +16,7 @@ mod faults;
 mod laws;
 mod lines;
 mod marks;
+mod readable;
 mod readers;
 mod reading;
 mod seals;

@@ -3,6 +3,7 @@
 ghost use Rattle.std.specs.Prelude.{◌≡◌, IfOk};
 ghost use Rattle.record_history.specs.Lines.{line_of};
 ghost use Rattle.record_history.specs.OneReading.{ReadsEach};
+ghost use Rattle.record_history.specs.Readable.{IsReadable};
 ghost use Rattle.record_history.specs.Reading.{Gives, ending_at as ending_at_of, event_at as event_at_of, notes_at as notes_at_of, reason_at as reason_at_of};
 ghost use Rattle.record_history.specs.Spelled.{IsSpelled};
 ghost use Rattle.record_history.specs.Views.{event_view};
@@ -12,6 +13,7 @@ use crate::deed_readers::deed_at;
 use crate::events::Event;
 use crate::faults::LineFault;
 use crate::lines::event_line;
+use crate::readable::is_readable;
 use crate::words::{strip, strip_if, wide_number_at, word};
 use std::alloc::Global;
 
@@ -80,14 +82,18 @@ pub fn read_line_again(alloc: Global, line: &[u8]) -> Result<(u64, Event<'_>), L
 
 /// The number and the event of a line. The event borrows its texts from the line.
 ///
-/// A line is read only where writing what was read gives the same octets again. Refused with 99 (no memory), and else
-/// where the octets are no line.
+/// A line is read only where its event is one that archives note, and writing what was read gives the same octets again.
+/// Refused with 99 (no memory), and else where the octets are no line of such an event.
 pub fn read_line(alloc: Global, line: &[u8]) -> Result<(u64, Event<'_>), LineFault>
     ensures found { IfOk result (λ x. line.now ≡ line_of x.0 (event_view x.1)) }
+    ensures readable { IfOk result (λ x. IsReadable (event_view x.1)) }
     ensures only { ReadsEach (λ x. (x.0, event_view x.1)) line.now result }
     ensures spelled { IfOk result (λ x. IsSpelled (event_view x.1)) }
 {
     let (number, event) = read_line_again(alloc, line)?;
+    if !is_readable(&event) {
+        return Err(LineFault::NotALine);
+    }
     let again = event_line(alloc, number, &event)?;
     if again.as_slice() != line {
         return Err(LineFault::NotALine);

@@ -38,6 +38,22 @@ fn seals_as_sha256sum_gives_them(rt: HostRuntime) -> Result<(), Fail> {
     Ok(())
 }
 
+/// The line of a hold with a reason.
+fn line_with(alloc: Global, reason: &[u8]) -> Result<Vec<u8>, AllocError> {
+    let deed = Deed::Held {
+        name: b"audit",
+        number: 1,
+    };
+    let event = Event {
+        moment: 0,
+        who: b"ann",
+        deed,
+        notes: b"",
+        reason,
+    };
+    event_line(alloc, 17, &event)
+}
+
 /// The line of a hold at a moment.
 fn line_at(alloc: Global, moment: u64) -> Result<Vec<u8>, AllocError> {
     let deed = Deed::Held {
@@ -96,8 +112,8 @@ fn each_deed_is_read(rt: HostRuntime) {
         b"17 2031-01-01T09:30:00Z ann held audit 1 : order 12/3".as_slice(),
         b"1 1970-01-01T00:00:00Z : held : 1 : a : b",
         b"2 2031-01-01T09:30:00Z ann released audit 4294967295 file=a.eml;dated=received",
-        b"3 2031-01-01T09:30:00Z ann captured 5 on 2031-01-01 message 17 0a by post rules ff in finance/tax,rent",
-        b"4 2031-01-01T09:30:00Z ann captured 7 on 2031-01-01 message 0 0a in rent note=1 : late",
+        b"3 2031-01-01T09:30:00Z ann captured 5 on 2031-01-01 message 17 9c6c8eb5e1aadf9965b891e6b38b9eaaa685400b5a6f4e755ee91c0695514d09 by post rules e3b0c44298fc1c149afbf4c8996fb92427ae41e4649b934ca495991b7852b855 in finance/tax,rent",
+        b"4 2031-01-01T09:30:00Z ann captured 7 on 2031-01-01 message 0 e3b0c44298fc1c149afbf4c8996fb92427ae41e4649b934ca495991b7852b855 in rent note=1 : late",
         b"5 2031-01-01T09:30:00Z ann destroyed 5 as due by 2031-01-01 (7 years destroy year-end)",
         b"6 2031-01-01T09:30:00Z ann replaced plan (root 30 days review; closed rent, permanent; unfiled)",
         b"6 2031-01-01T09:30:00Z ann found plan (root permanent; closed; closed closed; unfiled)",
@@ -114,7 +130,7 @@ fn each_deed_is_read(rt: HostRuntime) {
         b"9 2031-01-01T09:30:00Z ann accepted findings note=1 : seen with ben",
         b"8 2031-01-01T09:30:00Z ann found record 5 of message 4 in rent on 2031-01-01 destroyed",
         b"8 2031-01-01T09:30:00Z ann found record 5 of message 4 in rent on 2031-01-01 live : x",
-        b"9 2031-01-01T09:30:00Z ann found message 4 17 0a",
+        b"9 2031-01-01T09:30:00Z ann found message 4 17 9c6c8eb5e1aadf9965b891e6b38b9eaaa685400b5a6f4e755ee91c0695514d09",
         b"9 9999-12-31T23:59:59Z ann found hold audit 4",
     ];
     for line in lines {
@@ -156,4 +172,36 @@ fn other_octets_are_no_line(rt: HostRuntime) {
     for line in lines {
         assert!(rt; !is_read(alloc, line).expect(&rt, "no memory"));
     }
+}
+
+#[test]
+fn lines_that_no_archive_notes_are_no_lines(rt: HostRuntime) {
+    let alloc = rt.alloc();
+    let lines = [
+        b"17 2031-01-01T09:30:00Z ann held audit 1 : order\n12/3".as_slice(),
+        b"17 2031-01-01T09:30:00Z ann held audit 1 : order\x7f12/3",
+        b"17 2031-01-01T09:30:00Z ann held audit 1 note=1\n",
+        b"17 2031-01-01T09:30:00Z ann held au\x1bdit 1",
+        b"17 2031-01-01T09:30:00Z an\xe9 held audit 1",
+        b"17 2031-01-01T09:30:00Z  held audit 1",
+        b"17 2031-01-01T09:30:00Z ann added class Finance",
+        b"17 2031-01-01T09:30:00Z ann titled rent 5:a\r\nbc 0:",
+        b"6 2031-01-01T09:30:00Z ann found plan (root permanent; Rent; unfiled)",
+        b"9 2031-01-01T09:30:00Z ann found message 4 17 9c6c8eb5e1aadf9965b891e6b38b9eaaa685400b5a6f4e755ee91c0695514d0",
+        b"9 2031-01-01T09:30:00Z ann found message 4 17 9C6C8EB5E1AADF9965B891E6B38B9EAAA685400B5A6F4E755EE91C0695514D09",
+    ];
+    for line in lines {
+        assert!(rt; !is_read(alloc, line).expect(&rt, "no memory"));
+    }
+}
+
+#[test]
+fn a_reason_has_at_most_500_octets(rt: HostRuntime) -> Result<(), Fail> {
+    let alloc = rt.alloc();
+    let reason = [b'a'; 501];
+    let line = line_with(alloc, &reason[..500])?;
+    assert!(rt; is_read(alloc, line.as_slice()).expect(&rt, "no memory"));
+    let line = line_with(alloc, &reason)?;
+    assert!(rt; !is_read(alloc, line.as_slice()).expect(&rt, "no memory"));
+    Ok(())
 }

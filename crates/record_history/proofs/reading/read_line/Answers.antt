@@ -1,9 +1,11 @@
 use Rattle.std.proofs.Common.{◌≡◌, ap, sym, ◌∙◌, subst, Option, Some, None, unwrap_or, List, ℕ, true, false, not}
 use Rattle.std.specs.Str.{bytes_eq}
+use Rattle.std.proofs.lemmas.Bool.{false≢true}
 use Rattle.std.proofs.lemmas.Slice.Eq.{bytes_eq-Decides}
 use Rattle.std.proofs.lemmas.Result.{err_from_is_err_and}
 use Rattle.record_history.specs.Events.{Event}
 use Rattle.record_history.specs.Lines.{line_of}
+use Rattle.record_history.specs.Readable.{IsReadable}
 use Rattle.record_history.specs.Reading.{Fails, event_at}
 use Rattle.record_history.specs.Views.{event_view}
 use Rattle.record_history.proofs.LinesAgain.{event_again}
@@ -11,6 +13,15 @@ use Rattle.record_history.proofs.reading.read_line.Goals as goal
 
 pub returns-clause-only : goal.returns-clause-only
 returns-clause-only c = λ n e h r same. sym (event_again n e h r) ∙ ap event_at (sym same) ∙ c.in_ok-number.ensures.event
+
+pub returns-then-not-is_readable-clause-only : goal.returns-then-not-is_readable-clause-only
+returns-then-not-is_readable-clause-only c = λ n e h r same.
+    let first : ℕ × Event = (n, e) in
+    let second : ℕ × Event = (c.in_ok-number.number, event_view c.in_ok-number.event) in
+    let both : Some first ≡ Some second = sym (event_again n e h r) ∙ ap event_at (sym same) ∙ c.in_ok-number.ensures.event in
+    let event : Option (ℕ × Event) → Event = λ o. (unwrap_or o first).1 in
+    let readable : IsReadable (event_view c.in_ok-number.event) = subst IsReadable (ap event both) r in
+    absurd (false≢true (sym c.if-not-is_readable.true ∙ c.is_readable.ensures.1 readable))
 
 pub returns-then-ne-clause-only : goal.returns-then-ne-clause-only
 returns-then-ne-clause-only c = λ n e h r same.
