@@ -5,12 +5,13 @@ use Rattle.record_archive.specs.Archive.{Archive, empty_archive}
 use Rattle.record_history.specs.Chain.{mark_after, chain, chain_from}
 use Rattle.record_history.specs.Events.{Event}
 use Rattle.record_history.specs.Lines.{line_of, lines_from}
-use Rattle.record_history.specs.Replay.{after, replay}
+use Rattle.record_history.specs.Replay.{IsTrueOf, after, replay}
 use Rattle.record_judge.specs.Judging.{Judges, IsFlaw}
 use Rattle.record_judge.specs.declared.judge.Flaw.TheVariants as flaw
 use Rattle.record_judge.specs.Sealed.{archive_view, IsKept}
 use Rattle.record_judge.specs.declared.judge.Judge.{Judge}
 use Rattle.record_judge.proofs.FindingLemmas.{replay_append, lines_append, lines_length}
+use Rattle.record_judge.proofs.TruthLemmas.{true_more}
 
 chain_more : (mark : List ℕ) (ls : List (List ℕ)) (l : List ℕ) → chain_from mark (ls ++ l ∷ []) ≡ mark_after (chain_from mark ls) l
 chain_more mark [] l = refl
@@ -28,10 +29,11 @@ one_line ls es e line n lines next is =
     ap (λ l. l ++ line ∷ []) lines ∙ ap (λ l. lines_from 1 es ++ l ∷ []) (is ∙ ap (λ m. line_of m e) k) ∙ sym (lines_append 1 es (e ∷ []))
 
 pub taken : (old new : Judge) (ls : List (List ℕ)) (number : ℕ) (line mark : List ℕ) (e : Event) → Judges old ls → number ≡ old.next
-    → mark ≡ mark_after old.mark.items line → line ≡ line_of old.next e → after e.deed (archive_view old.archive) ≡ Some (archive_view new.archive)
+    → mark ≡ mark_after old.mark.items line → line ≡ line_of old.next e → IsTrueOf e.deed (archive_view old.archive)
+    → after e.deed (archive_view old.archive) ≡ Some (archive_view new.archive)
     → IsKept new.archive → new.next ≡ old.next + 1 → new.mark.items ≡ mark
     → Judges new (ls ++ line ∷ []) × ((number ≡ length ls + 1) × (mark ≡ chain (ls ++ line ∷ [])))
-taken old new ls number line mark e was turn marked is done kept next ends =
+taken old new ls number line mark e was turn marked is so done kept next ends =
     let end : mark ≡ chain (ls ++ line ∷ []) = marked ∙ ap (λ m. mark_after m line) was.mark ∙ sym (chain_more [] ls line) in (
       record {
         next = omega (arith, next, was.next, length_more ls line);
@@ -41,6 +43,7 @@ taken old new ls number line mark e was turn marked is done kept next ends =
         lines = one_line ls was.events e line old.next was.lines was.next is;
         replayed = replay_append was.events (e ∷ []) empty_archive (archive_view old.archive) was.replayed
             ∙ again (after e.deed (archive_view old.archive)) done;
+        told_truly = true_more empty_archive (archive_view old.archive) was.events e was.told_truly was.replayed so;
       },
       (turn ∙ was.next, end),
     )

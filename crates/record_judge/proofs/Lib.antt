@@ -7,3 +7,4 @@ pub mod RemovalLemmas
 pub mod MessageLemmas
 pub mod HoldLemmas
 pub mod RefilingLemmas
+pub mod TruthLemmas

@@ -23,6 +23,8 @@ pub enum Flaw {
     OtherNumber,
     /// The row's mark is not the one that the chain gives to the line.
     OtherMark,
+    /// The deed destroys a record, and tells another schedule than that of the record's class at that point.
+    OtherSchedule,
     /// The archive refuses the deed at that point, or gives its record another number.
     Refused,
     /// The deed's plan is none.
@@ -105,8 +107,8 @@ impl Judge {
 
     /// Takes the next row: its number, its line and its mark.
     ///
-    /// Refused with what stands against it first, in the order of `OutOfTurn`, `OtherMark`, `NotALine`, `OtherNumber` and
-    /// the others; a refused judge is of no more use.
+    /// Refused with what stands against it first, in the order of `OutOfTurn`, `OtherMark`, `NotALine`, `OtherNumber`,
+    /// `OtherSchedule` and the others; a refused judge is of no more use.
     #[tactic(auto, using(crate::proofs::JudgeLemmas::taken))]
     pub fn take(&mut self, number: u32, line: &[u8], mark: &[u8]) -> Result<(), Flaw>
         ensures { (ls : List (List ℕ)) → Judges self.old ls →
@@ -117,6 +119,9 @@ impl Judge {
             Ok(event) => event,
             Err(flaw) => return Err(flaw),
         };
+        if !self.archive.is_told_truly(&event.deed) {
+            return Err(Flaw::OtherSchedule);
+        }
         if let Err(misdeed) = self.archive.do_again(event.deed) {
             return Err(flaw_of(misdeed));
         }

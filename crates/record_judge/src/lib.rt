@@ -24,6 +24,7 @@ mod replays;
 mod sealed;
 #[cfg(test)]
 mod tests;
+mod truth;
 
 pub use faults::Misdeed;
 pub use findings::findings_restate;

@@ -63,7 +63,7 @@ fn is_same_schedule(one: Schedule, other: Schedule) -> bool
     }
 }
 
-fn is_same_own(one: Option<Schedule>, other: Option<Schedule>) -> bool
+pub(crate) fn is_same_own(one: Option<Schedule>, other: Option<Schedule>) -> bool
     ensures { IsTrue result ↔ (one ≡ other) }
 {
     match one {

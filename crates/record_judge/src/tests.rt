@@ -100,8 +100,8 @@ fn unlawful_deeds_are_refused(rt: HostRuntime) {
             b"a18555acaa10910ae5ba24ea8b5029a04d9b3e45f3e0f0a13e72de7a7ba2dc13".as_slice(),
         ),
         (
-            b"3 2031-01-01T09:30:00Z ann destroyed 1 as due by 2032-01-01 (1 years destroy)".as_slice(),
-            b"d84cf821eb013d398f8aed08700a1e851d99353d3314d7b963ee92b7e0bb3796".as_slice(),
+            b"3 2031-01-01T09:30:00Z ann destroyed 1 as due by 2032-01-01 (permanent)".as_slice(),
+            b"6f061fe9c7df305bf4524289e86f5a32033c5cd31db868624e9251df7f75e1cb".as_slice(),
         ),
         (
             b"3 2031-01-01T09:30:00Z ann refiled 9 to finance".as_slice(),
@@ -119,6 +119,19 @@ fn unlawful_deeds_are_refused(rt: HostRuntime) {
     for (line, mark) in rows {
         assert!(rt; matches!(flaw_of(alloc, 3, line, mark), Some(Flaw::Refused)));
     }
+}
+
+#[test]
+fn destructions_under_another_schedule_are_refused(rt: HostRuntime) {
+    let line =
+        b"3 2031-01-01T09:30:00Z ann destroyed 1 as due by 2032-01-01 (1 years destroy)".as_slice();
+    let mark = b"d84cf821eb013d398f8aed08700a1e851d99353d3314d7b963ee92b7e0bb3796".as_slice();
+    assert!(rt;
+        matches!(
+            flaw_of(rt.alloc(), 3, line, mark),
+            Some(Flaw::OtherSchedule)
+        )
+    );
 }
 
 #[test]
