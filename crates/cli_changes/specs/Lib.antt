@@ -6,3 +6,4 @@ pub mod Endings
 pub mod RuleSums
 pub mod Causes
 pub mod Refilings
+pub mod Certificates

@@ -1,5 +1,9 @@
 //! `dispose`: what is due, and its destruction. Which records these are, `record_choice` decides.
 
+ghost use Rattle.std.specs.Prelude.{◌≡◌, IfOk, option_map};
+ghost use Rattle.cli_history.specs.Seals.{known};
+ghost use Rattle.cli_changes.specs.Certificates.{captured_view, captured_for, Certifies, IsCertificateLine};
+
 use crate::altered::{Damage, altered_in, due_line, end_list, judge_altered};
 use crate::passed_over::tell_passed_over;
 use crate::runs::{Run, runs_of};
@@ -22,7 +26,7 @@ use tool_texts::{Shown, put};
 #[derive(Drop)]
 struct Certificates<'r, 's> {
     rt: &'r HostRuntime,
-    /// The seals of the messages, as the history has them.
+    /// The seals of the messages and the titles of the classes, as the history has them.
     seals: &'s Seals,
     /// Whether a message is gone with a record.
     is_any_gone: bool,
@@ -41,7 +45,10 @@ fn captured_beside<'s>(
     seals: &'s Seals,
     message: u32,
     fidelity: Fidelity,
-) -> Option<CapturedMessage<'s>> {
+) -> Option<CapturedMessage<'s>>
+    ensures { option_map captured_view result ≡
+        captured_for (known seals.now message) fidelity }
+{
     match (fidelity, seals.length_and_sum(message)) {
         (Fidelity::Altered(_), Some((octets, sum))) => Some(CapturedMessage {
             octets: octets as usize,
@@ -51,26 +58,39 @@ fn captured_beside<'s>(
     }
 }
 
+/// What is certified of a record that is about to be destroyed, with the digits of its message's sum, at a moment. The title of
+/// its class is the one that the history gives it. Where the message is not the one that was captured, it has that one too.
+fn facts_of<'d>(
+    seals: &'d Seals,
+    destroyed: &'d Destroyed,
+    sum: &'d str,
+    moment: u64,
+) -> Certificate<'d>
+    ensures { Certifies destroyed.now seals.now sum.now moment result }
+{
+    let entry = &destroyed.entry;
+    let octets = destroyed.octets as u64;
+    let fidelity = seals.fidelity(entry.message, octets, sum.as_bytes());
+    Certificate {
+        number: entry.number,
+        path: entry.path.as_slice(),
+        title: seals.titles().of_class(entry.path.as_slice()),
+        due: entry.due,
+        octets: destroyed.octets,
+        sum,
+        moment,
+        kept_by: destroyed.kept_by,
+        captured: captured_beside(seals, entry.message, fidelity),
+    }
+}
+
 /// The certificate of a record that is about to be destroyed. Where the message is not the one that was captured, it says so,
 /// and which one that was.
-fn certificate_of(
-    rt: &HostRuntime,
-    seals: &Seals,
-    destroyed: &Destroyed,
-) -> Result<Shown, Failure> {
+fn certificate_of(rt: &HostRuntime, seals: &Seals, destroyed: &Destroyed) -> Result<Shown, Failure>
+    ensures { IfOk result (λ line. IsCertificateLine destroyed.now seals.now line) }
+{
     let sum = sum_text(rt.alloc(), destroyed.sum.as_slice())?;
-    let octets = destroyed.octets as u64;
-    let fidelity = seals.fidelity(destroyed.entry.message, octets, sum.as_bytes());
-    let facts = Certificate {
-        number: destroyed.entry.number,
-        path: destroyed.entry.path.as_slice(),
-        due: destroyed.entry.due,
-        octets: destroyed.octets,
-        sum: sum.as_str(),
-        moment: now(rt)?,
-        kept_by: destroyed.kept_by,
-        captured: captured_beside(seals, destroyed.entry.message, fidelity),
-    };
+    let facts = facts_of(seals, destroyed, sum.as_str(), now(rt)?);
     Ok(certificate_line(rt.alloc(), &facts)?)
 }
 

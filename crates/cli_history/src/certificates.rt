@@ -1,20 +1,22 @@
 //! `certificates`: those of records that were destroyed, from the history.
 
-ghost use Rattle.std.specs.Prelude.{IfOk, IfSome};
+ghost use Rattle.std.specs.Prelude.{◌≡◌, IfOk, IfSome, option_map};
 ghost use Rattle.record_history.specs.Spelled.{IsSpelledDeed};
 ghost use Rattle.record_history.specs.Views.{deed_view};
+ghost use Rattle.cli_history.specs.Titles.{title_seen, title_beside};
 
 use crate::chosen::is_about;
 use crate::days::day_text;
 use crate::missing::Missing;
 use crate::notes::is_altered;
 use crate::pages::{Events, event_of};
+use crate::titles::Titles;
 use crate::untold::tell_untold;
 use crate::watching::Watch;
 use choice_words::TypedNumbers;
 use class_plan::schedule_text;
 use cli_console::{Failure, Status, write_text};
-use cli_texts::{ToldCertificate, told_certificate};
+use cli_texts::{ClassTitle, ToldCertificate, told_certificate};
 use record_history::{Deed, Event, Seal};
 use record_judge::SealedArchive;
 use record_noted::NotedStore;
@@ -192,8 +194,20 @@ fn keeper_in(made: &SealedArchive, message: u32) -> Option<u32> {
 struct Beside<'e> {
     /// The record, if the archive has it.
     entry: Option<&'e RecordEntry>,
+    /// The title of its class, where it has a title or a legal basis by the events before.
+    title: Option<ClassTitle<'e>>,
     /// The live record that kept its message, if there was one.
     kept_by: Option<u32>,
+}
+
+/// The title of the class of a record, if the archive has the record.
+fn title_of_class<'t>(titles: &'t Titles, entry: Option<&RecordEntry>) -> Option<ClassTitle<'t>>
+    ensures { option_map title_seen result ≡ title_beside titles.now entry.entry }
+{
+    match entry {
+        Some(entry) => titles.of_class(entry.path.as_slice()),
+        None => None,
+    }
 }
 
 /// The certificate of an event that destroys a record; none of any other event.
@@ -225,6 +239,7 @@ fn certificate_of(
     let told = ToldCertificate {
         number: *number,
         path: entry.map(|entry| entry.path.as_slice()),
+        title: beside.title,
         day: day.as_str(),
         schedule: schedule.as_slice(),
         seal,
@@ -244,6 +259,8 @@ struct Printing<'n> {
     typed: &'n [TypedNumbers],
     messages: Messages,
     watch: Watch,
+    /// The titles of classes, by the events that were read.
+    titles: Titles,
     missing: Missing,
     /// The records of which an event tells that they were destroyed.
     told: BTreeSet<u32>,
@@ -252,14 +269,20 @@ struct Printing<'n> {
 impl<'n> Printing<'n> {
     /// What is known beside the event that was judged last, which destroys a record. Where something stands against an event, no
     /// record is known to have kept a message.
-    fn beside<'e>(&self, entry: Option<&'e RecordEntry>) -> Beside<'e> {
+    fn beside<'e>(&'e self, entry: Option<&'e RecordEntry>) -> Beside<'e>
+        ensures { option_map title_seen result.title ≡ title_beside self.now.titles entry.entry }
+    {
         let kept_by = match entry {
             Some(entry) if self.watch.is_sound() => {
                 keeper_in(self.watch.archive(), entry.message)
             }
             _ => None,
         };
-        Beside { entry, kept_by }
+        Beside {
+            entry,
+            title: title_of_class(&self.titles, entry),
+            kept_by,
+        }
     }
 
     /// Prints the certificate of an event, where it destroys a record that is asked for.
@@ -272,6 +295,7 @@ impl<'n> Printing<'n> {
         let Some(event) = readable(rt.alloc(), row)? else {
             return Ok(());
         };
+        self.titles.take(&event.deed)?;
         let Some(number) = destroyed_in(self.typed, &event) else {
             return Ok(());
         };
@@ -356,6 +380,7 @@ pub fn write_certificates<S: Alter>(
         typed,
         messages,
         watch: Watch::new(rt.alloc())?,
+        titles: Titles::none(rt.alloc()),
         missing: Missing::of(rt.alloc(), typed)?,
         told: BTreeSet::new(rt.alloc()),
     };

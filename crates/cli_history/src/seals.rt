@@ -1,11 +1,15 @@
-//! The seals of messages, by which one that was altered in the file is known.
+//! The seals of messages, by which one that was altered in the file is known. The titles of classes are kept beside them, since
+//! one walk over the events finds both.
 
 ghost use Rattle.std.specs.Prelude.{◌≡◌, ◌==◌, ℕ, None, Some, IfOk, OnOk, if◌then◌else◌, option_map};
 ghost use Rattle.record_history.specs.Replay.{seal as seal_of_octets};
+ghost use Rattle.record_history.specs.Titles.{last_title, title_given};
 ghost use Rattle.record_history.specs.Views.{deed_view, seal_view};
 ghost use Rattle.cli_history.specs.Seals.{fidelity as fidelity_to, is_seal, known, later, length_and_sum as length_and_sum_of, sealed_by};
+ghost use Rattle.cli_history.specs.Titles.{Path, title_of};
 
 use crate::pages::PAGE;
+use crate::titles::Titles;
 use cli_console::Failure;
 use record_history::{Deed, Event, LineFault, Seal, read_line, seal_of};
 use record_store::{EventLayout, EventRow, Store};
@@ -26,6 +30,7 @@ pub struct Told {
 pub struct Seals {
     /// By the numbers of messages.
     told: BTreeMap<u32, Told>,
+    titles: Titles,
 }
 
 /// What a message is, beside the one that was captured.
@@ -87,13 +92,22 @@ impl Beginnings {
 }
 
 impl Seals {
-    /// No seal of any message, as of a store without a history.
+    /// No seal of any message and no title of a class, as of a store without a history.
     pub fn none(alloc: Global) -> Seals
-        ensures { (n : ℕ) → known result n ≡ None }
+        ensures seals { (n : ℕ) → known result n ≡ None }
+        ensures titles { (p : Path) → title_of result.titles p ≡ None }
     {
         Seals {
             told: BTreeMap::new(alloc),
+            titles: Titles::none(alloc),
         }
+    }
+
+    /// The titles of classes, as the same events tell them.
+    pub fn titles(&self) -> &Titles
+        ensures { result.now ≡ self.now.titles }
+    {
+        &self.titles
     }
 
     /// What a message of so many octets with this SHA-256, in hexadecimal digits, is beside the one that was captured under its
@@ -140,8 +154,9 @@ impl Seals {
 
     /// Notes the seal of a message. The only refusal is no memory.
     fn note(&mut self, message: u32, seal: Seal, event: u32) -> Result<(), AllocError>
-        ensures { OnOk result ((n : ℕ) → known self.new n ≡
+        ensures seal { OnOk result ((n : ℕ) → known self.new n ≡
             (if n == message then Some (seal_view seal, event) else known self.old n)) }
+        ensures titles { OnOk result (self.new.titles ≡ self.old.titles) }
     {
         match self.told.insert(message, Told { seal, event }) {
             Ok(_) => Ok(()),
@@ -150,9 +165,10 @@ impl Seals {
     }
 
     /// Notes the seal that a deed tells, if it tells one. The only refusal is no memory.
-    pub(crate) fn take(&mut self, event: u32, deed: Deed<'_>) -> Result<(), AllocError>
-        ensures { OnOk result ((n : ℕ) → known self.new n ≡
+    fn take_seal(&mut self, event: u32, deed: Deed<'_>) -> Result<(), AllocError>
+        ensures seal { OnOk result ((n : ℕ) → known self.new n ≡
             later (sealed_by event (deed_view deed.entry) n) (known self.old n)) }
+        ensures titles { OnOk result (self.new.titles ≡ self.old.titles) }
     {
         match deed {
             Deed::Captured { first, seal, .. } => self.note(first, seal, event),
@@ -161,7 +177,28 @@ impl Seals {
         }
     }
 
-    /// Notes the seals that the events of a page tell: of all messages, or of the one whose deeds begin so.
+    /// Notes the title that a deed gives a class, if it gives one. The only refusal is no memory.
+    fn take_title(&mut self, deed: &Deed<'_>) -> Result<(), AllocError>
+        ensures seals { OnOk result ((n : ℕ) → known self.new n ≡ known self.old n) }
+        ensures titles { OnOk result ((p : Path) → title_of self.new.titles p ≡
+            last_title (title_of self.old.titles p) (title_given p.items (deed_view deed.now))) }
+    {
+        self.titles.take(deed)
+    }
+
+    /// Notes the seal or the title that the deed of an event tells. The only refusal is no memory.
+    pub(crate) fn take(&mut self, event: u32, deed: Deed<'_>) -> Result<(), AllocError>
+        ensures seal { OnOk result ((n : ℕ) → known self.new n ≡
+            later (sealed_by event (deed_view deed.entry) n) (known self.old n)) }
+        ensures titles { OnOk result ((p : Path) → title_of self.new.titles p ≡
+            last_title (title_of self.old.titles p)
+            (title_given p.items (deed_view deed.entry))) }
+    {
+        self.take_title(&deed)?;
+        self.take_seal(event, deed)
+    }
+
+    /// Notes what the events of a page tell: all of them, or those whose deeds begin so.
     fn take_page(
         &mut self,
         alloc: Global,
@@ -179,7 +216,7 @@ impl Seals {
         Ok(())
     }
 
-    /// Notes the seals that the events of a history tell, a page at a time.
+    /// Notes what the events of a history tell, a page at a time.
     fn take_all<S: Alter>(
         &mut self,
         rt: &HostRuntime,
@@ -205,7 +242,7 @@ impl Seals {
         Ok(())
     }
 
-    /// The seals that the history of a store tells, of all messages or of the one whose deeds begin so.
+    /// What the history of a store tells, by all events or by those whose deeds begin so.
     fn read<S: Alter>(
         rt: &HostRuntime,
         archive: &mut Store<S>,
@@ -219,13 +256,13 @@ impl Seals {
         Ok(seals)
     }
 
-    /// The seals that the history of a store tells; none where the store keeps no history. An event whose line cannot be
+    /// The seals and titles that the history of a store tells; none where the store keeps no history. An event whose line cannot be
     /// read tells none. A failure is that of the store.
     pub fn of<S: Alter>(rt: &HostRuntime, archive: &mut Store<S>) -> Result<Seals, Failure> {
         Seals::read(rt, archive, None)
     }
 
-    /// The same, of one message alone.
+    /// The same, of one message alone and without titles.
     pub fn of_message<S: Alter>(
         rt: &HostRuntime,
         archive: &mut Store<S>,

@@ -1,10 +1,10 @@
 //! Titles of classes: what people call them, and the legal basis of their schedules, as the events of a history tell them.
 
-ghost use Rattle.std.specs.Prelude.{◌≡◌, None, Some, OnOk, if◌then◌else◌};
+ghost use Rattle.std.specs.Prelude.{◌≡◌, None, Some, OnOk, option_map, if◌then◌else◌};
 ghost use Rattle.std.specs.Str.{bytes_eq};
 ghost use Rattle.record_history.specs.Titles.{last_title, title_given};
 ghost use Rattle.record_history.specs.Views.{deed_view};
-ghost use Rattle.cli_history.specs.Titles.{Path, title_of, title_view};
+ghost use Rattle.cli_history.specs.Titles.{Path, title_of, title_view, title_seen, titled, in_force, has_text as has_text_in};
 
 use crate::author::Author;
 use crate::beginning::line_now;
@@ -14,7 +14,7 @@ use crate::pages::PAGE;
 use crate::restating::{Ready, prepared};
 use crate::seals::deed_of;
 use cli_console::{Failure, write_data};
-use cli_texts::{ListedTitle, title_line, title_object};
+use cli_texts::{ClassTitle, ListedTitle, title_line, title_object};
 use record_history::Deed;
 use record_noted::NotedStore;
 use record_store::{EventLayout, EventRow, Store};
@@ -27,6 +27,15 @@ use std::collections::BTreeMap;
 pub struct Kept {
     title: Vec<u8>,
     basis: Vec<u8>,
+}
+
+impl Kept {
+    /// Whether there is a title or a legal basis.
+    fn has_text(&self) -> bool
+        ensures { result ≡ has_text_in (title_view self.now) }
+    {
+        !self.title.is_empty() || !self.basis.is_empty()
+    }
 }
 
 /// The titles of classes, as the events of a history tell them. Of several events about one class the last one counts.
@@ -116,11 +125,24 @@ impl Titles {
         Ok(titles)
     }
 
+    /// The title and the legal basis of the class of a path; none where it has neither.
+    pub fn of_class(&self, path: &[u8]) -> Option<ClassTitle<'_>>
+        ensures { option_map title_seen result ≡ in_force (titled self.now path.now) }
+    {
+        match self.titles.get(path) {
+            Some(kept) if kept.has_text() => Some(ClassTitle {
+                title: kept.title.as_slice(),
+                basis: kept.basis.as_slice(),
+            }),
+            _ => None,
+        }
+    }
+
     /// The classes that have a title or a legal basis, in byte order of their paths.
     pub fn listed(&self) -> Result<Vec<ListedTitle<'_>>, AllocError> {
         let mut list = Vec::new(self.alloc);
         for (path, kept) in &self.titles {
-            if !kept.title.is_empty() || !kept.basis.is_empty() {
+            if kept.has_text() {
                 list.push(ListedTitle {
                     path: path.as_slice(),
                     title: kept.title.as_slice(),

@@ -7,11 +7,13 @@ use Rattle.class_plan.specs.declared.schedules.Action.TheVariants as action
 use Rattle.class_plan.specs.declared.schedules.Schedule.{Schedule}
 use Rattle.class_plan.specs.declared.schedules.Schedule.TheVariants.{Permanent, After}
 use Rattle.cli_texts.specs.declared.headers.Headers.{Headers}
+use Rattle.cli_texts.specs.declared.titles.ListedTitle.{ListedTitle}
 use Rattle.cli_page.specs.declared.report.Record.{Record}
 use Rattle.cli_page.specs.declared.due_list.Ruling.{Ruling}
 use Rattle.cli_page.specs.declared.due_list.Ruling.TheVariants.{Destroy, Review, Transfer}
 use Rattle.cli_page.specs.declared.due_list.Item.{Item}
 use Rattle.cli_page.specs.Pages.{text_piece, name_piece}
+use Rattle.cli_page.specs.Titles.{class_text}
 
 -- WHAT A SCHEDULE SAYS of a record that is due. A record without a period is never due.
 abbrev pub ruling_by : Option Schedule → Ruling
@@ -85,14 +87,14 @@ number_head n = codes "<th scope=\"row\" class=\"n\">" ++ decimal n ++ codes "</
 unfoldable pub day_cell : Date → List ℕ
 day_cell day = codes "</td><td class=\"d\">" ++ date_text day
 
--- its number, its class, the day of its capture and its due date
-unfoldable pub first_cells : Item → List ℕ
-first_cells i = number_head i.number ++ name_piece i.path.items ++ day_cell i.day ++ day_cell i.due
+-- its number, its class with the title, the day of its capture and its due date
+unfoldable pub first_cells : List ListedTitle → Item → List ℕ
+first_cells titles i = number_head i.number ++ class_text titles i.path.items ++ day_cell i.day ++ day_cell i.due
 
 -- THE ROW of a record
-unfoldable pub row : Item → List ℕ
-row i =
-    row_tag (is_free i) ++ first_cells i ++ codes "</td><td>" ++ texts_shown i.headers ++ codes "</td><td>" ++ bar_words i
+unfoldable pub row : List ListedTitle → Item → List ℕ
+row titles i =
+    row_tag (is_free i) ++ first_cells titles i ++ codes "</td><td>" ++ texts_shown i.headers ++ codes "</td><td>" ++ bar_words i
     ++ codes "</td><td class=\"sign\"></td></tr>\n"
 
 -- ---- the section
@@ -113,9 +115,9 @@ table_end =
     codes "</tbody>\n</table>\n<div class=\"signature\">\n<p>The destruction of the records that are approved above is authorized by:</p>\n<ul><li>Name</li><li>Function</li><li>Date</li><li>Signature</li></ul>\n</div>\n</section>\n"
 
 -- THE LIST FOR SIGNATURE: how many records are due, how many of these may be destroyed, and a row for each, in their order
-unfoldable pub list : List Item → Date → List ℕ
-list [] day = codes "<p>No record is due by this day.</p>\n</section>\n"
-list (i ∷ is) day = counts (i ∷ is) ++ table_head day ++ flat_map row (i ∷ is) ++ table_end
+unfoldable pub list : List ListedTitle → List Item → Date → List ℕ
+list titles [] day = codes "<p>No record is due by this day.</p>\n</section>\n"
+list titles (i ∷ is) day = counts (i ∷ is) ++ table_head day ++ flat_map (row titles) (i ∷ is) ++ table_end
 
 unfoldable pub section_head : Date → List ℕ
 section_head day =

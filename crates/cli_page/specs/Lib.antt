@@ -5,6 +5,7 @@ pub mod Tallies
 pub mod Days
 pub mod Marks
 pub mod Pages
+pub mod Titles
 pub mod DueLists
 pub mod KeptNumbers
 pub mod Seeing

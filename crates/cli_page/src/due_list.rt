@@ -7,8 +7,9 @@ ghost use Rattle.cli_page.specs.DueLists.{ruling_by, due_record, due_view, is_he
 use crate::fault::ReportFault;
 use crate::page::{Page, put};
 use crate::report::Record;
+use crate::titles::push_class;
 use class_plan::{Action, Date, Plan, Schedule};
-use cli_texts::Headers;
+use cli_texts::{Headers, ListedTitle};
 use std::alloc::{AllocError, Global};
 
 /// What may be done with a record that is due.
@@ -176,24 +177,24 @@ impl Item {
         push_names(page, self.holds.as_slice())
     }
 
-    /// Adds the cells of its number, its class and its days.
+    /// Adds the cells of its number, its class with the title, and its days.
     #[tactic(auto, unfolding(crate::specs::DueLists::first_cells))]
-    fn first_cells(&self, page: &mut Page) -> Result<(), AllocError>
-        ensures { OnOk result (page.new ≡ page.old ++ first_cells_of self.now) }
+    fn first_cells(&self, page: &mut Page, titles: &[ListedTitle<'_>]) -> Result<(), AllocError>
+        ensures { OnOk result (page.new ≡ page.old ++ first_cells_of titles.now self.now) }
     {
         push_number(page, u64::from(self.number))?;
-        page.name(self.path.as_slice())?;
+        push_class(page, self.path.as_slice(), titles)?;
         push_day(page, self.day)?;
         push_day(page, self.due)
     }
 
     /// Adds the row of the record.
     #[tactic(auto, unfolding(crate::specs::DueLists::row))]
-    fn row(&self, page: &mut Page) -> Result<(), AllocError>
-        ensures { OnOk result (page.new ≡ page.old ++ row_of self.now) }
+    fn row(&self, page: &mut Page, titles: &[ListedTitle<'_>]) -> Result<(), AllocError>
+        ensures { OnOk result (page.new ≡ page.old ++ row_of titles.now self.now) }
     {
         page.markup(self.row_tag())?;
-        self.first_cells(page)?;
+        self.first_cells(page, titles)?;
         page.markup("</td><td>")?;
         push_texts(page, self.headers.as_ref())?;
         page.markup("</td><td>")?;
@@ -210,11 +211,11 @@ fn free_count(items: &[Item]) -> usize
 }
 
 /// Adds the rows of records.
-fn push_rows(page: &mut Page, items: &[Item]) -> Result<(), AllocError>
-    ensures { OnOk result (page.new ≡ page.old ++ flat_map row_of items.now) }
+fn push_rows(page: &mut Page, titles: &[ListedTitle<'_>], items: &[Item]) -> Result<(), AllocError>
+    ensures { OnOk result (page.new ≡ page.old ++ flat_map (row_of titles.now) items.now) }
 {
     for item in items {
-        item.row(page)?;
+        item.row(page, titles)?;
     }
     Ok(())
 }
@@ -281,15 +282,20 @@ fn open_section(page: &mut Page, day: Date) -> Result<(), AllocError>
 
 /// Adds the list of records that are due by a day.
 #[tactic(auto, unfolding(crate::specs::DueLists::list))]
-fn push_list(page: &mut Page, items: &[Item], day: Date) -> Result<(), AllocError>
-    ensures { OnOk result (page.new ≡ page.old ++ list_of items.now day) }
+fn push_list(
+    page: &mut Page,
+    titles: &[ListedTitle<'_>],
+    items: &[Item],
+    day: Date,
+) -> Result<(), AllocError>
+    ensures { OnOk result (page.new ≡ page.old ++ list_of titles.now items.now day) }
 {
     match items {
         [] => page.markup("<p>No record is due by this day.</p>\n</section>\n"),
         items => {
             push_counts(page, items)?;
             open_table(page, day)?;
-            push_rows(page, items)?;
+            push_rows(page, titles, items)?;
             close_table(page)
         }
     }
@@ -344,12 +350,17 @@ impl DueList {
         free_count(self.items.as_slice())
     }
 
-    /// Adds the section of what is due, for signature.
-    pub fn section(&self, page: &mut Page, day: Date) -> Result<(), AllocError>
-        ensures { OnOk result
-            (page.new ≡ page.old ++ section_head day ++ list_of self.now.items.items day) }
+    /// Adds the section of what is due, for signature, with the titles of classes.
+    pub fn section(
+        &self,
+        page: &mut Page,
+        titles: &[ListedTitle<'_>],
+        day: Date,
+    ) -> Result<(), AllocError>
+        ensures { OnOk result (page.new ≡ page.old
+            ++ section_head day ++ list_of titles.now self.now.items.items day) }
     {
         open_section(page, day)?;
-        push_list(page, self.items.as_slice(), day)
+        push_list(page, titles, self.items.as_slice(), day)
     }
 }

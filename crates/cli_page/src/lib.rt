@@ -22,6 +22,7 @@ mod summary;
 mod tally;
 mod tallying;
 mod timeline;
+mod titles;
 mod years;
 
 pub use counts::{Counts, Seen};

@@ -174,7 +174,7 @@ impl Report {
         classes(self.alloc, page, plan, &self.tally, about)?;
         timeline(self.alloc, page, &self.tally, self.day)?;
         self.holds.section(page)?;
-        self.due.section(page, self.day)?;
+        self.due.section(page, about.titles, self.day)?;
         page.markup(
             "</main>\n<footer>Made by mailfile-store report. Days are those of UTC.</footer>\n</body>\n</html>\n",
         )?;

@@ -7,6 +7,7 @@ use crate::head::{close_head, open_head};
 use crate::page::{Page, put};
 use crate::report::Heading;
 use crate::tally::{ClassCounts, Tally};
+use crate::titles::{push_below, push_path, title_of};
 use class_plan::{Date, Plan, Schedule, day_number, schedule_text};
 use cli_texts::ListedTitle;
 use std::alloc::{AllocError, Global};
@@ -77,37 +78,6 @@ fn push_counts(page: &mut Page, counts: &Counts) -> Result<(), AllocError> {
         number_cell(counts.records) number_cell(counts.live) number_cell(counts.held)
         number_cell(counts.destroyed) number_cell(counts.due)
     )
-}
-
-/// The title of the class of a path, if it has one.
-fn title_of<'t, 'a>(titles: &'t [ListedTitle<'a>], path: &[u8]) -> Option<&'t ListedTitle<'a>> {
-    for it in titles {
-        if it.path == path {
-            return Some(it);
-        }
-    }
-    None
-}
-
-/// Adds a text below what a cell has, if there is one.
-fn push_below(page: &mut Page, text: &[u8]) -> Result<(), AllocError> {
-    if text.is_empty() {
-        return Ok(());
-    }
-    put!(page; "<br>" name(text))
-}
-
-/// Adds the path of a class, and its title below it.
-fn push_path(
-    page: &mut Page,
-    path: &[u8],
-    title: Option<&ListedTitle<'_>>,
-) -> Result<(), AllocError> {
-    page.name(path)?;
-    match title {
-        Some(it) => push_below(page, it.title),
-        None => Ok(()),
-    }
 }
 
 /// Adds the schedule of a class, and its legal basis below it.

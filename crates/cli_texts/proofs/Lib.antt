@@ -2,3 +2,4 @@ mod HeaderLemmas
 pub mod CutLemmas
 pub mod MomentLemmas
 pub mod TextLemmas
+mod Rows

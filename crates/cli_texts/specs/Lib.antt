@@ -4,3 +4,4 @@ pub mod Moments
 pub mod Sums
 pub mod Words
 pub mod Lines
+pub mod Rows

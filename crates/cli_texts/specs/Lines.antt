@@ -9,6 +9,8 @@ use Rattle.cli_texts.specs.declared.certificates.Certificate.{Certificate}
 use Rattle.cli_texts.specs.declared.records.Row.{Row}
 use Rattle.cli_texts.specs.declared.events.ToldCertificate.{ToldCertificate}
 use Rattle.cli_texts.specs.declared.headers.Headers.{Headers}
+use Rattle.cli_texts.specs.declared.titles.ClassTitle.{ClassTitle}
+use Rattle.cli_texts.specs.declared.titles.ListedTitle.{ListedTitle}
 use Rattle.cli_texts.specs.Cuts.{cut_octets}
 use Rattle.cli_texts.specs.Words.{words, number, name, quotation, escaped, free_words}
 
@@ -51,13 +53,28 @@ hold_words hold = words (codes " hold ") ++ name hold
 abbrev pub listed : Row → List ℕ
 listed r = listed_front r ++ listed_state r ++ flat_map (λ h. hold_words h.items) r.holds.now
 
+-- ---- the title of a class
+
+-- a title and a legal basis, as ` title "Tax documents" basis "AO 147"`
+unfoldable pub title_and_basis : (title basis : List ℕ) → List ℕ
+title_and_basis title basis = words (codes " title ") ++ quotation title ++ words (codes " basis ") ++ quotation basis
+
+-- the same of a class, if it has one of them
+abbrev pub title_words : Option ClassTitle → List ℕ
+title_words None = []
+title_words (Some t) = title_and_basis t.title.now t.basis.now
+
+-- A CLASS WITH ITS TITLE
+unfoldable pub titled_class : ListedTitle → List ℕ
+titled_class t = words (codes "class ") ++ name t.path.now ++ title_and_basis t.title.now t.basis.now
+
 -- ---- a certificate
 
--- the record, and the message that it had
+-- the record with its class, and the message that it had
 unfoldable pub destroyed_record : Certificate → List ℕ
 destroyed_record c =
-    words (codes "destroyed record ") ++ number c.number ++ words (codes " class ") ++ name c.path.now ++ words (codes " due ")
-    ++ due_words c.due
+    words (codes "destroyed record ") ++ number c.number ++ words (codes " class ") ++ name c.path.now ++ title_words c.title
+    ++ words (codes " due ") ++ due_words c.due
 
 unfoldable pub destroyed_message : Certificate → List ℕ
 destroyed_message c = words (codes " octets ") ++ number c.octets ++ words (codes " sha256 ") ++ words c.sum.now
@@ -94,14 +111,15 @@ certificate c moment =
 
 -- ---- a certificate from a history
 
-abbrev pub class_words : Option (Bor (List ℕ)) → List ℕ
-class_words None = []
-class_words (Some path) = words (codes " class ") ++ name path.now
+-- its class with the title, where the class is known
+abbrev pub class_words : Option (Bor (List ℕ)) → Option ClassTitle → List ℕ
+class_words None title = []
+class_words (Some path) title = words (codes " class ") ++ name path.now ++ title_words title
 
 -- the record, and the day by which it was due
 unfoldable pub told_record : ToldCertificate → List ℕ
 told_record c =
-    words (codes "destroyed record ") ++ number c.number ++ class_words c.path ++ words (codes " as due by ") ++ words c.day.now
+    words (codes "destroyed record ") ++ number c.number ++ class_words c.path c.title ++ words (codes " as due by ") ++ words c.day.now
     ++ words (codes " (") ++ escaped c.schedule.now ++ words (codes ")")
 
 -- the length and the sum of its message, where they are known

@@ -1,8 +1,9 @@
 //! Cases, as lines and as JSON. A case is all that is kept by the hold of one name.
 
 use crate::certificates::moment_text;
+use crate::escapes::shown;
 use crate::events::put_text;
-use crate::records::{in_ascii, shown};
+use crate::records::in_ascii;
 use serde_json::{Value, json};
 use std::alloc::{AllocError, Global};
 use tool_texts::{Shown, put};

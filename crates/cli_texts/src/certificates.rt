@@ -7,6 +7,7 @@ ghost use Rattle.cli_texts.specs.Lines.{destroyed_record, destroyed_message, kep
 ghost use Rattle.cli_texts.specs.Moments.{two_digits, time_text, day_and_time as day_and_time_of, IsMomentText};
 
 use crate::records::put_due;
+use crate::titles::{ClassTitle, put_title};
 use class_plan::{Date, day_of};
 use sha2::{Digest, Sha256};
 use std::alloc::{AllocError, Global};
@@ -17,6 +18,8 @@ use tool_texts::{Shown, put};
 pub struct Certificate<'a> {
     pub number: u32,
     pub path: &'a [u8],
+    /// The title of its class, where it has a title or a legal basis.
+    pub title: Option<ClassTitle<'a>>,
     pub due: Option<Date>,
     /// How many octets its message had.
     pub octets: usize,
@@ -104,7 +107,9 @@ pub fn moment_text(alloc: Global, moment: u64) -> Result<String, AllocError>
 fn put_record(line: &mut Shown, it: &Certificate<'_>) -> Result<(), AllocError>
     ensures { OnOk result (line.new ≡ line.old ++ destroyed_record it.now) }
 {
-    put!(line; "destroyed record " value(&it.number) " class " named(it.path) " due ")?;
+    put!(line; "destroyed record " value(&it.number) " class " named(it.path))?;
+    put_title(line, it.title)?;
+    put!(line; " due ")?;
     put_due(line, it.due)
 }
 
@@ -180,7 +185,10 @@ fn line_with(alloc: Global, it: &Certificate<'_>, moment: &String) -> Result<Sho
     Ok(line)
 }
 
-/// The line of a record that was destroyed.
+/// The line of a record that was destroyed: `destroyed record 7 class finance due 2030-11-14 octets 83 sha256 SUM at
+/// 2030-12-01T09:00:00Z`. The title and the legal basis of its class come after the path, as `title_line` has them.
+///
+/// The only refusal is no memory (99).
 pub fn certificate_line(alloc: Global, it: &Certificate<'_>) -> Result<Shown, AllocError>
     ensures { IfOk result (λ line. (moment : List ℕ) × IsMomentText it.now.moment moment
         × (line ≡ certificate it.now moment)) }

@@ -6,7 +6,9 @@ ghost use Rattle.cli_texts.specs.Moments.{IsMomentText};
 ghost use Rattle.cli_texts.specs.Words.{free_words};
 
 use crate::certificates::{moment_text, put_altered, put_keeper};
-use crate::records::{in_ascii, shown};
+use crate::escapes::shown;
+use crate::records::in_ascii;
+use crate::titles::{ClassTitle, put_title};
 use serde_json::{Map, Value, json};
 use std::alloc::{AllocError, Global};
 use std::str;
@@ -137,6 +139,8 @@ pub struct ToldCertificate<'a> {
     pub number: u32,
     /// The path of its class; none where the archive has no such record.
     pub path: Option<&'a [u8]>,
+    /// The title of its class as it was destroyed, where it had a title or a legal basis.
+    pub title: Option<ClassTitle<'a>>,
     /// The day by which it was due, in days since 1970-01-01.
     pub day: &'a str,
     /// The text of the schedule.
@@ -165,12 +169,19 @@ pub(crate) fn put_text(line: &mut Shown, octets: &[u8]) -> Result<(), AllocError
     }
 }
 
-/// Adds the class of a record, where it is known.
-fn put_class(line: &mut Shown, path: Option<&[u8]>) -> Result<(), AllocError>
-    ensures { OnOk result (line.new ≡ line.old ++ class_words path.entry) }
+/// Adds the class of a record with its title, where the class is known.
+fn put_class(
+    line: &mut Shown,
+    path: Option<&[u8]>,
+    title: Option<ClassTitle<'_>>,
+) -> Result<(), AllocError>
+    ensures { OnOk result (line.new ≡ line.old ++ class_words path.entry title.entry) }
 {
     match path {
-        Some(path) => put!(line; " class " named(path)),
+        Some(path) => {
+            put!(line; " class " named(path))?;
+            put_title(line, title)
+        }
         None => Ok(()),
     }
 }
@@ -181,7 +192,7 @@ fn put_told_record(line: &mut Shown, it: &ToldCertificate<'_>) -> Result<(), All
     ensures { OnOk result (line.new ≡ line.old ++ told_record it.now) }
 {
     put!(line; "destroyed record " value(&it.number))?;
-    put_class(line, it.path)?;
+    put_class(line, it.path, it.title)?;
     put!(line; " as due by " value(&it.day) " (" escaped(it.schedule) ")")
 }
 
@@ -238,7 +249,8 @@ fn told_line(alloc: Global, it: &ToldCertificate<'_>, moment: &String) -> Result
 
 /// The line of a certificate from a history: `destroyed record 7 class finance as due by 2030-11-14 (7 years destroy) octets 83
 /// sha256 SUM at 2030-12-01T09:00:00Z by bea event 12`, and its reason after ` : ` where it has one. The class, the length and
-/// the sum are left out where they are not known.
+/// the sum are left out where they are not known. The title and the legal basis of the class come after its path, as
+/// `title_line` has them.
 ///
 /// The only refusal is no memory (99).
 pub fn told_certificate(alloc: Global, it: &ToldCertificate<'_>) -> Result<Shown, AllocError>

@@ -4,6 +4,7 @@
 
 mod cases;
 mod certificates;
+mod escapes;
 mod events;
 mod headers;
 mod plans;
@@ -27,4 +28,4 @@ pub use rows::{
     Exported, Kept, LIST_HEADER, LIST_HEADER_WITH_TEXTS, MANIFEST_HEADER, csv_row, listed_row,
     manifest_row,
 };
-pub use titles::{ListedTitle, title_line, title_object};
+pub use titles::{ClassTitle, ListedTitle, title_line, title_object};

@@ -4,12 +4,12 @@ ghost use Rattle.std.specs.Prelude.{◌≡◌, ◌++◌, ◌∷◌, [], flat_map
 ghost use Rattle.cli_texts.specs.Headers.{texts_in};
 ghost use Rattle.cli_texts.specs.Lines.{due_words, captured, listed_front, listed_state, hold_words, listed, header_words, texts_words};
 
+use crate::escapes::shown;
 use crate::headers::{Headers, ListedHeaders};
 use class_plan::Date;
 use record_archive::Line;
 use serde_json::{Map, Value, json};
 use std::alloc::{AllocError, Global};
-use std::str;
 use tool_texts::{Shown, put};
 
 /// A record as it is listed.
@@ -33,35 +33,6 @@ pub(crate) fn put_due(text: &mut Shown, due: Option<Date>) -> Result<(), AllocEr
     match due {
         Some(date) => text.value(&date),
         None => text.words("never"),
-    }
-}
-
-/// A due date, or `never`.
-fn due_text(alloc: Global, due: Option<Date>) -> Result<String, AllocError> {
-    match due {
-        Some(date) => format!(in alloc; "{date}"),
-        None => String::from_str(alloc, "never"),
-    }
-}
-
-/// The due date of a listed record, or `never`; nothing where it is destroyed.
-pub(crate) fn listed_due(alloc: Global, row: &Row<'_>) -> Result<String, AllocError> {
-    if row.destroyed {
-        return Ok(String::new(alloc));
-    }
-    due_text(alloc, row.due)
-}
-
-/// Octets as text: a text without control characters as it is, anything else with escapes.
-pub(crate) fn shown(alloc: Global, octets: &[u8]) -> Result<String, AllocError> {
-    match str::from_utf8(octets) {
-        Ok(text) if !octets.iter().any(|octet| octet.is_ascii_control()) => {
-            String::from_str(alloc, text)
-        }
-        _ => {
-            let escaped = octets.escape_ascii();
-            format!(in alloc; "{escaped}")
-        }
     }
 }
 

@@ -1,8 +1,20 @@
 //! Records as rows of CSV (RFC 4180).
 
+ghost use Rattle.std.specs.Prelude.{◌≡◌, ◌≢◌, ◌∷◌, ◌++◌, [], map, flat_map, option_map, IfOk, OnOk, decimal, string_bytes};
+ghost use Rattle.std.specs.List.{list_any};
+ghost use Rattle.csv.specs.Records.{fields_of};
+ghost use Rattle.csv.specs.Writing.{default_writer, row_text, with_style};
+ghost use Rattle.csv.specs.declared.writer.QuoteStyle.TheVariants.{NonNumeric};
+ghost use Rattle.jiff.specs.Words.{date_text};
+ghost use Rattle.cli_texts.specs.Rows.{begins_with_control as begins_with_control_in, captured_fields, cell, csv_line, due_field, due_of, has_semicolon as has_semicolon_in, header_fields, headers_of as headers_of_message, is_formula as is_formula_in, listed_fields, manifest_fields, message_fields, record_fields, shown_octets, spaced, style_for, yes_or_no as yes_or_no_for};
+ghost use Rattle.cli_texts.specs.Headers.{texts_in};
+ghost use Rattle.cli_texts.specs.Words.{words};
+
+use crate::escapes::shown;
 use crate::headers::{Headers, ListedHeaders};
-use crate::records::{Row, listed_due, shown};
-use csv::{QuoteStyle, WriterBuilder};
+use crate::records::Row;
+use class_plan::Date;
+use csv::{ByteRecord, QuoteStyle, WriterBuilder};
 use std::alloc::{AllocError, Global};
 use tool_texts::Shown;
 
@@ -40,78 +52,142 @@ pub enum Exported<'a> {
     Written(Kept<'a>),
 }
 
-/// The signs that begin a formula in a spreadsheet, also in the full-width forms of East Asian ones.
-const FORMULA_SIGNS: [&str; 8] = [
-    "=", "+", "-", "@", "\u{ff1d}", "\u{ff0b}", "\u{ff0d}", "\u{ff20}",
+/// The signs that begin a formula in a spreadsheet, also in the full-width forms of East Asian ones (U+FF1D, U+FF0B, U+FF0D and
+/// U+FF20), in octets of UTF-8.
+const FORMULA_SIGNS: [&[u8]; 8] = [
+    b"=",
+    b"+",
+    b"-",
+    b"@",
+    b"\xef\xbc\x9d",
+    b"\xef\xbc\x8b",
+    b"\xef\xbc\x8d",
+    b"\xef\xbc\xa0",
 ];
 
-/// Whether a spreadsheet could take a cell for a formula, or drop its beginning.
-fn is_formula(field: &[u8]) -> bool {
-    FORMULA_SIGNS
-        .iter()
-        .any(|sign| field.starts_with(sign.as_bytes()))
-        || field.first().is_some_and(|first| first.is_ascii_control())
+/// Whether a field begins with a control of ASCII.
+fn begins_with_control(field: &[u8]) -> bool
+    ensures { result ≡ begins_with_control_in field.now }
+{
+    match field {
+        [] => false,
+        [first, ..] => first.is_ascii_control(),
+    }
+}
+
+/// Whether a spreadsheet could take a field for a formula, or drop its beginning.
+fn is_formula(field: &[u8]) -> bool
+    ensures { result ≡ is_formula_in field.now }
+{
+    FORMULA_SIGNS.iter().any(|sign| field.starts_with(sign)) || begins_with_control(field)
 }
 
 /// A field as a cell that spreadsheets show as text: an apostrophe comes before what they could take for a formula.
-fn cell_of(alloc: Global, field: &[u8]) -> Result<Vec<u8>, AllocError> {
-    let mut cell = Vec::new(alloc);
+fn cell_of(alloc: Global, field: &[u8]) -> Result<Vec<u8>, AllocError>
+    ensures { IfOk result (λ c. c.items ≡ cell field.now) }
+{
+    let mut octets = Vec::new(alloc);
     if is_formula(field) {
-        cell.push(b'\'')?;
+        octets.push(b'\'')?;
     }
-    cell.extend_from_slice(field)?;
-    Ok(cell)
+    octets.extend_from_slice(field)?;
+    Ok(octets)
 }
 
 /// Whether a field has a semicolon, at which spreadsheets of many languages begin another cell.
-fn has_semicolon(field: &[u8]) -> bool {
+fn has_semicolon(field: &[u8]) -> bool
+    ensures { result ≡ has_semicolon_in field.now }
+{
     field.iter().any(|octet| *octet == b';')
 }
 
 /// Which fields of a row stand in quotation marks: all, where one has a semicolon, and else those that have to.
-fn style_of(fields: &[&[u8]]) -> QuoteStyle {
-    if fields.iter().any(|field| has_semicolon(*field)) {
+fn style_of(fields: &[&[u8]]) -> QuoteStyle
+    ensures { result ≡ style_for (map (λ f. f.now) fields.now) }
+{
+    if fields.iter().any(|field| has_semicolon(field)) {
         QuoteStyle::Always
     } else {
         QuoteStyle::Necessary
     }
 }
 
-/// A row of CSV, with its line end.
-pub fn csv_row(alloc: Global, fields: &[&[u8]]) -> Result<Vec<u8>, AllocError> {
-    let mut writer = WriterBuilder::new()
-        .quote_style(style_of(fields))
-        .from_writer(Vec::new(alloc));
+/// The cells of fields.
+fn cells_of(alloc: Global, fields: &[&[u8]]) -> Result<ByteRecord, AllocError>
+    ensures { IfOk result (λ r. fields_of r ≡ map cell (map (λ f. f.now) fields.now)) }
+{
+    let mut cells = ByteRecord::new(alloc);
     for field in fields {
-        let cell = cell_of(alloc, *field)?;
-        writer.write_field(cell.as_slice()).map_err(|_| AllocError)?;
+        let octets = cell_of(alloc, field)?;
+        cells.push_field(octets.as_slice())?;
     }
-    writer.end_record().map_err(|_| AllocError)?;
+    Ok(cells)
+}
+
+/// The text of a row with these cells.
+fn text_of(alloc: Global, cells: &ByteRecord, style: QuoteStyle) -> Result<Vec<u8>, AllocError>
+    requires { style ≢ NonNumeric }
+    ensures { IfOk result
+        (λ text. text.items ≡ row_text (with_style default_writer style) (fields_of cells.now)) }
+{
+    let mut writer = WriterBuilder::new()
+        .quote_style(style)
+        .from_writer(Vec::new(alloc));
+    writer.write_byte_record(cells).map_err(|_| AllocError)?;
     writer.into_inner().map_err(|_| AllocError)
 }
 
-/// The names of holds, with spaces between them.
-fn hold_names(alloc: Global, holds: &[Vec<u8>]) -> Result<String, AllocError> {
-    let mut names = String::new(alloc);
+/// A row of CSV, with its line end.
+///
+/// The only refusal is no memory (99).
+pub fn csv_row(alloc: Global, fields: &[&[u8]]) -> Result<Vec<u8>, AllocError>
+    ensures { IfOk result (λ row. row.items ≡ csv_line (map (λ f. f.now) fields.now)) }
+{
+    let cells = cells_of(alloc, fields)?;
+    text_of(alloc, &cells, style_of(fields))
+}
+
+/// Adds names of holds, each after a space.
+fn push_more_names(alloc: Global, names: &mut String, holds: &[Vec<u8>]) -> Result<(), AllocError>
+    ensures { OnOk result (string_bytes names.new ≡ string_bytes names.old
+        ++ flat_map (λ m. 32 ∷ shown_octets m) (map (λ h. h.items) holds.now)) }
+{
     for name in holds {
-        if !names.is_empty() {
-            names.push(' ')?;
-        }
         let name = shown(alloc, name.as_slice())?;
+        names.push(' ')?;
         names.push_str(name.as_str())?;
     }
-    Ok(names)
+    Ok(())
+}
+
+/// The names of holds, with spaces between them.
+fn hold_names(alloc: Global, holds: &[Vec<u8>]) -> Result<String, AllocError>
+    ensures { IfOk result (λ n. string_bytes n ≡ spaced (map (λ h. h.items) holds.now)) }
+{
+    match holds {
+        [] => Ok(String::new(alloc)),
+        [first, others @ ..] => {
+            let mut names = shown(alloc, first.as_slice())?;
+            push_more_names(alloc, &mut names, others)?;
+            Ok(names)
+        }
+    }
 }
 
 /// A text of a header as CSV has it: whole, with the numbers of its hidden characters in place of these.
-fn visible(alloc: Global, text: &str) -> Result<String, AllocError> {
+fn visible(alloc: Global, text: &str) -> Result<String, AllocError>
+    ensures { IfOk result (λ t. string_bytes t ≡ words text.now) }
+{
     let mut shown = Shown::new(alloc);
     shown.value(&text)?;
     Ok(shown.into_string())
 }
 
 /// The cells of the texts of a header: the sender, the subject and the date. They are empty where there are none.
-fn header_cells(alloc: Global, headers: Option<&Headers>) -> Result<[String; 3], AllocError> {
+fn header_cells(alloc: Global, headers: Option<&Headers>) -> Result<[String; 3], AllocError>
+    ensures { IfOk result (λ c. map string_bytes c
+        ≡ header_fields (option_map (λ h. h.now) headers.entry)) }
+{
     let Some(headers) = headers else {
         return Ok([String::new(alloc), String::new(alloc), String::new(alloc)]);
     };
@@ -122,26 +198,63 @@ fn header_cells(alloc: Global, headers: Option<&Headers>) -> Result<[String; 3],
     ])
 }
 
-/// The cells that each row of a record begins with.
-fn first_cells(alloc: Global, row: &Row<'_>) -> Result<[String; 4], AllocError> {
+/// A due date, or `never`.
+fn due_text(alloc: Global, due: Option<Date>) -> Result<String, AllocError>
+    ensures { IfOk result (λ t. string_bytes t ≡ due_field due) }
+{
+    match due {
+        Some(date) => format!(in alloc; "{date}"),
+        None => String::from_str(alloc, "never"),
+    }
+}
+
+/// The due date of a record, or `never`; nothing where it is destroyed.
+fn listed_due(alloc: Global, row: &Row<'_>) -> Result<String, AllocError>
+    ensures { IfOk result (λ t. string_bytes t ≡ due_of row.now) }
+{
+    if row.destroyed {
+        return Ok(String::new(alloc));
+    }
+    due_text(alloc, row.due)
+}
+
+/// `yes` or `no`.
+fn yes_or_no(alloc: Global, is_so: bool) -> Result<String, AllocError>
+    ensures { IfOk result (λ t. string_bytes t ≡ yes_or_no_for is_so) }
+{
+    String::from_str(alloc, if is_so { "yes" } else { "no" })
+}
+
+/// The cells that each row of a record begins with, but that of its class: its number, the day of its capture, its due date, its
+/// holds, and whether it is destroyed.
+fn first_cells(alloc: Global, row: &Row<'_>) -> Result<[String; 5], AllocError>
+    ensures { IfOk result (λ c. map string_bytes c ≡ decimal row.now.number
+        ∷ date_text row.now.day ∷ due_of row.now
+        ∷ spaced (map (λ h. h.items) row.now.holds.now)
+        ∷ yes_or_no_for row.now.destroyed ∷ []) }
+{
     let (number, day) = (row.number, row.day);
     Ok([
         format!(in alloc; "{number}")?,
         format!(in alloc; "{day}")?,
         listed_due(alloc, row)?,
         hold_names(alloc, row.holds)?,
+        yes_or_no(alloc, row.destroyed)?,
     ])
 }
 
 /// The row of a listed record: with the texts of its message's header, where they are asked for, and with empty cells where
 /// the message is destroyed.
+///
+/// The only refusal is no memory (99).
 pub fn listed_row(
     alloc: Global,
     row: &Row<'_>,
     headers: ListedHeaders<'_>,
-) -> Result<Vec<u8>, AllocError> {
-    let [number, day, due, holds] = first_cells(alloc, row)?;
-    let destroyed = if row.destroyed { "yes" } else { "no" };
+) -> Result<Vec<u8>, AllocError>
+    ensures { IfOk result (λ text. text.items ≡ csv_line (listed_fields row.now headers.entry)) }
+{
+    let [number, day, due, holds, destroyed] = first_cells(alloc, row)?;
     let [sender, subject, date] = header_cells(alloc, headers.texts())?;
     let cells = [
         number.as_bytes(),
@@ -161,10 +274,9 @@ pub fn listed_row(
 }
 
 /// The cells of a message that was captured as another one: the length and the sum of that one, where they are known.
-fn captured_cells(
-    alloc: Global,
-    captured: Option<(u64, &[u8])>,
-) -> Result<[String; 3], AllocError> {
+fn captured_cells(alloc: Global, captured: Option<(u64, &[u8])>) -> Result<[String; 3], AllocError>
+    ensures { IfOk result (λ c. map string_bytes c ≡ captured_fields captured.entry) }
+{
     match captured {
         Some((octets, sum)) => Ok([
             String::new(alloc),
@@ -176,7 +288,10 @@ fn captured_cells(
 }
 
 /// The cells of a message that is in a file.
-fn kept_cells(alloc: Global, kept: Kept<'_>) -> Result<[String; 3], AllocError> {
+fn kept_cells(alloc: Global, kept: Kept<'_>) -> Result<[String; 3], AllocError>
+    ensures { IfOk result (λ c. map string_bytes c
+        ≡ kept.entry.file.now ∷ decimal kept.entry.octets ∷ kept.entry.sum.now ∷ []) }
+{
     let octets = kept.octets;
     Ok([
         String::from_str(alloc, kept.file)?,
@@ -186,7 +301,9 @@ fn kept_cells(alloc: Global, kept: Kept<'_>) -> Result<[String; 3], AllocError> 
 }
 
 /// The cells of a message in a manifest: the name of its file, how many octets it has, and its SHA-256.
-fn message_cells(alloc: Global, message: Exported<'_>) -> Result<[String; 3], AllocError> {
+fn message_cells(alloc: Global, message: Exported<'_>) -> Result<[String; 3], AllocError>
+    ensures { IfOk result (λ c. map string_bytes c ≡ message_fields message.entry) }
+{
     match message {
         Exported::Destroyed => captured_cells(alloc, None),
         Exported::Altered(captured) => captured_cells(alloc, captured),
@@ -195,7 +312,9 @@ fn message_cells(alloc: Global, message: Exported<'_>) -> Result<[String; 3], Al
 }
 
 /// What the header of a message says that was written.
-fn headers_written<'a>(message: Exported<'a>) -> Option<&'a Headers> {
+fn headers_written<'a>(message: Exported<'a>) -> Option<&'a Headers>
+    ensures { option_map (λ h. h.now) result ≡ headers_of_message message.entry }
+{
     match message {
         Exported::Written(kept) => Some(kept.headers),
         Exported::Destroyed | Exported::Altered(_) => None,
@@ -204,13 +323,16 @@ fn headers_written<'a>(message: Exported<'a>) -> Option<&'a Headers> {
 
 /// The row of a record in a manifest. Where its message is destroyed, the last six fields are empty; where it is not the one
 /// that was captured, only the length and the sum of that one are there.
+///
+/// The only refusal is no memory (99).
 pub fn manifest_row(
     alloc: Global,
     row: &Row<'_>,
     message: Exported<'_>,
-) -> Result<Vec<u8>, AllocError> {
-    let [number, day, due, holds] = first_cells(alloc, row)?;
-    let destroyed = if row.destroyed { "yes" } else { "no" };
+) -> Result<Vec<u8>, AllocError>
+    ensures { IfOk result (λ text. text.items ≡ csv_line (manifest_fields row.now message.entry)) }
+{
+    let [number, day, due, holds, destroyed] = first_cells(alloc, row)?;
     let [file, octets, sum] = message_cells(alloc, message)?;
     let [sender, subject, date] = header_cells(alloc, headers_written(message))?;
     csv_row(

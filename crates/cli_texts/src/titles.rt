@@ -1,6 +1,10 @@
 //! Titles of classes, as lines and as JSON.
 
-use crate::records::{in_ascii, shown};
+ghost use Rattle.std.specs.Prelude.{◌≡◌, ◌++◌, ◌∷◌, [], IfOk, OnOk};
+ghost use Rattle.cli_texts.specs.Lines.{title_and_basis, title_words, titled_class};
+
+use crate::escapes::shown;
+use crate::records::in_ascii;
 use serde_json::json;
 use std::alloc::{AllocError, Global};
 use tool_texts::{Shown, put};
@@ -14,10 +18,41 @@ pub struct ListedTitle<'a> {
     pub basis: &'a [u8],
 }
 
+/// What a class is called, and the legal basis of its schedule; either may be empty.
+#[derive(Clone, Copy)]
+pub struct ClassTitle<'a> {
+    pub title: &'a [u8],
+    pub basis: &'a [u8],
+}
+
+/// Adds a title and a legal basis.
+#[tactic(auto, unfolding(crate::specs::Lines::title_and_basis))]
+fn put_texts(line: &mut Shown, title: &[u8], basis: &[u8]) -> Result<(), AllocError>
+    ensures { OnOk result (line.new ≡ line.old ++ title_and_basis title.now basis.now) }
+{
+    put!(line; " title " quoted(title) " basis " quoted(basis))
+}
+
+/// Adds the title and the legal basis of a class, if it has one of them.
+pub(crate) fn put_title(line: &mut Shown, title: Option<ClassTitle<'_>>) -> Result<(), AllocError>
+    ensures { OnOk result (line.new ≡ line.old ++ title_words title.entry) }
+{
+    match title {
+        Some(it) => put_texts(line, it.title, it.basis),
+        None => Ok(()),
+    }
+}
+
 /// The line of a class with its title: `class finance/tax title "Tax documents" basis "AO 147"`.
-pub fn title_line(alloc: Global, it: &ListedTitle<'_>) -> Result<Shown, AllocError> {
+///
+/// The only refusal is no memory (99).
+#[tactic(auto, unfolding(crate::specs::Lines::titled_class))]
+pub fn title_line(alloc: Global, it: &ListedTitle<'_>) -> Result<Shown, AllocError>
+    ensures { IfOk result (λ line. line ≡ titled_class it.now ++ 10 ∷ []) }
+{
     let mut line = Shown::new(alloc);
-    put!(line; "class " named(it.path) " title " quoted(it.title) " basis " quoted(it.basis))?;
+    put!(line; "class " named(it.path))?;
+    put_texts(&mut line, it.title, it.basis)?;
     line.end_line()?;
     Ok(line)
 }
