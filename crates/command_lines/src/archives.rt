@@ -1,6 +1,7 @@
 //! The command line of `mailfile-store`: what it asks for, with each value read and judged.
 
 mod approvals;
+mod capture_words;
 mod captures;
 mod class_words;
 mod disposals;
@@ -9,17 +10,17 @@ mod history_words;
 mod holds;
 mod import_words;
 mod imports;
+mod question_words;
+mod questions;
 mod refilings;
 mod words;
 
-use crate::reading::{
-    NoCommand, day_of, has_flag, read_words, required, seen, value_of, values_of,
-};
+use crate::reading::{NoCommand, has_flag, read_words, required, value_of};
 use crate::table::Word;
 pub use approvals::DisposalAsked;
 use approvals::approved_asked;
-use captures::filing_asked;
-use choice_words::{read_numbers, reads_as_numbers, reversed_range};
+use captures::{filing_asked, intake_asked};
+use choice_words::reads_as_numbers;
 pub use choice_words::{Choice, TypedNumbers};
 use clap::ArgMatches;
 use disposals::damage_asked;
@@ -29,9 +30,9 @@ use holds::{NAME_FORGOTTEN, hold_asked, release_asked};
 use imports::import_asked;
 pub use imports::{Dating, Import};
 use jiff::civil::Date;
+use questions::{choice_asked, conditions_asked, day_asked, numbers_asked, record_asked};
 pub use refilings::Refiling;
 use refilings::refile_asked;
-use session_words::read_number;
 use std::alloc::{AllocError, Global};
 
 /// What `mailfile-store` is asked to do, with the store in the file at a path.
@@ -257,137 +258,6 @@ pub struct Disposal {
     pub numbers: Vec<TypedNumbers>,
 }
 
-/// The number of a record, as it is typed: one of 32 bits, in decimal digits without a leading zero.
-fn number_of(alloc: Global, word: &str, reason: &str) -> Result<u32, NoCommand> {
-    match read_number(word.as_bytes(), u64::from(u32::MAX)) {
-        Some(number) => Ok(number as u32),
-        None => Err(NoCommand::wrong(alloc, word, reason)),
-    }
-}
-
-/// The number of a record, which must be given.
-fn record_asked<'a>(alloc: Global, asked: &ArgMatches<'a>) -> Result<TypedNumber<'a>, NoCommand> {
-    let word = required(asked, words::NUMBER)?;
-    Ok(TypedNumber {
-        word,
-        number: number_of(
-            alloc,
-            word,
-            "not a number of a record, as 3; list prints the numbers",
-        )?,
-    })
-}
-
-/// Why a word is no numbers of records. Of a range that goes backwards it says how it is typed.
-fn no_numbers(alloc: Global, word: &str) -> Result<String, AllocError> {
-    match reversed_range(word.as_bytes()) {
-        Some(TypedNumbers::Range { first, last }) => {
-            format!(in alloc; "{word}: a range begins with its smaller number; type {first}-{last}")
-        }
-        _ => format!(in alloc;
-            "{}: neither a number of a record, as 3, nor a range of numbers, as 5-9",
-            seen(word)
-        ),
-    }
-}
-
-/// The numbers of records that are given, and the ranges of them.
-fn numbers_asked(alloc: Global, asked: &ArgMatches<'_>) -> Result<Vec<TypedNumbers>, NoCommand> {
-    let typed = values_of(asked, words::NUMBERS).unwrap_or(&[]);
-    let mut numbers = Vec::with_capacity(alloc, typed.len())?;
-    for word in typed {
-        let Some(read) = read_numbers(word.as_bytes()) else {
-            return Err(NoCommand::Wrong(no_numbers(alloc, *word)?));
-        };
-        numbers.push(read)?;
-    }
-    Ok(numbers)
-}
-
-/// A day, where it is given.
-fn day_asked(alloc: Global, asked: &ArgMatches<'_>, word: Word) -> Result<Option<Date>, NoCommand> {
-    let Some(text) = value_of(asked, word) else {
-        return Ok(None);
-    };
-    match day_of(text) {
-        Some(day) => Ok(Some(day)),
-        None => Err(NoCommand::wrong_after(
-            alloc,
-            word,
-            text,
-            "not a day of 1970 to 9999, written YYYY-MM-DD",
-        )),
-    }
-}
-
-/// Whether a first day is after a last one.
-fn is_backwards(first: Option<Date>, last: Option<Date>) -> bool {
-    match (first, last) {
-        (Some(first), Some(last)) => last < first,
-        _ => false,
-    }
-}
-
-/// The days of capture from which and up to which records are asked for, where they are given.
-fn days_asked(
-    alloc: Global,
-    asked: &ArgMatches<'_>,
-) -> Result<(Option<Date>, Option<Date>), NoCommand> {
-    let since = day_asked(alloc, asked, words::SINCE)?;
-    let until = day_asked(alloc, asked, words::UNTIL)?;
-    if is_backwards(since, until) {
-        let reason = "the day of --until is before that of --since";
-        return Err(NoCommand::Wrong(String::from_str(alloc, reason)?));
-    }
-    Ok((since, until))
-}
-
-/// The number of the first record that is looked at.
-fn first_asked(alloc: Global, asked: &ArgMatches<'_>) -> Result<u32, NoCommand> {
-    match value_of(asked, words::FROM) {
-        Some(word) => number_of(
-            alloc,
-            word,
-            "not a number of a record, from which on --from looks; a sender is typed after --sender",
-        ),
-        None => Ok(1),
-    }
-}
-
-/// The text that is looked for, where it is given: without the white space at its ends, which no one sees who types it.
-fn text_asked<'a>(asked: &ArgMatches<'a>, word: Word) -> Option<&'a str> {
-    let text = value_of(asked, word)?;
-    Some(text.trim())
-}
-
-/// The conditions of a choice, without numbers.
-fn conditions_asked<'a>(alloc: Global, asked: &ArgMatches<'a>) -> Result<Choice<'a>, NoCommand> {
-    let (since, until) = days_asked(alloc, asked)?;
-    Ok(Choice {
-        numbers: Vec::new(alloc),
-        from: 1,
-        class: value_of(asked, words::CLASS),
-        due: day_asked(alloc, asked, words::DUE)?,
-        since,
-        until,
-        is_held: has_flag(asked, words::HELD),
-        is_live: has_flag(asked, words::LIVE),
-        is_destroyed: has_flag(asked, words::DESTROYED),
-        test: value_of(asked, words::WHERE),
-        sender: text_asked(asked, words::SENDER),
-        recipient: text_asked(asked, words::RECIPIENT),
-        subject: text_asked(asked, words::SUBJECT),
-    })
-}
-
-/// Which records are chosen, from the first that is looked at on.
-fn choice_asked<'a>(alloc: Global, asked: &ArgMatches<'a>) -> Result<Choice<'a>, NoCommand> {
-    let mut choice = conditions_asked(alloc, asked)?;
-    choice.numbers = numbers_asked(alloc, asked)?;
-    choice.from = first_asked(alloc, asked)?;
-    Ok(choice)
-}
-
 /// The formats that a list can have, with the flags that ask for them.
 const FORMATS: [(Word, Format); 4] = [
     (words::CSV, Format::Csv),
@@ -521,22 +391,10 @@ fn disposal_asked(alloc: Global, asked: &ArgMatches<'_>) -> Result<Disposal, NoC
     })
 }
 
-/// The Maildir whose new messages are captured, and how.
-fn intake_asked<'a>(alloc: Global, asked: &ArgMatches<'a>) -> Result<Command<'a>, NoCommand> {
-    Ok(Command::Intake {
-        maildir: required(asked, words::MAILDIR)?,
-        filing: filing_asked(alloc, asked)?,
-        telling: Telling {
-            is_quiet: has_flag(asked, words::QUIET),
-            has_times: has_flag(asked, words::TIMES),
-        },
-    })
-}
-
 /// What is judged: the store, or rules. An officer is refused where there are no rules.
 fn check_asked<'a>(alloc: Global, asked: &ArgMatches<'a>) -> Result<Command<'a>, NoCommand> {
-    let officer = value_of(asked, words::OFFICER);
-    match value_of(asked, words::RULES) {
+    let officer = value_of(asked, capture_words::OFFICER);
+    match value_of(asked, capture_words::RULES) {
         Some(rules) => Ok(Command::CheckRules(RulesChecked { rules, officer })),
         None if officer.is_some() => Err(NoCommand::Wrong(String::from_str(
             alloc,
@@ -551,9 +409,9 @@ fn check_asked<'a>(alloc: Global, asked: &ArgMatches<'a>) -> Result<Command<'a>,
 /// Which record it is whose class is asked about, and by which rules.
 fn why_asked<'a>(alloc: Global, asked: &ArgMatches<'a>) -> Result<Why<'a>, NoCommand> {
     Ok(Why {
-        rules: required(asked, words::RULES)?,
+        rules: required(asked, capture_words::RULES)?,
         formerly: value_of(asked, words::FORMERLY),
-        officer: required(asked, words::OFFICER)?,
+        officer: required(asked, capture_words::OFFICER)?,
         record: record_asked(alloc, asked)?,
     })
 }

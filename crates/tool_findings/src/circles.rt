@@ -22,6 +22,16 @@ pub struct Circle {
     pub at: usize,
 }
 
+impl Circle {
+    /// Whether its last script is one, and its first script another.
+    fn joins(&self, last: usize, first: usize) -> bool {
+        match (self.scripts.first(), self.scripts.last()) {
+            (Some(own_first), Some(own_last)) => *own_first == first && *own_last == last,
+            _ => false,
+        }
+    }
+}
+
 /// A script in a chain, and where it names the next one.
 #[derive(Clone, Copy)]
 pub struct Link {
@@ -77,6 +87,24 @@ struct Walk<'s> {
     circles: Vec<Circle>,
 }
 
+impl<'s> Walk<'s> {
+    /// A walk that has entered the first one of some scripts.
+    fn begin(alloc: Global, scripts: &'s [Vec<Edge>]) -> Result<Walk<'s>, AllocError> {
+        let mut walk = Walk {
+            alloc,
+            scripts,
+            states: Vec::with_capacity(alloc, scripts.len())?,
+            open: Vec::new(alloc),
+            circles: Vec::new(alloc),
+        };
+        for _ in scripts {
+            walk.states.push(State::New)?;
+        }
+        walk.enter(0)?;
+        Ok(walk)
+    }
+}
+
 impl Walk<'_> {
     /// Sets what is known of a script.
     fn set(&mut self, script: usize, state: State) {
@@ -107,11 +135,12 @@ impl Walk<'_> {
 
     /// Whether it is noted that the script that was entered last includes a script that is running.
     fn is_noted(&self, edge: Edge) -> bool {
-        let from = self.open.last().map(|open| open.script);
-        self.circles.iter().any(|circle| {
-            circle.scripts.last().copied() == from
-                && circle.scripts.first().copied() == Some(edge.to)
-        })
+        let Some(open) = self.open.last() else {
+            return false;
+        };
+        self.circles
+            .iter()
+            .any(|circle| circle.joins(open.script, edge.to))
     }
 
     /// Notes that an include comes back, once for each two scripts, and up to twenty times.
@@ -175,6 +204,18 @@ impl Walk<'_> {
         true
     }
 
+    /// Follows all includes, until no script is running.
+    fn follow_all(&mut self) -> Result<(), AllocError> {
+        for _ in 0..u64::MAX {
+            match self.next_edge() {
+                Some(edge) => self.follow(edge)?,
+                None if self.leave() => {}
+                None => break,
+            }
+        }
+        Ok(())
+    }
+
     /// The include that leads deepest from a script.
     fn deepest_edge(&self, script: usize) -> Option<Edge> {
         match self.states.get(script).copied() {
@@ -205,24 +246,8 @@ impl Walk<'_> {
 /// is entered once, so of the ways that lead into a circle the first one is reported. An include with `:once` comes back
 /// to nothing. Takes time linear in the scripts and includes. The only error is out of memory.
 pub fn includes_of(alloc: Global, scripts: &[Vec<Edge>]) -> Result<Includes, AllocError> {
-    let mut walk = Walk {
-        alloc,
-        scripts,
-        states: Vec::with_capacity(alloc, scripts.len())?,
-        open: Vec::new(alloc),
-        circles: Vec::new(alloc),
-    };
-    for _ in scripts {
-        walk.states.push(State::New)?;
-    }
-    walk.enter(0)?;
-    for _ in 0..u64::MAX {
-        match walk.next_edge() {
-            Some(edge) => walk.follow(edge)?,
-            None if walk.leave() => {}
-            None => break,
-        }
-    }
+    let mut walk = Walk::begin(alloc, scripts)?;
+    walk.follow_all()?;
     let (chain, ninth) = walk.chain()?;
     Ok(Includes {
         circles: walk.circles,

@@ -120,17 +120,24 @@ fn unknown_name(
     word(alloc, token, name, TESTS)
 }
 
-/// The first name of a test that is unknown.
-fn unknown_test(alloc: Global, tokens: &[Token]) -> Result<Subject, AllocError> {
+/// The first name behind the name of a command that is that of no test, with the tokens before it and its octets.
+fn other_name(tokens: &[Token]) -> Option<(&[Token], &Token, &[u8])> {
     for (number, token) in tokens.iter().enumerate().skip(1) {
         if let Some(name) = name_of(token) {
             if !is_among(name, TESTS) {
-                let before = tokens.get(..number).unwrap_or(tokens);
-                return unknown_name(alloc, before, token, name);
+                return Some((&tokens[..number.min(tokens.len())], token, name));
             }
         }
     }
-    Ok(Subject::Whole)
+    None
+}
+
+/// The first name of a test that is unknown.
+fn unknown_test(alloc: Global, tokens: &[Token]) -> Result<Subject, AllocError> {
+    match other_name(tokens) {
+        Some((before, token, name)) => unknown_name(alloc, before, token, name),
+        None => Ok(Subject::Whole),
+    }
 }
 
 /// Whether a token ends a test.

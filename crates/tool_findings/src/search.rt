@@ -7,12 +7,12 @@ ghost use Rattle.tool_findings.specs.Judgements.{refusal_number};
 use crate::findings::Finding;
 use crate::fronts::fronts_of;
 use crate::judgement::{Judgement, judgement_of};
-use crate::mends::{mend_command, replace_command};
+use crate::mends::{Faulty, mend_command, replace_command};
 use crate::octets::{Mended, mend_scan};
 use crate::repaired::Repaired;
 use crate::spots::{Mending, Spot, spot_of, tokens_of};
 use crate::words::NEEDED;
-use sieve_text::MAX_OCTETS;
+use sieve_text::{MAX_OCTETS, ScanRefusal};
 use std::alloc::{AllocError, Global};
 
 /// The greatest number of findings beside the verdict.
@@ -83,21 +83,40 @@ impl Search {
             .any(|guess| start <= *guess && *guess <= end)
     }
 
-    /// Repairs what was found, as far as it can be. What was not told is replaced as a whole.
-    fn mend(&mut self, spot: &Spot<'_>, is_told: bool) -> Result<bool, AllocError> {
-        let guess = self.script.offset(spot.guess());
+    /// Repairs a text that is no sequence of tokens, for this reason at this offset; false where it cannot be repaired.
+    fn mend_scan(&mut self, refusal: ScanRefusal, at: usize) -> Result<bool, AllocError> {
+        let mended = mend_scan(self.alloc, &mut self.script, refusal, at)?;
+        if let Mended::Cut = mended {
+            self.is_cut = true;
+        }
+        Ok(!matches!(mended, Mended::Not))
+    }
+
+    /// Repairs a command, or replaces it as a whole where it was not told.
+    fn mend_command(&mut self, faulty: &Faulty<'_>, is_told: bool) -> Result<(), AllocError> {
+        if is_told {
+            mend_command(&mut self.script, faulty)
+        } else {
+            replace_command(&mut self.script, faulty)
+        }
+    }
+
+    /// Changes the script so that what was found is not found again; false where it cannot be repaired.
+    fn repair(&mut self, spot: &Spot<'_>, is_told: bool) -> Result<bool, AllocError> {
         match &spot.mending {
             Mending::None => return Ok(false),
             Mending::Patch(patch) => self.script.patch(*patch)?,
-            Mending::Command(faulty) if is_told => mend_command(&mut self.script, faulty)?,
-            Mending::Command(faulty) => replace_command(&mut self.script, faulty)?,
-            Mending::Scan(refusal) => {
-                match mend_scan(self.alloc, &mut self.script, *refusal, spot.at)? {
-                    Mended::Whole => {}
-                    Mended::Cut => self.is_cut = true,
-                    Mended::Not => return Ok(false),
-                }
-            }
+            Mending::Command(faulty) => self.mend_command(faulty, is_told)?,
+            Mending::Scan(refusal) => return self.mend_scan(*refusal, spot.at),
+        }
+        Ok(true)
+    }
+
+    /// Repairs what was found, as far as it can be. What was not told is replaced as a whole.
+    fn mend(&mut self, spot: &Spot<'_>, is_told: bool) -> Result<bool, AllocError> {
+        let guess = self.script.offset(spot.guess());
+        if !self.repair(spot, is_told)? {
+            return Ok(false);
         }
         if spot.is_guessed() {
             self.guesses.push(guess)?;
@@ -124,6 +143,16 @@ impl Search {
         }
     }
 
+    /// Adds a finding; false where there are enough.
+    fn tell(&mut self, found: Finding) -> Result<bool, AllocError> {
+        if self.others.len() >= MAX_OTHERS {
+            return Ok(false);
+        }
+        self.others.push(found)?;
+        self.last = Some(found);
+        Ok(true)
+    }
+
     /// Finds what is wrong next, by the judgement of the script as it is repaired so far, and repairs it.
     fn step(&mut self, judgement: Judgement) -> Result<Step, AllocError> {
         let tokens = tokens_of(self.alloc, self.script.text())?;
@@ -132,12 +161,8 @@ impl Search {
         let found = spot.finding(&self.script, judgement);
         let is_certain = found.is_certain() || !self.is_doubtful(&spot);
         let is_told = is_certain && self.is_later(&found);
-        if is_told {
-            if self.others.len() >= MAX_OTHERS {
-                return Ok(Step::Over);
-            }
-            self.others.push(found)?;
-            self.last = Some(found);
+        if is_told && !self.tell(found)? {
+            return Ok(Step::Over);
         }
         Ok(if self.mend(&spot, is_told)? {
             Step::Repaired

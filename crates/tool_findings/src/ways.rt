@@ -338,21 +338,24 @@ fn goes_on_inside(front: &Front, tokens: &[Token]) -> bool {
     follows && has_name(front, tokens, &["elsif", "else"])
 }
 
-/// The ways on from the end of a text in which blocks are open.
-fn close_blocks(ways: &mut Ways, stop: &Stop<'_>, fronts: &[Front]) -> Result<(), AllocError> {
-    for front in fronts
-        .iter()
-        .filter(|front| is_blocked_command(front, stop.before))
-    {
-        if let Some(brace) = front.own(stop.before).last() {
-            ways.replace(brace, ";")?;
+/// Writes a semicolon in place of each brace that opens a block where none may be.
+fn end_commands(ways: &mut Ways, tokens: &[Token], fronts: &[Front]) -> Result<(), AllocError> {
+    for front in fronts {
+        if is_blocked_command(front, tokens) {
+            if let Some(brace) = front.own(tokens).last() {
+                ways.replace(brace, ";")?;
+            }
         }
     }
-    for front in fronts
-        .iter()
-        .filter(|front| goes_on_inside(front, stop.before))
-    {
-        ways.insert(front.start, "}")?;
+    Ok(())
+}
+
+/// Closes a block before each branch that goes on where none was closed.
+fn close_blocks(ways: &mut Ways, tokens: &[Token], fronts: &[Front]) -> Result<(), AllocError> {
+    for front in fronts {
+        if goes_on_inside(front, tokens) {
+            ways.insert(front.start, "}")?;
+        }
     }
     Ok(())
 }
@@ -370,33 +373,47 @@ fn open_braces(alloc: Global, tokens: &[Token]) -> Result<(Option<usize>, usize)
     Ok((open.last().copied(), open.len()))
 }
 
+/// Braces that close this number of blocks, as far as so many can be open: after a semicolon, and alone.
+fn closings(depth: usize) -> (&'static [u8], &'static [u8]) {
+    let end = depth.saturating_add(1).min(CLOSING.len());
+    (&CLOSING[..end], &CLOSING[1..end])
+}
+
+/// The ways on from the end of a text that is inside a command, which begins with this token, and in this number of blocks: the
+/// command is ended, or taken out.
+fn end_command(
+    ways: &mut Ways,
+    stop: &Stop<'_>,
+    first: &Token,
+    depth: usize,
+) -> Result<(), AllocError> {
+    let end = stop.last_end();
+    let (ended, closing) = closings(depth);
+    ways.add(Patch::insertion(end, ended), Subject::Missing(end, ";"))?;
+    let patch = Patch {
+        start: first.start as usize,
+        end: stop.at,
+        with: closing,
+    };
+    ways.add(patch, Subject::Whole)
+}
+
 /// The ways on from the end of a text.
 fn ways_at_end(alloc: Global, ways: &mut Ways, stop: &Stop<'_>) -> Result<(), AllocError> {
     let fronts = fronts_of(alloc, stop.before)?;
-    close_blocks(ways, stop, &fronts)?;
+    end_commands(ways, stop.before, &fronts)?;
+    close_blocks(ways, stop.before, &fronts)?;
     let (brace, depth) = open_braces(alloc, stop.before)?;
-    let depth = depth.min(CLOSING.len().saturating_sub(1));
-    let closing = &CLOSING[1..depth.saturating_add(1)];
-    let command = stop.command();
-    match (command.first(), brace) {
+    match (stop.command().first(), brace) {
         (None, Some(brace)) => {
+            let (_, closing) = closings(depth);
             ways.add(
                 Patch::insertion(stop.at, closing),
                 Subject::OpenBlock(brace),
             )
         }
         (None, None) => Ok(()),
-        (Some(first), _) => {
-            let end = stop.last_end();
-            let ended = &CLOSING[..depth.saturating_add(1)];
-            ways.add(Patch::insertion(end, ended), Subject::Missing(end, ";"))?;
-            let patch = Patch {
-                start: first.start as usize,
-                end: stop.at,
-                with: closing,
-            };
-            ways.add(patch, Subject::Whole)
-        }
+        (Some(first), _) => end_command(ways, stop, first, depth),
     }
 }
 
@@ -422,6 +439,19 @@ fn ways_at_token(
     ways.leave_out(stop, following)
 }
 
+/// The ways on from a place, from which these tokens come on.
+fn add_ways(
+    alloc: Global,
+    ways: &mut Ways,
+    stop: &Stop<'_>,
+    following: &[Token],
+) -> Result<(), AllocError> {
+    match stop.token {
+        Some(token) => ways_at_token(alloc, ways, stop, token, following),
+        None => ways_at_end(alloc, ways, stop),
+    }
+}
+
 /// The ways on from an offset of a text with these tokens, at which it stops being a script. The likeliest come first.
 pub(crate) fn ways_from(
     alloc: Global,
@@ -437,10 +467,7 @@ pub(crate) fn ways_from(
     let mut ways = Ways {
         list: Vec::new(alloc),
     };
-    match stop.token {
-        Some(token) => ways_at_token(alloc, &mut ways, &stop, token, following)?,
-        None => ways_at_end(alloc, &mut ways, &stop)?,
-    }
+    add_ways(alloc, &mut ways, &stop, following)?;
     Ok(ways.list)
 }
 

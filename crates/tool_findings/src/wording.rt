@@ -109,27 +109,33 @@ fn push_typographic(line: &mut Shown, mark: &[u8], plain: &'static str) -> Resul
     }
 }
 
+/// The words of a subject of which something is said whatever they are, by their offsets, and what that is.
+fn said_of(subject: Subject) -> Option<(usize, usize, &'static str)> {
+    match subject {
+        Subject::Surplus(start, end) => Some((start, end, " is too much here")),
+        Subject::Unquoted(start, end) => {
+            Some((start, end, " is no string; write it in quotation marks"))
+        }
+        Subject::Untagged(start, end) => {
+            Some((start, end, " is a tag; write it with a colon before it"))
+        }
+        Subject::TestAlone(start, end) => {
+            Some((start, end, " is a test and no command; write if before it"))
+        }
+        _ => None,
+    }
+}
+
 /// Adds what a finding about some words says.
 fn push_subject(line: &mut Shown, text: &[u8], finding: &Finding) -> Result<(), AllocError> {
     match finding.subject {
         Subject::Word(start, end, meant) => {
             push_word(line, finding.number, shown_word(text, start, end), meant)
         }
-        Subject::Surplus(start, end) =>
-            put!(line; quoted(part(text, start, end)) " is too much here"),
         Subject::Instead(start, end, word) => {
             put!(line; "write " words(word) " in place of " quoted(part(text, start, end)))
         }
-        Subject::Unquoted(start, end) => {
-            put!(line; quoted(part(text, start, end)) " is no string; write it in quotation marks")
-        }
-        Subject::Untagged(start, end) => {
-            put!(line; quoted(part(text, start, end)) " is a tag; write it with a colon before it")
-        }
         Subject::Unit(start, end) => push_unit(line, part(text, start, end)),
-        Subject::TestAlone(start, end) => {
-            put!(line; quoted(part(text, start, end)) " is a test and no command; write if before it")
-        }
         Subject::Joined(start, end, name) => push_joined(line, part(text, start, end), name),
         Subject::Unjoined(start, end) => push_unjoined(line, part(text, start, end)),
         Subject::Typographic(start, end, plain) => {
@@ -138,7 +144,10 @@ fn push_subject(line: &mut Shown, text: &[u8], finding: &Finding) -> Result<(), 
         Subject::Arguments(start, end, form) => {
             put!(line; escaped(part(text, start, end)) " takes " words(form))
         }
-        _ => line.words(text_of(finding.number)),
+        subject => match said_of(subject) {
+            Some((start, end, said)) => put!(line; quoted(part(text, start, end)) words(said)),
+            None => line.words(text_of(finding.number)),
+        },
     }
 }
 

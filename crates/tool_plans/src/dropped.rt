@@ -33,8 +33,8 @@ pub struct Renaming<'d, 'n> {
     pub to: &'n [u8],
 }
 
-/// The renaming that a new plan is likely meant to be, by the classes of the present one that it leaves out and those that are new
-/// in it: there is one where a single class went and a single class came, and only there.
+/// The renaming that a new plan is likely meant to be, by the classes of the present one that it leaves out and those that are
+/// new in it: there is one where a single class went and a single class came, and only there.
 pub fn renaming_of<'d, 'n>(dropped: &[&'d [u8]], new: &[&'n [u8]]) -> Option<Renaming<'d, 'n>>
     ensures { option_map renaming_view result
         ≡ likely_renaming (map (λ p. p.now) dropped.now) (map (λ p. p.now) new.now) }

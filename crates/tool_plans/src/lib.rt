@@ -1,8 +1,9 @@
 //! All that is wrong with a plan file, and where.
 //!
 //! `judge` answers the refusal that a session gives, and beside it what else is found. `outline` reads the keys of the
-//! file with their places, `shapes` judges their kinds, `classes` the classes and schedules. `meant` finds the class that was meant by
-//! a path that is none. `titles` reads what a file says of the classes of a plan: their titles, and the legal basis of each.
+//! file with their places, `shapes` judges their kinds, `classes` the classes and schedules. `meant` finds the class that was
+//! meant by a path that is none. `titles` reads what a file says of the classes of a plan: their titles, and the legal basis of
+//! each.
 #![tactic(auto)]
 
 mod classes;

@@ -10,8 +10,8 @@ use tool_texts::{Shown, quoted};
 /// The greatest length of a title and of a legal basis, in octets.
 const LONGEST: usize = 500;
 
-/// A title and a legal basis that a file gives a class of the plan. Each has at most 500 octets, none of them of a hidden character,
-/// and may be empty.
+/// A title and a legal basis that a file gives a class of the plan. Each has at most 500 octets, none of them of a hidden
+/// character, and may be empty.
 #[derive(Drop)]
 pub struct GivenTitle {
     pub path: String,
@@ -209,10 +209,11 @@ fn judge_toml(alloc: Global, text: &str) -> Result<(), TitlesFault> {
     Err(wrong(alloc, at, words.as_str()))
 }
 
-/// The titles that a text in TOML gives classes of a plan: for each a table with its path as header, and `title` and `basis` in it.
+/// The titles that a text in TOML gives classes of a plan: for each a table with its path as header, and `title` and `basis` in
+/// it.
 ///
-/// Wrong are what is not UTF-8 or not TOML, other keys and tables, a path that is no class of the plan, a class without one of the two
-/// keys, and a text that is no string, has more than 500 octets, or has a hidden character.
+/// Wrong are what is not UTF-8 or not TOML, other keys and tables, a path that is no class of the plan, a class without one of
+/// the two keys, and a text that is no string, has more than 500 octets, or has a hidden character.
 pub fn titles_of(alloc: Global, text: &[u8], plan: &Plan) -> Result<Vec<GivenTitle>, TitlesFault> {
     let text = match str::from_utf8(text) {
         Ok(text) => text,

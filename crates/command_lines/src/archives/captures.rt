@@ -1,6 +1,6 @@
-//! What a command line says of how mail is filed: by which rules, as of which moment, and for how long.
+//! What a command line says of how mail is captured: by which rules, as of which moment, for how long, and what is told of it.
 
-use super::{Filing, Moment, words};
+use super::{Command, Filing, Moment, Telling, capture_words as words};
 use crate::reading::{NoCommand, day_of, has_flag, required, value_of};
 use clap::ArgMatches;
 use jiff::civil::{Date, date};
@@ -72,5 +72,20 @@ pub(super) fn filing_asked<'a>(
         unfiled_on_fault: has_flag(asked, words::UNFILED_ON_FAULT),
         moment: moment_asked(alloc, asked)?,
         limit: limit_asked(alloc, asked)?,
+    })
+}
+
+/// The Maildir whose new messages are captured, and how.
+pub(super) fn intake_asked<'a>(
+    alloc: Global,
+    asked: &ArgMatches<'a>,
+) -> Result<Command<'a>, NoCommand> {
+    Ok(Command::Intake {
+        maildir: required(asked, words::MAILDIR)?,
+        filing: filing_asked(alloc, asked)?,
+        telling: Telling {
+            is_quiet: has_flag(asked, words::QUIET),
+            has_times: has_flag(asked, words::TIMES),
+        },
     })
 }

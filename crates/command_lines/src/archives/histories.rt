@@ -1,7 +1,8 @@
 //! What a command line asks of a history, and what it tells for one.
 
+use super::questions::{day_asked, numbers_asked};
 use super::words::JSON;
-use super::{Command, day_asked, history_words as words, numbers_asked};
+use super::{Command, history_words as words};
 use crate::reading::{NoCommand, has_flag, value_of};
 use crate::table::Word;
 use choice_words::TypedNumbers;

@@ -1,6 +1,7 @@
 //! What a command line asks of holds.
 
-use super::{ChosenTask, Command, conditions_asked, judge_place, numbers_asked, words};
+use super::questions::{conditions_asked, numbers_asked};
+use super::{ChosenTask, Command, judge_place, words};
 use crate::reading::{NoCommand, has_flag, required};
 use choice_words::Choice;
 use clap::ArgMatches;

@@ -1,8 +1,9 @@
 //! What a command line asks of an import.
 
+use super::Filing;
+use super::capture_words::QUIET;
+use super::captures::filing_asked;
 use super::import_words::{AGAIN, DATED, SOURCES, VERBOSE};
-use super::words::QUIET;
-use super::{Filing, filing_asked};
 use crate::reading::{NoCommand, day_of, has_flag, required, values_of};
 use clap::ArgMatches;
 use jiff::civil::Date;

@@ -1,13 +1,15 @@
 //! The subcommands of `mailfile-store`, each with its words and an example.
 
 use super::approvals::{APPROVED, STRAYS};
+use super::capture_words::{AT, LIMIT, MAILDIR, OFFICER, QUIET, RULES, TIMES, UNFILED_ON_FAULT};
 use super::class_words::{NEW_TITLES, TO};
 use super::history_words::{
     ACCEPT_FOUND, BEGIN, BEGIN_REASON, BY, CHOSEN_BY, DEEDS, EVENTS_SINCE, HEAD, REASON,
     REQUIRE_REASON, WAIVE_REASON,
 };
 use super::import_words::{AGAIN, AS_IS, DATED, SOURCES, VERBOSE};
-use crate::table::{FLAG, Form, Hint, OPTION, PLACE, Program, Subcommand, Word};
+use super::question_words::{CONDITIONS, FROM, HINTS, NUMBER, NUMBERS};
+use crate::table::{FLAG, OPTION, PLACE, Program, Subcommand, Word};
 use std::alloc::{AllocError, Global};
 
 pub const STORE: Word = Word {
@@ -16,32 +18,6 @@ pub const STORE: Word = Word {
     is_required: true,
     help: Some("The file of the store"),
     ..OPTION
-};
-
-/// The numbers of records, and ranges of them.
-pub const NUMBERS: Word = Word {
-    name: "chosen",
-    form: Form::Places,
-    value: "NUMBER",
-    is_required: false,
-    help: Some("The records with these numbers, as 3, or in these ranges, as 5-9"),
-    ..PLACE
-};
-
-pub const NUMBER: Word = Word {
-    name: "number",
-    value: "NUMBER",
-    help: Some("The number of the record, as list prints it"),
-    ..PLACE
-};
-
-pub const OFFICER: Word = Word {
-    name: "officer",
-    value: "OFFICER",
-    help: Some(
-        "The officer by whose rules mail is filed: the name of a folder in that of the rules",
-    ),
-    ..PLACE
 };
 
 pub const PLAN_FILE: Word = Word {
@@ -95,43 +71,6 @@ const PLAN: Subcommand = Subcommand {
     has_shared: false,
 };
 
-/// The rules by which mail is filed.
-pub const RULES: Word = Word {
-    name: "rules",
-    value: "FOLDER",
-    is_required: true,
-    help: Some(
-        "The folder of the rules: OFFICER/main.sieve, and global/NAME.sieve for all officers",
-    ),
-    ..OPTION
-};
-
-pub const UNFILED_ON_FAULT: Word = Word {
-    name: "unfiled-on-fault",
-    help: Some(
-        "Captures mail in unfiled where the officer or a script is missing, or a script or a run is at fault",
-    ),
-    ..FLAG
-};
-
-pub const AT: Word = Word {
-    name: "at",
-    value: "MOMENT",
-    help: Some(
-        "The moment of the capture, not later than now: in seconds since 1970, or YYYY-MM-DD for the beginning of a day in UTC; now takes the clock as it is; if none is given, the clock, unless it stands before the days of the store",
-    ),
-    ..OPTION
-};
-
-pub const LIMIT: Word = Word {
-    name: "limit",
-    value: "SECONDS",
-    help: Some(
-        "How long the rules may work on a message, from 1 second to 86,400; 60 if none is given. After that it is not captured",
-    ),
-    ..OPTION
-};
-
 const DELIVER: Subcommand = Subcommand {
     name: "deliver",
     about: "Captures the message on standard input, and prints its records",
@@ -148,25 +87,6 @@ const DELIVER: Subcommand = Subcommand {
         OFFICER,
     ],
     has_shared: false,
-};
-
-pub const QUIET: Word = Word {
-    name: "quiet",
-    help: Some("Tells nothing of what is captured, only of messages that stay and of faults"),
-    ..FLAG
-};
-
-pub const TIMES: Word = Word {
-    name: "times",
-    help: Some("Begins each line with the time of day in UTC, as for a log"),
-    ..FLAG
-};
-
-pub const MAILDIR: Word = Word {
-    name: "maildir",
-    value: "MAILDIR",
-    help: Some("The folder of the mail, which has the folders new and cur"),
-    ..PLACE
 };
 
 const INTAKE: Subcommand = Subcommand {
@@ -208,92 +128,6 @@ const IMPORT: Subcommand = Subcommand {
         SOURCES,
     ],
     has_shared: false,
-};
-
-pub const CLASS: Word = Word {
-    name: "class",
-    value: "PATH",
-    help: Some("Records of this class and of those below it"),
-    ..OPTION
-};
-
-pub const DUE: Word = Word {
-    name: "due",
-    value: "YYYY-MM-DD",
-    help: Some("Records that are due by this day, which is not later than today"),
-    ..OPTION
-};
-
-pub const HELD: Word = Word {
-    name: "held",
-    help: Some("Records that a hold keeps"),
-    ..FLAG
-};
-
-pub const LIVE: Word = Word {
-    name: "live",
-    help: Some("Records that are not destroyed"),
-    ..FLAG
-};
-
-pub const FROM: Word = Word {
-    name: "from",
-    value: "N",
-    help: Some("Records with this number or a greater one"),
-    ..OPTION
-};
-
-pub const SINCE: Word = Word {
-    name: "since",
-    value: "YYYY-MM-DD",
-    help: Some("Records that were captured on this day or later"),
-    ..OPTION
-};
-
-pub const UNTIL: Word = Word {
-    name: "until",
-    value: "YYYY-MM-DD",
-    help: Some("Records that were captured on this day or before"),
-    ..OPTION
-};
-
-pub const DESTROYED: Word = Word {
-    name: "destroyed",
-    help: Some("Records that are destroyed"),
-    conflict: Some("live"),
-    ..FLAG
-};
-
-pub const WHERE: Word = Word {
-    name: "where",
-    value: "TEST",
-    help: Some(
-        "Records whose message meets this test, written as in a rule; none that are destroyed",
-    ),
-    ..OPTION
-};
-
-pub const SENDER: Word = Word {
-    name: "sender",
-    value: "TEXT",
-    help: Some(
-        "Records whose message has this text in its senders, whatever the case of its letters",
-    ),
-    ..OPTION
-};
-
-pub const RECIPIENT: Word = Word {
-    name: "recipient",
-    value: "TEXT",
-    help: Some("Records whose message has this text in its recipients"),
-    ..OPTION
-};
-
-pub const SUBJECT: Word = Word {
-    name: "subject",
-    value: "TEXT",
-    help: Some("Records whose message has this text in its subject"),
-    ..OPTION
 };
 
 pub const HEADERS: Word = Word {
@@ -632,31 +466,6 @@ const CERTIFICATES: Subcommand = Subcommand {
     words: &[STORE, NUMBERS],
     has_shared: false,
 };
-
-/// The conditions of a choice of records.
-const CONDITIONS: &[Word] = &[
-    SENDER, RECIPIENT, SUBJECT, WHERE, CLASS, SINCE, UNTIL, DUE, HELD, LIVE, DESTROYED,
-];
-
-/// What people type for conditions.
-const HINTS: &[Hint] = &[
-    Hint {
-        typed: "--to",
-        meant: "--recipient",
-    },
-    Hint {
-        typed: "--cc",
-        meant: "--recipient",
-    },
-    Hint {
-        typed: "--after",
-        meant: "--since",
-    },
-    Hint {
-        typed: "--before",
-        meant: "--until",
-    },
-];
 
 /// The subcommands that make a store and capture mail.
 const CAPTURING: &[Subcommand] = &[CREATE, PLAN, DELIVER, INTAKE, IMPORT];
