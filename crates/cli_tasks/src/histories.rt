@@ -77,8 +77,8 @@ fn say_none(rt: &HostRuntime) -> Result<(), Failure> {
     write_text(rt, &line)
 }
 
-/// Judges a whole store, and its history where it has one; else that is said. A mark may be looked for, which a store without a history has
-/// nowhere.
+/// Judges a whole store, and its history where it has one; else that is said. A mark may be looked for, which a store without a
+/// history has nowhere.
 #[derive(Drop)]
 pub struct CheckAll<'a> {
     pub head: Option<&'a str>,

@@ -18,8 +18,8 @@ struct ImportOld<'a> {
 }
 
 impl ImportOld<'_> {
-    /// The rules, by which the history names the officer of each capture. Where they are at fault, which was told, nothing would be
-    /// known of the captures later, so none is made: `TryAgain`.
+    /// The rules, by which the history names the officer of each capture. Where they are at fault, which was told, nothing
+    /// would be known of the captures later, so none is made: `TryAgain`.
     fn named(&self, rt: &HostRuntime) -> Result<NamedRules, Failure> {
         match self.job.rules().named(rt.alloc())? {
             Some(named) => Ok(named),

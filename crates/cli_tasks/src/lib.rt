@@ -2,8 +2,8 @@
 //!
 //! - `archives`: where archives are kept, and how one is lent to a work;
 //! - `subcommands`: what each subcommand does;
-//! - `changes`: what is changed in an archive, by whom and why; `imports`: old mail; `beginnings` and `histories`: its history, begun
-//!   and read;
+//! - `changes`: what is changed in an archive, by whom and why; `imports`: old mail; `beginnings` and `histories`: its history,
+//!   begun and read;
 //! - `titles`: those of classes;
 //! - `drafts`: new archives, which get their places once they are found whole;
 //! - `copy`: a new archive with all that another one has;

@@ -175,8 +175,8 @@ impl Work for CheckRules<'_> {
     }
 }
 
-/// Captures the message on standard input. What looks like no message is refused, unless it is to be captured as it is. A store that
-/// cannot be had, or that may not keep the message, is a reason to try again, so that a mail server keeps it.
+/// Captures the message on standard input. What looks like no message is refused, unless it is to be captured as it is. A store
+/// that cannot be had, or that may not keep the message, is a reason to try again, so that a mail server keeps it.
 fn deliver<'a, A: Archives>(
     rt: &HostRuntime,
     archives: &A,

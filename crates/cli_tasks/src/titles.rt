@@ -36,8 +36,8 @@ impl Work for SetTitles<'_> {
     }
 }
 
-/// Gives classes the titles of the file at a path, and writes which have another one now. `BadData` where the file gives no titles,
-/// and where the store has no history.
+/// Gives classes the titles of the file at a path, and writes which have another one now. `BadData` where the file gives no
+/// titles, and where the store has no history.
 pub fn give_titles<A: Archives>(
     rt: &HostRuntime,
     archives: &A,
