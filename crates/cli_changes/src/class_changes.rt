@@ -32,12 +32,15 @@ impl ClassState {
 
 /// A word for what becomes of a class, by whether it was open, if there was one, and whether it is.
 fn word_of(was_open: Option<bool>, is_open: bool) -> Option<&'static str> {
-    match (was_open, is_open) {
-        (None, true) => Some("new"),
-        (None, false) => Some("new and closed"),
-        (Some(true), false) => Some("closed"),
-        (Some(false), true) => Some("open again"),
-        (Some(_), _) => None,
+    let Some(was_open) = was_open else {
+        return Some(if is_open { "new" } else { "new and closed" });
+    };
+    if was_open == is_open {
+        None
+    } else if is_open {
+        Some("open again")
+    } else {
+        Some("closed")
     }
 }
 
