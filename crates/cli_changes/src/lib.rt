@@ -1,7 +1,7 @@
 //! What `mailfile-store` changes in an archive, for each of its subcommands that do.
 //!
-//! - `plan`: the plan, and another one in its place; `plan_changes`: what that changes; `plan_file`: a plan that is read from a
-//!   file;
+//! - `plan`: the plan, and another one in its place; `class_changes` and `plan_changes`: what that changes in the classes, and
+//!   for the records; `plan_file`: a plan that is read from a file;
 //! - `rules`: the rules by which mail is filed; `rules_sum`: what stands for them in a history;
 //!   `rule_checks`: whether they are good;
 //! - `fault_words`: where the run of rules over a message ended in a fault, in words;
@@ -25,6 +25,7 @@
 
 mod altered;
 mod approved;
+mod class_changes;
 mod deliver;
 mod dispose;
 mod due_today;

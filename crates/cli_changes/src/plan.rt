@@ -1,5 +1,6 @@
 //! `plan`: the plan of an archive, and another one in its place.
 
+use crate::class_changes::class_lines;
 use crate::plan_changes::{changes_by, changes_lines};
 use class_plan::Plan;
 use cli_console::{Failure, Status, agrees, write_data, write_text};
@@ -61,9 +62,9 @@ fn judge_classes(rt: &HostRuntime, present: &Plan, new: &Plan, path: &str) -> Re
     Err(Failure::shown(Status::BadData, text))
 }
 
-/// Replaces the plan of an archive by that of the file at a path, once it was printed what that changes, in all and by class, and
-/// someone agrees. `BadData`
-/// where the new plan leaves out a class of the present one, before anything is printed; `Usage` where nobody agrees.
+/// Replaces the plan of an archive by that of the file at a path, once it was printed what that changes in the classes and for the
+/// records, and someone agrees. `BadData` where the new plan leaves out a class of the present one, before anything is printed;
+/// `Usage` where nobody agrees.
 pub fn replace_plan<S: Alter>(
     rt: &HostRuntime,
     archive: &mut StoreLedger<'_, S>,
@@ -72,6 +73,7 @@ pub fn replace_plan<S: Alter>(
     is_agreed: bool,
 ) -> Result<(), Failure> {
     judge_classes(rt, archive.plan(), &plan, path)?;
+    write_text(rt, &class_lines(rt.alloc(), archive.plan(), &plan)?)?;
     let changes = changes_by(rt, archive, &plan)?;
     write_text(rt, &changes_lines(rt.alloc(), &changes)?)?;
     if !is_agreed && !agrees(rt, "replace the plan?") {
