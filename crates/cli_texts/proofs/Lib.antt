@@ -2,4 +2,5 @@ mod HeaderLemmas
 pub mod CutLemmas
 pub mod MomentLemmas
 pub mod TextLemmas
-mod Rows
+pub mod FieldLemmas
+mod FieldRows

@@ -44,9 +44,12 @@ abbrev pub begins_with_control : List ℕ → Bool
 begins_with_control [] = false
 begins_with_control (b ∷ bs) = is_ascii_control b
 
+abbrev pub begins_with_sign : List ℕ → Bool
+begins_with_sign field = list_any (λ sign. starts_with nat_eq field sign) formula_signs
+
 -- a spreadsheet could take a field for a formula, or drop its beginning
 abbrev pub is_formula : List ℕ → Bool
-is_formula field = list_any (λ sign. starts_with nat_eq field sign) formula_signs || begins_with_control field
+is_formula field = begins_with_sign field || begins_with_control field
 
 -- A FIELD AS A CELL: an apostrophe comes before what a spreadsheet could take for a formula
 abbrev pub cell : List ℕ → List ℕ
@@ -113,6 +116,11 @@ abbrev pub headers_of : Exported → Option Headers
 headers_of exported.Destroyed = None
 headers_of (exported.Altered captured) = None
 headers_of (exported.Written kept) = Some kept.headers.now
+
+-- a path behind the first of some fields
+abbrev pub with_path : List ℕ → List (List ℕ) → List (List ℕ)
+with_path path [] = []
+with_path path (f ∷ fs) = f ∷ path ∷ fs
 
 -- THE FIELDS OF A RECORD IN A MANIFEST
 abbrev pub manifest_fields : Row → Exported → List (List ℕ)

@@ -1,4 +1,4 @@
-use Rattle.std.proofs.Common.{◌≡◌, ◌×◌, ◌++◌, [], drop, map}
+use Rattle.std.proofs.Common.{◌≡◌, ◌++◌, [], drop, map}
 use Rattle.csv.specs.Records.{fields_of, partial_of}
 use Rattle.cli_texts.specs.Rows.{cell}
 use Rattle.cli_texts.proofs.rows.cells_of.Given as goal
