@@ -2,6 +2,7 @@
 
 ghost use Rattle.std.specs.Prelude.{◌≡◌};
 ghost use Rattle.record_history.specs.Views.{deed_view};
+ghost use Rattle.cli_console.specs.Failures.{IsToldAs};
 ghost use Rattle.cli_history.specs.Reasons.{are_required};
 
 use crate::findings::Findings;
@@ -9,8 +10,8 @@ use crate::flaws::failure_of;
 use crate::opening::Purpose;
 use crate::pages::{Events, judged_event_of};
 use crate::seals::Seals;
-use cli_console::Failure;
-use record_history::{Deed, Event, read_line};
+use cli_console::{Failure, Status};
+use record_history::{Deed, Event, LineFault, read_line};
 use record_judge::{Judge, SealedArchive};
 use record_noted::NotedStore;
 use record_store::EventRow;
@@ -47,6 +48,21 @@ fn requires_after(is_before: bool, deed: &Deed<'_>) -> bool
         | Deed::FoundMessage { .. }
         | Deed::FoundRecord { .. }
         | Deed::FoundHold { .. } => is_before,
+    }
+}
+
+/// Why a line of what was found is not read: it is none of an event, or there is no memory.
+fn unread_failure(alloc: Global, fault: LineFault) -> Failure
+    ensures memory { fault ≡ LineFault.NoMemory → result ≡ Failure.NoMemory }
+    ensures line { fault ≡ LineFault.NotALine → IsToldAs Status.BadData result }
+{
+    match fault {
+        LineFault::NoMemory => Failure::NoMemory,
+        LineFault::NotALine => Failure::told(
+            alloc,
+            Status::BadData,
+            "a line of what is found would be none of an event",
+        ),
     }
 }
 
@@ -112,11 +128,12 @@ impl Replayed {
         Ok(replayed)
     }
 
-    /// Notes that lines were added behind its events, which tell what was found.
+    /// Takes lines that come behind its events, and tell what was found. `BadData` where one is none of an event.
     pub fn take_found(&mut self, alloc: Global, lines: &[Vec<u8>]) -> Result<(), Failure> {
         for line in lines {
-            let Ok((number, event)) = read_line(alloc, line.as_slice()) else {
-                return Err(Failure::NoMemory);
+            let (number, event) = match read_line(alloc, line.as_slice()) {
+                Ok(read) => read,
+                Err(fault) => return Err(unread_failure(alloc, fault)),
             };
             let number = u32::try_from(number).unwrap_or(u32::MAX);
             self.findings.take(number, &event)?;

@@ -144,7 +144,8 @@ fn lines_apart<S: Alter>(
     Ok(lines)
 }
 
-/// Notes lines behind the events of a history, in one transaction, and takes them. A failure hands the store back.
+/// Takes lines, and notes them behind the events of a history, in one transaction. `BadData` where one is none of an event: then
+/// nothing is noted. A failure hands the store back.
 fn note_found<S: Alter>(
     rt: &HostRuntime,
     archive: Store<S>,
@@ -155,13 +156,15 @@ fn note_found<S: Alter>(
         Ok(noted) => noted,
         Err(refusal) => return Err(refusal),
     };
-    let done = match noted.note_all(lines) {
-        Ok(()) => replayed.take_found(rt.alloc(), lines),
-        Err(fault) => Err(Failure::of_store(rt.alloc(), "the history", fault)),
-    };
-    match done {
+    if let Err(failure) = replayed.take_found(rt.alloc(), lines) {
+        return Err((noted.into_store(), failure));
+    }
+    match noted.note_all(lines) {
         Ok(()) => Ok(noted),
-        Err(failure) => Err((noted.into_store(), failure)),
+        Err(fault) => Err((
+            noted.into_store(),
+            Failure::of_store(rt.alloc(), "the history", fault),
+        )),
     }
 }
 
