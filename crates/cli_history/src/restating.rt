@@ -1,6 +1,6 @@
 //! What another program has changed, noted as found.
 
-ghost use Rattle.std.specs.Prelude.{◌≡◌};
+ghost use Rattle.std.specs.Prelude.{◌≡◌, is_ok, not};
 ghost use Rattle.cli_history.specs.Reasons.{lacks_reason as is_reason_lacking};
 
 use crate::author::Author;
@@ -31,7 +31,10 @@ fn judge_reason(
     replayed: &Replayed,
     author: &Author<'_>,
     purpose: Purpose,
-) -> Result<(), Failure> {
+) -> Result<(), Failure>
+    ensures { is_ok result ≡ not (is_reason_lacking purpose replayed.now.requires_reasons
+        author.now.reason.now) }
+{
     if lacks_reason(purpose, replayed.requires_reasons(), author.reason()) {
         return Err(Failure::told(
             alloc,
