@@ -170,10 +170,7 @@ impl<'k, 's> Findings<'k, 's> {
         ensures { OnOk result (list_all (λ h. is_name_of h.items) entry.now.holds.items ≡ true) }
     {
         if !are_named(entry.holds.as_slice()) {
-            return Err(Failure::shown(
-                Status::BadData,
-                unnamed_words(alloc, entry.number),
-            ));
+            return Err(Failure::shown(Status::BadData, unnamed_words(alloc, entry.number)));
         }
         let line = occasion.record_found(alloc, self.next(), entry)?;
         self.lines.push(line)?;
