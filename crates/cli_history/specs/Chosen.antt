@@ -1,5 +1,5 @@
 -- Which events of a history are asked for.
-use Rattle.std.specs.Prelude.{ℕ, pos, ◌==◌, ◌&&◌, ◌||◌, ◌+◌, ◌-◌, ◌/◌, nat_le, int_le, min, Bool, true, false, List, length, Option, Some, None}
+use Rattle.std.specs.Prelude.{ℕ, pos, ◌==◌, ◌&&◌, ◌||◌, ◌+◌, ◌-◌, ◌/◌, not, nat_le, int_le, min, Bool, true, false, List, length, Option, Some, None}
 use Rattle.std.specs.List.{list_any}
 use Rattle.std.specs.Str.{bytes_eq}
 use Rattle.jiff.specs.Words.{epoch_day}
@@ -47,6 +47,15 @@ any_meets words (Some s) = list_any (meets s.0 s.1) words
 abbrev pub is_about : List TypedNumbers → Deed → Bool
 is_about words deed = (length words == 0) || any_meets words (subjects deed)
 
+-- the deed tells of a plan that was found: it begins the archive anew
+abbrev pub is_plan_found : Deed → Bool
+is_plan_found (FoundPlan plan) = true
+is_plan_found deed = false
+
+-- A RECORD THAT IS TYPED IS THERE after a deed, by whether one was there before it
+abbrev pub is_there_after : List TypedNumbers → (is_there : Bool) → Deed → Bool
+is_there_after words is_there deed = not (is_plan_found deed) && (is_there || any_meets words (subjects deed))
+
 -- the kind of a deed
 abbrev pub kind_of : Deed → DeedKind
 kind_of (Captured first seal day filing paths) = kind.Captured
@@ -79,8 +88,9 @@ is_same_kind kind.Found kind.Found = true
 is_same_kind kind.Accepted kind.Accepted = true
 is_same_kind k l = false
 
--- AN EVENT IS ASKED FOR
-abbrev pub asks_for : HistoryAsked → Event → Bool
-asks_for asked e = where_asked (λ day. int_le (epoch_day day) (pos (e.moment / 86400))) asked.since
+-- AN EVENT IS ASKED FOR, where a record that is typed is there before it, or none. A plan that is found is about each record that is
+-- there before it.
+abbrev pub asks_for : HistoryAsked → (is_there : Bool) → Event → Bool
+asks_for asked is_there e = where_asked (λ day. int_le (epoch_day day) (pos (e.moment / 86400))) asked.since
     && where_asked (λ name. bytes_eq name.now e.who) asked.by && where_asked (λ k. is_same_kind k (kind_of e.deed)) asked.kind
-    && is_about asked.numbers.items e.deed
+    && (is_about asked.numbers.items e.deed || (is_there && is_plan_found e.deed))

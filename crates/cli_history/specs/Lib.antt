@@ -8,3 +8,4 @@ pub mod Findings
 pub mod Authors
 pub mod Cases
 pub mod Titles
+pub mod Replays

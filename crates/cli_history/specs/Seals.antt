@@ -1,5 +1,5 @@
 -- The seals of messages, as a history tells them, and what a message is beside the one that was captured.
-use Rattle.std.specs.Prelude.{ℕ, ◌==◌, ◌&&◌, Bool, List, if◌then◌else◌, option_map, Option, Some, None, [], codes}
+use Rattle.std.specs.Prelude.{◌≡◌, ℕ, ◌==◌, ◌&&◌, Bool, List, if◌then◌else◌, option_map, Option, Some, None, [], codes}
 use Rattle.std.specs.Ordering.{nat_cmp}
 use Rattle.std.specs.BTreeMap.{get}
 use Rattle.std.specs.Str.{bytes_eq}
@@ -45,6 +45,13 @@ sealed_by event deed n = None
 abbrev pub later : {X : Type 0} → Option X → Option X → Option X
 later (Some x) before = Some x
 later None before = before
+
+-- the seals, if they are kept, are those from before and the one that the deed of an event tells
+abbrev pub KeepsSeal : (event : ℕ) → Deed → (old new : Option Seals) → Type 0
+KeepsSeal event deed (Some old) (Some new) = (n : ℕ) → known new n ≡ later (sealed_by event deed n) (known old n)
+KeepsSeal event deed None None = Unit {0}
+KeepsSeal event deed None (Some new) = ⊥
+KeepsSeal event deed (Some old) None = ⊥
 
 -- THE NOTES of the destruction of a record, by what its message is
 abbrev pub notes_for : Fidelity → List ℕ

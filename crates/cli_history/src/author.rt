@@ -48,8 +48,9 @@ fn name_of_user(logname: Option<String>, user: Option<String>) -> Option<String>
 impl<'a> Author<'a> {
     /// The author of a change: the name that is told, or else the one of `LOGNAME` or `USER` in the environment.
     pub fn of(rt: &HostRuntime, told: &Attribution<'a>) -> Result<Author<'a>, AllocError>
-        ensures { IfOk result (λ a. IfSome told.now.by
+        ensures name { IfOk result (λ a. IfSome told.now.by
             (λ n. option_map string_bytes a.name ≡ Some n.now)) }
+        ensures reason { IfOk result (λ a. a.reason.now ≡ told.now.reason.now) }
     {
         let reason = told.reason;
         match told.by {
@@ -66,7 +67,10 @@ impl<'a> Author<'a> {
 
     /// The same; where it names nobody, the program is the author.
     pub fn or_program(rt: &HostRuntime, told: &Attribution<'a>) -> Result<Author<'a>, AllocError>
-        ensures { IfOk result (λ a. is_some a.name ≡ true) }
+        ensures known { IfOk result (λ a. is_some a.name ≡ true) }
+        ensures name { IfOk result (λ a. IfSome told.now.by
+            (λ n. option_map string_bytes a.name ≡ Some n.now)) }
+        ensures reason { IfOk result (λ a. a.reason.now ≡ told.now.reason.now) }
     {
         let Author { name, reason } = Author::of(rt, told)?;
         match name {
@@ -82,12 +86,19 @@ impl<'a> Author<'a> {
     }
 
     /// The name, where it is known.
-    pub fn name(&self) -> Option<&str> {
-        self.name.as_ref().map(|name| name.as_str())
+    pub fn name(&self) -> Option<&str>
+        ensures { option_map (λ n. n.now) result ≡ option_map string_bytes self.now.name }
+    {
+        match &self.name {
+            Some(name) => Some(name.as_str()),
+            None => None,
+        }
     }
 
     /// For what reason; empty where none is told.
-    pub fn reason(&self) -> &'a str {
+    pub fn reason(&self) -> &'a str
+        ensures { result.now ≡ self.now.reason.now }
+    {
         self.reason
     }
 

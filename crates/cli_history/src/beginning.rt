@@ -1,21 +1,25 @@
 //! What is there in a store, as it is noted: the first events of a history, and what another program has left.
 
-ghost use Rattle.std.specs.Prelude.{IfOk};
+ghost use Rattle.std.specs.Prelude.{◌≡◌, true, IfOk, OnOk};
+ghost use Rattle.std.specs.List.{list_all};
+ghost use Rattle.session_words.specs.Words.{is_name as is_name_of};
 ghost use Rattle.record_history.specs.Spelled.{IsMoment, IsSpelledDeed};
 ghost use Rattle.record_history.specs.Views.{deed_view};
 
 use crate::author::Author;
 use crate::opening::occasion_by;
-use cli_console::{Failure, Walk, message_of, now};
+use cli_console::{Failure, Status, Walk, message_of, now};
 use record_choice::Choice;
 use record_history::{Deed, Event, LAST_MOMENT, Seal, event_line};
 use record_judge::SealedArchive;
 use record_ledger::Occasion;
 use record_noted::NotedStore;
 use record_store::{RecordEntry, Store};
+use session_words::is_name;
 use sqlite::Alter;
 use std::alloc::{AllocError, Global};
 use std::collections::{BTreeMap, BTreeSet};
+use tool_texts::{Shown, put};
 
 /// The seals that a history has of messages.
 #[derive(Drop)]
@@ -76,6 +80,21 @@ pub fn line_now(
         reason: occasion.reason,
     };
     Ok(event_line(rt.alloc(), u64::from(number), &event)?)
+}
+
+/// Whether the name of each of some holds is one, so that the line of an event can tell it.
+fn are_named(holds: &[Vec<u8>]) -> bool
+    ensures { result ≡ list_all (λ h. is_name_of h.items) holds.now }
+{
+    holds.iter().all(|hold| is_name(hold.as_slice()))
+}
+
+/// That a hold on a record has a name that is none.
+fn unnamed_words(alloc: Global, record: u32) -> Result<Shown, AllocError> {
+    let mut words = Shown::new(alloc);
+    put!(words; "record " value(&record)
+        ": the name of a hold on it is no name, so no event can tell of it")?;
+    Ok(words)
 }
 
 /// The lines of what is found, in the order in which they are to be noted.
@@ -141,13 +160,18 @@ impl<'k, 's> Findings<'k, 's> {
         Ok(self.lines.push(line)?)
     }
 
-    /// Adds a record with its holds.
+    /// Adds a record with its holds. `BadData` where one of them has a name that is none.
     fn add_record(
         &mut self,
         alloc: Global,
         occasion: &Occasion<'_, HostRuntime>,
         entry: &RecordEntry,
-    ) -> Result<(), AllocError> {
+    ) -> Result<(), Failure>
+        ensures { OnOk result (list_all (λ h. is_name_of h.items) entry.now.holds.items ≡ true) }
+    {
+        if !are_named(entry.holds.as_slice()) {
+            return Err(Failure::shown(Status::BadData, unnamed_words(alloc, entry.number)));
+        }
         let line = occasion.record_found(alloc, self.next(), entry)?;
         self.lines.push(line)?;
         for name in &entry.holds {
@@ -174,7 +198,7 @@ impl<'k, 's> Findings<'k, 's> {
 }
 
 /// The lines of what is found in a store, from the event of a number on: its plan, on an occasion of its own, and each message,
-/// record and hold.
+/// record and hold. `BadData` where a hold has a name that is none: the line of such an event would not be read again.
 pub fn findings_in<S: Alter>(
     rt: &HostRuntime,
     archive: &mut Store<S>,
@@ -224,7 +248,7 @@ fn first_lines<'a, S: Alter>(
 }
 
 /// Begins the history of a store that has none with what is found there, and answers how many events that are. `Usage`
-/// where it is not known who begins it. The store is handed back.
+/// where it is not known who begins it, `BadData` where a hold has a name that is none. The store is handed back.
 pub fn begin_history<S: Alter>(
     rt: &HostRuntime,
     archive: Store<S>,

@@ -5,7 +5,8 @@ ghost use Rattle.std.specs.List.{list_any};
 ghost use Rattle.std.specs.Str.{bytes_eq};
 ghost use Rattle.jiff.specs.Words.{epoch_day};
 ghost use Rattle.record_history.specs.Views.{deed_view, event_view};
-ghost use Rattle.cli_history.specs.Chosen.{asks_for, is_about as is_about_one, is_same_kind, kind_of, meets, subjects, where_asked};
+ghost use Rattle.cli_history.specs.Chosen.{any_meets, asks_for, is_about as is_about_one, is_plan_found as is_found_plan};
+ghost use Rattle.cli_history.specs.Chosen.{is_same_kind, is_there_after as is_one_there, kind_of, meets, subjects, where_asked};
 
 use choice_words::TypedNumbers;
 use class_plan::day_number;
@@ -63,17 +64,36 @@ pub fn any_touches(typed: &[TypedNumbers], first: u32, last: u32) -> bool
     typed.iter().any(|numbers| touches(numbers, first, last))
 }
 
-/// Whether a deed is about a record of one of the numbers that are typed, if there are any.
-pub fn is_about(typed: &[TypedNumbers], deed: &Deed<'_>) -> bool
-    ensures { result ≡ is_about_one typed.now (deed_view deed.now) }
+/// Whether a deed is about a record of one of the numbers that are typed.
+fn is_about_any(typed: &[TypedNumbers], deed: &Deed<'_>) -> bool
+    ensures { result ≡ any_meets typed.now (subjects (deed_view deed.now)) }
 {
-    if typed.is_empty() {
-        return true;
-    }
     match records_of(deed) {
         Some((first, last)) => any_touches(typed, first, last),
         None => false,
     }
+}
+
+/// Whether a deed is about a record of one of the numbers that are typed, if there are any.
+pub fn is_about(typed: &[TypedNumbers], deed: &Deed<'_>) -> bool
+    ensures { result ≡ is_about_one typed.now (deed_view deed.now) }
+{
+    typed.is_empty() || is_about_any(typed, deed)
+}
+
+/// Whether a deed tells of a plan that was found.
+fn is_plan_found(deed: &Deed<'_>) -> bool
+    ensures { result ≡ is_found_plan (deed_view deed.now) }
+{
+    matches!(deed, Deed::FoundPlan(_))
+}
+
+/// Whether a record of the numbers that are typed is there after a deed, by whether one was there before it. A plan that is
+/// found begins the archive anew.
+pub fn is_there_after(typed: &[TypedNumbers], is_there: bool, deed: &Deed<'_>) -> bool
+    ensures { result ≡ is_one_there typed.now is_there (deed_view deed.now) }
+{
+    !is_plan_found(deed) && (is_there || is_about_any(typed, deed))
 }
 
 /// Whether a moment is on a day or later, where one is asked for.
@@ -138,14 +158,16 @@ fn is_of_kind_asked(kind: Option<DeedKind>, deed: &Deed<'_>) -> bool
     }
 }
 
-/// Whether an event is asked for.
-pub fn is_asked(asked: &HistoryAsked<'_>, event: &Event<'_>) -> bool
-    ensures { result ≡ asks_for asked.now (event_view event.now) }
+/// Whether an event is asked for, by whether a record of the numbers that are typed is there before it. A plan that is found is
+/// about each record that is there before it, since it states the archive anew.
+pub fn is_asked(asked: &HistoryAsked<'_>, is_there: bool, event: &Event<'_>) -> bool
+    ensures { result ≡ asks_for asked.now is_there (event_view event.now) }
 {
     is_since(asked.since, event.moment)
         && is_by(asked, event.who)
         && is_of_kind_asked(asked.kind, &event.deed)
-        && is_about(asked.numbers.as_slice(), &event.deed)
+        && (is_about(asked.numbers.as_slice(), &event.deed)
+            || (is_there && is_plan_found(&event.deed)))
 }
 
 /// Whether each event is asked for, whatever it is.

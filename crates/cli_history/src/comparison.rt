@@ -371,7 +371,9 @@ impl<'a> Comparison<'a> {
     }
 
     /// What was done that the history does not tell. Messages are left aside.
-    pub fn into_changes(self) -> Changes {
+    pub fn into_changes(self) -> Changes
+        ensures { result ≡ self.entry.changes }
+    {
         let Comparison { changes, .. } = self;
         changes
     }

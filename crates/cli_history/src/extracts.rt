@@ -1,5 +1,7 @@
 //! The events of records that are taken out of a store, each with the marks by which it is checked.
 
+ghost use Rattle.std.specs.Prelude.{◌≡◌, ◌&&◌, is_none, is_ok, not};
+
 use crate::chosen::records_of;
 use crate::pages::{PAGE, event_of};
 use crate::watching::Watch;
@@ -143,7 +145,10 @@ impl<'s> Extract<'s> {
     }
 
     /// Ends the walk. `BadData` where something stands against an event, or where its line could not be read.
-    pub fn end(self, alloc: Global) -> Result<(), Failure> {
+    pub fn end(self, alloc: Global) -> Result<(), Failure>
+        ensures { is_ok result ≡
+            is_none self.entry.watch.fault && not self.entry.is_any_unread }
+    {
         self.watch.end(alloc)?;
         if self.is_any_unread {
             return Err(Failure::Reported(Status::BadData));

@@ -13,7 +13,9 @@ pub fn words_of(flaw: Flaw) -> Option<&'static str> {
         Flaw::OtherMark => { Some("its mark is not that of its line after the events before it") }
         Flaw::NotALine => Some("its line is none of an event"),
         Flaw::OtherNumber => Some("its line has another number"),
-        Flaw::OtherSchedule => Some("it destroys a record under another schedule than that of its class"),
+        Flaw::OtherSchedule => Some(
+            "it destroys a record under another schedule than that of its class",
+        ),
         Flaw::Refused => Some("the archive refuses at that point what it tells"),
         Flaw::NoPlan => Some("the plan that it tells is none"),
         Flaw::LateDay => Some("it destroys a record that was captured after 2199"),

@@ -1,6 +1,7 @@
 //! The ledger of an archive.
 
-ghost use Rattle.std.specs.Prelude.{◌≡◌};
+ghost use Rattle.std.specs.Prelude.{◌≡◌, IfOk};
+ghost use Rattle.cli_history.specs.Authors.{IsOccasion, IsOccasionOf};
 ghost use Rattle.cli_history.specs.Reasons.{changes as is_changed_for, decides as is_decided_for, ends as is_ended_for};
 
 use crate::author::Author;
@@ -69,13 +70,16 @@ impl Purpose {
     }
 }
 
-/// The occasion of what is noted under a name for a reason. `TryAgain` where there is no clock.
+/// The occasion of what is noted under a name for a reason. It begins at the moment of the clock, and has no notes. `TryAgain`
+/// where there is no clock.
 pub fn occasion_by<'a>(
     rt: &'a HostRuntime,
     who: &'a [u8],
     reason: &'a str,
     filing: Option<Filing<'a>>,
-) -> Result<Occasion<'a, HostRuntime>, Failure> {
+) -> Result<Occasion<'a, HostRuntime>, Failure>
+    ensures { IfOk result (IsOccasion who.now reason.now filing.entry) }
+{
     Ok(Occasion {
         clock: rt,
         begun: now(rt)?,
@@ -91,7 +95,9 @@ pub fn occasion_of<'a>(
     rt: &'a HostRuntime,
     author: &'a Author<'_>,
     filing: Option<Filing<'a>>,
-) -> Result<Occasion<'a, HostRuntime>, Failure> {
+) -> Result<Occasion<'a, HostRuntime>, Failure>
+    ensures { IfOk result (IsOccasionOf author.now filing.entry) }
+{
     let who = author.name().unwrap_or("").as_bytes();
     occasion_by(rt, who, author.reason(), filing)
 }

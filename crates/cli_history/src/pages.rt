@@ -1,8 +1,9 @@
 //! The events of a history and the records beside it, a page at a time.
 
-ghost use Rattle.std.specs.Prelude.{IfOk};
+ghost use Rattle.std.specs.Prelude.{◌≡◌, Some, IfOk};
 ghost use Rattle.record_history.specs.Spelled.{IsSpelledDeed};
-ghost use Rattle.record_history.specs.Views.{deed_view};
+ghost use Rattle.record_history.specs.Views.{deed_view, event_view};
+ghost use Rattle.cli_history.specs.Replays.{told_by};
 
 use cli_console::{Failure, Status};
 use record_history::{Event, LineFault, read_line, read_line_again};
@@ -116,7 +117,8 @@ pub fn event_of<'a>(alloc: Global, row: &'a EventRow) -> Result<Event<'a>, Failu
 
 /// The same, of a row against which nothing stands: its line is one, and is not written again to be compared.
 pub fn judged_event_of<'a>(alloc: Global, row: &'a EventRow) -> Result<Event<'a>, Failure>
-    ensures { IfOk result (λ e. IsSpelledDeed (deed_view e.deed)) }
+    ensures spelled { IfOk result (λ e. IsSpelledDeed (deed_view e.deed)) }
+    ensures told { IfOk result (λ e. told_by row.now.line.items ≡ Some (event_view e)) }
 {
     match read_line_again(alloc, row.line.as_slice()) {
         Ok((number, event)) if number == u64::from(row.number) => Ok(event),

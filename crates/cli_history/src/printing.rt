@@ -3,7 +3,7 @@
 ghost use Rattle.record_history.specs.Spelled.{IsSpelledDeed};
 ghost use Rattle.record_history.specs.Views.{deed_view};
 
-use crate::chosen::{is_asked, is_for_all, word_of};
+use crate::chosen::{is_asked, is_for_all, is_there_after, word_of};
 use crate::fields::fields_of;
 use crate::missing::Missing;
 use crate::pages::{Events, event_of};
@@ -28,6 +28,8 @@ struct Printing<'q, 'a> {
     is_any_unread: bool,
     /// The numbers that are asked for, and of which no event was printed.
     missing: Missing,
+    /// Whether a record of one of these numbers is there after the events that were read.
+    is_there: bool,
 }
 
 /// What is said of a number of which no event is printed.
@@ -77,6 +79,7 @@ impl<'q, 'a> Printing<'q, 'a> {
             count: 0,
             is_any_unread: false,
             missing: Missing::of(alloc, asked.numbers.as_slice())?,
+            is_there: false,
         })
     }
 
@@ -89,7 +92,9 @@ impl<'q, 'a> Printing<'q, 'a> {
     ) -> Result<(), Failure>
         requires { IsSpelledDeed (deed_view event.now.deed) }
     {
-        if !is_asked(self.asked, event) {
+        let is_there = self.is_there;
+        self.is_there = is_there_after(self.asked.numbers.as_slice(), is_there, &event.deed);
+        if !is_asked(self.asked, is_there, event) {
             return Ok(());
         }
         self.missing.meet(&event.deed)?;

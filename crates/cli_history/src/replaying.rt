@@ -1,16 +1,20 @@
 //! A history that is done again, before its archive is changed.
 
-ghost use Rattle.std.specs.Prelude.{◌≡◌};
+ghost use Rattle.std.specs.Prelude.{◌≡◌, ◌++◌, ◌∷◌, [], ℕ, None, List, map, IfOk, IfSome, OnOk, is_some};
 ghost use Rattle.record_history.specs.Views.{deed_view};
-ghost use Rattle.cli_history.specs.Reasons.{are_required};
+ghost use Rattle.cli_console.specs.Failures.{IsToldAs};
+ghost use Rattle.cli_history.specs.Reasons.{are_required, ends};
+ghost use Rattle.cli_history.specs.Replays.{Replays};
+ghost use Rattle.cli_history.specs.Seals.{KeepsSeal, known};
+ghost use Rattle.cli_history.specs.declared.opening.Purpose.{Purpose};
 
 use crate::findings::Findings;
 use crate::flaws::failure_of;
 use crate::opening::Purpose;
 use crate::pages::{Events, judged_event_of};
 use crate::seals::Seals;
-use cli_console::Failure;
-use record_history::{Deed, Event, read_line};
+use cli_console::{Failure, Status};
+use record_history::{Deed, Event, LineFault, read_line};
 use record_judge::{Judge, SealedArchive};
 use record_noted::NotedStore;
 use record_store::EventRow;
@@ -50,22 +54,51 @@ fn requires_after(is_before: bool, deed: &Deed<'_>) -> bool
     }
 }
 
+/// No seals where they are kept: for what can end the keeping of records.
+fn seals_for(alloc: Global, purpose: Purpose) -> Option<Seals>
+    ensures kept { is_some result ≡ ends purpose }
+    ensures none { IfSome result (λ s. (n : ℕ) → known s n ≡ None) }
+{
+    if purpose.ends() {
+        return Some(Seals::none(alloc));
+    }
+    None
+}
+
+/// Why a line of what was found is not read: it is none of an event, or there is no memory.
+fn unread_failure(alloc: Global, fault: LineFault) -> Failure
+    ensures memory { fault ≡ LineFault.NoMemory → result ≡ Failure.NoMemory }
+    ensures line { fault ≡ LineFault.NotALine → IsToldAs Status.BadData result }
+{
+    match fault {
+        LineFault::NoMemory => Failure::NoMemory,
+        LineFault::NotALine => Failure::told(
+            alloc,
+            Status::BadData,
+            "a line of what is found would be none of an event",
+        ),
+    }
+}
+
 impl Replayed {
-    fn new(alloc: Global, purpose: Purpose) -> Result<Replayed, AllocError> {
+    /// No event, done again for a purpose.
+    fn new(alloc: Global, purpose: Purpose) -> Result<Replayed, AllocError>
+        ensures { IfOk result (λ r. Replays purpose r []) }
+    {
         Ok(Replayed {
             judge: Judge::new(alloc)?,
             requires_reasons: false,
             findings: Findings::none(alloc),
-            seals: if purpose.ends() {
-                Some(Seals::none(alloc))
-            } else {
-                None
-            },
+            seals: seals_for(alloc, purpose),
         })
     }
 
     /// Keeps the seal that a deed tells, if seals are kept.
-    fn keep_seal(&mut self, number: u32, deed: Deed<'_>) -> Result<(), AllocError> {
+    fn keep_seal(&mut self, number: u32, deed: Deed<'_>) -> Result<(), AllocError>
+        ensures rest { self.new ≡ record self.old { seals = self.new.seals } }
+        ensures seals { OnOk result (KeepsSeal number (deed_view deed.entry)
+            self.old.seals self.new.seals) }
+    {
         match &mut self.seals {
             Some(seals) => seals.take(number, deed),
             None => Ok(()),
@@ -73,7 +106,10 @@ impl Replayed {
     }
 
     /// Does an event again.
-    fn take(&mut self, alloc: Global, row: &EventRow) -> Result<(), Failure> {
+    fn take(&mut self, alloc: Global, row: &EventRow) -> Result<(), Failure>
+        ensures { (purpose : Purpose) → (ls : List (List ℕ)) → Replays purpose self.old ls
+            → OnOk result (Replays purpose self.new (ls ++ row.now.line.items ∷ [])) }
+    {
         let taken = self
             .judge
             .take(row.number, row.line.as_slice(), row.mark.as_slice());
@@ -88,7 +124,11 @@ impl Replayed {
     }
 
     /// Does the events of a page again.
-    fn take_page(&mut self, alloc: Global, page: &[EventRow]) -> Result<(), Failure> {
+    #[tactic(auto, using(crate::proofs::ReplayLemmas::page_none, crate::proofs::ReplayLemmas::page_more, crate::proofs::ReplayLemmas::page_whole))]
+    fn take_page(&mut self, alloc: Global, page: &[EventRow]) -> Result<(), Failure>
+        ensures { (purpose : Purpose) → (ls : List (List ℕ)) → Replays purpose self.old ls
+            → OnOk result (Replays purpose self.new (ls ++ map (λ r. r.line.items) page.now)) }
+    {
         for row in page {
             self.take(alloc, row)?;
         }
@@ -112,11 +152,12 @@ impl Replayed {
         Ok(replayed)
     }
 
-    /// Notes that lines were added behind its events, which tell what was found.
+    /// Takes lines that come behind its events, and tell what was found. `BadData` where one is none of an event.
     pub fn take_found(&mut self, alloc: Global, lines: &[Vec<u8>]) -> Result<(), Failure> {
         for line in lines {
-            let Ok((number, event)) = read_line(alloc, line.as_slice()) else {
-                return Err(Failure::NoMemory);
+            let (number, event) = match read_line(alloc, line.as_slice()) {
+                Ok(read) => read,
+                Err(fault) => return Err(unread_failure(alloc, fault)),
             };
             let number = u32::try_from(number).unwrap_or(u32::MAX);
             self.findings.take(number, &event)?;
@@ -132,7 +173,9 @@ impl Replayed {
     }
 
     /// The seals that it tells of messages; none where no record may be destroyed.
-    pub fn into_seals(self, alloc: Global) -> Seals {
+    pub fn into_seals(self, alloc: Global) -> Seals
+        ensures { IfSome self.seals (λ s. result ≡ s) }
+    {
         let Replayed { seals, .. } = self;
         match seals {
             Some(seals) => seals,
@@ -141,7 +184,9 @@ impl Replayed {
     }
 
     /// What it makes of an archive.
-    pub fn archive(&self) -> &SealedArchive {
+    pub fn archive(&self) -> &SealedArchive
+        ensures { result.now ≡ self.now.judge.archive }
+    {
         self.judge.archive()
     }
 

@@ -1,6 +1,6 @@
 //! What another program has changed, noted as found.
 
-ghost use Rattle.std.specs.Prelude.{◌≡◌};
+ghost use Rattle.std.specs.Prelude.{◌≡◌, is_ok, not};
 ghost use Rattle.cli_history.specs.Reasons.{lacks_reason as is_reason_lacking};
 
 use crate::author::Author;
@@ -31,7 +31,10 @@ fn judge_reason(
     replayed: &Replayed,
     author: &Author<'_>,
     purpose: Purpose,
-) -> Result<(), Failure> {
+) -> Result<(), Failure>
+    ensures { is_ok result ≡ not (is_reason_lacking purpose replayed.now.requires_reasons
+        author.now.reason.now) }
+{
     if lacks_reason(purpose, replayed.requires_reasons(), author.reason()) {
         return Err(Failure::told(
             alloc,
@@ -144,7 +147,8 @@ fn lines_apart<S: Alter>(
     Ok(lines)
 }
 
-/// Notes lines behind the events of a history, in one transaction, and takes them. A failure hands the store back.
+/// Takes lines, and notes them behind the events of a history, in one transaction. `BadData` where one is none of an event: then
+/// nothing is noted. A failure hands the store back.
 fn note_found<S: Alter>(
     rt: &HostRuntime,
     archive: Store<S>,
@@ -155,13 +159,15 @@ fn note_found<S: Alter>(
         Ok(noted) => noted,
         Err(refusal) => return Err(refusal),
     };
-    let done = match noted.note_all(lines) {
-        Ok(()) => replayed.take_found(rt.alloc(), lines),
-        Err(fault) => Err(Failure::of_store(rt.alloc(), "the history", fault)),
-    };
-    match done {
+    if let Err(failure) = replayed.take_found(rt.alloc(), lines) {
+        return Err((noted.into_store(), failure));
+    }
+    match noted.note_all(lines) {
         Ok(()) => Ok(noted),
-        Err(failure) => Err((noted.into_store(), failure)),
+        Err(fault) => Err((
+            noted.into_store(),
+            Failure::of_store(rt.alloc(), "the history", fault),
+        )),
     }
 }
 
