@@ -6,3 +6,8 @@ pub mod Endings
 pub mod RuleSums
 pub mod Causes
 pub mod Refilings
+pub mod Approvals
+pub mod Destructions
+pub mod DueToday
+pub mod PassedOver
+pub mod Runs
