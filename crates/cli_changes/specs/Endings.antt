@@ -1,5 +1,7 @@
 -- With which status a delivery or an intake ends, and what is answered of a message.
 use Rattle.std.specs.Prelude.{◌≡◌, ◌||◌, ℕ, nat_lt, ◌==◌, Bool, true, false, not, if◌then◌else◌, List, length, Option, Some, None, Result, Ok, Err, is_ok}
+use Rattle.std.specs.declared.io.ErrorKind.{ErrorKind}
+use Rattle.std.specs.declared.io.ErrorKind.TheVariants as kind
 use Rattle.desk_commands.specs.declared.fault.DeskFault.{DeskFault}
 use Rattle.desk_commands.specs.declared.fault.DeskFault.TheVariants as desk
 use Rattle.desk_commands.specs.declared.results.Capture.{Capture}
@@ -21,7 +23,7 @@ use Rattle.sieve_meaning.specs.declared.run_fault.RunFault.{RunFault}
 use Rattle.cli_console.specs.declared.failure.Failure.{Failure}
 use Rattle.cli_console.specs.declared.failure.Failure.TheVariants.{NoMemory, Reported}
 use Rattle.cli_console.specs.declared.failure.Status.{Status}
-use Rattle.cli_console.specs.declared.failure.Status.TheVariants.{Usage, BadData, TryAgain}
+use Rattle.cli_console.specs.declared.failure.Status.TheVariants.{Usage, BadData, NoInput, TryAgain}
 use Rattle.cli_console.specs.Failures.{IsToldAs}
 use Rattle.cli_sources.specs.Faults.{is_of_rules}
 use Rattle.cli_sources.specs.declared.fault.RulesFault.{RulesFault}
@@ -37,6 +39,13 @@ desk_status _ = Some TryAgain
 abbrev pub IsFailureOf : Option Status → Failure → Type 0
 IsFailureOf None failure = failure ≡ NoMemory
 IsFailureOf (Some status) failure = IsToldAs status failure
+
+-- the status for a fault of a Maildir: none where there was no memory
+abbrev pub maildir_status : ErrorKind → Option Status
+maildir_status kind.OutOfMemory = None
+maildir_status kind.NotFound = Some NoInput
+maildir_status kind.NotADirectory = Some NoInput
+maildir_status k = Some TryAgain
 
 -- ---- what is answered of a message
 

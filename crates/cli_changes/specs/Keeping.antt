@@ -1,5 +1,7 @@
 -- Whether a new plan keeps less than the present one.
 use Rattle.std.specs.Prelude.{ℕ, ◌&&◌, ◌||◌, not, nat_le, Bool, true, false, List, Option, Some, None}
+use Rattle.std.specs.List.{list_any}
+use Rattle.class_plan.specs.Plans.{Listing, Row, schedule_at}
 use Rattle.class_plan.specs.declared.schedules.Schedule.{Schedule}
 use Rattle.class_plan.specs.declared.schedules.Schedule.TheVariants.{Permanent, After}
 use Rattle.class_plan.specs.declared.schedules.Unit as units
@@ -27,3 +29,7 @@ is_no_longer_if_any None t = false
 -- KEPT LESS: the new schedule destroys, and the present one does not, or may do so later
 abbrev pub is_kept_less : (present new : Option Schedule) → Bool
 is_kept_less present new = destroys new && not (destroys present && is_no_longer_if_any present new)
+
+-- A NEW PLAN KEEPS LESS: some class of the present plan
+abbrev pub keeps_less : (present new : Listing) → Bool
+keeps_less present new = list_any (λ (r : Row). is_kept_less (schedule_at present r.path) (schedule_at new r.path)) present.rows

@@ -7,3 +7,8 @@ pub mod RuleSums
 pub mod Causes
 pub mod Refilings
 pub mod Certificates
+pub mod Approvals
+pub mod Destructions
+pub mod DueToday
+pub mod PassedOver
+pub mod Runs

@@ -1,5 +1,8 @@
 //! Records that are due, and whose messages are not the ones that were captured.
 
+ghost use Rattle.std.specs.Prelude.{◌≡◌, ◌==◌, false, length, IfOk, IfErr};
+ghost use Rattle.cli_changes.specs.Runs.{IsListEnd, IsRefusal, altered as altered_of, is_refused as is_disposal_refused};
+
 use crate::runs::Run;
 use cli_console::{Failure, Status, tell};
 use cli_texts::captured_words;
@@ -17,7 +20,9 @@ pub enum Damage {
 }
 
 /// The numbers of the records of runs whose messages are not the ones that were captured, upwards.
-pub fn altered_in(alloc: Global, runs: &[Run]) -> Result<Vec<u32>, AllocError> {
+pub fn altered_in(alloc: Global, runs: &[Run]) -> Result<Vec<u32>, AllocError>
+    ensures { IfOk result (λ v. v.items ≡ altered_of runs.now) }
+{
     let mut altered = Vec::new(alloc);
     for run in runs {
         if run.is_altered() {
@@ -54,7 +59,9 @@ pub fn due_line(alloc: Global, line: &Line, altered: &[u32]) -> Result<Shown, Al
 }
 
 /// Ends a list of what is due in which these records were: `BadData` where there is one, and each is told.
-pub fn end_list(rt: &HostRuntime, altered: &[u32]) -> Result<(), Failure> {
+pub fn end_list(rt: &HostRuntime, altered: &[u32]) -> Result<(), Failure>
+    ensures { IsListEnd (length altered.now == 0) result }
+{
     if altered.is_empty() {
         return Ok(());
     }
@@ -62,16 +69,30 @@ pub fn end_list(rt: &HostRuntime, altered: &[u32]) -> Result<(), Failure> {
     Err(Failure::Reported(Status::BadData))
 }
 
+/// Whether no record is destroyed, of which these have messages that are not the ones that were captured.
+fn is_refused(altered: &[u32], damage: Damage) -> bool
+    ensures { result ≡ is_disposal_refused altered.now damage }
+{
+    match damage {
+        Damage::Refused => !altered.is_empty(),
+        Damage::Destroyed => false,
+    }
+}
+
 /// Tells of each of these records that its message is not the one that was captured, before any record is destroyed. `BadData`
 /// where there is one, unless damage is destroyed too.
-pub fn judge_altered(rt: &HostRuntime, altered: &[u32], damage: Damage) -> Result<(), Failure> {
+#[tactic(auto, using(crate::proofs::RunLaws::without_memory))]
+pub fn judge_altered(rt: &HostRuntime, altered: &[u32], damage: Damage) -> Result<(), Failure>
+    ensures goes_on { IfOk result (λ _. is_disposal_refused altered.now damage ≡ false) }
+    ensures refused { IfErr result (IsRefusal (is_disposal_refused altered.now damage)) }
+{
     tell_altered(rt, altered)?;
-    match damage {
-        Damage::Refused if !altered.is_empty() => Err(Failure::told(
+    if is_refused(altered, damage) {
+        return Err(Failure::told(
             rt.alloc(),
             Status::BadData,
             "nothing is destroyed; a message that was altered may be evidence, and copy --damaged keeps it; with --damaged such records are destroyed too",
-        )),
-        Damage::Refused | Damage::Destroyed => Ok(()),
+        ));
     }
+    Ok(())
 }

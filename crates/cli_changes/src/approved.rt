@@ -1,6 +1,10 @@
 //! `dispose --approved`: the numbers of records that stand in a file.
 
-ghost use Rattle.std.specs.Prelude.{◌<◌, length, IfOk, IfSome};
+ghost use Rattle.std.specs.Prelude.{◌≡◌, ◌++◌, ◌<◌, map, Some, length, IfOk, IfErr, IfSome, OnOk};
+ghost use Rattle.std.specs.Char.{is_ascii_whitespace};
+ghost use Rattle.std.specs.List.{slice_split};
+ghost use Rattle.choice_words.specs.Numbers.{numbers_typed};
+ghost use Rattle.cli_changes.specs.Approvals.{is_line_end, line_words, file_words, IsRefused};
 
 use choice_words::read_numbers;
 use cli_console::{Failure, Status};
@@ -29,56 +33,99 @@ enum NoNumbers {
 }
 
 impl From<AllocError> for NoNumbers {
+    ghost use Rattle.std.specs.Prelude.{◌≡◌};
+    ghost use Rattle.cli_changes.specs.declared.approved.NoNumbers.TheVariants.{NoMemory};
+
+    ghost from_gives = { λ _ why. why ≡ NoMemory };
+
     fn from(_error: AllocError) -> NoNumbers {
         NoNumbers::NoMemory
     }
 }
 
 impl<T: Drop> From<AllocFailed<T>> for NoNumbers {
+    ghost use Rattle.std.specs.Prelude.{◌≡◌};
+    ghost use Rattle.cli_changes.specs.declared.approved.NoNumbers.TheVariants.{NoMemory};
+
+    ghost from_gives = { λ _ why. why ≡ NoMemory };
+
     fn from(_error: AllocFailed<T>) -> NoNumbers {
         NoNumbers::NoMemory
     }
 }
 
-/// The numbers that a word is.
-fn numbers_of(alloc: Global, word: &[u8]) -> Result<TypedNumbers, NoNumbers> {
-    match read_numbers(word) {
-        Some(numbers) => Ok(numbers),
-        None => Err(NoNumbers::Word(Vec::from_slice(alloc, word)?)),
-    }
+/// The lines of a text.
+fn lines_of(alloc: Global, text: &[u8]) -> Result<Vec<&[u8]>, AllocError>
+    ensures { IfOk result (λ v. map (λ l. l.now) v.items ≡ slice_split is_line_end text.now) }
+{
+    text.split(|octet| *octet == b'\n').collect(alloc)
 }
 
-/// Adds the numbers of a line. A word that begins with # ends them.
-fn add_line(alloc: Global, numbers: &mut Vec<TypedNumbers>, line: &[u8]) -> Result<(), NoNumbers> {
-    for word in line.split(|octet| octet.is_ascii_whitespace()) {
-        if word.starts_with(b"#") {
-            break;
+/// What stands before, between and after the blanks of a line.
+fn parts_of(alloc: Global, line: &[u8]) -> Result<Vec<&[u8]>, AllocError>
+    ensures { IfOk result (λ v. map (λ p. p.now) v.items
+        ≡ slice_split is_ascii_whitespace line.now) }
+{
+    line.split(|octet| octet.is_ascii_whitespace())
+        .collect(alloc)
+}
+
+/// Adds the words of a line, up to one that begins with #.
+fn add_line<'t>(alloc: Global, words: &mut Vec<&'t [u8]>, line: &'t [u8]) -> Result<(), AllocError>
+    ensures { OnOk result (map (λ w. w.now) words.new.items
+        ≡ map (λ w. w.now) words.old.items ++ line_words line.now) }
+{
+    let parts = parts_of(alloc, line)?;
+    for part in parts.as_slice() {
+        if part.starts_with(b"#") {
+            return Ok(());
         }
-        if !word.is_empty() {
-            numbers.push(numbers_of(alloc, word)?)?;
+        if !part.is_empty() {
+            words.push(*part)?;
         }
     }
     Ok(())
 }
 
-/// Adds the numbers of lines.
-fn add_lines(alloc: Global, numbers: &mut Vec<TypedNumbers>, text: &[u8]) -> Result<(), NoNumbers> {
-    for line in text.split(|octet| *octet == b'\n') {
-        add_line(alloc, numbers, line)?;
+/// The words of the lines of a text, each line up to a word that begins with #.
+fn words_of(alloc: Global, text: &[u8]) -> Result<Vec<&[u8]>, AllocError>
+    ensures { IfOk result (λ v. map (λ w. w.now) v.items ≡ file_words text.now) }
+{
+    let lines = lines_of(alloc, text)?;
+    let mut words = Vec::new(alloc);
+    for line in lines.as_slice() {
+        add_line(alloc, &mut words, *line)?;
     }
-    Ok(())
+    Ok(words)
+}
+
+/// The numbers that words are. `Word` with the first one that is none.
+fn numbers_of(alloc: Global, words: &[&[u8]]) -> Result<Vec<TypedNumbers>, NoNumbers>
+    ensures numbers { IfOk result (λ v.
+        map Some v.items ≡ map numbers_typed (map (λ w. w.now) words.now)) }
+    ensures refused { IfErr result (IsRefused (map (λ w. w.now) words.now)) }
+{
+    let mut numbers = Vec::new(alloc);
+    for word in words {
+        match read_numbers(word) {
+            Some(read) => numbers.push(read)?,
+            None => return Err(NoNumbers::Word(Vec::from_slice(alloc, word)?)),
+        }
+    }
+    Ok(numbers)
 }
 
 /// The numbers in a text, of which there is one at least.
 fn numbers_in(alloc: Global, text: &[u8]) -> Result<Vec<TypedNumbers>, NoNumbers>
-    ensures { IfOk result (λ v. 0 < length v.items) }
+    ensures any { IfOk result (λ v. 0 < length v.items) }
+    ensures numbers { IfOk result (λ v. map Some v.items ≡ map numbers_typed (file_words text.now)) }
+    ensures refused { IfErr result (IsRefused (file_words text.now)) }
 {
-    let mut numbers = Vec::new(alloc);
-    add_lines(alloc, &mut numbers, text)?;
-    if numbers.is_empty() {
+    let words = words_of(alloc, text)?;
+    if words.is_empty() {
         return Err(NoNumbers::Empty);
     }
-    Ok(numbers)
+    numbers_of(alloc, words.as_slice())
 }
 
 /// The failure of a file of numbers, or of standard input, for a reason.

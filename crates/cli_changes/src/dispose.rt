@@ -1,24 +1,26 @@
 //! `dispose`: what is due, and its destruction. Which records these are, `record_choice` decides.
 
-ghost use Rattle.std.specs.Prelude.{◌≡◌, IfOk, option_map};
+ghost use Rattle.std.specs.Prelude.{◌≡◌, IfOk, OnOk, option_map};
+ghost use Rattle.jiff.specs.Words.{epoch_day};
+ghost use Rattle.record_archive.specs.Archive.{Archive};
+ghost use Rattle.record_ledger.specs.Ledgers.{KeptFor};
 ghost use Rattle.cli_history.specs.Seals.{known};
 ghost use Rattle.cli_changes.specs.Certificates.{captured_view, captured_for, Certifies, IsCertificateLine};
+ghost use Rattle.cli_changes.specs.Destructions.{DestroysAsked, IsRead, fate_asked};
 
 use crate::altered::{Damage, altered_in, due_line, end_list, judge_altered};
+use crate::destroying::{destroy_numbers, refused};
 use crate::passed_over::tell_passed_over;
 use crate::runs::{Run, runs_of};
-use class_plan::{Action, Date, Schedule};
+use class_plan::Date;
 use cli_choice::{Meant, meant_of};
 use cli_console::{Failure, Status, judge_day, now, tell, tell_words, today, write_text};
 use cli_history::{Fidelity, Seals, StoreLedger};
 use cli_texts::{CapturedMessage, Certificate, certificate_line, sum_text};
 use command_lines::archives::{Disposal, TypedNumbers};
-use record_choice::{
-    Destroyed, DisposeFault, Disposed, End, Reason, Registrar, asked_lines, dispose,
-};
-use record_store::StoreFault;
+use record_archive::Line;
+use record_choice::{Destroyed, Registrar, asked_lines};
 use sqlite::Alter;
-use std::alloc::{AllocError, Global};
 use std::str;
 use tool_texts::{Shown, put};
 
@@ -130,63 +132,6 @@ impl Registrar for Certificates<'_, '_> {
     }
 }
 
-/// Adds the names of holds, each in quotation marks after a blank.
-fn put_names(text: &mut Shown, names: &[Vec<u8>]) -> Result<(), AllocError> {
-    for name in names {
-        put!(text; " " quoted(name.as_slice()))?;
-    }
-    Ok(())
-}
-
-/// The word of a schedule for what is done with its records.
-fn action_word(schedule: Option<Schedule>) -> &'static str {
-    match schedule {
-        Some(Schedule::After { action, .. }) => match action {
-            Action::Review => "review",
-            Action::Transfer => "transfer",
-            Action::Destroy => "destroy",
-        },
-        Some(Schedule::Permanent) | None => "permanent",
-    }
-}
-
-/// Adds why a record may not be destroyed, in words after the number of the refusal.
-fn put_reason(text: &mut Shown, reason: &Reason) -> Result<(), AllocError> {
-    match reason {
-        Reason::Held(names) => {
-            text.words("81: kept by the holds")?;
-            put_names(text, names.as_slice())
-        }
-        Reason::NotForDestruction(schedule) => {
-            text.words("83: the schedule of its class says ")?;
-            text.words(action_word(*schedule))
-        }
-        Reason::NotDue(Some(due)) => put!(text; "82: not due before " value(due)),
-        Reason::NotDue(None) => text.words("82: never due"),
-        Reason::NoRecord => text.words("80: there is no record of that number"),
-        Reason::Destroyed => text.words("84: the record is destroyed already"),
-    }
-}
-
-/// That the record of a number may not be destroyed, and why.
-fn not_approved(alloc: Global, number: u32, reason: &Reason) -> Result<Shown, AllocError> {
-    let mut text = Shown::new(alloc);
-    put!(text; value(&number) ": ")?;
-    put_reason(&mut text, reason)?;
-    Ok(text)
-}
-
-/// The failure of a disposal that destroys nothing.
-fn refused(rt: &HostRuntime, fault: DisposeFault<StoreFault>) -> Failure {
-    match fault {
-        DisposeFault::Repository(fault) => Failure::of_store(rt.alloc(), "the store", fault),
-        DisposeFault::NoMemory => Failure::NoMemory,
-        DisposeFault::NotApproved(number, reason) => {
-            Failure::shown(Status::BadData, not_approved(rt.alloc(), number, &reason))
-        }
-    }
-}
-
 /// Which records a disposal by a day is about.
 fn meant_by<S: Alter>(
     rt: &HostRuntime,
@@ -196,15 +141,6 @@ fn meant_by<S: Alter>(
 ) -> Result<Meant, Failure> {
     let lines = asked_lines(rt.alloc(), archive, &[], day).map_err(|fault| refused(rt, fault))?;
     Ok(meant_of(rt.alloc(), typed, lines)?)
-}
-
-/// Why a disposal ended, where that is no success.
-fn settle(rt: &HostRuntime, end: End<StoreFault, Failure>) -> Result<(), Failure> {
-    match end {
-        End::Repository(fault) => Err(Failure::of_store(rt.alloc(), "the store", fault)),
-        End::Registrar(failure) => Err(failure),
-        End::Done => Ok(()),
-    }
 }
 
 /// Tells that no record may be destroyed by a day, of those that this is said of.
@@ -222,12 +158,16 @@ fn destroy_run<S: Alter>(
     certificates: &mut Certificates<'_, '_>,
     run: &Run,
     day: Date,
-) -> Result<(), Failure> {
+) -> Result<(), Failure>
+    ensures falls { IsRead S.Store archive.new → IsRead S.Store archive.old }
+    ensures these { OnOk result (IsRead S.Store archive.new → (a : Archive)
+        → KeptFor S.Store archive.old.kept a → DestroysAsked (KeptFor S.Store archive.new.kept)
+        (epoch_day day) run.now.numbers.items a) }
+{
     archive.set_notes(run.notes());
-    let disposed = dispose(rt.alloc(), archive, certificates, run.numbers(), day);
+    let done = destroy_numbers(rt, archive, certificates, run.numbers(), day);
     archive.set_notes(b"");
-    let Disposed { end, .. } = disposed.map_err(|fault| refused(rt, fault))?;
-    settle(rt, end)
+    done
 }
 
 /// Destroys records in runs, with a certificate for each.
@@ -244,6 +184,20 @@ fn destroy_runs<S: Alter>(
     Ok(())
 }
 
+/// The runs of the records of lines.
+fn runs_in<S: Alter>(
+    rt: &HostRuntime,
+    archive: &mut StoreLedger<'_, S>,
+    seals: &Seals,
+    lines: &[Line],
+) -> Result<Vec<Run>, Failure> {
+    runs_of(rt.alloc(), archive, seals, lines).map_err(|fault| Failure::of_store(
+        rt.alloc(),
+        "the store",
+        fault,
+    ))
+}
+
 /// Destroys the records of some numbers, all that are due where there is no number, with a certificate for each. None is
 /// destroyed unless each of them may be. Which messages are not the ones that were captured is told before.
 fn destroy_asked<S: Alter>(
@@ -255,7 +209,7 @@ fn destroy_asked<S: Alter>(
     day: Date,
 ) -> Result<(), Failure> {
     let lines = asked_lines(rt.alloc(), archive, numbers, day).map_err(|fault| refused(rt, fault))?;
-    let runs = runs_of(rt, archive, seals, lines.as_slice())?;
+    let runs = runs_in(rt, archive, seals, lines.as_slice())?;
     let altered = altered_in(rt.alloc(), runs.as_slice())?;
     judge_altered(rt, altered.as_slice(), damage)?;
     let mut certificates = Certificates {
@@ -286,7 +240,7 @@ fn list_asked<S: Alter>(
     day: Date,
 ) -> Result<(), Failure> {
     let lines = asked_lines(rt.alloc(), archive, numbers, day).map_err(|fault| refused(rt, fault))?;
-    let runs = runs_of(rt, archive, seals, lines.as_slice())?;
+    let runs = runs_in(rt, archive, seals, lines.as_slice())?;
     let altered = altered_in(rt.alloc(), runs.as_slice())?;
     for line in lines.as_slice() {
         write_text(rt, &due_line(rt.alloc(), line, altered.as_slice())?)?;
@@ -307,7 +261,9 @@ enum Fate {
 }
 
 /// What is done with the records that a disposal is about.
-fn fate_of(asked: &Disposal) -> Fate {
+fn fate_of(asked: &Disposal) -> Fate
+    ensures { result ≡ fate_asked asked.now.destroys asked.now.is_damaged }
+{
     match (asked.destroys, asked.is_damaged) {
         (false, _) => Fate::Listed,
         (true, false) => Fate::Destroyed(Damage::Refused),

@@ -1,7 +1,11 @@
 //! How many records are due at once, and may be destroyed at once.
 
+ghost use Rattle.std.specs.Prelude.{◌≡◌, ◌==◌, not, length, Option};
+ghost use Rattle.class_plan.specs.Plans.{schedule_at};
+ghost use Rattle.cli_changes.specs.DueToday.{counted as counted_if, with_record};
+
 use crate::refilings::is_destroyable;
-use class_plan::{Date, Plan};
+use class_plan::{Date, Plan, Schedule};
 use cli_console::is_by;
 use cli_texts::due_by;
 use record_store::RecordEntry;
@@ -17,33 +21,50 @@ pub struct DueToday {
     pub destroyable: u64,
 }
 
-/// Whether a live record may be destroyed today, as if it were in the class of a path, by a plan.
-fn is_destroyable_in(entry: &RecordEntry, path: &[u8], plan: &Plan, today: Date) -> bool {
-    is_destroyable(
-        due_by(plan, path, entry.day),
-        plan.schedule_of(path),
-        !entry.holds.is_empty(),
-        today,
-    )
+/// One more where it is so, up to the greatest count.
+pub(crate) fn counted(is_so: bool, count: u64) -> u64
+    ensures { result ≡ counted_if is_so count }
+{
+    if is_so {
+        count.saturating_add(1)
+    } else {
+        count
+    }
 }
 
 impl DueToday {
     /// None of no record.
-    pub fn none() -> DueToday {
+    pub fn none() -> DueToday
+        ensures { result ≡ record { all = 0; destroyable = 0 } }
+    {
         DueToday {
             all: 0,
             destroyable: 0,
         }
     }
 
+    /// Counts a live record with a due date, if it has one, and with the schedule of its class.
+    fn count(&mut self, due: &Option<Date>, schedule: Option<Schedule>, is_held: bool, today: Date)
+        ensures { self.new ≡ with_record due.now schedule is_held today self.old }
+    {
+        self.all = counted(is_by(*due, today), self.all);
+        self.destroyable = counted(
+            is_destroyable(*due, schedule, is_held, today),
+            self.destroyable,
+        );
+    }
+
     /// Adds a live record, as if it were in the class of a path, by a plan.
-    pub fn add(&mut self, entry: &RecordEntry, path: &[u8], plan: &Plan, today: Date) {
-        if is_by(due_by(plan, path, entry.day), today) {
-            self.all = self.all.saturating_add(1);
-        }
-        if is_destroyable_in(entry, path, plan, today) {
-            self.destroyable = self.destroyable.saturating_add(1);
-        }
+    pub fn add(&mut self, entry: &RecordEntry, path: &[u8], plan: &Plan, today: Date)
+        ensures { (due : Option Date) × (self.new ≡ with_record due (schedule_at plan.now path.now)
+            (not (length entry.now.holds.items == 0)) today self.old) }
+    {
+        self.count(
+            &due_by(plan, path, entry.day),
+            plan.schedule_of(path),
+            !entry.holds.is_empty(),
+            today,
+        );
     }
 }
 

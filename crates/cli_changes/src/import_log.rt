@@ -1,7 +1,7 @@
 //! What an import says of its messages.
 
 ghost use Rattle.std.specs.Prelude.{◌≡◌, is_ok};
-ghost use Rattle.cli_changes.specs.Imports.{is_complete};
+ghost use Rattle.cli_changes.specs.Imports.{is_complete, no_messages, one_more, with_staying};
 
 use cli_console::{Failure, Status, tell, write_text};
 use mail_dates::{Dated, Dating};
@@ -41,7 +41,9 @@ fn put_count(
 
 impl ImportTally {
     /// Of no messages.
-    pub fn none() -> ImportTally {
+    pub fn none() -> ImportTally
+        ensures { result ≡ no_messages }
+    {
         ImportTally {
             taken: 0,
             known: 0,
@@ -54,19 +56,40 @@ impl ImportTally {
     }
 
     /// Counts what lies beside the messages of a source.
-    pub fn count_passed(&mut self, passed: &PassedOver) {
+    pub fn count_passed(&mut self, passed: &PassedOver)
+        ensures { self.new ≡ record self.old {
+          files = self.new.files;
+          folders = self.new.folders;
+        } }
+    {
         self.files = self.files.saturating_add(passed.files as u64);
         self.folders = self.folders.saturating_add(passed.folders as u64);
     }
 
     /// Counts a message that stays for a reason.
-    pub fn count_staying(&mut self, reason: &Reason) {
+    pub fn count_staying(&mut self, reason: &Reason)
+        ensures { self.new ≡ with_staying reason.now self.old }
+    {
         match reason {
             Reason::Unfit(_) => self.unfit = self.unfit.saturating_add(1),
             Reason::NoMemory | Reason::GivenUp(_) => {
                 self.given_up = self.given_up.saturating_add(1);
             }
         }
+    }
+
+    /// Counts a message that is captured already.
+    pub fn count_known(&mut self)
+        ensures { self.new ≡ record self.old { known = one_more self.old.known } }
+    {
+        self.known = self.known.saturating_add(1);
+    }
+
+    /// Counts a message that is taken.
+    pub fn count_taken(&mut self)
+        ensures { self.new ≡ record self.old { taken = one_more self.old.taken } }
+    {
+        self.taken = self.taken.saturating_add(1);
     }
 
     /// The line of these counts.

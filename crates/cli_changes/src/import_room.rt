@@ -103,7 +103,7 @@ impl<'a, A: Records> ImportRoom<'a, A> {
 
     /// Passes over a message that is captured already.
     fn pass_over(&mut self, name: &str, first: u32) {
-        self.tally.known = self.tally.known.saturating_add(1);
+        self.tally.count_known();
         if self.job.is_verbose {
             self.speak();
             tell_known(self.job.rt, name, first);
@@ -138,7 +138,7 @@ impl<'a, A: Records> ImportRoom<'a, A> {
         octets: &[u8],
         undecoded: &[Shown],
     ) -> Result<(), AllocError> {
-        self.tally.taken = self.tally.taken.saturating_add(1);
+        self.tally.count_taken();
         self.speak();
         let cause = match (capture.fault, &self.plan) {
             (Some(fault), Some(plan)) => {

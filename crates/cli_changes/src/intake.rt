@@ -1,7 +1,8 @@
 //! `intake`: the new messages of a Maildir.
 
 ghost use Rattle.std.specs.Prelude.{◌≡◌};
-ghost use Rattle.cli_changes.specs.Endings.{status_after as status_after_of, EndsWith, IsEndOf};
+ghost use Rattle.std.specs.IoError.{error_kind};
+ghost use Rattle.cli_changes.specs.Endings.{maildir_status, status_after as status_after_of, EndsWith, IsEndOf, IsFailureOf};
 
 use crate::intake_log::IntakeLog;
 use crate::intake_memory::{forget, recall, renew};
@@ -29,14 +30,25 @@ pub struct Intake<'a> {
     pub(crate) log: IntakeLog<'a>,
 }
 
+/// The status of a fault of a Maildir; none where there was no memory.
+fn maildir_status(kind: io::ErrorKind) -> Option<Status>
+    ensures { result ≡ maildir_status kind }
+{
+    match kind {
+        io::ErrorKind::OutOfMemory => None,
+        io::ErrorKind::NotFound | io::ErrorKind::NotADirectory => Some(Status::NoInput),
+        _ => Some(Status::TryAgain),
+    }
+}
+
 /// The failure of the Maildir.
-pub(crate) fn maildir_failure(rt: &HostRuntime, maildir: &str, error: io::Error) -> Failure {
-    let status = match error.kind() {
-        io::ErrorKind::OutOfMemory => return Failure::NoMemory,
-        io::ErrorKind::NotFound | io::ErrorKind::NotADirectory => Status::NoInput,
-        _ => Status::TryAgain,
-    };
-    Failure::at(rt.alloc(), status, maildir, &error)
+pub(crate) fn maildir_failure(rt: &HostRuntime, maildir: &str, error: io::Error) -> Failure
+    ensures { IsFailureOf (maildir_status (error_kind error)) result }
+{
+    match maildir_status(error.kind()) {
+        Some(status) => Failure::at(rt.alloc(), status, maildir, &error),
+        None => Failure::NoMemory,
+    }
 }
 
 /// The status of an intake that came to its end; none where nothing stays.

@@ -3,7 +3,7 @@
 ghost use Rattle.std.specs.Prelude.{◌≡◌, IfOk};
 ghost use Rattle.std.specs.List.{list_any};
 ghost use Rattle.class_plan.specs.Plans.{schedule_at};
-ghost use Rattle.cli_changes.specs.Keeping.{is_kept_less as is_less_kept, is_no_longer, is_no_longer_if_any, is_same_unit as are_same_units};
+ghost use Rattle.cli_changes.specs.Keeping.{is_kept_less as is_less_kept, keeps_less, is_no_longer, is_no_longer_if_any, is_same_unit as are_same_units};
 
 use class_plan::{Plan, Schedule, Unit};
 use record_choice::destroys;
@@ -86,7 +86,9 @@ fn is_any_kept_less(present: &Plan, new: &Plan, classes: &[Class<'_>]) -> bool
 
 /// Whether a new plan keeps the records of any class of the present one less: it destroys them, where the present one does not,
 /// or may do so later. The only refusal is no memory.
-pub fn keeps_less(alloc: Global, present: &Plan, new: &Plan) -> Result<bool, AllocError> {
+pub fn keeps_less(alloc: Global, present: &Plan, new: &Plan) -> Result<bool, AllocError>
+    ensures { IfOk result (λ less. less ≡ keeps_less present.now new.now) }
+{
     let classes = present.classes(alloc)?;
     Ok(is_any_kept_less(present, new, classes.as_slice()))
 }

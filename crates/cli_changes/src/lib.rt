@@ -14,7 +14,7 @@
 //!   new plan keeps less;
 //! - `refile`: another class for records; `refilings`: which of them get it; `due_today`: what is due at once by a change;
 //! - `titles`: titles of classes, which a file gives;
-//! - `dispose`: the destruction of what is due; `approved`: the numbers in a file of what was approved; `passed_over`: what it
+//! - `dispose` and `destroying`: the destruction of what is due; `approved`: the numbers in a file of what was approved; `passed_over`: what it
 //!   passes over; `runs`: records in runs, by what is noted of each; `altered`: those of them whose messages are not the ones
 //!   that were captured.
 //!
@@ -27,6 +27,7 @@ mod altered;
 mod approved;
 mod class_changes;
 mod deliver;
+mod destroying;
 mod dispose;
 mod due_today;
 mod fault_words;

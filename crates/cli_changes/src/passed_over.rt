@@ -1,5 +1,15 @@
 //! What a disposal passes over: those records in the ranges that are typed which may not be destroyed.
 
+ghost use Rattle.std.specs.Prelude.{◌≡◌, ◌++◌, ℕ, false, Some, map, IfOk, OnOk, MatchOption};
+ghost use Rattle.jiff.specs.Words.{epoch_day};
+ghost use Rattle.record_archive.specs.Archive.{Archive, Record, record_at};
+ghost use Rattle.record_choice.specs.Choices.{anyone};
+ghost use Rattle.record_choice.specs.Entries.{entry_of, entry_view, name_list};
+ghost use Rattle.record_choice.specs.Reasons.{MayGo};
+ghost use Rattle.record_choice.specs.Views.{shows_hold, span_view};
+ghost use Rattle.cli_changes.specs.declared.passed_over.Cause.TheVariants.{Held, NotForDestruction, NotDue};
+ghost use Rattle.cli_changes.specs.PassedOver.{IsCause, IsWith, is_for, range_span, range_spans};
+
 use choice_words::add_number;
 use class_plan::{Date, Plan};
 use cli_console::{Failure, Walk, is_by, tell};
@@ -30,12 +40,24 @@ struct PassedOver {
     not_due: Vec<TypedNumbers>,
 }
 
+/// Whether there is a hold among these.
+fn has_any(holds: &[Vec<u8>]) -> bool
+    ensures { result ≡ shows_hold (name_list holds.now) anyone }
+{
+    holds.len() > 0
+}
+
 /// Why a live record is passed over by a disposal of what is due by a day; none where it may be destroyed.
-fn cause_of(plan: &Plan, entry: &RecordEntry, day: Date) -> Option<Cause> {
-    if !entry.holds.is_empty() {
+fn cause_of(plan: &Plan, entry: &RecordEntry, day: Date) -> Option<Cause>
+    ensures { (a : Archive) (n : ℕ) (r : Record) → plan.now ≡ a.plan → record_at a n ≡ Some r
+        → r.number ≡ n → r.destroyed ≡ false → entry_view entry.now ≡ entry_of a r
+        → MatchOption result (MayGo a (epoch_day day) n) (IsCause a (epoch_day day) n) }
+{
+    if has_any(entry.holds.as_slice()) {
         return Some(Cause::Held);
     }
-    if !destroys(plan.schedule_of(entry.path.as_slice())) {
+    let schedule = plan.schedule_of(entry.path.as_slice());
+    if !destroys(schedule) {
         return Some(Cause::NotForDestruction);
     }
     if !is_by(entry.due, day) {
@@ -55,7 +77,14 @@ impl PassedOver {
     }
 
     /// Adds a record, if there is a cause.
-    fn add(&mut self, number: u32, cause: Option<Cause>) -> Result<(), AllocError> {
+    fn add(&mut self, number: u32, cause: Option<Cause>) -> Result<(), AllocError>
+        ensures held { OnOk result
+            (IsWith (is_for Held cause) number self.old.held.items self.new.held.items) }
+        ensures not_for_destruction { OnOk result (IsWith (is_for NotForDestruction cause) number
+            self.old.not_for_destruction.items self.new.not_for_destruction.items) }
+        ensures not_due { OnOk result
+            (IsWith (is_for NotDue cause) number self.old.not_due.items self.new.not_due.items) }
+    {
         match cause {
             Some(Cause::Held) => add_number(&mut self.held, number),
             Some(Cause::NotForDestruction) => add_number(&mut self.not_for_destruction, number),
@@ -65,16 +94,24 @@ impl PassedOver {
     }
 }
 
+/// Adds the range that is typed; nothing where that is one number.
+fn add_range(spans: &mut Vec<Span>, numbers: TypedNumbers) -> Result<(), AllocError>
+    ensures { OnOk result (map span_view spans.new.items
+        ≡ map span_view spans.old.items ++ range_span numbers) }
+{
+    match numbers {
+        TypedNumbers::One(_) => Ok(()),
+        TypedNumbers::Range { first, last } => Ok(spans.push(Span { first, last })?),
+    }
+}
+
 /// The ranges that are typed.
-fn ranges_of(alloc: Global, typed: &[TypedNumbers]) -> Result<Vec<Span>, AllocError> {
+fn ranges_of(alloc: Global, typed: &[TypedNumbers]) -> Result<Vec<Span>, AllocError>
+    ensures { IfOk result (λ v. map span_view v.items ≡ range_spans typed.now) }
+{
     let mut spans = Vec::new(alloc);
     for numbers in typed {
-        if let TypedNumbers::Range { first, last } = numbers {
-            spans.push(Span {
-                first: *first,
-                last: *last,
-            })?;
-        }
+        add_range(&mut spans, *numbers)?;
     }
     Ok(spans)
 }

@@ -1,6 +1,9 @@
 //! What a new plan changes in an archive: which due dates move, and what is due at once by it.
 
-use crate::due_today::{DueToday, put_due_today};
+ghost use Rattle.std.specs.Prelude.{◌≡◌, not, Option};
+ghost use Rattle.cli_changes.specs.DueToday.{counted as counted_if, is_any as is_any_of, is_same_due};
+
+use crate::due_today::{DueToday, counted, put_due_today};
 use class_plan::{Date, Plan, day_number};
 use cli_console::{Failure, Walk, today};
 use cli_history::StoreLedger;
@@ -23,7 +26,9 @@ struct Changes {
 }
 
 /// Whether two due dates are the same, or there is none.
-fn is_same_day(one: Option<Date>, other: Option<Date>) -> bool {
+fn is_same_day(one: Option<Date>, other: Option<Date>) -> bool
+    ensures { result ≡ is_same_due one other }
+{
     match (one, other) {
         (Some(one), Some(other)) => day_number(one) == day_number(other),
         (None, None) => true,
@@ -33,7 +38,13 @@ fn is_same_day(one: Option<Date>, other: Option<Date>) -> bool {
 
 impl Changes {
     /// Nothing is changed for no record.
-    fn none() -> Changes {
+    fn none() -> Changes
+        ensures { result ≡ record {
+          moved = 0;
+          before = record { all = 0; destroyable = 0 };
+          after = record { all = 0; destroyable = 0 };
+        } }
+    {
         Changes {
             moved: 0,
             before: DueToday::none(),
@@ -41,18 +52,22 @@ impl Changes {
         }
     }
 
-    /// Adds a live record.
-    fn add(&mut self, entry: &RecordEntry, old: &Plan, new: &Plan, today: Date) {
+    /// Adds a live record. It moves where its due date by the new plan is another one.
+    fn add(&mut self, entry: &RecordEntry, old: &Plan, new: &Plan, today: Date)
+        ensures { (due : Option Date) × (self.new.moved
+            ≡ counted_if (not (is_same_due due entry.now.due)) self.old.moved) }
+    {
         let path = entry.path.as_slice();
-        if !is_same_day(due_by(new, path, entry.day), entry.due) {
-            self.moved = self.moved.saturating_add(1);
-        }
+        let moves = !is_same_day(due_by(new, path, entry.day), entry.due);
+        self.moved = counted(moves, self.moved);
         self.before.add(entry, path, old, today);
         self.after.add(entry, path, new, today);
     }
 
     /// Whether a due date moves, or another number of records is due or may be destroyed.
-    fn is_any(&self) -> bool {
+    fn is_any(&self) -> bool
+        ensures { result ≡ is_any_of self.now }
+    {
         self.moved > 0
             || self.before.all != self.after.all
             || self.before.destroyable != self.after.destroyable

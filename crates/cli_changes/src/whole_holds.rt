@@ -1,5 +1,9 @@
 //! `release --all`: the end of a hold on each record that has it.
 
+ghost use Rattle.std.specs.Prelude.{◌≡◌, Some, IfOk};
+ghost use Rattle.record_choice.specs.Choices.{every_live_record, named};
+ghost use Rattle.record_choice.specs.Views.{choice_view};
+
 use crate::holds::{change_on, end_of_none};
 use cli_choice::Change;
 use cli_console::{Failure, Status, Walk, agrees, write_text};
@@ -11,7 +15,10 @@ use sqlite::Alter;
 use std::alloc::{AllocError, Global};
 
 /// The live records that the hold of a name keeps.
-fn held_by(alloc: Global, name: &str) -> Result<Choice, AllocError> {
+fn held_by(alloc: Global, name: &str) -> Result<Choice, AllocError>
+    ensures { IfOk result (λ c.
+        choice_view c ≡ record every_live_record { held = Some (named name.now) }) }
+{
     let mut held = Choice::live();
     held.held = Some(Holder::Named(Vec::from_slice(alloc, name.as_bytes())?));
     Ok(held)

@@ -1,0 +1,102 @@
+//! The destruction of records that are asked for, and why it ends where that is no success.
+
+ghost use Rattle.std.specs.Prelude.{OnOk};
+ghost use Rattle.jiff.specs.Words.{epoch_day};
+ghost use Rattle.record_archive.specs.Archive.{Archive};
+ghost use Rattle.cli_changes.specs.Destructions.{DestroysAsked, IsSettled, IsUndone};
+
+use class_plan::{Action, Date, Schedule};
+use cli_console::{Failure, Status};
+use record_choice::{DisposeFault, Disposed, End, Reason, Registrar, Repository, dispose};
+use record_store::StoreFault;
+use std::alloc::{AllocError, Global};
+use tool_texts::{Shown, put};
+
+/// Adds the names of holds, each in quotation marks after a blank.
+fn put_names(text: &mut Shown, names: &[Vec<u8>]) -> Result<(), AllocError> {
+    for name in names {
+        put!(text; " " quoted(name.as_slice()))?;
+    }
+    Ok(())
+}
+
+/// The word of a schedule for what is done with its records.
+fn action_word(schedule: Option<Schedule>) -> &'static str {
+    match schedule {
+        Some(Schedule::After { action, .. }) => match action {
+            Action::Review => "review",
+            Action::Transfer => "transfer",
+            Action::Destroy => "destroy",
+        },
+        Some(Schedule::Permanent) | None => "permanent",
+    }
+}
+
+/// Adds why a record may not be destroyed, in words after the number of the refusal.
+fn put_reason(text: &mut Shown, reason: &Reason) -> Result<(), AllocError> {
+    match reason {
+        Reason::Held(names) => {
+            text.words("81: kept by the holds")?;
+            put_names(text, names.as_slice())
+        }
+        Reason::NotForDestruction(schedule) => {
+            text.words("83: the schedule of its class says ")?;
+            text.words(action_word(*schedule))
+        }
+        Reason::NotDue(Some(due)) => put!(text; "82: not due before " value(due)),
+        Reason::NotDue(None) => text.words("82: never due"),
+        Reason::NoRecord => text.words("80: there is no record of that number"),
+        Reason::Destroyed => text.words("84: the record is destroyed already"),
+    }
+}
+
+/// That the record of a number may not be destroyed, and why.
+fn not_approved(alloc: Global, number: u32, reason: &Reason) -> Result<Shown, AllocError> {
+    let mut text = Shown::new(alloc);
+    put!(text; value(&number) ": ")?;
+    put_reason(&mut text, reason)?;
+    Ok(text)
+}
+
+/// The failure of a disposal that destroys nothing.
+pub(crate) fn refused(rt: &HostRuntime, fault: DisposeFault<StoreFault>) -> Failure
+    ensures { IsUndone fault result }
+{
+    match fault {
+        DisposeFault::Repository(fault) => Failure::of_store(rt.alloc(), "the store", fault),
+        DisposeFault::NoMemory => Failure::NoMemory,
+        DisposeFault::NotApproved(number, reason) => {
+            Failure::shown(Status::BadData, not_approved(rt.alloc(), number, &reason))
+        }
+    }
+}
+
+/// Why a disposal ended, where that is no success.
+fn settle(rt: &HostRuntime, end: End<StoreFault, Failure>) -> Result<(), Failure>
+    ensures { IsSettled end result }
+{
+    match end {
+        End::Repository(fault) => Err(Failure::of_store(rt.alloc(), "the store", fault)),
+        End::Registrar(failure) => Err(failure),
+        End::Done => Ok(()),
+    }
+}
+
+/// Destroys the records of some numbers, of which there is one, each with a certificate.
+pub(crate) fn destroy_numbers<R: Repository<Fault = StoreFault>, K: Registrar<Fault = Failure>>(
+    rt: &HostRuntime,
+    archive: &mut R,
+    certificates: &mut K,
+    numbers: &[u32],
+    day: Date,
+) -> Result<(), Failure>
+    requires { K.is_open certificates.old }
+    ensures falls { R.clean archive.new → R.clean archive.old }
+    ensures these { OnOk result (R.clean archive.new → (a : Archive) → R.stands archive.old a
+        → DestroysAsked (R.stands archive.new) (epoch_day day) numbers.now a) }
+{
+    match dispose(rt.alloc(), archive, certificates, numbers, day) {
+        Ok(Disposed { end, .. }) => settle(rt, end),
+        Err(fault) => Err(refused(rt, fault)),
+    }
+}
