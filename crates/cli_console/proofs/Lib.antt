@@ -1,1 +1,2 @@
 pub mod Ahead
+mod Rows
