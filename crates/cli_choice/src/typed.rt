@@ -1,6 +1,6 @@
 //! What is typed of a choice.
 
-ghost use Rattle.std.specs.Prelude.{◌≡◌, ◌||◌, ◌∷◌, ℕ, not, map, filter, true, option_map, IfOk};
+ghost use Rattle.std.specs.Prelude.{◌≡◌, ◌<◌, ◌≤◌, ◌^◌, ◌||◌, ◌∷◌, [], ℕ, not, map, filter, true, option_map, IfOk};
 ghost use Rattle.std.specs.List.{list_any};
 ghost use Rattle.std.specs.BTreeSet.{contains};
 ghost use Rattle.std.specs.Ordering.{nat_cmp};
@@ -109,7 +109,9 @@ fn span_of_all(first: TypedNumbers, others: &[TypedNumbers]) -> Span
 
 /// A span in which each number is that is typed, and each number of all where none is typed.
 pub fn bounds_of(typed: &[TypedNumbers]) -> Span
-    ensures { (n : ℕ) → is_among typed.now n ≡ true → is_in n (span_view result) ≡ true }
+    ensures typed { (n : ℕ) → is_among typed.now n ≡ true → is_in n (span_view result) ≡ true }
+    ensures every { typed.now ≡ [] → (n : ℕ) → 1 ≤ n → n < 2 ^ 32
+        → is_in n (span_view result) ≡ true }
 {
     match typed {
         [] => Span {

@@ -1,3 +1,4 @@
 pub mod Turns
 pub mod Failures
 pub mod Days
+pub mod Finds

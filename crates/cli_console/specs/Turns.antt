@@ -11,14 +11,18 @@ use Rattle.record_choice.specs.Walks.{IsPageOf}
 abbrev pub page_view : Option (Vec own.RecordEntry Global) → Option (List RecordEntry)
 page_view o = option_map (λ v. map entry_view v.items) o
 
+-- it goes on above where it stood, if it does
+abbrev pub IsFurther : (from next : Option ℕ) → Type 0
+IsFurther from next = IfSome next (λ m. IfSome from (λ n. n < m))
+
 -- A walk that goes on from a number gives a page of what is chosen, and goes on after it. Only at its end it gives none, and
 -- is there still. So the pages of all calls are those of a walk (`IsWalk`), and joined they are what is chosen.
 abbrev pub IsTurn : Question → Choice → Archive → (from : Option ℕ) → (page : Option (List RecordEntry)) → (next : Option ℕ) → Type 0
 IsTurn q c a from None next = (from ≡ None) × (next ≡ None)
-IsTurn q c a from (Some page) next = IsSome from × IsPageOf q c a from page next
+IsTurn q c a from (Some page) next = IsSome from × IsPageOf q c a from page next × IsFurther from next
 
 -- A search does so up to its last number: it also gives none where that is passed, and stays where it is.
 abbrev pub IsSearchTurn : Question → Choice → Archive → (last : ℕ) → (from : Option ℕ) → (page : Option (List RecordEntry)) → (next : Option ℕ)
     → Type 0
 IsSearchTurn q c a last from None next = IfSome from (λ n. last < n) × (next ≡ from)
-IsSearchTurn q c a last from (Some page) next = IsSome from × IsPageOf q c a from page next
+IsSearchTurn q c a last from (Some page) next = IsSome from × IsPageOf q c a from page next × IsFurther from next

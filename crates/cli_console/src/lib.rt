@@ -3,20 +3,25 @@
 //! - `failure`: why something is not done, and the status that says so;
 //! - `output`: what is written for people and programs;
 //! - `clock`: the time and the day;
-//! - `walk`: the records of an archive, a page at a time; `search`: those that a command line asks for.
+//! - `walk`: the records of an archive, a page at a time; `search`: those that a command line asks for;
+//! - `reader`: who takes records one by one; `readings`: how it is handed all that is found.
 //!
 //! No contract speaks of a clock, a terminal or a stream. So most of these calls are only proved to be safe, and tests of the
-//! program show what they do. In `specs/`, `Turns` says what a call for the next page answers.
+//! program show what they do. In `specs/`, `Turns` says what a call for the next page answers, and `Finds` what a reader is handed.
 #![tactic(auto)]
 
 mod clock;
 mod failure;
 mod output;
+mod reader;
+mod readings;
 mod search;
 mod walk;
 
 pub use clock::{day_or_today, is_by, judge_day, now, today};
 pub use failure::{Failure, Status, refusal_words};
 pub use output::{agrees, tell, tell_words, write_data, write_text};
+pub use reader::Reader;
+pub use readings::read_chosen;
 pub use search::{Found, Search};
 pub use walk::{Walk, message_of};

@@ -1,12 +1,13 @@
 //! A search for the records that a command is about. Which these are, `cli_choice` decides.
 
-ghost use Rattle.std.specs.Prelude.{◌≡◌, ◌≤◌, [], map, option_map, IfOk, IfSome, if◌then◌else◌};
-ghost use Rattle.record_archive.specs.Archive.{Archive};
+ghost use Rattle.std.specs.Prelude.{◌≡◌, ◌≤◌, ℕ, [], map, nat_le, option_map, IfOk, IfSome, OnOk, if◌then◌else◌};
+ghost use Rattle.record_archive.specs.Archive.{Archive, IsArchive};
 ghost use Rattle.record_choice.specs.Entries.{entry_view};
 ghost use Rattle.record_choice.specs.Reads.{OnlyReads};
 ghost use Rattle.record_choice.specs.Views.{choice_view};
 ghost use Rattle.cli_choice.specs.Questions.{asks_nothing, question_of};
 ghost use Rattle.cli_choice.specs.Headers.{texts_view, texts_found};
+ghost use Rattle.cli_console.specs.Finds.{IsBounded, IsSameSearch, found_ahead, found_in};
 ghost use Rattle.cli_console.specs.Turns.{IsSearchTurn, page_view};
 
 use crate::failure::{Failure, Status};
@@ -25,7 +26,7 @@ use tool_plans::meant_class;
 use tool_texts::{Shown, put};
 
 /// How many records a search looks at in a step where the headers of their messages are kept.
-const HEADERS_PAGE: usize = 250;
+pub(crate) const HEADERS_PAGE: usize = 250;
 
 /// Records that are found, in the order of their numbers.
 #[derive(Drop)]
@@ -118,6 +119,35 @@ fn miss_line<R: Repository<Fault = StoreFault>>(
     }
 }
 
+/// Notes which of the numbers that are typed by themselves were found.
+fn note_found(
+    found: &mut Vec<u32>,
+    typed: &[TypedNumbers],
+    entries: &[RecordEntry],
+) -> Result<(), AllocError> {
+    for entry in entries {
+        if is_single(typed, entry.number) {
+            found.push(entry.number)?;
+        }
+    }
+    Ok(())
+}
+
+/// Notes which records may have been found.
+fn note_unread(unread: &mut Vec<TypedNumbers>, entries: &[RecordEntry]) -> Result<(), AllocError> {
+    for entry in entries {
+        add_number(unread, entry.number)?;
+    }
+    Ok(())
+}
+
+/// The number at which a search begins: of the numbers from the first of some on, those from the one that is typed on.
+fn first_number(typed: u32, first: u32) -> u32
+    ensures { (n : ℕ) → first ≤ n → nat_le result n ≡ nat_le typed n }
+{
+    typed.max(first)
+}
+
 impl<'s, 'a> Search<'s, 'a> {
     /// A search in an archive for what is typed. `BadData` where the class is none of the plan.
     pub fn new<R: Repository<Fault = StoreFault>>(
@@ -125,7 +155,11 @@ impl<'s, 'a> Search<'s, 'a> {
         archive: &R,
         typed: &'s Choice<'a>,
         questions: &'s Questions,
-    ) -> Result<Search<'s, 'a>, Failure> {
+    ) -> Result<Search<'s, 'a>, Failure>
+        ensures bounded { IfOk result (λ s. IsBounded s) }
+        ensures found { IfOk result (λ s. (a : Archive) → IsArchive a
+            → found_ahead s a ≡ found_in typed.now questions.now a) }
+    {
         let alloc = rt.alloc();
         judge_class(alloc, typed.class, archive.plan())?;
         let bounds = bounds_of(typed.numbers.as_slice());
@@ -133,29 +167,11 @@ impl<'s, 'a> Search<'s, 'a> {
             typed,
             questions,
             choice: choice_of(alloc, typed)?,
-            from: Some(typed.from.max(bounds.first)),
+            from: Some(first_number(typed.from, bounds.first)),
             last: bounds.last,
             found: Vec::new(alloc),
             unread: Vec::new(alloc),
         })
-    }
-
-    /// Notes which of the numbers that are typed by themselves were found.
-    fn note_found(&mut self, entries: &[RecordEntry]) -> Result<(), AllocError> {
-        for entry in entries {
-            if is_single(self.typed.numbers.as_slice(), entry.number) {
-                self.found.push(entry.number)?;
-            }
-        }
-        Ok(())
-    }
-
-    /// Notes which records may have been found.
-    fn note_unread(&mut self, entries: &[RecordEntry]) -> Result<(), AllocError> {
-        for entry in entries {
-            add_number(&mut self.unread, entry.number)?;
-        }
-        Ok(())
     }
 
     /// The next records that are found, which may be none; `None` at the end. A failure is that of the store, or no memory.
@@ -201,8 +217,9 @@ impl<'s, 'a> Search<'s, 'a> {
         }
     }
 
-    /// The next step of the search, which looks at so many records.
-    fn step<R: Repository<Fault = StoreFault>>(
+    /// The next step of the search, which looks at so many records: those of them that are found, which may be none; `None` at
+    /// the end. A failure is that of the store, or no memory.
+    pub(crate) fn step<R: Repository<Fault = StoreFault>>(
         &mut self,
         rt: &HostRuntime,
         archive: &mut R,
@@ -218,6 +235,7 @@ impl<'s, 'a> Search<'s, 'a> {
             → R.stands archive.old a → IsSearchTurn (question_of self.old.questions.now)
             (choice_view self.old.choice) a self.old.last self.old.from
             (page_view (option_map (λ p. p.found) o)) self.new.from) }
+        ensures same { OnOk result (IsSameSearch self.old self.new) }
         ensures headers { IfOk result (λ o. R.clean archive.new → (a : Archive)
             → R.stands archive.old a → IfSome o (λ p. map texts_view p.headers.items ≡
             (if asks_nothing self.old.questions.now then []
@@ -239,8 +257,12 @@ impl<'s, 'a> Search<'s, 'a> {
             most,
         )
         .map_err(|fault| walk_failure(rt.alloc(), fault))?;
-        self.note_found(page.found.as_slice())?;
-        self.note_unread(page.unread.as_slice())?;
+        note_found(
+            &mut self.found,
+            self.typed.numbers.as_slice(),
+            page.found.as_slice(),
+        )?;
+        note_unread(&mut self.unread, page.unread.as_slice())?;
         self.from = page.next;
         Ok(Some(page))
     }

@@ -1,15 +1,14 @@
 //! A walk over the chosen records of an archive. Which these are, `record_choice` decides.
 
-ghost use Rattle.std.specs.Prelude.{◌≡◌, Some, None, IfOk};
-ghost use Rattle.record_archive.specs.Archive.{Archive};
+ghost use Rattle.std.specs.Prelude.{◌≡◌, Some, None, Ok, IfOk};
+ghost use Rattle.record_archive.specs.Archive.{Archive, message};
 ghost use Rattle.record_choice.specs.Reads.{OnlyReads};
 ghost use Rattle.record_choice.specs.Views.{choice_view};
 ghost use Rattle.cli_console.specs.Turns.{IsTurn, page_view};
 
 use crate::failure::Failure;
 use record_choice::{Anything, Choice, Repository, WalkFault, choose_page};
-use record_store::{RecordEntry, Store, StoreFault};
-use sqlite::Alter;
+use record_store::{RecordEntry, StoreFault};
 use std::alloc::Global;
 
 /// How many records a walk looks at in a step.
@@ -76,11 +75,15 @@ impl<'a> Walk<'a> {
 }
 
 /// The message of a live record. A failure is that of the store.
-pub fn message_of<S: Alter>(
+pub fn message_of<R: Repository<Fault = StoreFault>>(
     rt: &HostRuntime,
-    archive: &mut Store<S>,
+    archive: &mut R,
     entry: &RecordEntry,
-) -> Result<Vec<u8>, Failure> {
+) -> Result<Vec<u8>, Failure>
+    ensures reads { OnlyReads R.clean R.stands archive.old archive.new }
+    ensures told { IfOk result (λ v. R.clean archive.new → (a : Archive) → R.stands archive.old a
+        → message a entry.now.number ≡ Ok (Some v.items)) }
+{
     archive
         .message(entry.number)
         .map_err(|fault| Failure::of_store(rt.alloc(), "the store", fault))

@@ -1,0 +1,2 @@
+pub mod Ahead
+mod Rows

@@ -1,0 +1,34 @@
+-- Rows of what is said of searches and readers.
+use Rattle.std.proofs.Common.{◌≡◌, ◌∷◌, [], false, Some, None, refl, arith}
+use Rattle.record_choice.specs.Choices.{Choice, every_record}
+use Rattle.record_choice.specs.Entries.{RecordEntry}
+use Rattle.cli_console.specs.Turns.{IsFurther}
+use Rattle.cli_console.specs.Finds.{IsAsked, IsFirst}
+use Rattle.cli_console.proofs.Ahead.{asked_for}
+
+-- a walk goes on above where it stood, or not at all
+further_up : IsFurther (Some 4) (Some 7)
+further_up = omega arith
+
+further_ended : IsFurther (Some 4) None
+further_ended = tt
+
+-- a choice of the numbers 4 to 6
+abbrev four_to_six : Choice
+four_to_six = record every_record { numbers = Some (record { first = 4; last = 6 } ∷ []) }
+
+asked_inside : IsAsked four_to_six 6
+asked_inside = refl
+
+not_asked_above : asked_for four_to_six 7 ≡ false
+not_asked_above = refl
+
+any_asked : IsAsked every_record 7
+any_asked = refl
+
+-- a first page, and what is ahead after it
+first_of_two : (e f : RecordEntry) → IsFirst (e ∷ f ∷ []) (Some (e ∷ [])) (f ∷ [])
+first_of_two e f = (omega arith, refl)
+
+first_of_none : IsFirst [] None []
+first_of_none = refl
