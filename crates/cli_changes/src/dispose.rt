@@ -4,8 +4,8 @@ ghost use Rattle.std.specs.Prelude.{◌≡◌, IfOk, OnOk, option_map};
 ghost use Rattle.jiff.specs.Words.{epoch_day};
 ghost use Rattle.record_archive.specs.Archive.{Archive};
 ghost use Rattle.record_ledger.specs.Ledgers.{KeptFor};
-ghost use Rattle.cli_history.specs.Seals.{known};
-ghost use Rattle.cli_changes.specs.Certificates.{captured_view, captured_for, Certifies, IsCertificateLine};
+ghost use Rattle.cli_history.specs.Titles.{title_seen, title_for};
+ghost use Rattle.cli_changes.specs.Certificates.{Certifies, IsCertificateLine};
 ghost use Rattle.cli_changes.specs.Destructions.{DestroysAsked, IsRead, fate_asked};
 
 use crate::altered::{Damage, altered_in, due_line, end_list, judge_altered};
@@ -16,7 +16,7 @@ use class_plan::Date;
 use cli_choice::{Meant, meant_of};
 use cli_console::{Failure, Status, judge_day, now, tell, tell_words, today, write_text};
 use cli_history::{Fidelity, Seals, StoreLedger};
-use cli_texts::{CapturedMessage, Certificate, certificate_line, sum_text};
+use cli_texts::{CapturedMessage, Certificate, ClassTitle, certificate_line, sum_text};
 use command_lines::archives::{Disposal, TypedNumbers};
 use record_archive::Line;
 use record_choice::{Destroyed, Registrar, asked_lines};
@@ -47,10 +47,7 @@ fn captured_beside<'s>(
     seals: &'s Seals,
     message: u32,
     fidelity: Fidelity,
-) -> Option<CapturedMessage<'s>>
-    ensures { option_map captured_view result ≡
-        captured_for (known seals.now message) fidelity }
-{
+) -> Option<CapturedMessage<'s>> {
     match (fidelity, seals.length_and_sum(message)) {
         (Fidelity::Altered(_), Some((octets, sum))) => Some(CapturedMessage {
             octets: octets as usize,
@@ -58,6 +55,13 @@ fn captured_beside<'s>(
         }),
         _ => None,
     }
+}
+
+/// The title of the class of a record that is about to be destroyed, if it has one.
+fn title_beside<'s>(seals: &'s Seals, destroyed: &Destroyed) -> Option<ClassTitle<'s>>
+    ensures { option_map title_seen result ≡ title_for seals.now.titles destroyed.now.entry }
+{
+    seals.titles().of_class(destroyed.entry.path.as_slice())
 }
 
 /// What is certified of a record that is about to be destroyed, with the digits of its message's sum, at a moment. The title of
@@ -76,7 +80,7 @@ fn facts_of<'d>(
     Certificate {
         number: entry.number,
         path: entry.path.as_slice(),
-        title: seals.titles().of_class(entry.path.as_slice()),
+        title: title_beside(seals, destroyed),
         due: entry.due,
         octets: destroyed.octets,
         sum,

@@ -117,11 +117,6 @@ headers_of exported.Destroyed = None
 headers_of (exported.Altered captured) = None
 headers_of (exported.Written kept) = Some kept.headers.now
 
--- a path behind the first of some fields
-abbrev pub with_path : List ℕ → List (List ℕ) → List (List ℕ)
-with_path path [] = []
-with_path path (f ∷ fs) = f ∷ path ∷ fs
-
--- THE FIELDS OF A RECORD IN A MANIFEST
-abbrev pub manifest_fields : Row → Exported → List (List ℕ)
-manifest_fields r message = record_fields r ++ message_fields message ++ header_fields (headers_of message)
+-- THE LAST FIELDS OF A RECORD IN A MANIFEST, which come behind those of the record: what it has of the message
+abbrev pub last_fields : Exported → List (List ℕ)
+last_fields message = message_fields message ++ header_fields (headers_of message)

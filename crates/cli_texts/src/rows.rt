@@ -1,12 +1,12 @@
 //! Records as rows of CSV (RFC 4180).
 
-ghost use Rattle.std.specs.Prelude.{◌≡◌, ◌≢◌, ◌∷◌, ◌++◌, [], map, flat_map, option_map, IfOk, OnOk, decimal, string_bytes};
-ghost use Rattle.std.specs.List.{list_any};
+ghost use Rattle.std.specs.Prelude.{◌≡◌, ◌≢◌, nat_eq, ◌∷◌, ◌++◌, [], map, flat_map, option_map, IfOk, OnOk, decimal, string_bytes};
+ghost use Rattle.std.specs.List.{list_any, starts_with};
 ghost use Rattle.csv.specs.Records.{fields_of};
 ghost use Rattle.csv.specs.Writing.{default_writer, row_text, with_style};
 ghost use Rattle.csv.specs.declared.writer.QuoteStyle.TheVariants.{NonNumeric};
 ghost use Rattle.jiff.specs.Words.{date_text};
-ghost use Rattle.cli_texts.specs.Rows.{begins_with_control as begins_with_control_in, begins_with_sign as begins_with_sign_in, captured_fields, cell, csv_line, due_field, due_of, has_semicolon as has_semicolon_in, header_fields, headers_of as headers_of_message, is_formula as is_formula_in, listed_fields, manifest_fields, message_fields, record_fields, shown_octets, spaced, style_for, with_path, yes_or_no as yes_or_no_for};
+ghost use Rattle.cli_texts.specs.Rows.{begins_with_control as begins_with_control_in, begins_with_sign as begins_with_sign_in, captured_fields, cell, csv_line, due_field, due_of, has_semicolon as has_semicolon_in, header_fields, headers_of as headers_of_message, is_formula as is_formula_in, listed_fields, message_fields, record_fields, shown_octets, spaced, style_for, last_fields, yes_or_no as yes_or_no_for};
 ghost use Rattle.cli_texts.specs.Headers.{texts_in};
 ghost use Rattle.cli_texts.specs.Words.{words};
 
@@ -75,11 +75,18 @@ fn begins_with_control(field: &[u8]) -> bool
     }
 }
 
+/// Whether a field begins with one of some signs.
+fn begins_with_one(field: &[u8], signs: &[&[u8]]) -> bool
+    ensures { result ≡ list_any (λ s. starts_with nat_eq field.now s.now) signs.now }
+{
+    signs.iter().any(|sign| field.starts_with(sign))
+}
+
 /// Whether a field begins with a sign of a formula.
 fn begins_with_sign(field: &[u8]) -> bool
     ensures { result ≡ begins_with_sign_in field.now }
 {
-    FORMULA_SIGNS.iter().any(|sign| field.starts_with(sign))
+    begins_with_one(field, &FORMULA_SIGNS)
 }
 
 /// Whether a spreadsheet could take a field for a formula, or drop its beginning.
@@ -336,26 +343,31 @@ fn headers_written<'a>(message: Exported<'a>) -> Option<&'a Headers>
     }
 }
 
-/// The row of a record in a manifest, by its path and the other cells: those that it begins with, those of its message, and those
-/// of the message's header.
-fn row_of_cells(
-    alloc: Global,
-    path: &[u8],
-    first: [String; 5],
-    message: [String; 3],
-    header: [String; 3],
-) -> Result<Vec<u8>, AllocError>
-    ensures { IfOk result (λ text. text.items ≡ csv_line (with_path path.now
-        (map string_bytes first ++ map string_bytes message ++ map string_bytes header))) }
+/// The last cells of a manifest's row: those of the message, and those of its header, where it was written.
+fn last_cells(alloc: Global, message: Exported<'_>) -> Result<[String; 6], AllocError>
+    ensures { IfOk result (λ c. map string_bytes c ≡ last_fields message.entry) }
 {
-    let [number, day, due, holds, destroyed] = first;
-    let [file, octets, sum] = message;
-    let [sender, subject, date] = header;
+    let [file, octets, sum] = message_cells(alloc, message)?;
+    let [sender, subject, date] = header_cells(alloc, headers_written(message))?;
+    Ok([file, octets, sum, sender, subject, date])
+}
+
+/// The row of a record in a manifest. Where its message is destroyed, the last six fields are empty; where it is not the one
+/// that was captured, only the length and the sum of that one are there.
+///
+/// The only refusal is no memory (99).
+pub fn manifest_row(
+    alloc: Global,
+    row: &Row<'_>,
+    message: Exported<'_>,
+) -> Result<Vec<u8>, AllocError> {
+    let [number, day, due, holds, destroyed] = first_cells(alloc, row)?;
+    let [file, octets, sum, sender, subject, date] = last_cells(alloc, message)?;
     csv_row(
         alloc,
         &[
             number.as_bytes(),
-            path,
+            row.path,
             day.as_bytes(),
             due.as_bytes(),
             holds.as_bytes(),
@@ -368,21 +380,4 @@ fn row_of_cells(
             date.as_bytes(),
         ],
     )
-}
-
-/// The row of a record in a manifest. Where its message is destroyed, the last six fields are empty; where it is not the one
-/// that was captured, only the length and the sum of that one are there.
-///
-/// The only refusal is no memory (99).
-pub fn manifest_row(
-    alloc: Global,
-    row: &Row<'_>,
-    message: Exported<'_>,
-) -> Result<Vec<u8>, AllocError>
-    ensures { IfOk result (λ text. text.items ≡ csv_line (manifest_fields row.now message.entry)) }
-{
-    let first = first_cells(alloc, row)?;
-    let cells = message_cells(alloc, message)?;
-    let header = header_cells(alloc, headers_written(message))?;
-    row_of_cells(alloc, row.path, first, cells, header)
 }
