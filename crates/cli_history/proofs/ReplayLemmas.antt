@@ -8,7 +8,7 @@ use Rattle.record_judge.specs.Judging.{Judges}
 use Rattle.cli_history.specs.Findings.{stage_after, stage_from}
 use Rattle.cli_history.specs.Reasons.{are_required}
 use Rattle.cli_history.specs.Replays.{AreSeals, Replays, Tell, required_after, sealed_in, told_by}
-use Rattle.cli_history.specs.Seals.{KeepsSeal, known, later, sealed_by}
+use Rattle.cli_history.specs.Seals.{KeepsSeal, later, sealed_by}
 use Rattle.cli_history.specs.declared.findings.Stage.{Stage}
 use Rattle.cli_history.specs.declared.opening.Purpose.{Purpose}
 use Rattle.cli_history.specs.declared.replaying.Replayed.{Replayed}

@@ -1,5 +1,5 @@
 -- What a history tells once its events are done again.
-use Rattle.std.specs.Prelude.{◌≡◌, ◌+◌, ◌==◌, ◌&&◌, ℕ, Bool, false, List, [], ◌∷◌, map, Option, Some, None, option_map, is_some, IfSome}
+use Rattle.std.specs.Prelude.{◌≡◌, ◌+◌, ℕ, Bool, false, List, [], ◌∷◌, map, Option, Some, None, option_map, is_some, IfSome}
 use Rattle.record_history.specs.Events.{Event, Seal}
 use Rattle.record_history.specs.Reading.{event_at}
 use Rattle.record_judge.specs.Judging.{Judges}

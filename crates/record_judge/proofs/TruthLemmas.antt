@@ -1,10 +1,10 @@
 -- What deeds tell of their records.
-use Rattle.std.proofs.Common.{◌≡◌, ◌∙◌, ℕ, List, [], ◌∷◌, ◌++◌, Option, Some, None, refl, sym, ap, subst, option_and_then}
+use Rattle.std.proofs.Common.{◌≡◌, ◌∙◌, ℕ, List, [], ◌∷◌, ◌++◌, Option, Some, None, sym, ap, subst, option_and_then}
 use Rattle.class_plan.specs.Plans.{schedule_at}
 use Rattle.class_plan.specs.declared.schedules.Schedule.{Schedule}
 use Rattle.record_archive.specs.Archive.{Archive, Record, record_at}
 use Rattle.record_history.specs.Events.{Destroyed, Event}
-use Rattle.record_history.specs.Replay.{IsTrueOf, after, replay}
+use Rattle.record_history.specs.Replay.{IsTrueOf, replay}
 use Rattle.record_judge.specs.Judging.{AreTrueFrom}
 
 -- where there is no record, nothing is told of one

@@ -1,6 +1,6 @@
 //! What a deed tells of its record beside what it does.
 
-ghost use Rattle.std.specs.Prelude.{◌≡◌, ◌↔◌, ℕ, IsTrue};
+ghost use Rattle.std.specs.Prelude.{◌↔◌, ℕ, IsTrue};
 ghost use Rattle.record_history.specs.Events as plain;
 ghost use Rattle.record_history.specs.Replay.{IsTrueOf};
 ghost use Rattle.record_history.specs.Views.{deed_view};

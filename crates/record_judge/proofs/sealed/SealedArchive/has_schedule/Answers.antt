@@ -1,4 +1,4 @@
-use Rattle.std.proofs.Common.{◌≡◌, ◌∙◌, sym, ap}
+use Rattle.std.proofs.Common.{◌∙◌, sym, ap}
 use Rattle.class_plan.specs.Plans.{schedule_at}
 use Rattle.record_judge.specs.Sealed.{archive_view, record_view}
 use Rattle.record_judge.proofs.TruthLemmas.{told_of_one}
