@@ -36,6 +36,11 @@ abbrev pub DestroysAsked : (Left : Archive → Type 0) → (day : ℤ) → (aske
 DestroysAsked Left day asked a = (ns : List ℕ) × (cs : List Certificate)
     × IsPermutation (map (λ (l : Line). l.number) (asked_list a day asked)) ns × Destroys Left day ns cs a
 
+-- the records of one run after the other
+abbrev pub DestroysRuns : (Left : Archive → Type 0) → (day : ℤ) → (runs : List (List ℕ)) → Archive → Type 0
+DestroysRuns Left day [] a = Left a
+DestroysRuns Left day (run ∷ runs) a = DestroysAsked (DestroysRuns Left day runs) day run a
+
 -- A DISPOSAL ENDS WELL only where it is done; else with what its archive refused, or with what became of a certificate
 abbrev pub IsSettled : End StoreFault Failure → Result (Unit {0}) Failure → Type 0
 IsSettled ended.Done done = is_ok done ≡ true

@@ -1,12 +1,12 @@
 //! `dispose`: what is due, and its destruction. Which records these are, `record_choice` decides.
 
-ghost use Rattle.std.specs.Prelude.{◌≡◌, IfOk, OnOk, option_map};
+ghost use Rattle.std.specs.Prelude.{◌≡◌, map, IfOk, OnOk, option_map};
 ghost use Rattle.jiff.specs.Words.{epoch_day};
 ghost use Rattle.record_archive.specs.Archive.{Archive};
 ghost use Rattle.record_ledger.specs.Ledgers.{KeptFor};
 ghost use Rattle.cli_history.specs.Titles.{title_seen, title_for};
 ghost use Rattle.cli_changes.specs.Certificates.{Certifies, IsCertificateLine};
-ghost use Rattle.cli_changes.specs.Destructions.{DestroysAsked, IsRead, fate_asked};
+ghost use Rattle.cli_changes.specs.Destructions.{DestroysAsked, DestroysRuns, IsRead, fate_asked};
 
 use crate::altered::{Damage, altered_in, due_line, end_list, judge_altered};
 use crate::destroying::{destroy_numbers, refused};
@@ -181,7 +181,12 @@ fn destroy_runs<S: Alter>(
     certificates: &mut Certificates<'_, '_>,
     runs: &[Run],
     day: Date,
-) -> Result<(), Failure> {
+) -> Result<(), Failure>
+    ensures falls { IsRead S.Store archive.new → IsRead S.Store archive.old }
+    ensures these { OnOk result (IsRead S.Store archive.new → (a : Archive)
+        → KeptFor S.Store archive.old.kept a → DestroysRuns (KeptFor S.Store archive.new.kept)
+        (epoch_day day) (map (λ (r : Run). r.numbers.items) runs.now) a) }
+{
     for run in runs {
         destroy_run(rt, archive, certificates, run, day)?;
     }
