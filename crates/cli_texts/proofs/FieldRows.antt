@@ -31,13 +31,6 @@ semicolon = refl
 comma : style_for (codes "1" ∷ codes "a, b" ∷ []) ≡ Necessary
 comma = refl
 
-two_holds : spaced (codes "audit" ∷ codes "later" ∷ []) ≡ codes "audit later"
-two_holds = refl
-
--- a line feed in a name
-escaped_hold : spaced ((97 ∷ 10 ∷ []) ∷ []) ≡ codes "a\\n"
-escaped_hold = refl
-
 no_hold : spaced [] ≡ []
 no_hold = refl
 
