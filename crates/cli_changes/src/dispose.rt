@@ -64,15 +64,17 @@ fn title_beside<'s>(seals: &'s Seals, destroyed: &Destroyed) -> Option<ClassTitl
     seals.titles().of_class(destroyed.entry.path.as_slice())
 }
 
-/// What is certified of a record that is about to be destroyed, with the digits of its message's sum, at a moment. The title of
-/// its class is the one that the history gives it. Where the message is not the one that was captured, it has that one too.
+/// What is certified of a record that is about to be destroyed, with the title of its class and the digits of its message's sum,
+/// at a moment. Where the message is not the one that was captured, it has that one too.
 fn facts_of<'d>(
     seals: &'d Seals,
     destroyed: &'d Destroyed,
+    title: Option<ClassTitle<'d>>,
     sum: &'d str,
     moment: u64,
 ) -> Certificate<'d>
-    ensures { Certifies destroyed.now seals.now sum.now moment result }
+    ensures { option_map title_seen title.entry ≡ title_for seals.now.titles destroyed.now.entry
+        → Certifies destroyed.now seals.now sum.now moment result }
 {
     let entry = &destroyed.entry;
     let octets = destroyed.octets as u64;
@@ -80,7 +82,7 @@ fn facts_of<'d>(
     Certificate {
         number: entry.number,
         path: entry.path.as_slice(),
-        title: title_beside(seals, destroyed),
+        title,
         due: entry.due,
         octets: destroyed.octets,
         sum,
@@ -96,7 +98,8 @@ fn certificate_of(rt: &HostRuntime, seals: &Seals, destroyed: &Destroyed) -> Res
     ensures { IfOk result (λ line. IsCertificateLine destroyed.now seals.now line) }
 {
     let sum = sum_text(rt.alloc(), destroyed.sum.as_slice())?;
-    let facts = facts_of(seals, destroyed, sum.as_str(), now(rt)?);
+    let title = title_beside(seals, destroyed);
+    let facts = facts_of(seals, destroyed, title, sum.as_str(), now(rt)?);
     Ok(certificate_line(rt.alloc(), &facts)?)
 }
 

@@ -267,22 +267,35 @@ struct Printing<'n> {
 }
 
 impl<'n> Printing<'n> {
-    /// What is known beside the event that was judged last, which destroys a record. Where something stands against an event, no
-    /// record is known to have kept a message.
-    fn beside<'e>(&'e self, entry: Option<&'e RecordEntry>) -> Beside<'e>
-        ensures { option_map title_seen result.title ≡ title_beside self.now.titles entry.entry }
-    {
-        let kept_by = match entry {
+    /// The live record that keeps the message of a record, up to the event that was judged last. Where something stands against an
+    /// event, no record is known to have kept a message.
+    fn keeper_of(&self, entry: Option<&RecordEntry>) -> Option<u32> {
+        match entry {
             Some(entry) if self.watch.is_sound() => {
                 keeper_in(self.watch.archive(), entry.message)
             }
             _ => None,
-        };
-        Beside {
-            entry,
-            title: title_of_class(&self.titles, entry),
-            kept_by,
         }
+    }
+
+    /// The certificate of the event that was judged last, with what is known beside it; none where it destroys no record.
+    fn text_of(
+        &self,
+        alloc: Global,
+        row: &EventRow,
+        event: &Event<'_>,
+        entry: Option<&RecordEntry>,
+    ) -> Result<Option<Shown>, AllocError>
+        requires { IsSpelledDeed (deed_view event.now.deed) }
+    {
+        let title = title_of_class(&self.titles, entry);
+        let kept_by = self.keeper_of(entry);
+        let beside = Beside {
+            entry,
+            title,
+            kept_by,
+        };
+        certificate_of(alloc, row, event, beside, &self.messages)
     }
 
     /// Prints the certificate of an event, where it destroys a record that is asked for.
@@ -302,8 +315,7 @@ impl<'n> Printing<'n> {
         self.missing.meet(&event.deed)?;
         self.told.insert(number)?;
         let entry = entry_of(rt, noted, number)?;
-        let beside = self.beside(entry.as_ref());
-        match certificate_of(rt.alloc(), row, &event, beside, &self.messages)? {
+        match self.text_of(rt.alloc(), row, &event, entry.as_ref())? {
             Some(text) => write_text(rt, &text),
             None => Ok(()),
         }
