@@ -1,18 +1,21 @@
 //! `report`: one page of HTML on what is kept, what is due and what is held.
 
-ghost use Rattle.std.specs.Prelude.{◌≡◌, ◌++◌, flat_map, OnOk};
-ghost use Rattle.cli_page.specs.Seeing.{listed_numbers, report_day};
-ghost use Rattle.cli_readings.specs.Reports.{due_number, IsRecordOf};
+ghost use Rattle.std.specs.Prelude.{OnOk, refl};
+ghost use Rattle.record_archive.specs.Archive.{Archive};
+ghost use Rattle.record_choice.specs.Reads.{OnlyReads};
+ghost use Rattle.cli_console.specs.Finds.{IsBounded, TakesThese, found_ahead};
+ghost use Rattle.cli_readings.specs.Reports.{IsRecordOf, Reports, more_reported};
 
 use crate::conditions::conditions_of;
 use class_plan::{Date, Plan};
 use cli_choice::Questions;
-use cli_console::{Failure, Search, Status, is_by, message_of, now, today, write_data};
+use cli_console::{Failure, Reader, Search, Status, is_by, message_of, now, today, write_data};
 use cli_history::Titles;
 use cli_page::{Heading, Page, Record, Report, ReportFault};
 use cli_texts::{Headers, ListedTitle, headers_of, moment_text};
 use command_lines::archives::Choice;
-use record_store::{RecordEntry, Store};
+use record_choice::Repository;
+use record_store::{RecordEntry, Store, StoreFault};
 use sqlite::Alter;
 
 /// The failure of a report.
@@ -41,12 +44,14 @@ pub fn record_of(entry: &RecordEntry) -> Record<'_>
 }
 
 /// What the header of a record's message says, where the record is live and due by a day.
-fn headers_of_due<S: Alter>(
+fn headers_of_due<R: Repository<Fault = StoreFault>>(
     rt: &HostRuntime,
-    archive: &mut Store<S>,
+    archive: &mut R,
     entry: &RecordEntry,
     day: Date,
-) -> Result<Option<Headers>, Failure> {
+) -> Result<Option<Headers>, Failure>
+    ensures { OnlyReads R.clean R.stands archive.old archive.new }
+{
     if entry.destroyed || !is_by(entry.due, day) {
         return Ok(None);
     }
@@ -54,41 +59,57 @@ fn headers_of_due<S: Alter>(
     Ok(Some(headers_of(rt.alloc(), message.as_slice())?))
 }
 
-/// Adds the records of a page of the archive to a report by a day.
-fn add_page<S: Alter>(
-    rt: &HostRuntime,
-    archive: &mut Store<S>,
-    report: &mut Report,
-    page: &[RecordEntry],
+/// A report by a day to which records are added.
+#[derive(Drop)]
+struct Reporting<'a> {
+    rt: &'a HostRuntime,
+    report: Report,
     day: Date,
-) -> Result<(), Failure>
-    ensures { OnOk result (listed_numbers report.new
-        ≡ listed_numbers report.old ++ flat_map (due_number (report_day report.old)) page.now) }
-{
-    for entry in page {
-        let headers = headers_of_due(rt, archive, entry, day)?;
-        report
-            .add(archive.plan(), &record_of(entry), headers.as_ref())
-            .map_err(|fault| report_failure(rt, fault))?;
-    }
-    Ok(())
 }
 
-/// Adds the records that are found, a page at a time.
-fn add_records<S: Alter>(
-    rt: &HostRuntime,
-    archive: &mut Store<S>,
-    report: &mut Report,
-    search: &mut Search<'_, '_>,
-    day: Date,
-) -> Result<(), Failure> {
-    for _ in 0..u64::MAX {
-        let Some(page) = search.next_page(rt, archive)? else {
-            break;
-        };
-        add_page(rt, archive, report, page.as_slice(), day)?;
+impl Reader for Reporting<'_> {
+    ghost takes = { λ old a es new. Reports a.plan old.report es new.report };
+
+    fn take<R: Repository<Fault = StoreFault>>(
+        &mut self,
+        archive: &mut R,
+        entry: &RecordEntry,
+        _headers: Option<&Headers>,
+    ) -> Result<(), Failure> {
+        let headers = headers_of_due(self.rt, archive, entry, self.day)?;
+        match self
+            .report
+            .add(archive.plan(), &record_of(entry), headers.as_ref())
+        {
+            Ok(()) => Ok(()),
+            Err(fault) => Err(report_failure(self.rt, fault)),
+        }
     }
-    Ok(())
+
+    fn rest(&mut self) -> Result<(), Failure> {
+        Ok(())
+    }
+
+    ghost takes_none = { λ reporting a. refl };
+
+    ghost takes_more = { λ x y z a es fs one other.
+        more_reported a.plan x.report y.report z.report es fs one other };
+}
+
+/// Adds the records that are found to a report by a day.
+fn report_of<R: Repository<Fault = StoreFault>>(
+    rt: &HostRuntime,
+    archive: &mut R,
+    search: &mut Search<'_, '_>,
+    reporting: &mut Reporting<'_>,
+) -> Result<(), Failure>
+    requires { IsBounded search.old }
+    ensures reads { OnlyReads R.clean R.stands archive.old archive.new }
+    ensures reported { OnOk result (R.clean archive.new → (a : Archive) → R.stands archive.old a
+        → TakesThese (λ old b es new. Reports b.plan old.report es new.report) reporting.old a
+        (found_ahead search.old a) reporting.new) }
+{
+    search.read_found(rt, archive, reporting)
 }
 
 /// What stands at the head of a report.
@@ -149,11 +170,20 @@ pub fn write_report<S: Alter>(
     questions: &Questions,
 ) -> Result<(), Failure> {
     let mut search = Search::new(rt, archive, choice, questions)?;
-    let mut report = Report::new(rt.alloc(), archive.plan(), day).map_err(|fault| report_failure(
+    let report = Report::new(rt.alloc(), archive.plan(), day).map_err(|fault| report_failure(
         rt, fault,
     ))?;
-    add_records(rt, archive, &mut report, &mut search, day)?;
+    let mut reporting = Reporting { rt, report, day };
+    report_of(rt, archive, &mut search, &mut reporting)?;
     let titles = Titles::of(rt, archive)?;
-    write_page(rt, archive.plan(), &report, file, day, choice, &titles)?;
+    write_page(
+        rt,
+        archive.plan(),
+        &reporting.report,
+        file,
+        day,
+        choice,
+        &titles,
+    )?;
     search.end(rt, archive)
 }
