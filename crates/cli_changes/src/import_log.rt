@@ -212,7 +212,8 @@ pub(crate) fn undated_words(
     let mut text = Shown::new(alloc);
     match dated {
         Dated::NoField => put!(text; "it has no " words(field) " field")?,
-        Dated::NoDate => put!(text; "its " words(field) " field has no date of RFC 5322 from 1970 on")?,
+        Dated::NoDate =>
+            put!(text; "its " words(field) " field has no date of RFC 5322 from 1970 on")?,
         Dated::Moment(_) | Dated::ToCome(_) => {
             put!(text; "the date of its " words(field) " field is later than now")?;
         }
