@@ -1,6 +1,6 @@
 -- Records in runs, and what is noted of them.
-use Rattle.std.proofs.Common.{◌≡◌, ◌∙◌, ◌+◌, ◌++◌, ◌∷◌, [], ℕ, zero, suc, Bool, true, false, refl, cond, List, length, Option, Some, None, option_map, Result, Ok, Err}
-use Rattle.std.proofs.Common.{sym, ap, arith, append_assoc, append-nil}
+use Rattle.std.proofs.Common.{◌≡◌, ◌∙◌, ◌+◌, ◌++◌, ◌∷◌, [], ℕ, zero, suc, Bool, true, false, List, length, Option, Some, None}
+use Rattle.std.proofs.Common.{Result, Ok, Err, refl, cond, option_map, sym, ap, arith, append_assoc, append-nil}
 use Rattle.std.specs.List.{AllByRecursion}
 use Rattle.std.specs.Prelude.{slice_index_or, slice_set}
 use Rattle.record_archive.specs.Archive.{Archive, Record, record_at, message, message_one, body_of}

@@ -6,14 +6,14 @@ use Rattle.cli_texts.specs.Moments.{IsMomentText}
 use Rattle.cli_texts.specs.Sums.{digits_of_sum}
 use Rattle.cli_texts.specs.declared.certificates.Certificate.{Certificate}
 use Rattle.cli_history.specs.Titles.{title_seen, title_for}
-use Rattle.cli_history.specs.declared.seals.Seals.{Seals}
+use Rattle.cli_history.specs.declared.titles.Titles.{Titles}
 
 -- WHAT IS CERTIFIED of a record, but for the message that was captured, where its own is another one: the record as it was listed,
 -- the title of its class by the history, its message with the digits of its sum, and which record keeps that
-pub record Certifies (d : Destroyed) (seals : Seals) (digits : List ℕ) (at : ℕ) (c : Certificate) : Type 0 where
+pub record Certifies (d : Destroyed) (titles : Titles) (digits : List ℕ) (at : ℕ) (c : Certificate) : Type 0 where
   pub number : c.number ≡ d.entry.number
   pub path : c.path.now ≡ d.entry.path.items
-  pub title : option_map title_seen c.title ≡ title_for seals.titles d.entry
+  pub title : option_map title_seen c.title ≡ title_for titles d.entry
   pub due : c.due ≡ d.entry.due
   pub octets : c.octets ≡ d.octets
   pub sum : c.sum.now ≡ digits
@@ -21,7 +21,7 @@ pub record Certifies (d : Destroyed) (seals : Seals) (digits : List ℕ) (at : �
   pub kept_by : c.kept_by ≡ d.kept_by
 
 -- THE LINE OF A CERTIFICATE that is made out at some moment
-abbrev pub IsCertificateLine : Destroyed → Seals → List ℕ → Type 0
-IsCertificateLine d seals line =
-    (c : Certificate) × (text : List ℕ) × Certifies d seals (digits_of_sum d.sum) c.moment c × IsMomentText c.moment text
+abbrev pub IsCertificateLine : Destroyed → Titles → List ℕ → Type 0
+IsCertificateLine d titles line =
+    (c : Certificate) × (text : List ℕ) × Certifies d titles (digits_of_sum d.sum) c.moment c × IsMomentText c.moment text
     × (line ≡ certificate c text)

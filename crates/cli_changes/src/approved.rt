@@ -118,7 +118,8 @@ fn numbers_of(alloc: Global, words: &[&[u8]]) -> Result<Vec<TypedNumbers>, NoNum
 /// The numbers in a text, of which there is one at least.
 fn numbers_in(alloc: Global, text: &[u8]) -> Result<Vec<TypedNumbers>, NoNumbers>
     ensures any { IfOk result (λ v. 0 < length v.items) }
-    ensures numbers { IfOk result (λ v. map Some v.items ≡ map numbers_typed (file_words text.now)) }
+    ensures numbers { IfOk result (λ v. map Some v.items ≡
+        map numbers_typed (file_words text.now)) }
     ensures refused { IfErr result (IsRefused (file_words text.now)) }
 {
     let words = words_of(alloc, text)?;

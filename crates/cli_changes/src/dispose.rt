@@ -5,6 +5,7 @@ ghost use Rattle.jiff.specs.Words.{epoch_day};
 ghost use Rattle.record_archive.specs.Archive.{Archive};
 ghost use Rattle.record_ledger.specs.Ledgers.{KeptFor};
 ghost use Rattle.cli_history.specs.Titles.{title_seen, title_for};
+ghost use Rattle.cli_history.specs.declared.titles.Titles.{Titles};
 ghost use Rattle.cli_changes.specs.Certificates.{Certifies, IsCertificateLine};
 ghost use Rattle.cli_changes.specs.Destructions.{DestroysAsked, DestroysRuns, IsRead, fate_asked};
 
@@ -64,21 +65,20 @@ fn title_beside<'s>(seals: &'s Seals, destroyed: &Destroyed) -> Option<ClassTitl
     seals.titles().of_class(destroyed.entry.path.as_slice())
 }
 
-/// What is certified of a record that is about to be destroyed, with the title of its class and the digits of its message's sum,
-/// at a moment. Where the message is not the one that was captured, it has that one too.
+/// What is certified of a record that is about to be destroyed, with the title of its class, the message that was captured, where
+/// its own is another one, and the digits of its message's sum, at a moment.
 fn facts_of<'d>(
-    seals: &'d Seals,
     destroyed: &'d Destroyed,
     title: Option<ClassTitle<'d>>,
+    captured: Option<CapturedMessage<'d>>,
     sum: &'d str,
     moment: u64,
 ) -> Certificate<'d>
-    ensures { option_map title_seen title.entry ≡ title_for seals.now.titles destroyed.now.entry
-        → Certifies destroyed.now seals.now sum.now moment result }
+    ensures { (titles : Titles) → option_map title_seen title.entry ≡
+        title_for titles destroyed.now.entry
+        → Certifies destroyed.now titles sum.now moment result }
 {
     let entry = &destroyed.entry;
-    let octets = destroyed.octets as u64;
-    let fidelity = seals.fidelity(entry.message, octets, sum.as_bytes());
     Certificate {
         number: entry.number,
         path: entry.path.as_slice(),
@@ -88,18 +88,21 @@ fn facts_of<'d>(
         sum,
         moment,
         kept_by: destroyed.kept_by,
-        captured: captured_beside(seals, entry.message, fidelity),
+        captured,
     }
 }
 
 /// The certificate of a record that is about to be destroyed. Where the message is not the one that was captured, it says so,
 /// and which one that was.
 fn certificate_of(rt: &HostRuntime, seals: &Seals, destroyed: &Destroyed) -> Result<Shown, Failure>
-    ensures { IfOk result (λ line. IsCertificateLine destroyed.now seals.now line) }
+    ensures { IfOk result (λ line. IsCertificateLine destroyed.now seals.now.titles line) }
 {
+    let message = destroyed.entry.message;
     let sum = sum_text(rt.alloc(), destroyed.sum.as_slice())?;
+    let fidelity = seals.fidelity(message, destroyed.octets as u64, sum.as_bytes());
     let title = title_beside(seals, destroyed);
-    let facts = facts_of(seals, destroyed, title, sum.as_str(), now(rt)?);
+    let captured = captured_beside(seals, message, fidelity);
+    let facts = facts_of(destroyed, title, captured, sum.as_str(), now(rt)?);
     Ok(certificate_line(rt.alloc(), &facts)?)
 }
 

@@ -8,7 +8,8 @@ use Rattle.std.proofs.lemmas.Bool.Decides.{nat_tests}
 use Rattle.std.proofs.lemmas.List.{append_assoc, append-nil, map-append}
 use Rattle.std.proofs.lemmas.List.Elements.{recursion_from_All}
 use Rattle.record_archive.specs.Archive.{Archive, Record, IsArchive, IsRecord}
-use Rattle.record_choice.specs.Choices.{Choice, Question, Span, where_asked, is_in, is_within, is_as, is_when, is_yes, message_of, meets_asked, chosen}
+use Rattle.record_choice.specs.Choices.{Choice, Question, Span, where_asked, is_in, is_within, is_as, is_when, is_yes}
+use Rattle.record_choice.specs.Choices.{message_of, meets_asked, chosen}
 use Rattle.record_choice.specs.Entries.{RecordEntry, entry_of, entry_view}
 use Rattle.record_choice.specs.Views.{choice_view}
 use Rattle.record_choice.specs.Walks.{chosen_after, IsPageOf}

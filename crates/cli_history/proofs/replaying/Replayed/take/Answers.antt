@@ -12,7 +12,11 @@ returns c = λ purpose ls so_far.
     let rest = c.keep_seal.ensures.rest in
     let judge = ap (λ (r : Replayed). r.judge) rest in
     let line = ap (λ (l : List ℕ). ls ++ l ∷ []) c.as_slice.ensures.value in
-    replays_more purpose c.args.self.now c.keep_seal.new.self ls c.args.row.now.line.items c.args.row.now.number (event_view c.in_ok-event.event) so_far
-    (subst (λ (lines : List (List ℕ)). Judges c.keep_seal.new.self.judge lines) line (subst (λ (j : Judge). Judges j (ls ++ c.as_slice.result.now ∷ [])) (sym judge) taken.0)) taken.1.0
+    let judged = c.keep_seal.new.self.judge in
+    let row = c.args.row.now in
+    let told = subst (λ (j : Judge). Judges j (ls ++ c.as_slice.result.now ∷ [])) (sym judge) taken.0 in
+    let judges = subst (λ (lines : List (List ℕ)). Judges judged lines) line told in
+    replays_more purpose c.args.self.now c.keep_seal.new.self ls row.line.items row.number (event_view c.in_ok-event.event) so_far
+    judges taken.1.0
     c.in_ok-event.ensures.told (ap (λ (r : Replayed). r.findings.stage) rest ∙ c.take.ensures)
     (ap (λ (r : Replayed). r.requires_reasons) rest ∙ c.requires_after-self.ensures) c.in_ok-keep_seal.ensures.seals
