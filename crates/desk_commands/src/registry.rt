@@ -77,10 +77,10 @@ pub trait Registry {
     /// What a script captures a message in: a dry run that stores nothing. Refused in this order: by the script's text
     /// (10 to 16, 20, 21), by the check (30 to 41), and for a message of more than 8,388,608 octets (95). The script
     /// can include the global scripts, and no others. A script that is too heavy has the outcome fault 5.
-    fn file(&self, script: &Payload, message: &Payload) -> Result<Outcome, DeskFault>
-        ensures { CallsWithTwo keeper self.now (greatest_script, greatest_message)
+    fn file(&mut self, script: &Payload, message: &Payload) -> Result<Outcome, DeskFault>
+        ensures { CallsWithTwo keeper self.old (greatest_script, greatest_message)
             script.now message.now (λ s m. commands.plain (office.file s m))
-            (answer_of_outcome result) self.now };
+            (answer_of_outcome result) self.new };
 
     /// What an image captures a message in: a dry run that stores nothing. Refused in this order: by the image's length
     /// (61 for more than 16,777,216 octets), its form (60), its code (62 to 66), and for a message of more than

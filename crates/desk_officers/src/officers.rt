@@ -1,14 +1,16 @@
 //! The officers, and the scripts that they share.
 
-ghost use Rattle.std.specs.Prelude.{◌≡◌, ◌↔◌, ◌⊎◌, Err, IfErr, IfOk, OnErr, OnOk, false, is_some, true};
+ghost use Rattle.std.specs.Prelude.{◌≡◌, ◌↔◌, ◌⊎◌, Err, IfErr, IfOk, IfSome, OnErr, OnOk, false, is_some, true};
 ghost use Rattle.filing_verify.specs.Well.{IsWell};
 ghost use Rattle.record_archive.specs.Archive.{Archive};
 ghost use Rattle.desk_commands.specs.Office.{opening_office, with_active};
 ghost use Rattle.desk_commands.specs.Pinning.{image, no_program, script_named};
 ghost use Rattle.desk_commands.specs.Scripts.{HasNoRoom, meanings_of, script_at};
 ghost use Rattle.desk_commands.specs.declared.fault.DeskFault.TheVariants.{LibraryFull, NoMemory, NoScript};
+ghost use Rattle.desk_officers.specs.Filed.{IsImageNow};
 ghost use Rattle.desk_officers.specs.Register.{PinsFor, with_own_script, meaning_of, office_of, officer_at, with_global_script};
 
+use crate::filed::FiledScript;
 use crate::profile::{Active, Profile, put_on};
 use crate::profiles::{clear, has_script, pin, put_script, set};
 use desk_commands::DeskFault;
@@ -22,12 +24,16 @@ use std::rc::Rc;
 
 /// The global scripts, and what each officer has set. An officer who has set nothing has no program and no script.
 /// Names are compared octet by octet. Each call takes time logarithmic in the number of officers.
+///
+/// Images that are kept are no part of what contracts see.
 #[derive(Drop)]
 pub struct Officers {
     alloc: Global,
     globals: Shelf,
     edition: u64,
     profiles: BTreeMap<Vec<u8>, Profile>,
+    /// The script that a message was last filed by, until a global script is set.
+    filed: Option<FiledScript>,
 }
 
 impl Model for Officers {
@@ -39,11 +45,13 @@ impl Model for Officers {
     ghost coded = { register_code };
 
     ghost use Rattle.desk_officers.specs.Current.{AllKeepCurrent};
+    ghost use Rattle.desk_officers.specs.Filed.{KeepsImageNow};
     ghost use Rattle.desk_officers.specs.Profiles.{settings_in};
 
     ghost view = { λ o. record { globals = o.globals; officers = settings_in o.profiles.entries } };
 
-    ghost invariant = { λ o. AllKeepCurrent o.edition o.globals o.profiles.entries };
+    ghost invariant = { λ o. AllKeepCurrent o.edition o.globals o.profiles.entries
+        × KeepsImageNow o.globals o.filed };
 }
 
 impl Officers {
@@ -56,6 +64,7 @@ impl Officers {
             globals: Shelf::new(alloc),
             edition: 0,
             profiles: BTreeMap::new(alloc),
+            filed: None,
         }
     }
 
@@ -81,6 +90,7 @@ impl Officers {
         let script = Rc::new(self.alloc, script)?;
         put_on(&mut self.globals, name, script)?;
         self.edition = self.edition.saturating_add(1);
+        self.filed = None;
         Ok(())
     }
 
@@ -180,5 +190,35 @@ impl Officers {
         )?;
         let _image = program.image();
         Ok(program)
+    }
+
+    /// The image of a script that belongs to no officer, by its octets, where it is kept: a message was last filed by
+    /// it, and no global script was set since. It is what compiling these octets now would answer.
+    pub fn filed_image(&self, text: &[u8]) -> Option<&Verified>
+        ensures { IfSome result (λ v. IsImageNow self.now.globals text.now v.now) }
+    {
+        match &self.filed {
+            Some(filed) if filed.text.as_slice() == text => Some(&filed.image),
+            _ => None,
+        }
+    }
+
+    /// Keeps the image of a script that belongs to no officer, in the place of the one that was kept. Where there is no
+    /// memory for its octets, none is kept.
+    pub fn keep_filed(&mut self, text: &[u8], image: Verified)
+        requires { IsImageNow self.old.globals text.now image }
+        ensures { self.new ≡ self.old }
+    {
+        self.filed = match Vec::from_slice(self.alloc, text) {
+            Ok(text) => Some(FiledScript { text, image }),
+            Err(_) => None,
+        };
+    }
+
+    /// Drops the image of a script that belongs to no officer, and gives its memory back.
+    pub fn drop_filed(&mut self)
+        ensures { self.new ≡ self.old }
+    {
+        self.filed = None;
     }
 }

@@ -6,13 +6,13 @@ use Rattle.std.proofs.lemmas.Bool.{false≢true}
 use Rattle.sieve_syntax.specs.Tree.{CommandTrees}
 use Rattle.sieve_meaning.specs.declared.outcome.Outcome.{Outcome}
 use Rattle.sieve_meaning.specs.Case.{Facts}
+use Rattle.sieve_meaning.specs.Meaning.{Library}
 use Rattle.sieve_meaning.specs.Outcome as meaning
 use Rattle.sieve_meaning.specs.Reading.{program_of}
 use Rattle.class_plan.specs.Plans.{Listing, is_open_in}
 use Rattle.mail_case.specs.Message.{case_of}
 use Rattle.filing_image.specs.Program.{Program}
 use Rattle.filing_table.specs.Ends.{HasOutcome}
-use Rattle.sieve_library.specs.Libraries.{Scripts, library_of}
 use Rattle.record_archive.specs.Archive.{Archive}
 use Rattle.record_archive.specs.Calls.{Keeper}
 use Rattle.record_archive.specs.declared.line.Line.{Line}
@@ -23,15 +23,16 @@ use Rattle.desk_commands.specs.Faults.{refused_by}
 use Rattle.desk_commands.specs.Limits.{greatest_image, greatest_message, greatest_script}
 use Rattle.desk_commands.specs.Office.{Office, PlainCommand, OfficeStep, Refuses, GivesUp, LacksMemory, IsFiled, IsTried, file, try_image}
 use Rattle.desk_commands.specs.Parts.{IsGood, IsGoodImage, RefusesImage, RefusesScript}
-use Rattle.desk_commands.specs.Scripts.{library}
+use Rattle.desk_commands.specs.Scripts.{library, meanings_of}
 use Rattle.desk_commands.specs.Standing.{Standing, is_refusal, plain}
 use Rattle.desk_commands.specs.CallAnswers.{answer_of_lines, answer_of_outcome}
 use Rattle.desk_commands.specs.declared.fault.DeskFault.{DeskFault}
 use Rattle.desk_commands.specs.declared.fault.DeskFault.TheVariants.{NoMemory}
+use Rattle.desk_officers.specs.Register.{Register}
+use Rattle.filing_desk.specs.DryRuns.{IsOutcomeOf}
 use Rattle.filing_desk.specs.Judging.{IsFaultOf, IsLongMessage}
 use Rattle.filing_desk.specs.Standing.{StandsFor, desk_keeper}
 use Rattle.filing_desk.specs.declared.desk.Desk.{Desk}
-use Rattle.filing_desk.proofs.ScriptLemmas.{library_meant}
 use Rattle.filing_desk.proofs.StepLemmas.{no_stay, plain_calls, refused_so, untouched}
 
 -- the answer to a fault
@@ -72,24 +73,31 @@ module _ {A : Type 0} (keeper : Keeper A Archive) where
       (untouched keeper desk desk (plain c) refl)
       (λ from_archive other. no_stay keeper desk desk (plain c) a (refused from_archive) other)
 
+  -- the same, where the officers are the same, and are shown anew
+  pub officers_same : (desk : Desk A) (officers : Register) (c : PlainCommand) (a : Answer) → officers ≡ desk.officers
+      → Calls (desk_keeper keeper) desk (plain c) a desk
+      → Calls (desk_keeper keeper) desk (plain c) a (record desk { officers = officers })
+  officers_same desk officers c a same called =
+      let P : Register → Type 0 = λ o. Calls (desk_keeper keeper) desk (plain c) a (record desk { officers = o }) in
+      subst P (sym same) called
+
   -- the outcome of a script with the global scripts of a desk, in a message's case
-  pub file_done : (desk : Desk A) (p : Listing) (lent : Scripts) (tree : CommandTrees) (script message : List ℕ)
-      (facts : Facts) (o : Outcome) → ((s : Standing) → StandsFor keeper desk s → p ≡ s.office.archive.plan)
-      → lent ≡ record { personal = []; global = desk.officers.globals } → IsGood script tree
+  pub file_done : (desk : Desk A) (p : Listing) (script message : List ℕ) (facts : Facts) (o : Outcome)
+      → ((s : Standing) → StandsFor keeper desk s → p ≡ s.office.archive.plan)
       → length message ≤ greatest_message → facts ≡ case_of message (is_open_in p)
-      → o ≡ meaning.outcome facts (library_of lent) None (program_of tree)
+      → IsOutcomeOf desk.officers.globals script facts o
       → Calls (desk_keeper keeper) desk (plain (file script message)) (dry_run o) desk
-  file_done desk p lent tree script message facts o is_plan globals good short case is = unchanged desk (file script message) (dry_run o)
+  file_done desk p script message facts o is_plan short case is = unchanged desk (file script message) (dry_run o)
       (λ e. absurd (false≢true e)) (λ s stands.
-      let main = program_of tree in
+      let main = program_of is.tree in
+      let own : Library = library [] (meanings_of desk.officers.globals) in
       let there : facts ≡ case_of message (is_open_in s.office.archive.plan) = case ∙ ap (λ q. case_of message (is_open_in q)) (is_plan s stands) in
-      let lib : library_of lent ≡ library [] s.office.globals = library_meant lent desk.officers.globals globals
-      ∙ ap (λ o. library [] o.globals) stands.officers in
+      let lib : own ≡ library [] s.office.globals = ap (λ o. library [] o.globals) stands.officers in
       let filed : IsFiled s.office script message o = record {
-        tree = tree;
-        good = good;
+        tree = is.tree;
+        good = is.good;
         short = short;
-        outcome = is ∙ ap (λ f. meaning.outcome f (library_of lent) None main) there
+        outcome = is.outcome ∙ ap (λ f. meaning.outcome f own None main) there
             ∙ ap (λ l. meaning.outcome (case_of message (is_open_in s.office.archive.plan)) l None main) lib;
       } in
       inl (refl, filed))

@@ -1,5 +1,5 @@
 -- Outcomes of scripts, by the runs of their images.
-use Rattle.std.proofs.Common.{◌≡◌, ℕ, List, [], false, Option, Some, sym, refl, ◌∙◌}
+use Rattle.std.proofs.Common.{◌≡◌, ℕ, List, [], false, Option, Some, sym, subst, refl, ◌∙◌}
 use Rattle.std.proofs.lemmas.Bool.{false_from_ne_true}
 use Rattle.std.specs.Prelude.{None, Ok, Err}
 use Rattle.filing_image.specs.Program.{Program}
@@ -12,6 +12,11 @@ use Rattle.sieve_meaning.specs.declared.run_fault.RunFault.TheVariants.{TooHeavy
 use Rattle.sieve_meaning.specs.Meaning.{Library, meaning}
 use Rattle.sieve_meaning.specs.TooHeavy.{is_too_heavy, IsTooHeavy}
 use Rattle.sieve_meaning.specs.Outcome.{outcome, outcome_at, outcome_of}
+use Rattle.sieve_meaning.specs.Reading.{program_of}
+use Rattle.sieve_library.specs.Libraries.{NamedScript}
+use Rattle.desk_commands.specs.Scripts.{library, meanings_of}
+use Rattle.desk_officers.specs.Filed.{IsImageNow}
+use Rattle.filing_desk.specs.DryRuns.{IsOutcomeOf}
 
 pub ok_is_no_fault : {A B : Type 0} (a : A) (b : B) → Ok a ≡ Err b → ⊥
 ok_is_no_fault a b e = cc
@@ -40,3 +45,22 @@ outcome_of_run one_outcome facts lib main p n o compiled light ran =
     let (m, meant) = compiled.outcomes facts in
     one_outcome p facts n m o (outcome_of (meaning facts lib None main)) ran meant
     ∙ sym (light_outcome facts lib None main (false_from_ne_true (is_too_heavy lib None main) light))
+
+-- what a run of the image of a text captures
+pub outcome_of_text : OutcomesAreOne
+    → (globals : List NamedScript) (text : List ℕ) (p : Program) (facts : Facts) (n : ℕ) (o : Outcome)
+    → IsImageNow globals text p → HasOutcome p facts n o → IsOutcomeOf globals text facts o
+outcome_of_text one_outcome globals text p facts n o is ran = record {
+  tree = is.tree;
+  good = is.good;
+  outcome =
+      outcome_of_run one_outcome facts (library [] (meanings_of globals)) (program_of is.tree) p n o is.compiled is.light ran;
+}
+
+-- the same outcome, by equal global scripts and octets
+pub outcome_same : {globals shown : List NamedScript} {text script : List ℕ} {facts : Facts} {o : Outcome}
+    → globals ≡ shown → text ≡ script → IsOutcomeOf globals text facts o → IsOutcomeOf shown script facts o
+outcome_same {globals} {shown} {text} {script} {facts} {o} same_globals same_text is =
+    let P : List NamedScript → Type 0 = λ scripts. IsOutcomeOf scripts script facts o in
+    let Q : List ℕ → Type 0 = λ octets. IsOutcomeOf globals octets facts o in
+    subst P same_globals (subst Q same_text is)

@@ -1,4 +1,5 @@
 pub mod Judging
+pub mod DryRuns
 pub mod Standing
 pub mod Messages
 pub mod Beginning

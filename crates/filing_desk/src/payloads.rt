@@ -22,8 +22,21 @@ use sieve_check::{Checked, check};
 use sieve_text::{ScanRefusal, TextRefusal, parse};
 use std::alloc::Global;
 
-/// The checked script of a text within its limit.
-fn judge_text(alloc: Global, text: &[u8]) -> Result<Checked, DeskFault>
+/// The text of a script's payload. Refused with 15 where it is over its limit.
+pub fn script_text(script: &Payload) -> Result<&[u8], DeskFault>
+    ensures short { IfOk result (λ text. length text.now ≤ greatest_script) }
+    ensures text { (s : List ℕ) → IsOf greatest_script script.now s
+        → IfOk result (λ text. text.now ≡ s) }
+    ensures refused { (s : List ℕ) → IsOf greatest_script script.now s →
+        IfErr result (IsFaultOf (RefusesScript s) greatest_script s) }
+{
+    let too_long = TextRefusal::Scan(ScanRefusal::ScriptTooLong);
+    script.octets(MAX_SCRIPT_OCTETS, DeskFault::Text(too_long, 0))
+}
+
+/// The checked script of a text within its limit. Refused with 10 to 16, 20 and 21 as a text, and with 30 to 41 by the
+/// check.
+pub fn judge_text(alloc: Global, text: &[u8]) -> Result<Checked, DeskFault>
     requires { length text.now ≤ greatest_script }
     ensures good { IfOk result (λ c. IsGood text.now (tree_of c.script)) }
     ensures refused { IfErr result (IsFaultOf (RefusesScript text.now) greatest_script text.now) }
@@ -42,11 +55,8 @@ pub fn judge_script(alloc: Global, script: &Payload) -> Result<Checked, DeskFaul
     ensures refused { (s : List ℕ) → IsOf greatest_script script.now s →
         IfErr result (IsFaultOf (RefusesScript s) greatest_script s) }
 {
-    let too_long = TextRefusal::Scan(ScanRefusal::ScriptTooLong);
-    match script.octets(MAX_SCRIPT_OCTETS, DeskFault::Text(too_long, 0)) {
-        Ok(text) => judge_text(alloc, text),
-        Err(fault) => Err(fault),
-    }
+    let text = script_text(script)?;
+    judge_text(alloc, text)
 }
 
 /// The program of an image within its limit, from its octets.

@@ -3,14 +3,13 @@
 
 use crate::archive::{file_outcome, record_number};
 use crate::desk::Desk;
-use crate::dry_runs::{outcome_of, run_image};
+use crate::dry_runs::{outcome_of, outcome_of_image, run_image};
 use crate::messages::Message;
-use crate::payloads::{judge_image, judge_message, judge_script};
+use crate::payloads::{judge_image, judge_message, judge_script, judge_text, script_text};
 use class_plan::{Date, Plan};
 use desk_commands::{Capture, DeskFault, MAX_PLAN_OCTETS, Payload, Registry, Turn};
 use desk_flights::captures_hold_flights;
 use record_archive::{Line, Records};
-use sieve_library::{Shelf, Shelves};
 use sieve_meaning::Outcome;
 
 impl<A: Records> Registry for Desk<A> {
@@ -59,16 +58,17 @@ impl<A: Records> Registry for Desk<A> {
         Ok(())
     }
 
-    fn file(&self, script: &Payload, message: &Payload) -> Result<Outcome, DeskFault> {
-        let checked = judge_script(self.alloc, script)?;
+    fn file(&mut self, script: &Payload, message: &Payload) -> Result<Outcome, DeskFault> {
+        let text = script_text(script)?;
+        if let Some(image) = self.officers.filed_image(text) {
+            let case = judge_message(self.alloc, self.store.plan(), message)?;
+            let outcome = outcome_of_image(self.alloc, image, &case)?;
+            return Ok(outcome);
+        }
+        self.officers.drop_filed();
+        let checked = judge_text(self.alloc, text)?;
         let case = judge_message(self.alloc, self.store.plan(), message)?;
-        // A dry run has no officer, so no personal scripts.
-        let personal = Shelf::new(self.alloc);
-        let shelves = Shelves {
-            personal: &personal,
-            global: self.officers.globals(),
-        };
-        let outcome = outcome_of(self.alloc, &case, &checked, shelves)?;
+        let outcome = outcome_of(self.alloc, &mut self.officers, text, &checked, &case)?;
         Ok(outcome)
     }
 

@@ -126,13 +126,13 @@ pub fn do_one<R: Registry>(registry: &mut R, command: OnePayload<'_>, payload: P
 
 /// Executes a command with two payloads.
 pub fn do_two<R: Registry>(
-    registry: &R,
+    registry: &mut R,
     command: TwoPayloads,
     first: &Payload,
     second: &Payload,
 ) -> Reply
-    ensures { CallsWithTwo R.keeper registry.now (two_limits command) first.now second.now
-        (two_command command) (answer_of result) registry.now }
+    ensures { CallsWithTwo R.keeper registry.old (two_limits command) first.now second.now
+        (two_command command) (answer_of result) registry.new }
 {
     match command {
         TwoPayloads::File => reply_of_outcome(registry.file(first, second)),

@@ -66,13 +66,14 @@ fn answer_one<S: Source, R: Registry>(
 fn answer_two<S: Source, R: Registry>(
     alloc: Global,
     source: &mut S,
-    registry: &R,
+    registry: &mut R,
     command: TwoPayloads,
     sizes: (usize, usize),
 ) -> Result<Reaction, ReadFault>
-    ensures reaction { IfOk result (λ a. Answers S.tells (Calls R.keeper) registry.now
+    ensures reaction { IfOk result (λ a. Answers S.tells (Calls R.keeper) registry.old
         (with_payloads sizes.0 sizes.1 (two_command command) (S.left source.old)) a
-        registry.now (S.left source.new)) }
+        registry.new (S.left source.new)) }
+    ensures same { OnErr result (registry.new ≡ registry.old) }
     ensures ends { TellsEnd (SaysEnd result) (S.ends source.old) (S.ends source.new) }
     ensures troubles { TellsTroubles S.troubles result source.old source.new }
 {
