@@ -2,4 +2,9 @@ pub mod FindingLemmas
 mod FindingRows
 mod Rows
 pub mod TitleLemmas
+pub mod WalkLemmas
+pub mod EntryLemmas
 pub mod ReplayLemmas
+pub mod TellingLemmas
+pub mod JudgementLemmas
+pub mod OpeningLemmas

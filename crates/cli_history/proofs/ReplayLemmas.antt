@@ -1,10 +1,13 @@
 -- A history that is done again, an event at a time and a page at a time.
 use Rattle.std.proofs.Common.{◌≡◌, ◌+◌, ◌<◌, ◌≤◌, ◌++◌, ◌∷◌, ◌∙◌, [], ℕ, List, Bool, false, map, take, get_or, length, is_some}
 use Rattle.std.proofs.Common.{Option, Some, None, IfSome, refl, ap, ap₂, sym, subst, arith}
-use Rattle.std.proofs.lemmas.List.{append_assoc, append-nil, length-map, map-append, take_all, take_more}
+use Rattle.std.proofs.lemmas.List.{length-map, map-append}
+use Rattle.record_tables.specs.Events.{Event as Row}
+use Rattle.record_reads.specs.Events.{event_of}
 use Rattle.record_reads.specs.declared.events.EventRow.{EventRow}
 use Rattle.record_history.specs.Events.{Deed, Event, Seal}
 use Rattle.record_judge.specs.Judging.{Judges}
+use Rattle.record_noted.specs.Histories.{rows_of}
 use Rattle.cli_history.specs.Findings.{stage_after, stage_from}
 use Rattle.cli_history.specs.Reasons.{are_required}
 use Rattle.cli_history.specs.Replays.{AreSeals, Replays, Tell, required_after, sealed_in, told_by}
@@ -13,8 +16,9 @@ use Rattle.cli_history.specs.declared.findings.Stage.{Stage}
 use Rattle.cli_history.specs.declared.opening.Purpose.{Purpose}
 use Rattle.cli_history.specs.declared.replaying.Replayed.{Replayed}
 use Rattle.cli_history.specs.declared.seals.Seals.{Seals}
+use Rattle.cli_history.proofs.WalkLemmas.{all_of_page, lines_joined, lines_of_rows, more_of_page, none_of_page}
 
-stage_more : (s : Stage) (es : List Event) (e : Event) → stage_from s (es ++ e ∷ []) ≡ stage_after (stage_from s es) e
+pub stage_more : (s : Stage) (es : List Event) (e : Event) → stage_from s (es ++ e ∷ []) ≡ stage_after (stage_from s es) e
 stage_more s [] e = refl
 stage_more s (f ∷ es) e = stage_more (stage_after s f) es e
 
@@ -22,11 +26,11 @@ required_more : (b : Bool) (es : List Event) (e : Event) → required_after b (e
 required_more b [] e = refl
 required_more b (f ∷ es) e = required_more (are_required b f.deed) es e
 
-later_none : {X : Type 0} (a : Option X) → a ≡ later a None
+pub later_none : {X : Type 0} (a : Option X) → a ≡ later a None
 later_none (Some x) = refl
 later_none None = refl
 
-later_thrice : {X : Type 0} (a b c : Option X) → later (later a b) c ≡ later a (later b c)
+pub later_thrice : {X : Type 0} (a b c : Option X) → later (later a b) c ≡ later a (later b c)
 later_thrice (Some x) b c = refl
 later_thrice None b c = refl
 
@@ -42,7 +46,7 @@ sealed_more n (f ∷ es) e message =
     ∙ later_thrice (sealed_by (n + 1 + length es) e.deed message) (sealed_in (n + 1) es message) first
     ∙ ap (λ k. later (sealed_by k e.deed message) (later (sealed_in (n + 1) es message) first)) there
 
-tell_more : (ls : List (List ℕ)) (l : List ℕ) (es : List Event) (e : Event) → Tell ls es → told_by l ≡ Some e → Tell (ls ++ l ∷ []) (es ++ e ∷ [])
+pub tell_more : (ls : List (List ℕ)) (l : List ℕ) (es : List Event) (e : Event) → Tell ls es → told_by l ≡ Some e → Tell (ls ++ l ∷ []) (es ++ e ∷ [])
 tell_more ls l es e tell is =
     map-append told_by ls (l ∷ []) ∙ ap₂ (λ (xs : List (Option Event)) x. xs ++ x ∷ []) tell is
     ∙ sym (map-append (λ (x : Event). Some x) es (e ∷ []))
@@ -88,20 +92,30 @@ replays_more purpose old new ls l number e so_far judged at is stage reasons kee
 
 pub page_none : (purpose : Purpose) (r : Replayed) (ls : List (List ℕ)) (page : List EventRow) → Replays purpose r ls
     → Replays purpose r (ls ++ map (λ (x : EventRow). x.line.items) (take 0 page))
-page_none purpose r ls page so_far = subst (Replays purpose r) (sym (append-nil ls)) so_far
+page_none purpose r ls page so_far = none_of_page (Replays purpose r) (λ (x : EventRow). x.line.items) ls page so_far
 
 pub page_more : (purpose : Purpose) (r : Replayed) (ls : List (List ℕ)) (page : List EventRow) (i : ℕ) (d : EventRow) → i < length page
     → Replays purpose r ((ls ++ map (λ (x : EventRow). x.line.items) (take i page)) ++ (get_or page i d).line.items ∷ [])
     → Replays purpose r (ls ++ map (λ (x : EventRow). x.line.items) (take (i + 1) page))
-page_more purpose r ls page i d low does =
-    let lines : List EventRow → List (List ℕ) = map (λ (x : EventRow). x.line.items) in
-    let more : lines (take i page) ++ (get_or page i d).line.items ∷ [] ≡ lines (take (i + 1) page) =
-    sym (map-append (λ (x : EventRow). x.line.items) (take i page) (get_or page i d ∷ [])) ∙ ap lines (sym (take_more page i d low)) in
-    subst (Replays purpose r)
-    (append_assoc ls (lines (take i page)) ((get_or page i d).line.items ∷ []) ∙ ap (λ rest. ls ++ rest) more) does
+page_more purpose r ls page i d low does = more_of_page (Replays purpose r) (λ (x : EventRow). x.line.items) ls page i d low does
 
 pub page_whole : (purpose : Purpose) (r : Replayed) (ls : List (List ℕ)) (page : List EventRow) (i : ℕ) → length page ≤ i
     → Replays purpose r (ls ++ map (λ (x : EventRow). x.line.items) (take i page))
     → Replays purpose r (ls ++ map (λ (x : EventRow). x.line.items) page)
-page_whole purpose r ls page i all does =
-    subst (λ (rows : List EventRow). Replays purpose r (ls ++ map (λ (x : EventRow). x.line.items) rows)) (take_all i page all) does
+page_whole purpose r ls page i all does = all_of_page (Replays purpose r) (λ (x : EventRow). x.line.items) ls page i all does
+
+-- ---- the rows of a walk
+
+abbrev pub ReplaysRows : Purpose → Replayed → List Row → Type 0
+ReplaysRows purpose r rows = Replays purpose r (map (λ (row : Row). row.line) rows)
+
+-- one page more
+pub replays_page : (purpose : Purpose) (old new : Replayed) (page : List EventRow)
+    → ((ls : List (List ℕ)) → Replays purpose old ls → Replays purpose new (ls ++ map (λ (row : EventRow). row.line.items) page))
+    → (front : List Row) → ReplaysRows purpose old front → ReplaysRows purpose new (front ++ map event_of page)
+replays_page purpose old new page does front so_far =
+    subst (Replays purpose new) (lines_joined front page) (does (map (λ (row : Row). row.line) front) so_far)
+
+-- the whole history
+pub replays_lines : (purpose : Purpose) (r : Replayed) (ls : List (List ℕ)) → ReplaysRows purpose r (rows_of ls) → Replays purpose r ls
+replays_lines purpose r ls does = subst (Replays purpose r) (lines_of_rows 1 [] ls) does

@@ -1,8 +1,20 @@
 -- What a record of a store has, beside the one that a history makes.
-use Rattle.std.specs.Prelude.{◌≡◌, ℕ, ℤ, pos, Bool, true, List, Option, Some, None}
+use Rattle.std.specs.Prelude.{◌≡◌, ℕ, ℤ, ◌==◌, ◌&&◌, ◌||◌, pos, Bool, true, false, if◌then◌else◌, List, [], length, slice_get}
+use Rattle.std.specs.Prelude.{Option, Some, None, option_and_then, Vec, vec_len}
+use Rattle.std.specs.declared.alloc.Global.{Global}
+use Rattle.std.specs.Borrow.{Bor}
+use Rattle.std.specs.BTreeMap.{get}
+use Rattle.std.specs.List.{list_all, list_any}
+use Rattle.std.specs.Ordering.{nat_cmp}
+use Rattle.std.specs.Str.{bytes_eq}
 use Rattle.jiff.specs.Words.{epoch_day}
 use Rattle.record_choice.specs.declared.entry.RecordEntry.{RecordEntry}
+use Rattle.record_history.specs.Views.{seal_view}
+use Rattle.record_judge.specs.declared.sealed.SealedMessage.{SealedMessage}
 use Rattle.record_judge.specs.declared.sealed.SealedRecord.{SealedRecord}
+use Rattle.cli_history.specs.Stored.{is_stored_as, stored}
+use Rattle.cli_history.specs.declared.comparison.Comparison.{Comparison}
+use Rattle.cli_history.specs.declared.stored.StoredSeals.{StoredSeals}
 
 -- A RECORD BUT FOR ITS HOLDS: the number of its message, the path of its class, the day of its capture, and whether it is
 -- destroyed
@@ -19,7 +31,58 @@ row_had e = record { message = e.message; path = e.path.items; day = epoch_day e
 abbrev pub row_told : SealedRecord → Row
 row_told r = record { message = r.message; path = r.path.items; day = pos r.day; destroyed = r.destroyed }
 
+-- the holds on a record have these names, each another one, and no others
+abbrev pub has_holds : RecordEntry → List (Bor (List ℕ)) → Bool
+has_holds e names = (length e.holds.items == length names)
+    && list_all (λ h. list_any (λ (n : Bor (List ℕ)). bytes_eq h.items n.now) names) e.holds.items
+
 -- A RECORD IS AS IT IS TOLD: the history makes one of its number, with the same row, and the holds are those that are told
 abbrev pub IsAsTold : Option SealedRecord → RecordEntry → (has_holds : Bool) → Type 0
 IsAsTold None e has_holds = ⊥
 IsAsTold (Some r) e has_holds = (row_had e ≡ row_told r) × (has_holds ≡ true)
+
+-- ---- a comparison
+
+-- the record of a number that the history makes, if it makes one that was not met yet
+abbrev pub record_told : Comparison → ℕ → Option SealedRecord
+record_told c n = option_and_then (λ place. slice_get c.made.now.records.items place) (get nat_cmp c.records n)
+
+-- the names of the holds on the record of a number, as the history tells them
+abbrev pub names_in : Option (Vec (Bor (List ℕ)) Global) → List (Bor (List ℕ))
+names_in None = []
+names_in (Some names) = names.items
+
+-- THE RECORD IS AS THE HISTORY TELLS, by what was not met yet
+abbrev pub IsAsMade : Comparison → RecordEntry → Type 0
+IsAsMade c e = IsAsTold (record_told c e.number) e (has_holds e (names_in (get nat_cmp c.held e.number)))
+
+-- the message of a number that the history tells, if it tells one
+abbrev pub message_made : Comparison → ℕ → Option SealedMessage
+message_made c n = option_and_then (λ place. slice_get c.made.now.messages.items place) (get nat_cmp c.messages n)
+
+abbrev pub has_seal_of : Option SealedMessage → Option StoredSeals → ℕ → Bool
+has_seal_of told None message = true
+has_seal_of None (Some seals) message = false
+has_seal_of (Some m) (Some seals) message = is_stored_as (seal_view m.seal) (stored seals message)
+
+-- THE MESSAGE OF A RECORD is the one that the history tells, where messages are compared and the record is live
+abbrev pub is_message_made : Comparison → RecordEntry → Bool
+is_message_made c e = e.destroyed || has_seal_of (message_made c e.message) c.stored e.message
+
+-- nothing differs so far, and the plan is that of the history
+abbrev pub is_alike : Comparison → Bool
+is_alike c = c.is_planned && (vec_len c.found == 0)
+
+-- the comparison is of the same history
+pub record IsOfSame (old new : Comparison) : Type 0 where
+  pub made : new.made ≡ old.made
+  pub held : new.held ≡ old.held
+  pub messages : new.messages ≡ old.messages
+  pub planned : new.is_planned ≡ old.is_planned
+
+-- A RECORD IS COMPARED: where nothing differs then, nothing differed before, and the record and its message are as the history
+-- tells; it is met then, and no other is
+pub record Compares (e : RecordEntry) (old new : Comparison) : Type 0 where
+  pub same : IsOfSame old new
+  pub alike : is_alike new ≡ true → (is_alike old ≡ true) × IsAsMade old e × (is_message_made new e ≡ true)
+  pub met : (n : ℕ) → get nat_cmp new.records n ≡ (if n == e.number then None else get nat_cmp old.records n)

@@ -8,4 +8,9 @@ pub mod Findings
 pub mod Authors
 pub mod Cases
 pub mod Titles
+pub mod Walks
 pub mod Replays
+pub mod Tellings
+pub mod Openings
+pub mod Acceptances
+pub mod Judgements

@@ -1,7 +1,8 @@
 //! Who changes an archive, and for what reason.
 
-ghost use Rattle.std.specs.Prelude.{◌≡◌, ◌&&◌, not, Some, option_map, is_ok, is_some, string_bytes, true, IfOk, IfSome};
+ghost use Rattle.std.specs.Prelude.{◌≡◌, ◌&&◌, not, Some, option_map, is_ok, is_some, string_bytes, true, IfErr, IfOk, IfSome};
 ghost use Rattle.session_words.specs.Words.{is_name as is_name_of};
+ghost use Rattle.cli_console.specs.Failures.{IsToldAs};
 ghost use Rattle.cli_history.specs.Authors.{name_or};
 ghost use Rattle.cli_history.specs.Findings.{is_unknown as is_unknown_name};
 
@@ -106,6 +107,7 @@ impl<'a> Author<'a> {
     pub fn named(&self, rt: &HostRuntime) -> Result<&str, Failure>
         ensures known { is_ok result ≡ is_some self.now.name }
         ensures is { IfOk result (λ n. option_map string_bytes self.now.name ≡ Some n.now) }
+        ensures told { IfErr result (IsToldAs Status.Usage) }
     {
         match &self.name {
             Some(name) => Ok(name.as_str()),

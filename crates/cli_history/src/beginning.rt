@@ -5,6 +5,7 @@ ghost use Rattle.std.specs.List.{list_all};
 ghost use Rattle.session_words.specs.Words.{is_name as is_name_of};
 ghost use Rattle.record_history.specs.Spelled.{IsMoment, IsSpelledDeed};
 ghost use Rattle.record_history.specs.Views.{deed_view};
+ghost use Rattle.record_ledger.specs.Notes.{TellsOf};
 
 use crate::author::Author;
 use crate::opening::occasion_by;
@@ -71,12 +72,14 @@ pub fn line_now(
     deed: Deed<'_>,
 ) -> Result<Vec<u8>, Failure>
     requires { IsSpelledDeed (deed_view deed) }
+    ensures { IfOk result (λ v. TellsOf occasion.now number (deed_view deed.entry) v.items) }
 {
+    let moment = moment_now(rt)?;
     let event = Event {
-        moment: moment_now(rt)?,
+        moment,
         who: occasion.who,
         deed,
-        notes: b"",
+        notes: occasion.notes,
         reason: occasion.reason,
     };
     Ok(event_line(rt.alloc(), u64::from(number), &event)?)

@@ -1,6 +1,6 @@
 //! What is captured for an officer already, as the events of a history tell it.
 
-use crate::pages::PAGE;
+use crate::pages::Events;
 use crate::seals::deed_of;
 use cli_console::{Failure, Status};
 use record_known::Known;
@@ -30,20 +30,11 @@ fn take_all<S: Alter>(
     known: &mut Known,
     officer: &[u8],
 ) -> Result<(), Failure> {
-    let mut from = Some(1);
+    let mut events = Events::all();
     for _ in 0..u64::MAX {
-        let Some(first) = from else {
+        let Some(page) = events.next_page_of(rt, archive)? else {
             break;
         };
-        let page = archive.events_from(first, PAGE).map_err(|fault| Failure::of_store(
-            rt.alloc(),
-            "the history",
-            fault,
-        ))?;
-        let Some(last) = page.last() else {
-            break;
-        };
-        from = last.number.checked_add(1);
         take_page(rt.alloc(), known, page.as_slice(), officer)?;
     }
     Ok(())

@@ -1,9 +1,10 @@
 //! What a history makes of an archive, beside what the store has.
 
-ghost use Rattle.std.specs.Prelude.{◌≡◌, ◌↔◌, ◌==◌, ◌&&◌, IsNone, IsTrue, length, option_map, vec_len};
+ghost use Rattle.std.specs.Prelude.{◌≡◌, ◌↔◌, ◌==◌, ◌&&◌, false, IsNone, IsTrue, OnOk, Some, length, option_map};
 ghost use Rattle.std.specs.List.{list_all, list_any};
 ghost use Rattle.std.specs.Str.{bytes_eq};
-ghost use Rattle.cli_history.specs.Compared.{IsAsTold, row_had, row_told};
+ghost use Rattle.cli_history.specs.Compared.{Compares, IsAsMade, IsAsTold, has_holds, has_seal_of, is_alike, is_message_made, message_made, record_told, row_had, row_told};
+ghost use Rattle.cli_history.specs.Walks.{Looks};
 
 use crate::chosen::is_about;
 use crate::differences::{Change, Changes};
@@ -13,7 +14,7 @@ use choice_words::TypedNumbers;
 use class_plan::{Plan, day_number};
 use cli_console::{Failure, tell, tell_words};
 use cli_texts::plan_text;
-use record_judge::{SealedArchive, SealedRecord};
+use record_judge::{SealedArchive, SealedMessage, SealedRecord};
 use record_noted::NotedStore;
 use record_store::{EventRow, RecordEntry};
 use sqlite::Alter;
@@ -152,8 +153,7 @@ fn is_record(entry: &RecordEntry, record: &SealedRecord) -> bool
 /// message, class and day, as live or as destroyed, and with holds of these names and no others.
 fn compared(entry: &RecordEntry, told: Option<&SealedRecord>, names: &[&[u8]]) -> Option<Difference>
     ensures { IsNone result ↔ IsAsTold (option_map (λ r. r.now) told.entry) entry.now
-        ((length entry.now.holds.items == length names.now)
-        && list_all (λ h. list_any (λ n. bytes_eq h.items n.now) names.now) entry.now.holds.items) }
+        (has_holds entry.now names.now) }
 {
     match told {
         None => Some(Difference::Untold),
@@ -245,7 +245,10 @@ impl<'a> Comparison<'a> {
     }
 
     /// Notes a record that differs.
-    fn note(&mut self, number: u32, difference: Difference) -> Result<(), AllocError> {
+    fn note(&mut self, number: u32, difference: Difference) -> Result<(), AllocError>
+        ensures rest { self.new ≡ record self.old { found = self.new.found; more = self.new.more } }
+        ensures noted { OnOk result (is_alike self.new ≡ false) }
+    {
         if self.found.len() < MAX_NAMED {
             self.found.push((number, difference))?;
         } else {
@@ -255,13 +258,19 @@ impl<'a> Comparison<'a> {
     }
 
     /// The record of a number that the history makes, if it makes one that was not met yet.
-    fn told(&self, number: u32) -> Option<&'a SealedRecord> {
-        let place = self.records.get(&number).copied();
-        place.and_then(|place| self.made.records().get(place))
+    fn told(&self, number: u32) -> Option<&'a SealedRecord>
+        ensures { option_map (λ r. r.now) result ≡ record_told self.now number }
+    {
+        match self.records.get(&number) {
+            Some(place) => self.made.records().get(*place),
+            None => None,
+        }
     }
 
     /// How an entry differs from the record that the history makes, its message left aside.
-    fn difference_of(&self, entry: &RecordEntry) -> Option<Difference> {
+    fn difference_of(&self, entry: &RecordEntry) -> Option<Difference>
+        ensures { IsNone result ↔ IsAsMade self.now entry.now }
+    {
         let told = self.told(entry.number);
         match self.held.get(&entry.number) {
             Some(names) => compared(entry, told, names.as_slice()),
@@ -270,7 +279,9 @@ impl<'a> Comparison<'a> {
     }
 
     /// Adds what was done to a record that is not as the history tells.
-    fn add_changes(&mut self, entry: &RecordEntry) -> Result<(), AllocError> {
+    fn add_changes(&mut self, entry: &RecordEntry) -> Result<(), AllocError>
+        ensures { self.new ≡ record self.old { changes = self.new.changes } }
+    {
         let told = self.told(entry.number);
         add_row(&mut self.changes, entry, told)?;
         match self.held.get(&entry.number) {
@@ -282,11 +293,24 @@ impl<'a> Comparison<'a> {
         }
     }
 
+    /// The message of a number that the history tells, if it tells one.
+    fn told_message(&self, number: u32) -> Option<&'a SealedMessage>
+        ensures { option_map (λ m. m.now) result ≡ message_made self.now number }
+    {
+        match self.messages.get(&number) {
+            Some(place) => self.made.messages().get(*place),
+            None => None,
+        }
+    }
+
     /// Whether a message is that of its seal, which the history tells.
-    fn is_sealed(&self, stored: &StoredSeals, message: u32) -> bool {
-        let place = self.messages.get(&message).copied();
-        let told = place.and_then(|place| self.made.messages().get(place));
-        told.is_some_and(|told| stored.is_sealed_by(message, &told.seal))
+    fn is_sealed(&self, stored: &StoredSeals, message: u32) -> bool
+        ensures { result ≡ has_seal_of (message_made self.now message) (Some stored.now) message }
+    {
+        match self.told_message(message) {
+            Some(told) => stored.is_sealed_by(message, &told.seal),
+            None => false,
+        }
     }
 
     /// Makes the seal of the message of a live record, where messages are compared and it was not made before.
@@ -295,7 +319,10 @@ impl<'a> Comparison<'a> {
         rt: &HostRuntime,
         noted: &mut NotedStore<S>,
         entry: &RecordEntry,
-    ) -> Result<(), Failure> {
+    ) -> Result<(), Failure>
+        ensures looks { Looks S.Store noted.old noted.new }
+        ensures rest { self.new ≡ record self.old { stored = self.new.stored } }
+    {
         let Some(stored) = &mut self.stored else {
             return Ok(());
         };
@@ -309,7 +336,9 @@ impl<'a> Comparison<'a> {
     }
 
     /// Whether the message of a record is that of its seal, if it is compared: its record is live.
-    fn is_message_sealed(&self, entry: &RecordEntry) -> bool {
+    fn is_message_sealed(&self, entry: &RecordEntry) -> bool
+        ensures { result ≡ is_message_made self.now entry.now }
+    {
         match &self.stored {
             Some(stored) if !entry.destroyed => self.is_sealed(stored, entry.message),
             _ => true,
@@ -322,7 +351,10 @@ impl<'a> Comparison<'a> {
         rt: &HostRuntime,
         noted: &mut NotedStore<S>,
         entry: &RecordEntry,
-    ) -> Result<(), Failure> {
+    ) -> Result<(), Failure>
+        ensures looks { Looks S.Store noted.old noted.new }
+        ensures compares { OnOk result (Compares entry.now self.old self.new) }
+    {
         let difference = self.difference_of(entry);
         if let Some(difference) = difference {
             self.add_changes(entry)?;
@@ -343,7 +375,9 @@ impl<'a> Comparison<'a> {
         rt: &HostRuntime,
         noted: &mut NotedStore<S>,
         page: &[RecordEntry],
-    ) -> Result<(), Failure> {
+    ) -> Result<(), Failure>
+        ensures { Looks S.Store noted.old noted.new }
+    {
         for entry in page {
             self.compare_record(rt, noted, entry)?;
         }
@@ -365,7 +399,7 @@ impl<'a> Comparison<'a> {
 
     /// Whether nothing differs.
     pub fn is_same(&self) -> bool
-        ensures { result ≡ self.now.is_planned && (vec_len self.now.found == 0) }
+        ensures { result ≡ is_alike self.now }
     {
         self.is_planned && self.found.is_empty()
     }
@@ -405,7 +439,9 @@ fn last_event_about<S: Alter>(
     rt: &HostRuntime,
     noted: &mut NotedStore<S>,
     number: u32,
-) -> Result<Option<u32>, Failure> {
+) -> Result<Option<u32>, Failure>
+    ensures { Looks S.Store noted.old noted.new }
+{
     let mut last = None;
     let mut events = Events::all();
     for _ in 0..u64::MAX {
@@ -443,7 +479,9 @@ pub fn tell_differences<S: Alter>(
     rt: &HostRuntime,
     noted: &mut NotedStore<S>,
     comparison: &Comparison<'_>,
-) -> Result<(), Failure> {
+) -> Result<(), Failure>
+    ensures { Looks S.Store noted.old noted.new }
+{
     if !comparison.is_planned {
         tell_words(rt, "the plan is not that of the history");
     }
@@ -468,7 +506,9 @@ pub fn compare<'a, S: Alter>(
     noted: &mut NotedStore<S>,
     made: &'a SealedArchive,
     depth: Depth,
-) -> Result<Comparison<'a>, Failure> {
+) -> Result<Comparison<'a>, Failure>
+    ensures { Looks S.Store noted.old noted.new }
+{
     let mut comparison = Comparison::new(rt.alloc(), made, noted.plan(), depth)?;
     let mut entries = Entries::all();
     for _ in 0..u64::MAX {

@@ -3,6 +3,7 @@
 ghost use Rattle.std.specs.Prelude.{◌≡◌, ◌&&◌, List, []};
 ghost use Rattle.record_history.specs.Events.{Event as PlainEvent};
 ghost use Rattle.record_history.specs.Views.{deed_view, event_view};
+ghost use Rattle.cli_console.specs.Failures.{IsToldAs};
 ghost use Rattle.cli_history.specs.Reasons.{ends};
 ghost use Rattle.cli_history.specs.Findings.{bearing as bearing_in, is_blocked as is_blocked_by, is_open_at, is_unaccepted, is_unknown as is_unknown_name, stage_after, stage_behind as stage_after_it, stage_of, stage_step};
 
@@ -329,8 +330,9 @@ impl Findings {
     /// Whether what is done for a purpose is refused, since it can end the keeping of records, and something that was found
     /// is not accepted.
     pub fn blocks(&self, purpose: Purpose) -> bool
-        ensures { (es : List PlainEvent) → self.now.stage ≡ stage_of es
+        ensures told { (es : List PlainEvent) → self.now.stage ≡ stage_of es
             → result ≡ is_blocked_by purpose es }
+        ensures stage { result ≡ ends purpose && is_open_at self.now.stage }
     {
         is_blocked(purpose, self.stage)
     }
@@ -347,7 +349,9 @@ impl Findings {
     }
 
     /// The failure of what may not be done until findings are accepted: `BadData`, with the numbers of their events.
-    pub fn failure(&self) -> Failure {
+    pub fn failure(&self) -> Failure
+        ensures { IsToldAs Status.BadData result }
+    {
         Failure::shown(Status::BadData, self.groups.unaccepted_words())
     }
 }

@@ -1,8 +1,17 @@
 //! `check`: whether a history is whole, and explains its archive.
 
-ghost use Rattle.std.specs.Prelude.{◌≡◌, ◌&&◌, ◌||◌, is_none, is_some, is_ok};
+ghost use Rattle.std.specs.Prelude.{◌≡◌, ◌++◌, ◌∷◌, ◌&&◌, ◌||◌, ℕ, [], List, map, not, true, IfOk, OnOk, is_none, is_some, is_ok};
 ghost use Rattle.std.specs.Str.{bytes_eq};
+ghost use Rattle.sqlite.specs.State.{HasCleanDisk};
+ghost use Rattle.sqlite.specs.Held.{state};
+ghost use Rattle.record_tables.specs.Events.{Event as Row};
+ghost use Rattle.record_reads.specs.Events.{event_of as row_of};
+ghost use Rattle.record_archive.specs.Archive.{Archive};
+ghost use Rattle.record_noted.specs.Histories.{StandsWith, rows_of};
+ghost use Rattle.cli_history.specs.Findings.{is_open_at};
+ghost use Rattle.cli_history.specs.Judgements.{IsJudged, Passes, TakesEvent};
 ghost use Rattle.cli_history.specs.Marks.{is_sought as is_mark_sought, met_after};
+ghost use Rattle.cli_history.specs.Walks.{Looks};
 
 use crate::comparison::{Depth, compare, tell_differences};
 use crate::findings::Findings;
@@ -12,7 +21,6 @@ use crate::stored::StoredSeals;
 use crate::watching::Watch;
 use cli_console::{Failure, Status, tell, write_text};
 use record_history::{Deed, Event};
-use record_judge::SealedArchive;
 use record_noted::NotedStore;
 use record_store::EventRow;
 use sqlite::Alter;
@@ -74,9 +82,13 @@ fn say_altered(rt: &HostRuntime, number: u32, event: &Event<'_>) -> Result<(), F
 }
 
 impl<'h> Judgement<'h> {
-    fn new(alloc: Global, head: Option<&'h str>) -> Result<Judgement<'h>, AllocError> {
+    fn new(alloc: Global, head: Option<&'h str>) -> Result<Judgement<'h>, AllocError>
+        ensures judged { IfOk result (λ j. IsJudged j []) }
+        ensures head { IfOk result (λ j. j.head ≡ head.entry) }
+    {
+        let watch = Watch::new(alloc)?;
         Ok(Judgement {
-            watch: Watch::new(alloc)?,
+            watch,
             findings: Findings::none(alloc),
             head,
             met: None,
@@ -98,9 +110,10 @@ impl<'h> Judgement<'h> {
 
     /// Notes the event whose mark is looked for.
     fn meet(&mut self, row: &EventRow)
-        ensures { self.new.met ≡ met_after
+        ensures met { self.new.met ≡ met_after
             (is_mark_sought (λ m. bytes_eq m.now row.now.mark.items) self.old.head)
             row.now.number self.old.met }
+        ensures rest { self.new ≡ record self.old { met = self.new.met } }
     {
         if self.is_sought(row) {
             self.met = Some(row.number);
@@ -113,7 +126,9 @@ impl<'h> Judgement<'h> {
         rt: &HostRuntime,
         number: u32,
         moment: u64,
-    ) -> Result<(), AllocError> {
+    ) -> Result<(), AllocError>
+        ensures { self.new ≡ record self.old { moment = self.new.moment } }
+    {
         if moment < self.moment {
             let words = "its moment is before that of the event before it; the clock went back";
             tell(rt, &at_event(rt.alloc(), number, words)?);
@@ -123,7 +138,9 @@ impl<'h> Judgement<'h> {
     }
 
     /// Notes what an event says, against which nothing stands.
-    fn take(&mut self, rt: &HostRuntime, row: &EventRow) -> Result<(), Failure> {
+    fn take(&mut self, rt: &HostRuntime, row: &EventRow) -> Result<(), Failure>
+        ensures { OnOk result (TakesEvent row.now self.old self.new) }
+    {
         self.meet(row);
         let event = judged_event_of(rt.alloc(), row)?;
         self.findings.take(row.number, &event)?;
@@ -131,23 +148,41 @@ impl<'h> Judgement<'h> {
         Ok(self.look_at_clock(rt, row.number, event.moment)?)
     }
 
-    /// Judges the events of a page. Where one is at fault, nothing is known of those that follow.
-    fn judge_page(&mut self, rt: &HostRuntime, page: &[EventRow]) -> Result<(), Failure> {
-        for row in page {
-            if self.watch.look_at(rt, row)? {
-                self.take(rt, row)?;
-            }
-            self.count = self.count.saturating_add(1);
+    /// Judges an event. Where one before it is at fault, nothing is known of it.
+    fn judge_row(&mut self, rt: &HostRuntime, row: &EventRow) -> Result<(), Failure>
+        ensures judged { (rows : List Row) → IsJudged self.old rows
+            → OnOk result (IsJudged self.new (rows ++ row_of row.now ∷ [])) }
+        ensures head { OnOk result (self.new.head ≡ self.old.head) }
+    {
+        self.count = self.count.saturating_add(1);
+        let is_sound = self.watch.look_at(rt, row)?;
+        if is_sound {
+            return self.take(rt, row);
         }
         Ok(())
     }
 
     /// Keeps the mark of the last event of a page.
-    fn keep_mark(&mut self, page: &[EventRow]) -> Result<(), AllocError> {
+    fn keep_mark(&mut self, page: &[EventRow]) -> Result<(), AllocError>
+        ensures { self.new ≡ record self.old { mark = self.new.mark } }
+    {
         if let Some(last) = page.last() {
             self.mark = last.mark.clone()?;
         }
         Ok(())
+    }
+
+    /// Judges the events of a page, and keeps the mark of the last.
+    #[tactic(auto, using(crate::proofs::JudgementLemmas::judged_none, crate::proofs::JudgementLemmas::judged_more, crate::proofs::JudgementLemmas::judged_page, crate::proofs::JudgementLemmas::judged_same))]
+    fn judge_page(&mut self, rt: &HostRuntime, page: &[EventRow]) -> Result<(), Failure>
+        ensures judged { (rows : List Row) → IsJudged self.old rows
+            → OnOk result (IsJudged self.new (rows ++ map row_of page.now)) }
+        ensures head { OnOk result (self.new.head ≡ self.old.head) }
+    {
+        for row in page {
+            self.judge_row(rt, row)?;
+        }
+        Ok(self.keep_mark(page)?)
     }
 
     /// How many events there are, and the last mark, a line each.
@@ -193,7 +228,9 @@ impl<'h> Judgement<'h> {
     }
 
     /// Tells that something that was found is not accepted, if it is so. Answers whether it is not so.
-    fn is_accepted(&self, rt: &HostRuntime) -> Result<bool, AllocError> {
+    fn is_accepted(&self, rt: &HostRuntime) -> Result<bool, AllocError>
+        ensures { IfOk result (λ b. b ≡ not (is_open_at self.now.findings.stage)) }
+    {
         if !self.findings.is_unaccepted() {
             return Ok(true);
         }
@@ -207,27 +244,39 @@ fn judge_events<'h, S: Alter>(
     rt: &HostRuntime,
     noted: &mut NotedStore<S>,
     head: Option<&'h str>,
-) -> Result<Judgement<'h>, Failure> {
+) -> Result<Judgement<'h>, Failure>
+    ensures looks { Looks S.Store noted.old noted.new }
+    ensures judged { IfOk result (λ j. HasCleanDisk (state S.Store noted.new.store.conn)
+        → (a : Archive) → (ls : List (List ℕ)) → StandsWith S.Store noted.old a ls
+        → IsJudged j (rows_of ls)) }
+    ensures head { IfOk result (λ j. j.head ≡ head.entry) }
+{
     let mut judgement = Judgement::new(rt.alloc(), head)?;
     let mut events = Events::all();
     for _ in 0..u64::MAX {
         let Some(page) = events.next_page(rt, noted)? else {
-            break;
+            return Ok(judgement);
         };
         judgement.judge_page(rt, page.as_slice())?;
-        judgement.keep_mark(page.as_slice())?;
     }
     Ok(judgement)
 }
 
-/// Whether the store has what a history makes, each message by its seal. What differs is told.
+/// Whether nothing stands against an event of a history, and the store has what they make, each message by its seal. What
+/// differs is told.
 fn is_explained<S: Alter>(
     rt: &HostRuntime,
     noted: &mut NotedStore<S>,
-    made: &SealedArchive,
+    watch: &Watch,
     stored: StoredSeals,
-) -> Result<bool, Failure> {
-    let comparison = compare(rt, noted, made, Depth::Messages(stored))?;
+) -> Result<bool, Failure>
+    ensures looks { Looks S.Store noted.old noted.new }
+    ensures sound { IfOk result (λ b. b ≡ true → is_none watch.now.fault ≡ true) }
+{
+    if !watch.is_sound() {
+        return Ok(false);
+    }
+    let comparison = compare(rt, noted, watch.archive(), Depth::Messages(stored))?;
     tell_differences(rt, noted, &comparison)?;
     Ok(comparison.is_same())
 }
@@ -257,13 +306,14 @@ pub fn judge_history<S: Alter>(
     noted: &mut NotedStore<S>,
     head: Option<&str>,
     stored: StoredSeals,
-) -> Result<(), Failure> {
+) -> Result<(), Failure>
+    ensures looks { Looks S.Store noted.old noted.new }
+    ensures passes { OnOk result (HasCleanDisk (state S.Store noted.new.store.conn)
+        → (a : Archive) → (ls : List (List ℕ)) → StandsWith S.Store noted.old a ls
+        → Passes head.entry ls) }
+{
     let judgement = judge_events(rt, noted, head)?;
-    let is_same = if judgement.watch.is_sound() {
-        is_explained(rt, noted, judgement.watch.archive(), stored)?
-    } else {
-        false
-    };
+    let is_same = is_explained(rt, noted, &judgement.watch, stored)?;
     judgement.say_found(rt)?;
     write_text(rt, &judgement.totals(rt.alloc())?)?;
     judgement.say_met(rt)?;

@@ -1,7 +1,14 @@
 //! The ledger of an archive.
 
-ghost use Rattle.std.specs.Prelude.{◌≡◌, IfOk};
+ghost use Rattle.std.specs.Prelude.{◌≡◌, IfErr, IfOk, IfSome};
+ghost use Rattle.record_archive.specs.Archive.{Archive};
+ghost use Rattle.record_ledger.specs.Ledgers.{store_of as store_in};
+ghost use Rattle.record_noted.specs.Openings.{Opens, OpensHistory};
+ghost use Rattle.record_store.specs.Stores.{StandsFor};
 ghost use Rattle.cli_history.specs.Authors.{IsOccasion, IsOccasionOf};
+ghost use Rattle.cli_history.specs.Openings.{OpensFor};
+ghost use Rattle.record_store.specs.declared.store.Store.{Store};
+ghost use Rattle.cli_history.specs.declared.seals.Seals.{Seals};
 ghost use Rattle.cli_history.specs.Reasons.{changes as is_changed_for, decides as is_decided_for, ends as is_ended_for};
 
 use crate::author::Author;
@@ -107,7 +114,11 @@ pub fn occasion_of<'a>(
 pub fn open_history<S: Alter>(
     rt: &HostRuntime,
     archive: Store<S>,
-) -> Result<Opened<S>, (Store<S>, Failure)> {
+) -> Result<Opened<S>, (Store<S>, Failure)>
+    ensures ok { IfOk result (Opens S.Store archive) }
+    ensures err { IfErr result (λ e. (a : Archive) → StandsFor S.Store archive a
+        → StandsFor S.Store e.0 a) }
+{
     match NotedStore::open(rt.alloc(), archive) {
         Ok(opened) => Ok(opened),
         Err((fault, archive)) => Err((archive, open_failure(rt.alloc(), fault))),
@@ -118,7 +129,11 @@ pub fn open_history<S: Alter>(
 pub fn open_noted<S: Alter>(
     rt: &HostRuntime,
     archive: Store<S>,
-) -> Result<NotedStore<S>, (Store<S>, Failure)> {
+) -> Result<NotedStore<S>, (Store<S>, Failure)>
+    ensures ok { IfOk result (OpensHistory S.Store archive) }
+    ensures err { IfErr result (λ e. (a : Archive) → StandsFor S.Store archive a
+        → StandsFor S.Store e.0 a) }
+{
     match open_history(rt, archive) {
         Ok(Opened::Noted(noted)) => Ok(noted),
         Ok(Opened::Plain(archive)) => {
@@ -140,30 +155,53 @@ struct Open<S: Alter> {
     seals: Seals,
 }
 
+/// Prepares a history that was opened for a change, and takes its seals. A failure is that of `open_ledger`.
+fn open_for_change<S: Alter>(
+    rt: &HostRuntime,
+    noted: NotedStore<S>,
+    author: &Author<'_>,
+    purpose: Purpose,
+) -> Result<Open<S>, (Store<S>, Failure)>
+    ensures { (store : Store S) → OpensHistory S.Store store noted
+        → IfOk result (λ o. OpensFor S.Store purpose author.now store o.seals o.opened) }
+{
+    match prepared(rt, noted, author, purpose) {
+        Ok(prepared) => Ok(open_of(rt.alloc(), prepared)),
+        Err(refusal) => Err(refusal),
+    }
+}
+
 /// Opens the history of a store for a purpose, or the store as it is where it keeps none. A failure is that of `open_ledger`.
 fn open_for<S: Alter>(
     rt: &HostRuntime,
     archive: Store<S>,
     author: &Author<'_>,
     purpose: Purpose,
-) -> Result<Open<S>, (Store<S>, Failure)> {
-    match open_history(rt, archive) {
-        Ok(Opened::Noted(noted)) if purpose.changes() => {
-            match prepared(rt, noted, author, purpose) {
-                Ok(prepared) => Ok(open_of(rt.alloc(), prepared)),
-                Err(refusal) => Err(refusal),
-            }
-        }
-        Ok(opened) => Ok(Open {
-            opened,
-            seals: Seals::none(rt.alloc()),
+) -> Result<Open<S>, (Store<S>, Failure)>
+    ensures { IfOk result (λ o. OpensFor S.Store purpose author.now archive o.seals o.opened) }
+{
+    let opened = match open_history(rt, archive) {
+        Ok(opened) => opened,
+        Err(refusal) => return Err(refusal),
+    };
+    let seals = Seals::none(rt.alloc());
+    if !purpose.changes() {
+        return Ok(Open { opened, seals });
+    }
+    match opened {
+        Opened::Noted(noted) => open_for_change(rt, noted, author, purpose),
+        Opened::Plain(archive) => Ok(Open {
+            opened: Opened::Plain(archive),
+            seals,
         }),
-        Err(refusal) => Err(refusal),
     }
 }
 
 /// The store of a history that is ready for a change.
-fn open_of<S: Alter>(alloc: Global, prepared: Ready<S>) -> Open<S> {
+fn open_of<S: Alter>(alloc: Global, prepared: Ready<S>) -> Open<S>
+    ensures noted { result.opened ≡ Opened.Noted prepared.noted }
+    ensures seals { IfSome prepared.replayed.seals (λ s. result.seals ≡ s) }
+{
     let Ready {
         noted,
         replayed,
@@ -176,7 +214,9 @@ fn open_of<S: Alter>(alloc: Global, prepared: Ready<S>) -> Open<S> {
 }
 
 /// The store that was opened.
-fn store_of<S: Alter>(opened: Opened<S>) -> Store<S> {
+fn store_of<S: Alter>(opened: Opened<S>) -> Store<S>
+    ensures { result ≡ store_in opened }
+{
     match opened {
         Opened::Noted(noted) => noted.into_store(),
         Opened::Plain(archive) => archive,
@@ -184,9 +224,9 @@ fn store_of<S: Alter>(opened: Opened<S>) -> Store<S> {
 }
 
 /// Opens the ledger of a store for an author's purpose, with the rules by which messages are filed, and answers beside it the
-/// seals of messages that its history tells, where the purpose can end the keeping of records. Where the store keeps a
-/// history and is to be changed, the history is done again first: what another program has changed is told, and all that is
-/// there is noted as found.
+/// seals of messages that its history tells, where the purpose can end the keeping of records. Its changes are noted under the
+/// author's name, and for the author's reason. Where the store keeps a history and is to be changed, the history is done again
+/// first: what another program has changed is told, and all that is there is noted as found.
 ///
 /// `Usage` where it is not known then who changes the archive, or where the history requires a reason and none is given;
 /// `BadData` where the history is damaged, or where the purpose can end the keeping of records while something that was found
@@ -197,7 +237,11 @@ pub fn open_with_seals<'a, S: Alter>(
     author: &'a Author<'_>,
     filing: Option<Filing<'a>>,
     purpose: Purpose,
-) -> Result<(StoreLedger<'a, S>, Seals), (Store<S>, Failure)> {
+) -> Result<(StoreLedger<'a, S>, Seals), (Store<S>, Failure)>
+    ensures opens { IfOk result (λ x.
+        OpensFor S.Store purpose author.now archive x.1 x.0.kept) }
+    ensures occasion { IfOk result (λ x. IsOccasionOf author.now filing.entry x.0.occasion) }
+{
     let Open { opened, seals } = match open_for(rt, archive, author, purpose) {
         Ok(open) => open,
         Err(refusal) => return Err(refusal),
@@ -215,7 +259,11 @@ pub fn open_ledger<'a, S: Alter>(
     author: &'a Author<'_>,
     filing: Option<Filing<'a>>,
     purpose: Purpose,
-) -> Result<StoreLedger<'a, S>, (Store<S>, Failure)> {
+) -> Result<StoreLedger<'a, S>, (Store<S>, Failure)>
+    ensures opens { IfOk result (λ ledger. (seals : Seals)
+        × OpensFor S.Store purpose author.now archive seals ledger.kept) }
+    ensures occasion { IfOk result (λ l. IsOccasionOf author.now filing.entry l.occasion) }
+{
     match open_with_seals(rt, archive, author, filing, purpose) {
         Ok((ledger, _)) => Ok(ledger),
         Err(refusal) => Err(refusal),

@@ -1,5 +1,13 @@
 //! What a person decides of a history itself: whether it requires reasons, and that what was found is let stand.
 
+ghost use Rattle.std.specs.Prelude.{◌≡◌, false, true, ℕ, List, IfErr, IfOk, is_some};
+ghost use Rattle.sqlite.specs.State.{HasCleanDisk};
+ghost use Rattle.sqlite.specs.Held.{state};
+ghost use Rattle.record_archive.specs.Archive.{Archive};
+ghost use Rattle.record_noted.specs.Histories.{KeepsLines, StandsWith};
+ghost use Rattle.cli_console.specs.Failures.{IsToldAs};
+ghost use Rattle.cli_history.specs.Findings.{is_open_at};
+ghost use Rattle.cli_history.specs.Acceptances.{Accepts, AcceptsNext, NotesNext};
 ghost use Rattle.record_history.specs.Spelled.{IsSpelledDeed};
 ghost use Rattle.record_history.specs.Views.{deed_view};
 
@@ -32,17 +40,18 @@ fn note_next<'a, S: Alter>(
     deed: Deed<'_>,
 ) -> Result<u32, Failure>
     requires { IsSpelledDeed (deed_view deed) }
+    ensures notes { IfOk result (NotesNext S.Store author.now (deed_view deed.entry) noted.old
+        noted.new) }
+    ensures kept { IfErr result (λ _. KeepsLines S.Store noted.old noted.new) }
 {
     let number = noted.next();
     let occasion = occasion_of(rt, author, None)?;
     let line = line_now(rt, &occasion, number, deed)?;
     let lines = vec![in rt.alloc(); line]?;
-    noted.note_all(lines.as_slice()).map_err(|fault| Failure::of_store(
-        rt.alloc(),
-        "the history",
-        fault,
-    ))?;
-    Ok(number)
+    match noted.note_all(lines.as_slice()) {
+        Ok(()) => Ok(number),
+        Err(fault) => Err(Failure::of_store(rt.alloc(), "the history", fault)),
+    }
 }
 
 /// Whether reasons are required already, or need not be given already.
@@ -99,7 +108,13 @@ fn accept_next<S: Alter>(
     rt: &HostRuntime,
     ready: &mut Ready<S>,
     author: &Author<'_>,
-) -> Result<u32, Failure> {
+) -> Result<u32, Failure>
+    ensures accepts { IfOk result (AcceptsNext S.Store author.now ready.old ready.new) }
+    ensures kept { IfErr result (λ _. KeepsLines S.Store ready.old.noted ready.new.noted) }
+    ensures restated { ready.old.is_restated ≡ true → IfErr result (IsToldAs Status.BadData) }
+    ensures accepted { is_open_at ready.old.replayed.findings.stage ≡ false
+        → IfErr result (IsToldAs Status.BadData) }
+{
     if ready.is_restated {
         return Err(ready.replayed.findings().failure());
     }
@@ -121,7 +136,13 @@ pub fn accept_findings<S: Alter>(
     rt: &HostRuntime,
     noted: NotedStore<S>,
     author: &Author<'_>,
-) -> (Store<S>, Result<u32, Failure>) {
+) -> (Store<S>, Result<u32, Failure>)
+    ensures named { is_some author.now.name ≡ false
+        → IfErr result.1 (IsToldAs Status.Usage) }
+    ensures accepts { IfOk result.1 (λ number. HasCleanDisk (state S.Store result.0.conn)
+        → (a : Archive) → (ls : List (List ℕ)) → StandsWith S.Store noted a ls
+        → Accepts S.Store author.now result.0 a ls number) }
+{
     match prepared(rt, noted, author, Purpose::Keeping) {
         Ok(ready) => {
             let mut ready = ready;

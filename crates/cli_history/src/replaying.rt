@@ -1,11 +1,16 @@
 //! A history that is done again, before its archive is changed.
 
 ghost use Rattle.std.specs.Prelude.{◌≡◌, ◌++◌, ◌∷◌, [], ℕ, None, List, map, IfOk, IfSome, OnOk, is_some};
+ghost use Rattle.sqlite.specs.State.{HasCleanDisk};
+ghost use Rattle.sqlite.specs.Held.{state};
+ghost use Rattle.record_archive.specs.Archive.{Archive};
 ghost use Rattle.record_history.specs.Views.{deed_view};
+ghost use Rattle.record_noted.specs.Histories.{StandsWith};
 ghost use Rattle.cli_console.specs.Failures.{IsToldAs};
 ghost use Rattle.cli_history.specs.Reasons.{are_required, ends};
 ghost use Rattle.cli_history.specs.Replays.{Replays};
 ghost use Rattle.cli_history.specs.Seals.{KeepsSeal, known};
+ghost use Rattle.cli_history.specs.Walks.{Looks};
 ghost use Rattle.cli_history.specs.declared.opening.Purpose.{Purpose};
 
 use crate::findings::Findings;
@@ -135,17 +140,23 @@ impl Replayed {
         Ok(())
     }
 
-    /// A history, done again for a purpose. `BadData` where something stands against an event, which the words name.
+    /// A history, done again for a purpose: all of its events, each of them once and in order. `BadData` where something
+    /// stands against an event, which the words name.
     pub fn of<S: Alter>(
         rt: &HostRuntime,
         noted: &mut NotedStore<S>,
         purpose: Purpose,
-    ) -> Result<Replayed, Failure> {
+    ) -> Result<Replayed, Failure>
+        ensures looks { Looks S.Store noted.old noted.new }
+        ensures replays { IfOk result (λ r. HasCleanDisk (state S.Store noted.new.store.conn)
+            → (a : Archive) → (ls : List (List ℕ)) → StandsWith S.Store noted.old a ls
+            → Replays purpose r ls) }
+    {
         let mut replayed = Replayed::new(rt.alloc(), purpose)?;
         let mut events = Events::all();
         for _ in 0..u64::MAX {
             let Some(page) = events.next_page(rt, noted)? else {
-                break;
+                return Ok(replayed);
             };
             replayed.take_page(rt.alloc(), page.as_slice())?;
         }

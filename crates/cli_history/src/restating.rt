@@ -1,7 +1,10 @@
 //! What another program has changed, noted as found.
 
-ghost use Rattle.std.specs.Prelude.{◌≡◌, is_ok, not};
+ghost use Rattle.std.specs.Prelude.{◌≡◌, false, IfErr, IfOk, is_ok, is_some, not};
+ghost use Rattle.cli_console.specs.Failures.{IsToldAs};
+ghost use Rattle.cli_history.specs.Openings.{IsReady, IsSight, StaysReady, is_refused as is_refused_by};
 ghost use Rattle.cli_history.specs.Reasons.{lacks_reason as is_reason_lacking};
+ghost use Rattle.cli_history.specs.Walks.{Looks};
 
 use crate::author::Author;
 use crate::beginning::{Known, findings_in};
@@ -32,8 +35,9 @@ fn judge_reason(
     author: &Author<'_>,
     purpose: Purpose,
 ) -> Result<(), Failure>
-    ensures { is_ok result ≡ not (is_reason_lacking purpose replayed.now.requires_reasons
+    ensures lacks { is_ok result ≡ not (is_reason_lacking purpose replayed.now.requires_reasons
         author.now.reason.now) }
+    ensures told { IfErr result (IsToldAs Status.Usage) }
 {
     if lacks_reason(purpose, replayed.requires_reasons(), author.reason()) {
         return Err(Failure::told(
@@ -50,7 +54,9 @@ fn changes_apart<S: Alter>(
     rt: &HostRuntime,
     noted: &mut NotedStore<S>,
     made: &SealedArchive,
-) -> Result<Option<Changes>, Failure> {
+) -> Result<Option<Changes>, Failure>
+    ensures { IfOk result (λ c. is_some c ≡ false → Looks S.Store noted.old noted.new) }
+{
     let comparison = compare(rt, noted, made, Depth::Rows)?;
     if comparison.is_same() {
         return Ok(None);
@@ -76,7 +82,10 @@ fn look_at<S: Alter>(
     noted: &mut NotedStore<S>,
     author: &Author<'_>,
     purpose: Purpose,
-) -> Result<Sight, Failure> {
+) -> Result<Sight, Failure>
+    ensures sight { IfOk result (IsSight S.Store purpose author.now noted.old noted.new) }
+    ensures named { is_some author.now.name ≡ false → IfErr result (IsToldAs Status.Usage) }
+{
     author.named(rt)?;
     let replayed = Replayed::of(rt, noted, purpose)?;
     judge_reason(rt.alloc(), &replayed, author, purpose)?;
@@ -203,7 +212,9 @@ fn prepared_with<S: Alter>(
     noted: NotedStore<S>,
     author: &Author<'_>,
     sight: Sight,
-) -> Result<Ready<S>, (Store<S>, Failure)> {
+) -> Result<Ready<S>, (Store<S>, Failure)>
+    ensures { IfOk result (StaysReady noted sight) }
+{
     let Sight { replayed, changes } = sight;
     let mut replayed = replayed;
     let Some(changes) = changes else {
@@ -223,6 +234,17 @@ fn prepared_with<S: Alter>(
     }
 }
 
+/// Whether what is done for a purpose is refused: it can end the keeping of records, and something that was found is not
+/// accepted. What was noted just now nobody has accepted.
+fn is_refused<S: Alter>(ready: &Ready<S>, purpose: Purpose) -> bool
+    ensures { result ≡ is_refused_by purpose ready.now }
+{
+    if ready.is_restated {
+        return purpose.ends();
+    }
+    ready.replayed.findings().blocks(purpose)
+}
+
 /// Prepares a history for a change of its archive. What another program has changed since its last event is told, and all
 /// that is there is noted as found.
 ///
@@ -234,7 +256,11 @@ pub fn prepared<S: Alter>(
     noted: NotedStore<S>,
     author: &Author<'_>,
     purpose: Purpose,
-) -> Result<Ready<S>, (Store<S>, Failure)> {
+) -> Result<Ready<S>, (Store<S>, Failure)>
+    ensures ready { IfOk result (IsReady S.Store purpose author.now noted) }
+    ensures named { is_some author.now.name ≡ false
+        → IfErr result (λ e. IsToldAs Status.Usage e.1) }
+{
     let mut noted = noted;
     let sight = match look_at(rt, &mut noted, author, purpose) {
         Ok(sight) => sight,
@@ -244,7 +270,7 @@ pub fn prepared<S: Alter>(
         Ok(ready) => ready,
         Err(refusal) => return Err(refusal),
     };
-    if ready.replayed.findings().blocks(purpose) {
+    if is_refused(&ready, purpose) {
         let failure = ready.replayed.findings().failure();
         let Ready { noted, .. } = ready;
         return Err((noted.into_store(), failure));

@@ -1,14 +1,24 @@
 //! The seals of messages, by which one that was altered in the file is known. The titles of classes are kept beside them, since
 //! one walk over the events finds both.
 
-ghost use Rattle.std.specs.Prelude.{◌≡◌, ◌==◌, ℕ, None, Some, IfOk, OnOk, if◌then◌else◌, option_map};
+ghost use Rattle.std.specs.Prelude.{◌≡◌, ◌==◌, ◌++◌, ℕ, None, Some, Option, List, [], map, true, IfOk, OnOk, if◌then◌else◌, option_map};
+ghost use Rattle.sqlite.specs.State.{HasCleanDisk};
+ghost use Rattle.sqlite.specs.Held.{state};
+ghost use Rattle.record_tables.specs.Events.{Event as Row};
+ghost use Rattle.record_reads.specs.Events.{event_of as row_of};
+ghost use Rattle.record_archive.specs.Archive.{Archive};
+ghost use Rattle.record_history.specs.Events.{Event as PlainEvent};
 ghost use Rattle.record_history.specs.Replay.{seal as seal_of_octets};
 ghost use Rattle.record_history.specs.Titles.{last_title, title_given};
 ghost use Rattle.record_history.specs.Views.{deed_view, seal_view};
 ghost use Rattle.cli_history.specs.Seals.{fidelity as fidelity_to, is_seal, known, later, length_and_sum as length_and_sum_of, sealed_by};
+ghost use Rattle.record_noted.specs.Histories.{rows_of};
+ghost use Rattle.record_store.specs.Stores.{StandsFor};
+ghost use Rattle.cli_history.specs.Tellings.{AreTold, TakesRow, TellsRow, is_present};
 ghost use Rattle.cli_history.specs.Titles.{Path, title_of};
+ghost use Rattle.cli_history.specs.Walks.{Glances, HasLines, KeepsLinesIn};
 
-use crate::pages::PAGE;
+use crate::pages::Events;
 use crate::titles::Titles;
 use cli_console::Failure;
 use record_history::{Deed, Event, LineFault, Seal, read_line, seal_of};
@@ -45,15 +55,21 @@ pub enum Fidelity {
 }
 
 /// The deed of an event; none where its line cannot be read, or is that of another number. The only refusal is no memory.
-pub(crate) fn deed_of(alloc: Global, row: &EventRow) -> Result<Option<Deed<'_>>, AllocError> {
-    match read_line(alloc, row.line.as_slice()) {
-        Ok((number, event)) if number == u64::from(row.number) => {
-            let Event { deed, .. } = event;
-            Ok(Some(deed))
-        }
-        Ok(_) | Err(LineFault::NotALine) => Ok(None),
-        Err(LineFault::NoMemory) => Err(AllocError),
+pub(crate) fn deed_of(alloc: Global, row: &EventRow) -> Result<Option<Deed<'_>>, AllocError>
+    ensures { IfOk result (λ deed. (told : Option PlainEvent) × TellsRow (row_of row.now) told
+        × (option_map deed_view deed ≡ option_map (λ e. e.deed) told)) }
+{
+    let own = u64::from(row.number);
+    let (number, event) = match read_line(alloc, row.line.as_slice()) {
+        Ok(read) => read,
+        Err(LineFault::NotALine) => return Ok(None),
+        Err(LineFault::NoMemory) => return Err(AllocError),
+    };
+    if number != own {
+        return Ok(None);
     }
+    let Event { deed, .. } = event;
+    Ok(Some(deed))
 }
 
 /// How the deeds begin that tell the seal of one message.
@@ -198,20 +214,45 @@ impl Seals {
         self.take_seal(event, deed)
     }
 
+    /// Notes what an event tells. The only refusal is no memory.
+    fn take_row(&mut self, alloc: Global, row: &EventRow) -> Result<(), AllocError>
+        ensures { OnOk result (TakesRow (row_of row.now) self.old self.new) }
+    {
+        let told = deed_of(alloc, row)?;
+        match told {
+            Some(deed) => Ok(self.take(row.number, deed)?),
+            None => Ok(()),
+        }
+    }
+
+    /// The same of an event that is asked for.
+    fn take_asked(
+        &mut self,
+        alloc: Global,
+        row: &EventRow,
+        only: Option<&Beginnings>,
+    ) -> Result<(), AllocError>
+        ensures { only.entry ≡ None → OnOk result (TakesRow (row_of row.now) self.old self.new) }
+    {
+        if is_asked(only, row) {
+            return self.take_row(alloc, row);
+        }
+        Ok(())
+    }
+
     /// Notes what the events of a page tell: all of them, or those whose deeds begin so.
+    #[tactic(auto, using(crate::proofs::TellingLemmas::told_none, crate::proofs::TellingLemmas::told_page, crate::proofs::TellingLemmas::told_whole))]
     fn take_page(
         &mut self,
         alloc: Global,
         page: &[EventRow],
         only: Option<&Beginnings>,
-    ) -> Result<(), AllocError> {
+    ) -> Result<(), AllocError>
+        ensures { only.entry ≡ None → (rows : List Row) → AreTold self.old rows
+            → OnOk result (AreTold self.new (rows ++ map row_of page.now)) }
+    {
         for row in page {
-            if only.is_some_and(|deeds| !deeds.are_those_of(row.line.as_slice())) {
-                continue;
-            }
-            if let Some(deed) = deed_of(alloc, row)? {
-                self.take(row.number, deed)?;
-            }
+            self.take_asked(alloc, row, only)?;
         }
         Ok(())
     }
@@ -222,21 +263,18 @@ impl Seals {
         rt: &HostRuntime,
         archive: &mut Store<S>,
         only: Option<&Beginnings>,
-    ) -> Result<(), Failure> {
-        let mut from = Some(1);
+    ) -> Result<(), Failure>
+        ensures glances { Glances S.Store archive.old archive.new }
+        ensures told { only.entry ≡ None → AreTold self.old [] →
+            HasCleanDisk (state S.Store archive.new.conn) → (a : Archive) → (ls : List (List ℕ))
+            → StandsFor S.Store archive.old a → HasLines S.Store archive.old ls
+            → OnOk result (AreTold self.new (rows_of ls)) }
+    {
+        let mut events = Events::all();
         for _ in 0..u64::MAX {
-            let Some(first) = from else {
-                break;
+            let Some(page) = events.next_page_of(rt, archive)? else {
+                return Ok(());
             };
-            let page = archive.events_from(first, PAGE).map_err(|fault| Failure::of_store(
-                rt.alloc(),
-                "the history",
-                fault,
-            ))?;
-            let Some(last) = page.last() else {
-                break;
-            };
-            from = last.number.checked_add(1);
             self.take_page(rt.alloc(), page.as_slice(), only)?;
         }
         Ok(())
@@ -247,18 +285,28 @@ impl Seals {
         rt: &HostRuntime,
         archive: &mut Store<S>,
         only: Option<&Beginnings>,
-    ) -> Result<Seals, Failure> {
+    ) -> Result<Seals, Failure>
+        ensures glances { Glances S.Store archive.old archive.new }
+        ensures told { only.entry ≡ None → HasCleanDisk (state S.Store archive.new.conn)
+            → (a : Archive) → (ls : List (List ℕ)) → StandsFor S.Store archive.old a
+            → KeepsLinesIn S.Store archive.old ls → IfOk result (λ s. AreTold s (rows_of ls)) }
+    {
         let mut seals = Seals::none(rt.alloc());
-        match archive.event_layout() {
-            EventLayout::Present => seals.take_all(rt, archive, only)?,
-            EventLayout::Absent | EventLayout::Other => {}
+        if !has_events(archive.event_layout()) {
+            return Ok(seals);
         }
+        seals.take_all(rt, archive, only)?;
         Ok(seals)
     }
 
-    /// The seals and titles that the history of a store tells; none where the store keeps no history. An event whose line cannot be
-    /// read tells none. A failure is that of the store.
-    pub fn of<S: Alter>(rt: &HostRuntime, archive: &mut Store<S>) -> Result<Seals, Failure> {
+    /// The seals and titles that the history of a store tells, by all of its events, of which there are at most 4,294,967,294;
+    /// none where the store keeps no history. An event whose line cannot be read tells none. A failure is that of the store.
+    pub fn of<S: Alter>(rt: &HostRuntime, archive: &mut Store<S>) -> Result<Seals, Failure>
+        ensures glances { Glances S.Store archive.old archive.new }
+        ensures told { HasCleanDisk (state S.Store archive.new.conn) → (a : Archive)
+            → (ls : List (List ℕ)) → StandsFor S.Store archive.old a
+            → KeepsLinesIn S.Store archive.old ls → IfOk result (λ s. AreTold s (rows_of ls)) }
+    {
         Seals::read(rt, archive, None)
     }
 
@@ -267,9 +315,28 @@ impl Seals {
         rt: &HostRuntime,
         archive: &mut Store<S>,
         message: u32,
-    ) -> Result<Seals, Failure> {
+    ) -> Result<Seals, Failure>
+        ensures { Glances S.Store archive.old archive.new }
+    {
         let deeds = Beginnings::of(rt.alloc(), message)?;
         Seals::read(rt, archive, Some(&deeds))
+    }
+}
+
+/// Whether there is a table of events.
+fn has_events(layout: EventLayout) -> bool
+    ensures { result ≡ is_present layout }
+{
+    matches!(layout, EventLayout::Present)
+}
+
+/// Whether an event is asked for: any event, or one whose deed begins so.
+fn is_asked(only: Option<&Beginnings>, row: &EventRow) -> bool
+    ensures { only.entry ≡ None → result ≡ true }
+{
+    match only {
+        Some(deeds) => deeds.are_those_of(row.line.as_slice()),
+        None => true,
     }
 }
 

@@ -1,6 +1,7 @@
 //! A history that is judged while its events are read.
 
-ghost use Rattle.std.specs.Prelude.{◌≡◌, is_none, is_ok};
+ghost use Rattle.std.specs.Prelude.{◌≡◌, ◌++◌, ◌∷◌, ℕ, [], List, None, true, IfOk, is_none, is_ok};
+ghost use Rattle.record_judge.specs.Judging.{Judges};
 
 use crate::flaws::words_at;
 use cli_console::{Failure, Status, tell};
@@ -26,7 +27,10 @@ fn uncertain(alloc: Global, number: u32) -> Result<Shown, AllocError> {
 
 impl Watch {
     /// A judge who has seen nothing.
-    pub fn new(alloc: Global) -> Result<Watch, AllocError> {
+    pub fn new(alloc: Global) -> Result<Watch, AllocError>
+        ensures judges { IfOk result (λ w. Judges w.judge []) }
+        ensures fault { IfOk result (λ w. w.fault ≡ None) }
+    {
         Ok(Watch {
             judge: Judge::new(alloc)?,
             fault: None,
@@ -35,7 +39,12 @@ impl Watch {
 
     /// Judges the next event, unless something stands against one before it: then nothing is known of those that follow. The
     /// first that something stands against is told. Answers whether nothing stands against the events so far.
-    pub fn look_at(&mut self, rt: &HostRuntime, row: &EventRow) -> Result<bool, AllocError> {
+    pub fn look_at(&mut self, rt: &HostRuntime, row: &EventRow) -> Result<bool, AllocError>
+        ensures sound { IfOk result (λ b. b ≡ is_none self.new.fault) }
+        ensures stays { IfOk result (λ b. b ≡ true → is_none self.old.fault ≡ true) }
+        ensures judges { (ls : List (List ℕ)) → Judges self.old.judge ls → IfOk result
+            (λ b. b ≡ true → Judges self.new.judge (ls ++ row.now.line.items ∷ [])) }
+    {
         if self.fault.is_some() {
             return Ok(false);
         }
@@ -71,7 +80,9 @@ impl Watch {
     }
 
     /// What the events make of an archive.
-    pub fn archive(&self) -> &SealedArchive {
+    pub fn archive(&self) -> &SealedArchive
+        ensures { result.now ≡ self.now.judge.archive }
+    {
         self.judge.archive()
     }
 
