@@ -6,3 +6,4 @@ pub mod FindLemmas
 pub mod TopLemmas
 pub mod CallLemmas
 pub mod TraceLemmas
+pub mod ShortLemmas

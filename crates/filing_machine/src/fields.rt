@@ -69,6 +69,18 @@ pub fn first_match<C: Case>(
     first_value_match(case, fields, match_type, comparator, key)
 }
 
+/// Whether a key matches a value. A value that is shorter than a key of `:is` or `:contains` is refused without a
+/// search.
+fn is_match(match_type: MatchType, key: &[u8], value: &[u8], comparator: Comparator) -> bool
+    ensures { result ≡ key_matches_by match_type comparator key.now value.now }
+{
+    let is_shorter = value.len() < key.len();
+    match match_type {
+        MatchType::Is | MatchType::Contains if is_shorter => false,
+        _ => key_matches(match_type, key, value, comparator),
+    }
+}
+
 /// The first of the fields whose value matches a key.
 fn first_value_match<C: Case>(
     case: &C,
@@ -83,7 +95,7 @@ fn first_value_match<C: Case>(
 {
     for index in 0..fields.count() {
         let field = fields.at(index);
-        if key_matches(match_type, key, case.value(field), comparator) {
+        if is_match(match_type, key, case.value(field), comparator) {
             return Some(field);
         }
     }
