@@ -1,3 +1,4 @@
 pub mod RunLaws
 pub mod PassedOverLaws
 pub mod DestructionLaws
+pub mod ChangeLemmas

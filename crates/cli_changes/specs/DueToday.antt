@@ -1,32 +1,41 @@
--- How many records are due at once, and how many a new plan moves.
-use Rattle.std.specs.Prelude.{ℕ, ◌+◌, ◌-◌, ◌^◌, ◌||◌, ◌==◌, nat_lt, min, not, Bool, true, false, if◌then◌else◌, Option, Some, None}
-use Rattle.std.specs.Ordering.{int_eq}
-use Rattle.jiff.specs.Words.{epoch_day}
+-- How many records are due at once, and may be destroyed at once.
+use Rattle.std.specs.Prelude.{ℕ, ◌+◌, ◌-◌, ◌^◌, ◌&&◌, ◌==◌, min, not, Bool, if◌then◌else◌, ℤ, pos, List, length, option_map, Option}
 use Rattle.jiff_core.specs.declared.civil.date.Date.{Date}
+use Rattle.class_plan.specs.Plans.{Listing, schedule_at}
 use Rattle.class_plan.specs.declared.schedules.Schedule.{Schedule}
 use Rattle.cli_console.specs.Days.{is_by}
+use Rattle.cli_texts.specs.DueDays.{due_by_plan}
+use Rattle.record_archive.specs.Archive.{destroys}
+use Rattle.record_choice.specs.Entries.{RecordEntry}
+use Rattle.record_choice.specs.Views.{shows_due}
 use Rattle.cli_changes.specs.declared.due_today.DueToday.{DueToday}
-use Rattle.cli_changes.specs.declared.plan_changes.Changes.{Changes}
 use Rattle.cli_changes.specs.Refilings.{is_destroyable}
 
 -- one more where it is so, up to the greatest number of 64 bits
 abbrev pub counted : (is_so : Bool) → ℕ → ℕ
 counted is_so count = if is_so then min (count + 1) (2 ^ 64 - 1) else count
 
--- A LIVE RECORD IS COUNTED where it is due by the day, and where it may be destroyed then
+-- A LIVE RECORD IS DUE by a day, as if it were in the class of a path of a plan. Days are counted from 1970-01-01.
+abbrev pub is_due_in : Listing → (path : List ℕ) → (today : ℤ) → RecordEntry → Bool
+is_due_in plan path today e = shows_due (option_map pos (due_by_plan plan path e.day)) today
+
+abbrev pub is_held : RecordEntry → Bool
+is_held e = not (length e.holds == 0)
+
+-- IT MAY BE DESTROYED by that day: it is due, the schedule of the class destroys, and no hold keeps it
+abbrev pub may_go_in : Listing → (path : List ℕ) → (today : ℤ) → RecordEntry → Bool
+may_go_in plan path today e = is_due_in plan path today e && (destroys (schedule_at plan path) && not (is_held e))
+
+-- it is counted where it is due, and where it may be destroyed
+abbrev pub with_entry : Listing → (path : List ℕ) → (today : ℤ) → RecordEntry → DueToday → DueToday
+with_entry plan path today e counts = record {
+  all = counted (is_due_in plan path today e) counts.all;
+  destroyable = counted (may_go_in plan path today e) counts.destroyable;
+}
+
+-- the same of a record whose due date and schedule are known
 abbrev pub with_record : (due : Option Date) → Option Schedule → (is_held : Bool) → (today : Date) → DueToday → DueToday
 with_record due schedule is_held today counts = record {
   all = counted (is_by due today) counts.all;
   destroyable = counted (is_destroyable due schedule is_held today) counts.destroyable;
 }
-
--- the same due day, or none
-abbrev pub is_same_due : Option Date → Option Date → Bool
-is_same_due (Some one) (Some other) = int_eq (epoch_day one) (epoch_day other)
-is_same_due (Some one) None = false
-is_same_due None (Some other) = false
-is_same_due None None = true
-
--- A PLAN CHANGES SOMETHING: a due date moves, or other numbers of records are due or may be destroyed
-abbrev pub is_any : Changes → Bool
-is_any c = nat_lt 0 c.moved || (not (c.before.all == c.after.all) || not (c.before.destroyable == c.after.destroyable))

@@ -9,6 +9,8 @@ pub mod Refilings
 pub mod Certificates
 pub mod Approvals
 pub mod Destructions
+pub mod ClassChanges
 pub mod DueToday
+pub mod PlanChanges
 pub mod PassedOver
 pub mod Runs

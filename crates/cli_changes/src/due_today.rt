@@ -1,8 +1,9 @@
 //! How many records are due at once, and may be destroyed at once.
 
-ghost use Rattle.std.specs.Prelude.{◌≡◌, ◌==◌, not, length, Option};
-ghost use Rattle.class_plan.specs.Plans.{schedule_at};
-ghost use Rattle.cli_changes.specs.DueToday.{counted as counted_if, with_record};
+ghost use Rattle.std.specs.Prelude.{◌≡◌};
+ghost use Rattle.jiff.specs.Words.{epoch_day};
+ghost use Rattle.record_choice.specs.Entries.{entry_view};
+ghost use Rattle.cli_changes.specs.DueToday.{counted as counted_if, with_entry, with_record};
 
 use crate::refilings::is_destroyable;
 use class_plan::{Date, Plan, Schedule};
@@ -56,8 +57,8 @@ impl DueToday {
 
     /// Adds a live record, as if it were in the class of a path, by a plan.
     pub fn add(&mut self, entry: &RecordEntry, path: &[u8], plan: &Plan, today: Date)
-        ensures { (due : Option Date) × (self.new ≡ with_record due (schedule_at plan.now path.now)
-            (not (length entry.now.holds.items == 0)) today self.old) }
+        ensures { self.new
+            ≡ with_entry plan.now path.now (epoch_day today) (entry_view entry.now) self.old }
     {
         self.count(
             &due_by(plan, path, entry.day),

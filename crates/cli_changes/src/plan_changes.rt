@@ -1,17 +1,18 @@
 //! What a new plan changes in an archive: which due dates move, and what is due at once by it.
 
-ghost use Rattle.std.specs.Prelude.{◌≡◌, not, Option};
-ghost use Rattle.cli_changes.specs.DueToday.{counted as counted_if, is_any as is_any_of, is_same_due};
+ghost use Rattle.std.specs.Prelude.{◌≡◌, ◌∷◌, [], option_map, IfOk, OnOk};
+ghost use Rattle.jiff.specs.Words.{epoch_day};
+ghost use Rattle.record_archive.specs.Archive.{Archive};
+ghost use Rattle.record_choice.specs.Entries.{entry_view};
+ghost use Rattle.record_choice.specs.Reads.{OnlyReads};
+ghost use Rattle.cli_changes.specs.PlanChanges.{is_any as is_any_of, is_same_due, no_changes, with_change, AreChanges, CountAlso, IsChangedBy, Takes, live_entries, none_taken, more_taken};
 
 use crate::due_today::{DueToday, counted, put_due_today};
 use class_plan::{Date, Plan, day_number};
-use cli_console::{Failure, Walk, today};
-use cli_history::StoreLedger;
-use cli_texts::due_by;
-use record_archive::Records;
-use record_choice::Choice;
-use record_store::RecordEntry;
-use sqlite::Alter;
+use cli_console::{Failure, Reader, read_chosen, today};
+use cli_texts::{Headers, due_by};
+use record_choice::{Choice, Repository};
+use record_store::{RecordEntry, StoreFault};
 use std::alloc::{AllocError, Global};
 use std::collections::BTreeMap;
 use tool_texts::{Shown, put};
@@ -27,7 +28,7 @@ struct Changes {
 
 /// Whether two due dates are the same, or there is none.
 fn is_same_day(one: Option<Date>, other: Option<Date>) -> bool
-    ensures { result ≡ is_same_due one other }
+    ensures { result ≡ is_same_due (option_map epoch_day one) (option_map epoch_day other) }
 {
     match (one, other) {
         (Some(one), Some(other)) => day_number(one) == day_number(other),
@@ -39,11 +40,7 @@ fn is_same_day(one: Option<Date>, other: Option<Date>) -> bool
 impl Changes {
     /// Nothing is changed for no record.
     fn none() -> Changes
-        ensures { result ≡ record {
-          moved = 0;
-          before = record { all = 0; destroyable = 0 };
-          after = record { all = 0; destroyable = 0 };
-        } }
+        ensures { result ≡ no_changes }
     {
         Changes {
             moved: 0,
@@ -54,8 +51,8 @@ impl Changes {
 
     /// Adds a live record. It moves where its due date by the new plan is another one.
     fn add(&mut self, entry: &RecordEntry, old: &Plan, new: &Plan, today: Date)
-        ensures { (due : Option Date) × (self.new.moved
-            ≡ counted_if (not (is_same_due due entry.now.due)) self.old.moved) }
+        ensures { self.new ≡ with_change old.now new.now (epoch_day today) (entry_view entry.now)
+            self.old }
     {
         let path = entry.path.as_slice();
         let moves = !is_same_day(due_by(new, path, entry.day), entry.due);
@@ -83,7 +80,18 @@ pub struct PlanChanges {
 }
 
 impl PlanChanges {
-    /// Adds a live record.
+    /// Nothing is changed for no record.
+    fn none(alloc: Global) -> PlanChanges
+        ensures all { result.all ≡ no_changes }
+        ensures by_class { result.by_class.entries ≡ [] }
+    {
+        PlanChanges {
+            all: Changes::none(),
+            by_class: BTreeMap::new(alloc),
+        }
+    }
+
+    /// Adds a live record, to all and to those of its class.
     fn add(
         &mut self,
         alloc: Global,
@@ -91,7 +99,10 @@ impl PlanChanges {
         old: &Plan,
         new: &Plan,
         today: Date,
-    ) -> Result<(), AllocError> {
+    ) -> Result<(), AllocError>
+        ensures { OnOk result (CountAlso old.now new.now (epoch_day today)
+            (entry_view entry.now ∷ []) self.old self.new) }
+    {
         self.all.add(entry, old, new, today);
         if let Some(changes) = self.by_class.get_mut(entry.path.as_slice()) {
             changes.add(entry, old, new, today);
@@ -105,29 +116,72 @@ impl PlanChanges {
     }
 }
 
-/// What a new plan changes in an archive. A failure is that of the store, or of the clock.
-pub fn changes_by<S: Alter>(
-    rt: &HostRuntime,
-    archive: &mut StoreLedger<'_, S>,
-    plan: &Plan,
-) -> Result<PlanChanges, Failure> {
-    let alloc = rt.alloc();
-    let today = today(rt)?;
-    let mut changes = PlanChanges {
-        all: Changes::none(),
-        by_class: BTreeMap::new(alloc),
-    };
-    let live = Choice::live();
-    let mut walk = Walk::from(&live, 1);
-    for _ in 0..u64::MAX {
-        let Some(page) = walk.next_page(rt, archive)? else {
-            break;
-        };
-        for entry in page.iter() {
-            changes.add(alloc, entry, archive.plan_kept(), plan, today)?;
-        }
+/// What a new plan changes by a day, for the records that were taken.
+#[derive(Drop)]
+struct Changing<'a> {
+    alloc: Global,
+    plan: &'a Plan,
+    today: Date,
+    changes: PlanChanges,
+}
+
+impl Reader for Changing<'_> {
+    ghost takes = { λ was a es is. Takes a was is es };
+
+    fn take<R: Repository<Fault = StoreFault>>(
+        &mut self,
+        archive: &mut R,
+        entry: &RecordEntry,
+        _headers: Option<&Headers>,
+    ) -> Result<(), Failure> {
+        let plan = self.plan;
+        self.changes
+            .add(self.alloc, entry, archive.plan(), plan, self.today)?;
+        Ok(())
     }
-    Ok(changes)
+
+    fn rest(&mut self) -> Result<(), Failure> {
+        Ok(())
+    }
+
+    ghost takes_none = { λ changing a. none_taken changing a };
+
+    ghost takes_more = { λ x y z a es fs one other. more_taken x y z a es fs one other };
+}
+
+/// What a new plan changes in an archive by a day. A failure is that of the store.
+fn changes_on<R: Repository<Fault = StoreFault>>(
+    rt: &HostRuntime,
+    archive: &mut R,
+    plan: &Plan,
+    today: Date,
+) -> Result<PlanChanges, Failure>
+    ensures reads { OnlyReads R.clean R.stands archive.old archive.new }
+    ensures changes { IfOk result (λ changes. R.clean archive.new → (a : Archive)
+        → R.stands archive.old a
+        → AreChanges a.plan plan.now (epoch_day today) (live_entries a) changes) }
+{
+    let mut changing = Changing {
+        alloc: rt.alloc(),
+        plan,
+        today,
+        changes: PlanChanges::none(rt.alloc()),
+    };
+    read_chosen(rt, archive, &Choice::live(), &mut changing)?;
+    Ok(changing.changes)
+}
+
+/// What a new plan changes in an archive today, for all its live records. A failure is that of the store, or of the clock.
+pub fn changes_by<R: Repository<Fault = StoreFault>>(
+    rt: &HostRuntime,
+    archive: &mut R,
+    plan: &Plan,
+) -> Result<PlanChanges, Failure>
+    ensures reads { OnlyReads R.clean R.stands archive.old archive.new }
+    ensures changes { IfOk result (λ changes. R.clean archive.new → (a : Archive)
+        → R.stands archive.old a → IsChangedBy a plan.now changes) }
+{
+    changes_on(rt, archive, plan, today(rt)?)
 }
 
 /// Adds what a new plan changes for all records, in three lines.

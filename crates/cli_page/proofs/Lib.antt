@@ -9,3 +9,4 @@ pub mod KeptLemmas
 pub mod SeenLemmas
 pub mod PushLemmas
 pub mod HoldLemmas
+mod OrderLemmas

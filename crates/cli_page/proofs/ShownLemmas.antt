@@ -3,12 +3,22 @@ use Rattle.std.proofs.Common.{◌≡◌, ℕ, List, [], ◌∷◌, ◌++◌, fla
 use Rattle.std.proofs.lemmas.Str.{encodes-append}
 use Rattle.std.proofs.lemmas.Grind.{flat_map-append}
 use Rattle.std.specs.Str.{encode_utf8_all}
-use Rattle.cli_page.specs.Escaping.{shown_of}
+use Rattle.cli_page.specs.Escaping.{shown_of, path_shown_of}
+
+-- characters as they are shown, with one more
+one_more : (show : ℕ → List ℕ) (bs xs : List ℕ) (x : ℕ)
+    → (bs ++ encode_utf8_all (flat_map show xs)) ++ encode_utf8_all (show x) ≡ bs ++ encode_utf8_all (flat_map show (xs ++ x ∷ []))
+one_more show bs xs x =
+    rw (flat_map-append show xs (x ∷ []), append-nil (show x), encodes-append (flat_map show xs) (show x)) (append_assoc bs _ _)
 
 pub shown_more : (bs xs : List ℕ) (x : ℕ)
     → (bs ++ encode_utf8_all (flat_map shown_of xs)) ++ encode_utf8_all (shown_of x) ≡ bs ++ encode_utf8_all (flat_map shown_of (xs ++ x ∷ []))
-shown_more bs xs x =
-    rw (flat_map-append shown_of xs (x ∷ []), append-nil (shown_of x), encodes-append (flat_map shown_of xs) (shown_of x)) (append_assoc bs _ _)
+shown_more = one_more shown_of
+
+pub path_more : (bs xs : List ℕ) (x : ℕ)
+    → (bs ++ encode_utf8_all (flat_map path_shown_of xs)) ++ encode_utf8_all (path_shown_of x)
+    ≡ bs ++ encode_utf8_all (flat_map path_shown_of (xs ++ x ∷ []))
+path_more = one_more path_shown_of
 
 -- ten pieces, one after the other
 pub ten_pushed : (t0 t1 t2 t3 t4 t5 t6 t7 t8 t9 t10 a1 a2 a3 a4 a5 a6 a7 a8 a9 a10 : List ℕ) → t1 ≡ t0 ++ a1 → t2 ≡ t1 ++ a2

@@ -46,6 +46,13 @@ shown_of c =
 abbrev pub shown_all : List ℕ → List ℕ
 shown_all text = flat_map shown_of text
 
+-- a slash of a path, after which a line may end
+abbrev pub path_shown_of : ℕ → List ℕ
+path_shown_of c = if c == 47 then codes "/<wbr>" else shown_of c
+
+abbrev pub path_shown : List ℕ → List ℕ
+path_shown path = flat_map path_shown_of path
+
 -- ---- what such a text cannot be
 
 abbrev pub begins_with : List ℕ → List ℕ → Bool

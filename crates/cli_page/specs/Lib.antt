@@ -9,3 +9,6 @@ pub mod Titles
 pub mod DueLists
 pub mod KeptNumbers
 pub mod Seeing
+pub mod Heads
+pub mod Indexes
+pub mod Timelines

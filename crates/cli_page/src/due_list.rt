@@ -125,9 +125,20 @@ fn push_texts(page: &mut Page, headers: Option<&Headers>) -> Result<(), AllocErr
     }
 }
 
+/// The tag with which the row of a record begins, by whether something may be done with the record.
+pub(crate) fn row_tag(is_free: bool) -> &'static str
+    ensures { result.now ≡ row_tag_of is_free }
+{
+    if is_free {
+        "<tr>"
+    } else {
+        "<tr class=\"barred\">"
+    }
+}
+
 /// Adds the cell of a record's number, and the tag of the next one.
 #[tactic(auto, unfolding(crate::specs::DueLists::number_head))]
-fn push_number(page: &mut Page, number: u64) -> Result<(), AllocError>
+pub(crate) fn push_number(page: &mut Page, number: u64) -> Result<(), AllocError>
     ensures { OnOk result (page.new ≡ page.old ++ number_head number) }
 {
     put!(page;
@@ -137,7 +148,7 @@ fn push_number(page: &mut Page, number: u64) -> Result<(), AllocError>
 
 /// Adds a day in a cell, after the end of the one before.
 #[tactic(auto, unfolding(crate::specs::DueLists::day_cell))]
-fn push_day(page: &mut Page, day: Date) -> Result<(), AllocError>
+pub(crate) fn push_day(page: &mut Page, day: Date) -> Result<(), AllocError>
     ensures { OnOk result (page.new ≡ page.old ++ day_cell day) }
 {
     put!(page; "</td><td class=\"d\">" date(day))
@@ -156,17 +167,6 @@ impl Item {
         ensures { result ≡ is_free_item self.now }
     {
         matches!(self.ruling, Ruling::Destroy) && !self.is_held()
-    }
-
-    /// The tag with which its row begins.
-    fn row_tag(&self) -> &'static str
-        ensures { result.now ≡ row_tag_of (is_free_item self.now) }
-    {
-        if self.is_free() {
-            "<tr>"
-        } else {
-            "<tr class=\"barred\">"
-        }
     }
 
     /// Adds what bars the destruction of the record, or that nothing does.
@@ -193,7 +193,7 @@ impl Item {
     fn row(&self, page: &mut Page, titles: &[ListedTitle<'_>]) -> Result<(), AllocError>
         ensures { OnOk result (page.new ≡ page.old ++ row_of titles.now self.now) }
     {
-        page.markup(self.row_tag())?;
+        page.markup(row_tag(self.is_free()))?;
         self.first_cells(page, titles)?;
         page.markup("</td><td>")?;
         push_texts(page, self.headers.as_ref())?;

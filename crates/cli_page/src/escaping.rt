@@ -3,7 +3,7 @@
 ghost use Rattle.std.specs.Prelude.{◌≡◌, ◌<◌, ◌++◌, ◌∷◌, [], IfOk, OnOk, IsTrue, string_bytes};
 ghost use Rattle.std.specs.Str.{chars, encode_utf8_all};
 ghost use Rattle.std.specs.Char.{encode_utf8};
-ghost use Rattle.cli_page.specs.Escaping.{is_from as is_from_code, is_hidden as is_hidden_code, is_bracket as is_bracket_code, digit_at, mark_of, shown_of, shown_all, is_inert};
+ghost use Rattle.cli_page.specs.Escaping.{is_from as is_from_code, is_hidden as is_hidden_code, is_bracket as is_bracket_code, digit_at, mark_of, shown_of, shown_all, is_inert, path_shown_of, path_shown};
 
 use std::alloc::{AllocError, Global};
 
@@ -95,6 +95,30 @@ pub(crate) fn push_escaped(page: &mut String, text: &str) -> Result<(), AllocErr
 {
     for c in text.chars() {
         push_shown(page, c)?;
+    }
+    Ok(())
+}
+
+/// Adds a character of a path as a page shows it: a line may end after each slash.
+fn push_path_shown(text: &mut String, c: char) -> Result<(), AllocError>
+    ensures { OnOk result
+        (string_bytes text.new ≡ string_bytes text.old ++ encode_utf8_all (path_shown_of c)) }
+{
+    match c {
+        '/' => text.push_str("/<wbr>"),
+        _ => push_shown(text, c),
+    }
+}
+
+/// Adds a path as a page shows it: as text, and a line may end after each slash of it.
+#[tactic(auto, using(crate::proofs::ShownLemmas::path_more))]
+pub(crate) fn push_path(page: &mut String, path: &str) -> Result<(), AllocError>
+    ensures { OnOk result
+        (string_bytes page.new
+        ≡ string_bytes page.old ++ encode_utf8_all (path_shown (chars path.now))) }
+{
+    for c in path.chars() {
+        push_path_shown(page, c)?;
     }
     Ok(())
 }

@@ -1,7 +1,9 @@
 //! The index of an export: a table of its records, with a link to the file of each message.
 
-ghost use Rattle.std.specs.Prelude.{IsPermutation};
+ghost use Rattle.std.specs.Prelude.{◌≡◌, ◌++◌, ◌∷◌, [], ℕ, List, map, flat_map, option_map, IfOk, OnOk, OnErr};
+ghost use Rattle.cli_page.specs.Indexes.{IsIndex, IsOrdered, IsOrderedBy, has_lower_sender, is_earlier, moment_key, sender_key, choice_facts, condition_words as condition_words_of, due_cell, due_words as due_words_of, facts as facts_of, file_link, history_link as history_link_of, index_row, index_end, index_table_head, index_title, letter_cells, letter_for, letter_texts, letter_view, order_words as order_words_of, row_for, row_view};
 
+use crate::due_list::{push_day, push_number, row_tag};
 use crate::head::{close_head, open_head};
 use crate::marks::sorting_key;
 use crate::page::{Page, put};
@@ -82,7 +84,9 @@ fn moment_of(date: &str) -> Option<i64> {
 }
 
 impl Letter {
-    fn new(alloc: Global, file: u32, headers: &Headers) -> Result<Letter, AllocError> {
+    fn new(alloc: Global, file: u32, headers: &Headers) -> Result<Letter, AllocError>
+        ensures { IfOk result (λ l. letter_view l ≡ letter_for file headers.now) }
+    {
         let headers = headers.cut(alloc)?;
         Ok(Letter {
             file,
@@ -92,35 +96,88 @@ impl Letter {
         })
     }
 
-    /// Adds the cells of the message.
-    fn cells(&self, page: &mut Page) -> Result<(), AllocError> {
-        let file = u64::from(self.file);
+    /// Adds what the header of the message says.
+    #[tactic(auto, unfolding(crate::specs::Indexes::letter_texts))]
+    fn texts(&self, page: &mut Page) -> Result<(), AllocError>
+        ensures { OnOk result (page.new ≡ page.old ++ letter_texts (letter_view self.now)) }
+    {
         put!(page;
             "<td>" text(self.headers.sender.as_str())
             "</td><td>" text(self.headers.subject.as_str())
             "</td><td>" text(self.headers.date.as_str())
+        )
+    }
+
+    /// Adds a link to the file of the message, and the end of the row.
+    #[tactic(auto, unfolding(crate::specs::Indexes::file_link))]
+    fn link(&self, page: &mut Page) -> Result<(), AllocError>
+        ensures { OnOk result (page.new ≡ page.old ++ file_link self.now.file) }
+    {
+        let file = u64::from(self.file);
+        put!(page;
             "</td><td class=\"d\"><a href=\"" number(file) ".eml\">" number(file)
             ".eml</a></td></tr>\n"
         )
     }
 }
 
+/// Adds the cells of a message, or why there is none, and the end of the row.
+fn push_letter(
+    page: &mut Page,
+    letter: Option<&Letter>,
+    is_destroyed: bool,
+) -> Result<(), AllocError>
+    ensures { OnOk result (page.new ≡ page.old
+        ++ letter_cells is_destroyed (option_map (λ l. letter_view l.now) letter.entry)) }
+{
+    match letter {
+        Some(letter) => {
+            letter.texts(page)?;
+            letter.link(page)
+        }
+        None if is_destroyed => page.markup("<td></td><td></td><td></td><td></td></tr>\n"),
+        None => page.markup(
+            "<td></td><td></td><td></td><td>message altered, not exported</td></tr>\n",
+        ),
+    }
+}
+
+/// Adds a due date, or what stands in its place.
+fn push_due_words(page: &mut Page, is_destroyed: bool, due: Option<Date>) -> Result<(), AllocError>
+    ensures { OnOk result (page.new ≡ page.old ++ due_words_of is_destroyed due) }
+{
+    match due {
+        _ if is_destroyed => page.markup("destroyed"),
+        Some(due) => page.date(due),
+        None => page.markup("never"),
+    }
+}
+
+/// Adds the cell of a due date.
+#[tactic(auto, unfolding(crate::specs::Indexes::due_cell))]
+fn push_due(page: &mut Page, is_destroyed: bool, due: Option<Date>) -> Result<(), AllocError>
+    ensures { OnOk result (page.new ≡ page.old ++ due_cell is_destroyed due) }
+{
+    page.markup("</td><td class=\"d\">")?;
+    push_due_words(page, is_destroyed, due)?;
+    page.markup("</td>")
+}
+
 impl Row {
-    /// The moment of its date; none is later than any.
-    fn moment(&self) -> (bool, i64) {
+    /// The moment of its date. Without one it is later than any date.
+    fn moment(&self) -> i64
+        ensures { result ≡ moment_key self.now.letter }
+    {
         match &self.letter {
-            Some(
-                Letter {
-                    moment: Some(moment),
-                    ..
-                },
-            ) => (false, *moment),
-            _ => (true, 0),
+            Some(letter) => letter.moment.unwrap_or(i64::MAX),
+            None => i64::MAX,
         }
     }
 
     /// What its sender is sorted by. A record without a message has none, which comes first.
-    fn sender(&self) -> &str {
+    fn sender(&self) -> &str
+        ensures { result.now ≡ sender_key self.now.letter }
+    {
         match &self.letter {
             Some(letter) => letter.sender.as_str(),
             None => "",
@@ -128,48 +185,58 @@ impl Row {
     }
 
     /// Adds the row of the record.
-    fn write(&self, page: &mut Page) -> Result<(), AllocError> {
-        let class = if self.letter.is_some() {
-            "<tr>"
-        } else {
-            "<tr class=\"barred\">"
-        };
-        put!(page;
-            markup(class) "<th scope=\"row\" class=\"n\">" number(u64::from(self.number))
-            "</th><td>" path(self.path.as_slice())
-            "</td><td class=\"d\">" date(self.day) "</td><td class=\"d\">"
-        )?;
-        match self.due {
-            _ if self.is_destroyed => page.markup("destroyed")?,
-            Some(due) => page.date(due)?,
-            None => page.markup("never")?,
-        }
-        page.markup("</td>")?;
-        match &self.letter {
-            Some(letter) => letter.cells(page),
-            None if self.is_destroyed => {
-                page.markup("<td></td><td></td><td></td><td></td></tr>\n")
-            }
-            None => page.markup(
-                "<td></td><td></td><td></td><td>message altered, not exported</td></tr>\n",
-            ),
-        }
+    #[tactic(auto, unfolding(crate::specs::Indexes::index_row))]
+    fn write(&self, page: &mut Page) -> Result<(), AllocError>
+        ensures { OnOk result (page.new ≡ page.old ++ index_row (row_view self.now)) }
+    {
+        page.markup(row_tag(self.letter.is_some()))?;
+        push_number(page, u64::from(self.number))?;
+        page.path(self.path.as_slice())?;
+        push_day(page, self.day)?;
+        push_due(page, self.is_destroyed, self.due)?;
+        push_letter(page, self.letter.as_ref(), self.is_destroyed)
     }
+}
+
+/// Adds the rows of records.
+fn push_rows(page: &mut Page, rows: &[Row]) -> Result<(), AllocError>
+    ensures { OnOk result (page.new ≡ page.old ++ flat_map index_row (map row_view rows.now)) }
+{
+    for row in rows {
+        row.write(page)?;
+    }
+    Ok(())
+}
+
+/// Puts rows into the order of the moments of their dates; those without one come last.
+fn sort_by_date(rows: &mut Vec<Row>) -> Result<(), AllocError>
+    ensures { OnOk result (IsOrderedBy is_earlier rows.old.items rows.new.items) }
+{
+    rows.sort_by(|one, other| one.moment().cmp(&other.moment()))
+}
+
+/// Puts rows into the order of their senders.
+fn sort_by_sender(rows: &mut Vec<Row>) -> Result<(), AllocError>
+    ensures { OnOk result (IsOrderedBy has_lower_sender rows.old.items rows.new.items) }
+{
+    rows.sort_by(|one, other| one.sender().cmp(other.sender()))
 }
 
 /// Puts rows that are ordered by number into an order. None is lost, and none is there twice.
 fn sort_rows(rows: &mut Vec<Row>, order: Order) -> Result<(), AllocError>
-    ensures { IsPermutation rows.old.items rows.new.items }
+    ensures { OnOk result (IsOrdered order rows.old.items rows.new.items) }
 {
     match order {
         Order::Number => Ok(()),
-        Order::Date => rows.sort_by(|one, other| one.moment().cmp(&other.moment())),
-        Order::Sender => rows.sort_by(|one, other| one.sender().cmp(other.sender())),
+        Order::Date => sort_by_date(rows),
+        Order::Sender => sort_by_sender(rows),
     }
 }
 
 /// The words for an order.
-fn order_words(order: Order) -> &'static str {
+fn order_words(order: Order) -> &'static str
+    ensures { result.now ≡ order_words_of order }
+{
     match order {
         Order::Number => "by number",
         Order::Date => "by the date in the header; records without a date come last",
@@ -177,9 +244,99 @@ fn order_words(order: Order) -> &'static str {
     }
 }
 
+/// Adds the file of the store, when the index is made, and how many records it has.
+#[tactic(auto, unfolding(crate::specs::Indexes::facts))]
+fn push_facts(page: &mut Page, file: &str, moment: &str, count: usize) -> Result<(), AllocError>
+    ensures { OnOk result (page.new ≡ page.old ++ facts_of file.now moment.now count) }
+{
+    put!(page;
+        "<body class=\"index\">\n<header>\n<h1>Exported records</h1>\n<dl class=\"facts\">\n\
+        <dt>Store</dt><dd>" text(file)
+        "</dd>\n<dt>Made</dt><dd>" text(moment)
+        "</dd>\n<dt>Records</dt><dd>" number(count as u64)
+    )
+}
+
+/// Adds the conditions that the records meet, if there are any.
+fn push_conditions(page: &mut Page, conditions: Option<&str>) -> Result<(), AllocError>
+    ensures { OnOk result (page.new ≡ page.old
+        ++ condition_words_of (option_map (λ c. c.now) conditions.entry)) }
+{
+    match conditions {
+        Some(conditions) => page.text(conditions),
+        None => page.markup("none: all records of the store"),
+    }
+}
+
+/// Adds which records an index has, and in which order.
+#[tactic(auto, unfolding(crate::specs::Indexes::choice_facts))]
+fn push_choice(page: &mut Page, conditions: Option<&str>, order: Order) -> Result<(), AllocError>
+    ensures { OnOk result (page.new ≡ page.old
+        ++ choice_facts (option_map (λ c. c.now) conditions.entry) order) }
+{
+    page.markup("</dd>\n<dt>Conditions</dt><dd>")?;
+    push_conditions(page, conditions)?;
+    put!(page;
+        "</dd>\n<dt>Order</dt><dd>" markup(order_words(order))
+        "</dd>\n</dl>\n</header>\n<main>\n"
+    )
+}
+
+/// Adds a link to the events of the records, where they are beside the index.
+fn push_history(page: &mut Page, has_history: bool) -> Result<(), AllocError>
+    ensures { OnOk result (page.new ≡ page.old ++ history_link_of has_history) }
+{
+    if has_history {
+        page.markup(" <a href=\"history.txt\">history.txt</a> has the events of the records.")
+    } else {
+        Ok(())
+    }
+}
+
+/// Adds the head of the table.
+#[tactic(auto, unfolding(crate::specs::Indexes::index_table_head))]
+fn open_table(page: &mut Page, has_history: bool) -> Result<(), AllocError>
+    ensures { OnOk result (page.new ≡ page.old ++ index_table_head has_history) }
+{
+    page.markup(
+        "<table>\n<caption>Long texts are cut here; manifest.csv has them whole. SHA256SUMS has \
+        the sums of the files.",
+    )?;
+    push_history(page, has_history)?;
+    page.markup(
+        "</caption>\n<thead><tr><th scope=\"col\" class=\"n\">Record</th>\
+        <th scope=\"col\" class=\"k\">Class</th>\
+        <th scope=\"col\" class=\"d\">Captured</th><th scope=\"col\" class=\"d\">Due</th>\
+        <th scope=\"col\">Sender</th><th scope=\"col\">Subject</th>\
+        <th scope=\"col\" class=\"h\">Date in the header</th>\
+        <th scope=\"col\" class=\"d\">File</th></tr></thead>\n<tbody>\n",
+    )
+}
+
+/// Adds what comes after the rows.
+#[tactic(auto, unfolding(crate::specs::Indexes::index_end))]
+fn close_table(page: &mut Page) -> Result<(), AllocError>
+    ensures { OnOk result (page.new ≡ page.old ++ index_end) }
+{
+    page.markup(
+        "</tbody>\n</table>\n</main>\n<footer>Made by mailfile-store export. Captured and Due \
+        are days of UTC.</footer>\n</body>\n</html>\n",
+    )
+}
+
+/// Adds the title of an index.
+#[tactic(auto, unfolding(crate::specs::Indexes::index_title))]
+fn push_title(page: &mut Page) -> Result<(), AllocError>
+    ensures { OnOk result (page.new ≡ page.old ++ index_title) }
+{
+    page.markup("Exported records")
+}
+
 impl Index {
     /// An index without records.
-    pub fn new(alloc: Global) -> Index {
+    pub fn new(alloc: Global) -> Index
+        ensures { result.rows.items ≡ [] }
+    {
         let rows = Vec::new(alloc);
         Index { alloc, rows }
     }
@@ -190,7 +347,11 @@ impl Index {
         &mut self,
         record: &Record<'_>,
         letter: Option<(u32, &Headers)>,
-    ) -> Result<(), AllocError> {
+    ) -> Result<(), AllocError>
+        ensures ok { OnOk result (map row_view self.new.rows.items ≡ map row_view self.old.rows.items
+            ++ row_for «record».now (option_map (λ l. (l.0, l.1.now)) letter.entry) ∷ []) }
+        ensures err { OnErr result (self.new.rows.items ≡ self.old.rows.items) }
+    {
         let letter = match letter {
             Some((file, headers)) => Some(Letter::new(self.alloc, file, headers)?),
             None => None,
@@ -207,65 +368,20 @@ impl Index {
         Ok(())
     }
 
-    /// Adds what comes before the rows.
-    fn heading(&self, page: &mut Page, about: &IndexHeading<'_>) -> Result<(), AllocError> {
-        open_head(self.alloc, page)?;
-        page.markup("Exported records")?;
-        close_head(page)?;
-        put!(page;
-            "<body class=\"index\">\n<header>\n<h1>Exported records</h1>\n<dl class=\"facts\">\n"
-            "<dt>Store</dt><dd>" text(about.file) "</dd>\n"
-            "<dt>Made</dt><dd>" text(about.moment) "</dd>\n"
-            "<dt>Records</dt><dd>" number(self.rows.len() as u64) "</dd>\n"
-        )?;
-        put!(page; "<dt>Conditions</dt><dd>")?;
-        match about.conditions {
-            Some(conditions) => page.text(conditions)?,
-            None => page.markup("none: all records of the store")?,
-        }
-        put!(page;
-            "</dd>\n<dt>Order</dt><dd>" markup(order_words(about.order))
-            "</dd>\n</dl>\n</header>\n<main>\n"
-        )
-    }
-
-    /// Adds the caption of the table.
-    fn caption(page: &mut Page, has_history: bool) -> Result<(), AllocError> {
-        page.markup(
-            "<caption>Long texts are cut here; manifest.csv has them whole. SHA256SUMS has the \
-            sums of the files.",
-        )?;
-        if has_history {
-            page.markup(" <a href=\"history.txt\">history.txt</a> has the events of the records.")?;
-        }
-        page.markup("</caption>\n")
-    }
-
-    /// Adds the head of the table.
-    fn table_head(page: &mut Page, has_history: bool) -> Result<(), AllocError> {
-        page.markup("<table>\n")?;
-        Index::caption(page, has_history)?;
-        page.markup(
-            "<thead><tr><th scope=\"col\" class=\"n\">Record</th>\
-            <th scope=\"col\" class=\"k\">Class</th>\
-            <th scope=\"col\" class=\"d\">Captured</th><th scope=\"col\" class=\"d\">Due</th>\
-            <th scope=\"col\">Sender</th><th scope=\"col\">Subject</th>\
-            <th scope=\"col\" class=\"h\">Date in the header</th>\
-            <th scope=\"col\" class=\"d\">File</th></tr></thead>\n<tbody>\n",
-        )
-    }
-
     /// Writes the index in the order of its heading.
-    pub fn write(mut self, page: &mut Page, about: &IndexHeading<'_>) -> Result<(), AllocError> {
+    pub fn write(mut self, page: &mut Page, about: &IndexHeading<'_>) -> Result<(), AllocError>
+        ensures { OnOk result ((text : List ℕ) × IsIndex about.now self.rows.items text
+            × (page.new ≡ page.old ++ text)) }
+    {
         sort_rows(&mut self.rows, about.order)?;
-        self.heading(page, about)?;
-        Index::table_head(page, about.has_history)?;
-        for row in self.rows.as_slice() {
-            row.write(page)?;
-        }
-        page.markup(
-            "</tbody>\n</table>\n</main>\n<footer>Made by mailfile-store export. Captured and Due \
-            are days of UTC.</footer>\n</body>\n</html>\n",
-        )
+        let rows = self.rows.as_slice();
+        open_head(self.alloc, page)?;
+        push_title(page)?;
+        close_head(page)?;
+        push_facts(page, about.file, about.moment, rows.len())?;
+        push_choice(page, about.conditions, about.order)?;
+        open_table(page, about.has_history)?;
+        push_rows(page, rows)?;
+        close_table(page)
     }
 }

@@ -2,13 +2,12 @@
 
 ghost use Rattle.std.specs.Prelude.{◌≡◌, ◌++◌, [], OnOk, decimal, string_bytes};
 ghost use Rattle.jiff.specs.Words.{date_text};
-ghost use Rattle.cli_page.specs.Pages.{text_piece, name_piece, time_piece, number_cell_piece};
+ghost use Rattle.cli_page.specs.Pages.{text_piece, name_piece, path_piece, time_piece, number_cell_piece};
 
-use crate::escaping::push_escaped;
+use crate::escaping::{push_escaped, push_path};
 use class_plan::Date;
 use std::alloc::{AllocError, Global};
 use std::marker::Model;
-use std::str;
 
 /// Adds pieces to a page, one after the other: markup, and values by the calls of `Page` that are named.
 macro_rules! put {
@@ -76,18 +75,13 @@ impl Page {
         self.text(text.as_str())
     }
 
-    /// Adds the path of a class. A line may end after each slash of it.
-    pub(crate) fn path(&mut self, path: &[u8]) -> Result<(), AllocError> {
-        let text = str::from_utf8(path).unwrap_or("\u{fffd}");
-        let mut is_first = true;
-        for segment in text.split('/') {
-            if !is_first {
-                self.markup("/<wbr>")?;
-            }
-            is_first = false;
-            self.text(segment)?;
-        }
-        Ok(())
+    /// Adds the path of a class. A line may end after each slash of it. What is no UTF-8 is U+FFFD.
+    #[tactic(auto, unfolding(crate::specs::Pages::path_piece))]
+    pub(crate) fn path(&mut self, path: &[u8]) -> Result<(), AllocError>
+        ensures { OnOk result (self.new ≡ self.old ++ path_piece path.now) }
+    {
+        let text = String::from_utf8_lossy(self.alloc, path)?;
+        push_path(&mut self.html, text.as_str())
     }
 
     /// Adds a number in decimal.
@@ -119,6 +113,13 @@ impl Page {
         ensures { OnOk result (self.new ≡ self.old ++ number_cell_piece number) }
     {
         put!(self; "<td class=\"n\">" number(number) "</td>")
+    }
+
+    /// Adds what another page has.
+    pub(crate) fn add(&mut self, other: &Page) -> Result<(), AllocError>
+        ensures { OnOk result (self.new ≡ self.old ++ other.now) }
+    {
+        self.html.push_str(other.html.as_str())
     }
 
     /// What was added.

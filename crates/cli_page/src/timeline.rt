@@ -1,5 +1,8 @@
 //! When live records fall due: a drawn timeline, and the same in a table.
 
+ghost use Rattle.std.specs.Prelude.{◌≡◌, ◌++◌, List, ℕ, flat_map, OnOk};
+ghost use Rattle.cli_page.specs.Timelines.{IsTimeline, column_row, columns_end, columns_head, columns_table, no_dates, row_cells, row_head, timeline_end, timeline_head, years_words};
+
 use crate::fault::ReportFault;
 use crate::page::{Page, put};
 use crate::tally::Tally;
@@ -290,84 +293,144 @@ fn push_title(page: &mut Page) -> Result<(), AllocError> {
     )
 }
 
-/// Adds the drawing.
-fn push_drawing(
-    page: &mut Page,
+/// The drawing.
+fn drawing_of(
+    alloc: Global,
     columns: &[Column],
     scale: &Scale,
     day: Date,
-) -> Result<(), AllocError> {
-    push_title(page)?;
-    push_level(page, "grid", TOP, scale.top)?;
-    push_level(page, "grid", TOP.midpoint(BOTTOM), scale.top / 2)?;
+) -> Result<Page, AllocError> {
+    let mut page = Page::new(alloc);
+    push_title(&mut page)?;
+    push_level(&mut page, "grid", TOP, scale.top)?;
+    push_level(&mut page, "grid", TOP.midpoint(BOTTOM), scale.top / 2)?;
     for column in columns {
-        push_column(page, scale, column)?;
+        push_column(&mut page, scale, column)?;
     }
-    push_level(page, "axis", BOTTOM, 0)?;
-    push_years(page, scale)?;
-    push_day(page, scale, day)?;
-    push_legend(page, day)?;
-    page.markup("</svg>\n</figure>\n")
+    push_level(&mut page, "axis", BOTTOM, 0)?;
+    push_years(&mut page, scale)?;
+    push_day(&mut page, scale, day)?;
+    push_legend(&mut page, day)?;
+    page.markup("</svg>\n</figure>\n")?;
+    Ok(page)
 }
 
-/// Adds the row of a column.
-fn push_row(page: &mut Page, column: &Column) -> Result<(), AllocError> {
-    let from = u64::from(column.from);
-    put!(page; "<tr><th scope=\"row\">" number(from))?;
-    if column.years > 1 {
-        let to = from
-            .saturating_add(u64::from(column.years))
-            .saturating_sub(1);
-        put!(page; " to " number(to))?;
+/// Adds the years of a column: one, or the first and the last of them.
+fn push_span(page: &mut Page, column: &Column) -> Result<(), AllocError>
+    ensures { OnOk result (page.new ≡ page.old ++ years_words column.now) }
+{
+    let Column { from, years, .. } = *column;
+    page.number(u64::from(from))?;
+    if years <= 1 {
+        return Ok(());
     }
+    put!(page; " to " number(u64::from(from) + u64::from(years - 1)))
+}
+
+/// Adds the first cell of the row of a column.
+#[tactic(auto, unfolding(crate::specs::Timelines::row_head))]
+fn push_row_head(page: &mut Page, column: &Column) -> Result<(), AllocError>
+    ensures { OnOk result (page.new ≡ page.old ++ row_head column.now) }
+{
+    page.markup("<tr><th scope=\"row\">")?;
+    push_span(page, column)?;
+    page.markup("</th>")
+}
+
+/// Adds the other cells, and the end of the row.
+#[tactic(auto, unfolding(crate::specs::Timelines::row_cells))]
+fn push_row_cells(page: &mut Page, column: &Column) -> Result<(), AllocError>
+    ensures { OnOk result (page.new ≡ page.old ++ row_cells column.now) }
+{
     put!(page;
-        "</th>" number_cell(column.due) number_cell(column.later) number_cell(column.total())
-        "</tr>\n"
+        number_cell(column.due) number_cell(column.later) number_cell(column.total()) "</tr>\n"
     )
 }
 
-/// Adds the table of columns.
-fn push_table(
-    page: &mut Page,
-    columns: &[Column],
-    dated: u64,
-    day: Date,
-) -> Result<(), AllocError> {
+/// Adds the rows of columns.
+fn push_rows(page: &mut Page, columns: &[Column]) -> Result<(), AllocError>
+    ensures { OnOk result (page.new ≡ page.old ++ flat_map column_row columns.now) }
+{
+    for column in columns {
+        push_row_head(page, column)?;
+        push_row_cells(page, column)?;
+    }
+    Ok(())
+}
+
+/// Adds what comes before the rows.
+#[tactic(auto, unfolding(crate::specs::Timelines::columns_head))]
+fn open_table(page: &mut Page, day: Date) -> Result<(), AllocError>
+    ensures { OnOk result (page.new ≡ page.old ++ columns_head day) }
+{
     put!(page;
         "<table>\n<caption>Live records by the years in which they fall due; years without any are \
         left out</caption>\n<thead><tr>\
         <th scope=\"col\">Due in</th><th scope=\"col\" class=\"n\">By " time(day)
         "</th><th scope=\"col\" class=\"n\">Later</th><th scope=\"col\" class=\"n\">All</th>\
         </tr></thead>\n<tbody>\n"
-    )?;
-    for column in columns {
-        push_row(page, column)?;
-    }
+    )
+}
+
+/// Adds the number of all live records with a due date, and the end of the table.
+#[tactic(auto, unfolding(crate::specs::Timelines::columns_end))]
+fn close_table(page: &mut Page, dated: u64) -> Result<(), AllocError>
+    ensures { OnOk result (page.new ≡ page.old ++ columns_end dated) }
+{
     put!(page;
         "</tbody>\n<tfoot><tr><th scope=\"row\" colspan=\"3\">Live records with a due date</th>"
         number_cell(dated) "</tr></tfoot>\n</table>\n"
     )
 }
 
+/// Adds the table of columns.
+fn push_table(page: &mut Page, columns: &[Column], dated: u64, day: Date) -> Result<(), AllocError>
+    ensures { OnOk result (page.new ≡ page.old ++ columns_table columns.now dated day) }
+{
+    open_table(page, day)?;
+    push_rows(page, columns)?;
+    close_table(page, dated)
+}
+
+/// Adds the heading of the section.
+#[tactic(auto, unfolding(crate::specs::Timelines::timeline_head))]
+fn open_section(page: &mut Page) -> Result<(), AllocError>
+    ensures { OnOk result (page.new ≡ page.old ++ timeline_head) }
+{
+    page.markup("<section aria-labelledby=\"when\">\n<h2 id=\"when\">When records fall due</h2>\n")
+}
+
+/// Adds that no record falls due, and the end of the section.
+#[tactic(auto, unfolding(crate::specs::Timelines::no_dates))]
+fn push_no_dates(page: &mut Page) -> Result<(), AllocError>
+    ensures { OnOk result (page.new ≡ page.old ++ no_dates) }
+{
+    page.markup("<p>No live record has a due date.</p>\n</section>\n")
+}
+
+/// Adds the end of the section.
+#[tactic(auto, unfolding(crate::specs::Timelines::timeline_end))]
+fn close_section(page: &mut Page) -> Result<(), AllocError>
+    ensures { OnOk result (page.new ≡ page.old ++ timeline_end) }
+{
+    page.markup("</section>\n")
+}
+
 /// Adds the section of due dates.
-pub fn timeline(
-    alloc: Global,
-    page: &mut Page,
-    tally: &Tally,
-    day: Date,
-) -> Result<(), ReportFault> {
-    page.markup(
-        "<section aria-labelledby=\"when\">\n<h2 id=\"when\">When records fall due</h2>\n",
-    )?;
+pub fn timeline(alloc: Global, page: &mut Page, tally: &Tally, day: Date) -> Result<(), ReportFault>
+    ensures { OnOk result ((text : List ℕ) × IsTimeline tally.now day text
+        × (page.new ≡ page.old ++ text)) }
+{
+    open_section(page)?;
     let columns = tally.years.columns(alloc)?;
+    let columns = columns.as_slice();
     if columns.is_empty() {
-        page.markup("<p>No live record has a due date.</p>\n</section>\n")?;
+        push_no_dates(page)?;
         return Ok(());
     }
-    let year = u16::try_from(day.year()).unwrap_or(0);
-    let scale = Scale::of(columns.as_slice(), year);
-    push_drawing(page, columns.as_slice(), &scale, day)?;
-    push_table(page, columns.as_slice(), tally.all.dated, day)?;
-    page.markup("</section>\n")?;
+    let scale = Scale::of(columns, u16::try_from(day.year()).unwrap_or(0));
+    page.add(&drawing_of(alloc, columns, &scale, day)?)?;
+    push_table(page, columns, tally.all.dated, day)?;
+    close_section(page)?;
     Ok(())
 }

@@ -1,5 +1,6 @@
 -- Due days by a plan.
-use Rattle.std.proofs.Common.{◌≡◌, ◌≤◌, ◌≤ℤ◌, ◌∙◌, ap, sym, ℕ, ℤ, pos, negsuc, unsigned_abs, w64, FitsSigned, to_z, of_z, List, Option, Some, None, IfSome, option_map, nat_lt, false, refl, arith}
+use Rattle.std.proofs.Common.{◌≡◌, ◌≤◌, ◌≤ℤ◌, ◌∙◌, ap, sym, ℕ, ℤ, pos, negsuc, unsigned_abs, w64, FitsSigned, to_z, of_z}
+use Rattle.std.proofs.Common.{List, Option, Some, None, IfSome, option_map, nat_lt, false, refl, arith}
 use Rattle.std.proofs.lemmas.Int.{to_z-of_z}
 use Rattle.std.proofs.lemmas.Bool.Decides.{nat_tests}
 use Rattle.jiff.specs.Words.{epoch_day}

@@ -1,0 +1,34 @@
+use Rattle.std.proofs.Common.{◌++◌, ◌∙◌, ap, sym, refl, ℕ, List, length, map, flat_map, option_map}
+use Rattle.std.proofs.lemmas.List.{length-map}
+use Rattle.std.proofs.lemmas.Result.{on_ok_weaker}
+use Rattle.cli_page.specs.declared.index.Row.{Row}
+use Rattle.cli_page.specs.Heads.{head_start, head_end}
+use Rattle.cli_page.specs.Indexes.{choice_facts, facts, index_end, index_row, index_table_head, index_text, index_title, row_view}
+use Rattle.cli_page.proofs.PushLemmas.{pushed_8}
+use Rattle.cli_page.proofs.index.Index.write.Goals as goal
+
+pub returns : goal.returns
+unfolding index_text
+returns c =
+    let about = c.args.about.now in
+    let rows = c.sort_rows.new.rows.items in
+    let policy = c.in_ok-open_head.ensures.0 in
+    let style = c.in_ok-close_head.ensures.0 in
+    let count = ap length c.as_slice-rows.ensures.value ∙ sym (length-map rows row_view) in
+    let told = c.in_ok-push_facts.ensures
+    ∙ ap (λ (n : ℕ). c.close_head.new.page ++ facts about.file.now about.moment.now n) count in
+    let listed = c.in_ok-push_rows.ensures
+    ∙ ap (λ (rs : List Row). c.open_table.new.page ++ flat_map index_row (map row_view rs)) c.as_slice-rows.ensures.value in
+    let pushed = pushed_8 c.args.page.now c.open_head.new.page c.push_title.new.page c.close_head.new.page c.push_facts.new.page
+    c.push_choice.new.page c.open_table.new.page c.push_rows.new.page c.close_table.new.page
+    (head_start policy) index_title (head_end style) (facts about.file.now about.moment.now (length (map row_view rows)))
+    (choice_facts (option_map (λ b. b.now) about.conditions) about.order) (index_table_head about.has_history)
+    (flat_map index_row (map row_view rows)) index_end
+    c.in_ok-open_head.ensures.1 c.in_ok-push_title.ensures c.in_ok-close_head.ensures.1 told c.in_ok-push_choice.ensures
+    c.in_ok-open_table.ensures listed in
+    on_ok_weaker c.close_table.result
+    (λ last. (
+      index_text policy style about (map row_view rows),
+      record { policy = policy; style = style; rows = rows; ordered = c.in_ok-sort_rows.ensures; is = refl },
+      pushed last,
+    )) c.close_table.ensures
