@@ -1,3 +1,8 @@
 pub mod RunLaws
 pub mod PassedOverLaws
-pub mod DestructionLaws
+pub mod CountLaws
+pub mod DueLaws
+pub mod DisposalLaws
+pub mod MeantLaws
+pub mod RunDisposals
+pub mod DisposalRows
