@@ -1,4 +1,9 @@
 pub mod RunLaws
 pub mod PassedOverLaws
-pub mod DestructionLaws
 pub mod ChangeLemmas
+pub mod CountLaws
+pub mod DueLaws
+pub mod DisposalLaws
+pub mod MeantLaws
+pub mod RunDisposals
+pub mod DisposalRows

@@ -13,7 +13,7 @@ use Rattle.cli_console.specs.declared.failure.Status.{Status}
 use Rattle.cli_console.specs.declared.failure.Status.TheVariants.{BadData}
 use Rattle.cli_history.specs.Seals.{known, fidelity, notes_for}
 use Rattle.cli_history.specs.declared.seals.Fidelity.{Fidelity}
-use Rattle.cli_history.specs.declared.seals.Fidelity.TheVariants.{Unsealed}
+use Rattle.cli_history.specs.declared.seals.Fidelity.TheVariants.{Unsealed, Same, Altered}
 use Rattle.cli_history.specs.declared.seals.Seals.{Seals}
 use Rattle.cli_changes.specs.declared.altered.Damage.{Damage}
 use Rattle.cli_changes.specs.declared.altered.Damage.TheVariants.{Refused, Destroyed}
@@ -59,6 +59,16 @@ IsJudged seals a None = Unit {0}
 IsJudged seals a (Some j) = IsFidelityOf seals a j.message j.fidelity
 
 -- ---- altered messages
+
+-- it is not known to be another message than the one that was captured
+abbrev pub IsNotAltered : Fidelity → Type 0
+IsNotAltered Unsealed = Unit {0}
+IsNotAltered Same = Unit {0}
+IsNotAltered (Altered event) = ⊥
+
+-- THE MESSAGE OF A RECORD WAS NOT ALTERED, as far as its seal is known
+abbrev pub IsUnaltered : Seals → Archive → (number : ℕ) → Type 0
+IsUnaltered seals a n = OfRecord a n (λ r. (f : Fidelity) × IsFidelityOf seals a r.message f × IsNotAltered f)
 
 -- the notes of a run say that its messages are not the ones that were captured
 abbrev pub is_altered_run : Run → Bool

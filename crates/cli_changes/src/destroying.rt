@@ -1,9 +1,11 @@
 //! The destruction of records that are asked for, and why it ends where that is no success.
 
-ghost use Rattle.std.specs.Prelude.{OnOk};
+ghost use Rattle.std.specs.Prelude.{List, is_ok};
 ghost use Rattle.jiff.specs.Words.{epoch_day};
 ghost use Rattle.record_archive.specs.Archive.{Archive};
-ghost use Rattle.cli_changes.specs.Destructions.{DestroysAsked, IsSettled, IsUndone};
+ghost use Rattle.record_choice.specs.Disposals.{Certificate, HandsOver};
+ghost use Rattle.cli_console.specs.Failures.{IsOfStore};
+ghost use Rattle.cli_changes.specs.Destructions.{DisposesAsked, IsSettled, IsUndone};
 
 use class_plan::{Action, Date, Schedule};
 use cli_console::{Failure, Status};
@@ -58,12 +60,19 @@ fn not_approved(alloc: Global, number: u32, reason: &Reason) -> Result<Shown, Al
     Ok(text)
 }
 
+/// The failure of a call of the store.
+pub(crate) fn unread(rt: &HostRuntime, fault: StoreFault) -> Failure
+    ensures { IsOfStore fault result }
+{
+    Failure::of_store(rt.alloc(), "the store", fault)
+}
+
 /// The failure of a disposal that destroys nothing.
 pub(crate) fn refused(rt: &HostRuntime, fault: DisposeFault<StoreFault>) -> Failure
     ensures { IsUndone fault result }
 {
     match fault {
-        DisposeFault::Repository(fault) => Failure::of_store(rt.alloc(), "the store", fault),
+        DisposeFault::Repository(fault) => unread(rt, fault),
         DisposeFault::NoMemory => Failure::NoMemory,
         DisposeFault::NotApproved(number, reason) => {
             Failure::shown(Status::BadData, not_approved(rt.alloc(), number, &reason))
@@ -76,13 +85,14 @@ fn settle(rt: &HostRuntime, end: End<StoreFault, Failure>) -> Result<(), Failure
     ensures { IsSettled end result }
 {
     match end {
-        End::Repository(fault) => Err(Failure::of_store(rt.alloc(), "the store", fault)),
+        End::Repository(fault) => Err(unread(rt, fault)),
         End::Registrar(failure) => Err(failure),
         End::Done => Ok(()),
     }
 }
 
-/// Destroys the records of some numbers, of which there is one, each with a certificate.
+/// Destroys the records of some numbers, all that are due where there is no number, one after the other and each with a
+/// certificate, up to the first that fails. None is destroyed unless each of them may be.
 pub(crate) fn destroy_numbers<R: Repository<Fault = StoreFault>, K: Registrar<Fault = Failure>>(
     rt: &HostRuntime,
     archive: &mut R,
@@ -92,8 +102,10 @@ pub(crate) fn destroy_numbers<R: Repository<Fault = StoreFault>, K: Registrar<Fa
 ) -> Result<(), Failure>
     requires { K.is_open certificates.old }
     ensures falls { R.clean archive.new → R.clean archive.old }
-    ensures these { OnOk result (R.clean archive.new → (a : Archive) → R.stands archive.old a
-        → DestroysAsked (R.stands archive.new) (epoch_day day) numbers.now a) }
+    ensures these { (cs : List Certificate)
+        × HandsOver K.takes certificates.old cs certificates.new
+        × (R.clean archive.new → (a : Archive) → R.stands archive.old a
+        → DisposesAsked (R.stands archive.new) (epoch_day day) numbers.now (is_ok result) cs a) }
 {
     match dispose(rt.alloc(), archive, certificates, numbers, day) {
         Ok(Disposed { end, .. }) => settle(rt, end),

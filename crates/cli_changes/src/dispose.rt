@@ -1,156 +1,54 @@
 //! `dispose`: what is due, and its destruction. Which records these are, `record_choice` decides.
 
-ghost use Rattle.std.specs.Prelude.{◌≡◌, map, IfOk, OnOk, option_map};
+ghost use Rattle.std.specs.Prelude.{◌≡◌, [], List, false, true, is_ok, IfOk, OnOk};
+ghost use Rattle.std.specs.List.{AllByRecursion};
 ghost use Rattle.jiff.specs.Words.{epoch_day};
 ghost use Rattle.record_archive.specs.Archive.{Archive};
+ghost use Rattle.record_choice.specs.Disposals.{Certificate, HandsOver, asked_list};
+ghost use Rattle.record_choice.specs.Reads.{OnlyReads};
+ghost use Rattle.record_choice.specs.Reasons.{MayGo};
 ghost use Rattle.record_ledger.specs.Ledgers.{KeptFor};
-ghost use Rattle.cli_history.specs.Titles.{title_seen, title_for};
-ghost use Rattle.cli_history.specs.declared.titles.Titles.{Titles};
-ghost use Rattle.cli_changes.specs.Certificates.{Certifies, IsCertificateLine};
-ghost use Rattle.cli_changes.specs.Destructions.{DestroysAsked, DestroysRuns, IsRead, fate_asked};
+ghost use Rattle.cli_choice.specs.Disposals.{IsMeant};
+ghost use Rattle.cli_changes.specs.declared.dispose.Fate.TheVariants.{Destroyed, Listed};
+ghost use Rattle.cli_changes.specs.Certificates.{IsTaken};
+ghost use Rattle.cli_changes.specs.Destructions.{AreApproved, DisposesAsked, DisposesUnaltered, EachOnce, IsAskedFor};
+ghost use Rattle.cli_changes.specs.Destructions.{IsDisposal, IsDisposalOf};
+ghost use Rattle.cli_changes.specs.Destructions.{IsOnlyRead, IsRead, fate_asked};
+ghost use Rattle.cli_changes.specs.Runs.{AreFilled, altered as altered_of, records_of};
 
 use crate::altered::{Damage, altered_in, due_line, end_list, judge_altered};
-use crate::destroying::{destroy_numbers, refused};
+use crate::certificates::{Certificates, Printer};
+use crate::destroying::{destroy_numbers, refused, unread};
 use crate::passed_over::tell_passed_over;
 use crate::runs::{Run, runs_of};
 use class_plan::Date;
 use cli_choice::{Meant, meant_of};
-use cli_console::{Failure, Status, judge_day, now, tell, tell_words, today, write_text};
-use cli_history::{Fidelity, Seals, StoreLedger};
-use cli_texts::{CapturedMessage, Certificate, ClassTitle, certificate_line, sum_text};
+use cli_console::{Failure, judge_day, tell, today, write_text};
+use cli_history::{Seals, StoreLedger};
 use command_lines::archives::{Disposal, TypedNumbers};
 use record_archive::Line;
-use record_choice::{Destroyed, Registrar, asked_lines};
+use record_choice::{Repository, asked_lines};
+use record_store::StoreFault;
 use sqlite::Alter;
-use std::str;
 use tool_texts::{Shown, put};
 
-/// Writes certificates to standard output.
-#[derive(Drop)]
-struct Certificates<'r, 's> {
-    rt: &'r HostRuntime,
-    /// The seals of the messages and the titles of the classes, as the history has them.
-    seals: &'s Seals,
-    /// Whether a message is gone with a record.
-    is_any_gone: bool,
-}
-
-/// A certificate that is made out.
-#[derive(Drop)]
-struct Draft {
-    text: Shown,
-    /// Whether the message goes with the record.
-    is_gone: bool,
-}
-
-/// The message that was captured, where that of a record is another one.
-fn captured_beside<'s>(
-    seals: &'s Seals,
-    message: u32,
-    fidelity: Fidelity,
-) -> Option<CapturedMessage<'s>> {
-    match (fidelity, seals.length_and_sum(message)) {
-        (Fidelity::Altered(_), Some((octets, sum))) => Some(CapturedMessage {
-            octets: octets as usize,
-            sum: str::from_utf8(sum).unwrap_or(""),
-        }),
-        _ => None,
-    }
-}
-
-/// The title of the class of a record that is about to be destroyed, if it has one.
-fn title_beside<'s>(seals: &'s Seals, destroyed: &Destroyed) -> Option<ClassTitle<'s>>
-    ensures { option_map title_seen result ≡ title_for seals.now.titles destroyed.now.entry }
-{
-    seals.titles().of_class(destroyed.entry.path.as_slice())
-}
-
-/// What is certified of a record that is about to be destroyed, with the title of its class, the message that was captured, where
-/// its own is another one, and the digits of its message's sum, at a moment.
-fn facts_of<'d>(
-    destroyed: &'d Destroyed,
-    title: Option<ClassTitle<'d>>,
-    captured: Option<CapturedMessage<'d>>,
-    sum: &'d str,
-    moment: u64,
-) -> Certificate<'d>
-    ensures { (titles : Titles) → option_map title_seen title.entry ≡
-        title_for titles destroyed.now.entry
-        → Certifies destroyed.now titles sum.now moment result }
-{
-    let entry = &destroyed.entry;
-    Certificate {
-        number: entry.number,
-        path: entry.path.as_slice(),
-        title,
-        due: entry.due,
-        octets: destroyed.octets,
-        sum,
-        moment,
-        kept_by: destroyed.kept_by,
-        captured,
-    }
-}
-
-/// The certificate of a record that is about to be destroyed. Where the message is not the one that was captured, it says so,
-/// and which one that was.
-fn certificate_of(rt: &HostRuntime, seals: &Seals, destroyed: &Destroyed) -> Result<Shown, Failure>
-    ensures { IfOk result (λ line. IsCertificateLine destroyed.now seals.now.titles line) }
-{
-    let message = destroyed.entry.message;
-    let sum = sum_text(rt.alloc(), destroyed.sum.as_slice())?;
-    let fidelity = seals.fidelity(message, destroyed.octets as u64, sum.as_bytes());
-    let title = title_beside(seals, destroyed);
-    let captured = captured_beside(seals, message, fidelity);
-    let facts = facts_of(destroyed, title, captured, sum.as_str(), now(rt)?);
-    Ok(certificate_line(rt.alloc(), &facts)?)
-}
-
-/// Writes a certificate. Where that fails, it goes to standard error instead, and no more is destroyed.
-fn write_certificate(rt: &HostRuntime, text: &Shown) -> Result<(), Failure> {
-    write_text(rt, text).map_err(|_| {
-        tell(rt, text);
-        Failure::told(
-            rt.alloc(),
-            Status::NotWritten,
-            "the certificate above could not be written to standard output; no further record is destroyed",
-        )
-    })
-}
-
-impl Registrar for Certificates<'_, '_> {
-    type Fault = Failure;
-
-    type Draft = Draft;
-
-    ghost says = { λ draft certificate. Unit {0} };
-
-    ghost takes = { λ old new certificate. Unit {0} };
-
-    ghost is_open = { λ certificates. Unit {0} };
-
-    fn draft(&self, destroyed: &Destroyed) -> Result<Draft, Failure> {
-        Ok(Draft {
-            text: certificate_of(self.rt, self.seals, destroyed)?,
-            is_gone: destroyed.kept_by.is_none(),
-        })
-    }
-
-    fn take(&mut self, draft: Draft) -> Result<(), Failure> {
-        self.is_any_gone = self.is_any_gone || draft.is_gone;
-        write_certificate(self.rt, &draft.text)
-    }
-}
-
-/// Which records a disposal by a day is about.
-fn meant_by<S: Alter>(
+/// Which records a disposal by a day is about. What it passes over in ranges is told.
+fn meant_by<R: Repository<Fault = StoreFault>>(
     rt: &HostRuntime,
-    archive: &mut StoreLedger<'_, S>,
+    archive: &mut R,
     typed: &[TypedNumbers],
     day: Date,
-) -> Result<Meant, Failure> {
-    let lines = asked_lines(rt.alloc(), archive, &[], day).map_err(|fault| refused(rt, fault))?;
-    Ok(meant_of(rt.alloc(), typed, lines)?)
+) -> Result<Meant, Failure>
+    ensures reads { OnlyReads R.clean R.stands archive.old archive.new }
+    ensures told { IfOk result (λ meant. R.clean archive.new → (a : Archive)
+        → R.stands archive.old a
+        → IsMeant typed.now (asked_list a (epoch_day day) []) meant) }
+{
+    tell_passed_over(rt, archive, typed, day)?;
+    match asked_lines(rt.alloc(), archive, &[], day) {
+        Ok(lines) => Ok(meant_of(rt.alloc(), typed, lines)?),
+        Err(fault) => Err(refused(rt, fault)),
+    }
 }
 
 /// Tells that no record may be destroyed by a day, of those that this is said of.
@@ -162,17 +60,19 @@ fn tell_none(rt: &HostRuntime, whose: &'static str, day: Date) -> Result<(), Fai
 }
 
 /// Destroys the records of a run, which has one, with a certificate for each. Their events have its notes.
-fn destroy_run<S: Alter>(
+fn destroy_run<S: Alter, P: Printer>(
     rt: &HostRuntime,
     archive: &mut StoreLedger<'_, S>,
-    certificates: &mut Certificates<'_, '_>,
+    certificates: &mut Certificates<'_, P>,
     run: &Run,
     day: Date,
 ) -> Result<(), Failure>
     ensures falls { IsRead S.Store archive.new → IsRead S.Store archive.old }
-    ensures these { OnOk result (IsRead S.Store archive.new → (a : Archive)
-        → KeptFor S.Store archive.old.kept a → DestroysAsked (KeptFor S.Store archive.new.kept)
-        (epoch_day day) run.now.numbers.items a) }
+    ensures these { (cs : List Certificate)
+        × HandsOver (IsTaken P.prints) certificates.old cs certificates.new
+        × (IsRead S.Store archive.new → (a : Archive) → KeptFor S.Store archive.old.kept a
+        → DisposesAsked (KeptFor S.Store archive.new.kept) (epoch_day day) run.now.numbers.items
+        (is_ok result) cs a) }
 {
     archive.set_notes(run.notes());
     let done = destroy_numbers(rt, archive, certificates, run.numbers(), day);
@@ -180,18 +80,21 @@ fn destroy_run<S: Alter>(
     done
 }
 
-/// Destroys records in runs, with a certificate for each.
-fn destroy_runs<S: Alter>(
+/// Destroys records in runs, with a certificate for each: one run after the other, up to the first record that fails.
+fn destroy_runs<S: Alter, P: Printer>(
     rt: &HostRuntime,
     archive: &mut StoreLedger<'_, S>,
-    certificates: &mut Certificates<'_, '_>,
+    certificates: &mut Certificates<'_, P>,
     runs: &[Run],
     day: Date,
 ) -> Result<(), Failure>
     ensures falls { IsRead S.Store archive.new → IsRead S.Store archive.old }
-    ensures these { OnOk result (IsRead S.Store archive.new → (a : Archive)
-        → KeptFor S.Store archive.old.kept a → DestroysRuns (KeptFor S.Store archive.new.kept)
-        (epoch_day day) (map (λ (r : Run). r.numbers.items) runs.now) a) }
+    ensures these { (cs : List Certificate)
+        × HandsOver (IsTaken P.prints) certificates.old cs certificates.new
+        × (IsRead S.Store archive.new → (a : Archive) → KeptFor S.Store archive.old.kept a
+        → AreFilled runs.now → EachOnce (records_of runs.now)
+        → IsDisposal (KeptFor S.Store archive.new.kept) (epoch_day day) (records_of runs.now)
+        (is_ok result) cs a) }
 {
     for run in runs {
         destroy_run(rt, archive, certificates, run, day)?;
@@ -199,46 +102,90 @@ fn destroy_runs<S: Alter>(
     Ok(())
 }
 
-/// The runs of the records of lines.
-fn runs_in<S: Alter>(
-    rt: &HostRuntime,
-    archive: &mut StoreLedger<'_, S>,
-    seals: &Seals,
-    lines: &[Line],
-) -> Result<Vec<Run>, Failure> {
-    runs_of(rt.alloc(), archive, seals, lines).map_err(|fault| Failure::of_store(
-        rt.alloc(),
-        "the store",
-        fault,
-    ))
+/// The records of some numbers, all that are due where there is no number.
+#[derive(Drop)]
+struct Asked {
+    /// As the due list has them.
+    lines: Vec<Line>,
+    runs: Vec<Run>,
+    /// The numbers of those whose messages are not the ones that were captured, upwards.
+    altered: Vec<u32>,
 }
 
-/// Destroys the records of some numbers, all that are due where there is no number, with a certificate for each. None is
-/// destroyed unless each of them may be. Which messages are not the ones that were captured is told before.
-fn destroy_asked<S: Alter>(
+/// Reads the records of some numbers, all that are due where there is no number. Fails where one of these numbers may not be
+/// destroyed by the day.
+fn read_asked<R: Repository<Fault = StoreFault>>(
     rt: &HostRuntime,
-    archive: &mut StoreLedger<'_, S>,
+    archive: &mut R,
+    seals: &Seals,
+    numbers: &[u32],
+    day: Date,
+) -> Result<Asked, Failure>
+    ensures reads { OnlyReads R.clean R.stands archive.old archive.new }
+    ensures told { IfOk result (λ asked. R.clean archive.new → (a : Archive)
+        → R.stands archive.old a
+        → IsAskedFor seals.now a (epoch_day day) numbers.now asked) }
+    ensures filled { IfOk result (λ asked. AreFilled asked.runs.items) }
+    ensures altered { IfOk result (λ asked. asked.altered.items ≡ altered_of asked.runs.items) }
+{
+    let lines = match asked_lines(rt.alloc(), archive, numbers, day) {
+        Ok(lines) => lines,
+        Err(fault) => return Err(refused(rt, fault)),
+    };
+    let runs = match runs_of(rt.alloc(), archive, seals, lines.as_slice()) {
+        Ok(runs) => runs,
+        Err(fault) => return Err(unread(rt, fault)),
+    };
+    let altered = altered_in(rt.alloc(), runs.as_slice())?;
+    Ok(Asked {
+        lines,
+        runs,
+        altered,
+    })
+}
+
+/// The same in runs, to be destroyed. Fails too where the message of one of them is not the one that was captured, which is
+/// told, unless damage is destroyed too.
+fn approved_runs<R: Repository<Fault = StoreFault>>(
+    rt: &HostRuntime,
+    archive: &mut R,
     seals: &Seals,
     damage: Damage,
     numbers: &[u32],
     day: Date,
-) -> Result<(), Failure> {
-    let lines = asked_lines(rt.alloc(), archive, numbers, day).map_err(|fault| refused(rt, fault))?;
-    let runs = runs_in(rt, archive, seals, lines.as_slice())?;
-    let altered = altered_in(rt.alloc(), runs.as_slice())?;
+) -> Result<Vec<Run>, Failure>
+    ensures reads { OnlyReads R.clean R.stands archive.old archive.new }
+    ensures these { IfOk result (λ runs. R.clean archive.new → (a : Archive)
+        → R.stands archive.old a
+        → AreApproved seals.now damage a (epoch_day day) numbers.now (records_of runs.items)) }
+    ensures filled { IfOk result (λ runs. AreFilled runs.items) }
+{
+    let Asked { runs, altered, .. } = read_asked(rt, archive, seals, numbers, day)?;
     judge_altered(rt, altered.as_slice(), damage)?;
-    let mut certificates = Certificates {
-        rt,
-        seals,
-        is_any_gone: false,
-    };
-    destroy_runs(rt, archive, &mut certificates, runs.as_slice(), day)?;
-    if certificates.is_any_gone {
-        tell_words(
-            rt,
-            "the messages are gone from the archive, but their octets may still lie in unused parts of its file; copy makes a store without them",
-        );
-    }
+    Ok(runs)
+}
+
+/// Destroys the records of some numbers, all that are due where there is no number, with a certificate for each. None is
+/// destroyed unless each of them may be. Which messages are not the ones that were captured is told before.
+fn destroy_asked<S: Alter, P: Printer>(
+    rt: &HostRuntime,
+    archive: &mut StoreLedger<'_, S>,
+    certificates: &mut Certificates<'_, P>,
+    damage: Damage,
+    numbers: &[u32],
+    day: Date,
+) -> Result<(), Failure>
+    ensures falls { IsRead S.Store archive.new → IsRead S.Store archive.old }
+    ensures these { (cs : List Certificate)
+        × HandsOver (IsTaken P.prints) certificates.old cs certificates.new
+        × (IsRead S.Store archive.new → (a : Archive) → KeptFor S.Store archive.old.kept a
+        → DisposesUnaltered certificates.old.seals.now damage (KeptFor S.Store archive.new.kept)
+        (epoch_day day) numbers.now (is_ok result) cs a) }
+{
+    let seals: &Seals = certificates.seals;
+    let runs = approved_runs(rt, archive, seals, damage, numbers, day)?;
+    destroy_runs(rt, archive, certificates, runs.as_slice(), day)?;
+    certificates.tell_gone();
     if runs.is_empty() {
         tell_none(rt, "no record", day)?;
     }
@@ -247,23 +194,25 @@ fn destroy_asked<S: Alter>(
 
 /// Lists the records of some numbers, all that are due where there is no number, a line each. `BadData` in the end where the
 /// message of one is not the one that was captured, which is told.
-fn list_asked<S: Alter>(
+fn list_asked<R: Repository<Fault = StoreFault>>(
     rt: &HostRuntime,
-    archive: &mut StoreLedger<'_, S>,
+    archive: &mut R,
     seals: &Seals,
     numbers: &[u32],
     day: Date,
-) -> Result<(), Failure> {
-    let lines = asked_lines(rt.alloc(), archive, numbers, day).map_err(|fault| refused(rt, fault))?;
-    let runs = runs_in(rt, archive, seals, lines.as_slice())?;
-    let altered = altered_in(rt.alloc(), runs.as_slice())?;
-    for line in lines.as_slice() {
-        write_text(rt, &due_line(rt.alloc(), line, altered.as_slice())?)?;
+) -> Result<(), Failure>
+    ensures reads { OnlyReads R.clean R.stands archive.old archive.new }
+    ensures may_go { OnOk result (R.clean archive.new → (a : Archive) → R.stands archive.old a
+        → AllByRecursion (MayGo a (epoch_day day)) numbers.now) }
+{
+    let asked = read_asked(rt, archive, seals, numbers, day)?;
+    for line in asked.lines.as_slice() {
+        write_text(rt, &due_line(rt.alloc(), line, asked.altered.as_slice())?)?;
     }
-    if lines.is_empty() {
+    if asked.lines.is_empty() {
         tell_none(rt, "no record", day)?;
     }
-    end_list(rt, altered.as_slice())
+    end_list(rt, asked.altered.as_slice())
 }
 
 /// What is done with records that are due.
@@ -287,17 +236,30 @@ fn fate_of(asked: &Disposal) -> Fate
 }
 
 /// Lists or destroys the records of some numbers, all that are due where there is no number.
-fn dispose_of<S: Alter>(
+fn dispose_of<S: Alter, P: Printer>(
     rt: &HostRuntime,
     archive: &mut StoreLedger<'_, S>,
-    seals: &Seals,
+    certificates: &mut Certificates<'_, P>,
     fate: Fate,
     numbers: &[u32],
     day: Date,
-) -> Result<(), Failure> {
+) -> Result<(), Failure>
+    ensures falls { IsRead S.Store archive.new → IsRead S.Store archive.old }
+    ensures listed { fate ≡ Listed → (certificates.new ≡ certificates.old)
+        × IsOnlyRead S.Store archive.old archive.new }
+    ensures destroyed { (damage : Damage) → fate ≡ Destroyed damage
+        → (cs : List Certificate)
+        × HandsOver (IsTaken P.prints) certificates.old cs certificates.new
+        × (IsRead S.Store archive.new → (a : Archive) → KeptFor S.Store archive.old.kept a
+        → DisposesUnaltered certificates.old.seals.now damage (KeptFor S.Store archive.new.kept)
+        (epoch_day day) numbers.now (is_ok result) cs a) }
+{
     match fate {
-        Fate::Listed => list_asked(rt, archive, seals, numbers, day),
-        Fate::Destroyed(damage) => destroy_asked(rt, archive, seals, damage, numbers, day),
+        Fate::Listed => {
+            let seals: &Seals = certificates.seals;
+            list_asked(rt, archive, seals, numbers, day)
+        }
+        Fate::Destroyed(damage) => destroy_asked(rt, archive, certificates, damage, numbers, day),
     }
 }
 
@@ -317,18 +279,31 @@ pub fn day_of_disposal(rt: &HostRuntime, asked: &Disposal) -> Result<Date, Failu
 /// typed by itself. Where there is none, this is told. By the seals of the history messages are judged: `BadData` where that of
 /// a record is not the one that was captured, and then none is destroyed, unless damage is asked for; what is listed is listed
 /// all the same.
-pub fn dispose_by<S: Alter>(
+pub fn dispose_by<S: Alter, P: Printer>(
     rt: &HostRuntime,
     archive: &mut StoreLedger<'_, S>,
+    certificates: &mut Certificates<'_, P>,
     asked: &Disposal,
     day: Date,
-    seals: &Seals,
-) -> Result<(), Failure> {
+) -> Result<(), Failure>
+    ensures falls { IsRead S.Store archive.new → IsRead S.Store archive.old }
+    // nothing is destroyed unless that is asked for
+    ensures listed { asked.now.destroys ≡ false → (certificates.new ≡ certificates.old)
+        × IsOnlyRead S.Store archive.old archive.new }
+    // the records that are meant are destroyed and no other, each with its certificate, or none is
+    ensures destroyed { asked.now.destroys ≡ true → (cs : List Certificate)
+        × HandsOver (IsTaken P.prints) certificates.old cs certificates.new
+        × (IsRead S.Store archive.new → (a : Archive) → KeptFor S.Store archive.old.kept a
+        → IsDisposalOf certificates.old.seals.now asked.now (KeptFor S.Store archive.new.kept)
+        (epoch_day day) (is_ok result) cs a) }
+{
     let fate = fate_of(asked);
-    tell_passed_over(rt, archive, asked.numbers.as_slice(), day)?;
-    match meant_by(rt, archive, asked.numbers.as_slice(), day)? {
-        Meant::All => dispose_of(rt, archive, seals, fate, &[], day),
+    let meant = meant_by(rt, archive, asked.numbers.as_slice(), day)?;
+    match meant {
+        Meant::All => dispose_of(rt, archive, certificates, fate, &[], day),
         Meant::Nothing => tell_none(rt, "none of these records", day),
-        Meant::Numbers(numbers) => dispose_of(rt, archive, seals, fate, numbers.as_slice(), day),
+        Meant::Numbers(numbers) => {
+            dispose_of(rt, archive, certificates, fate, numbers.as_slice(), day)
+        }
     }
 }

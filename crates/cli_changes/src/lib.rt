@@ -14,9 +14,9 @@
 //!   new plan keeps less;
 //! - `refile`: another class for records; `refilings`: which of them get it; `due_today`: what is due at once by a change;
 //! - `titles`: titles of classes, which a file gives;
-//! - `dispose` and `destroying`: the destruction of what is due; `approved`: the numbers in a file of what was approved; `passed_over`: what it
-//!   passes over; `runs`: records in runs, by what is noted of each; `altered`: those of them whose messages are not the ones
-//!   that were captured.
+//! - `dispose` and `destroying`: the destruction of what is due; `certificates`: what is certified of each record; `approved`: the
+//!   numbers in a file of what was approved; `passed_over`: what it passes over; `runs`: records in runs, by what is noted of
+//!   each; `altered`: those of them whose messages are not the ones that were captured.
 //!
 //! Each works on a store that is lent to it. What it writes, and what a Maildir or a terminal does, no contract speaks of:
 //! tests of the program show it. `specs/Moments` says when a clock is refused, `specs/Imports` what becomes of a message of
@@ -25,6 +25,7 @@
 
 mod altered;
 mod approved;
+mod certificates;
 mod class_changes;
 mod deliver;
 mod destroying;
@@ -59,6 +60,7 @@ mod titles;
 mod whole_holds;
 
 pub use approved::with_approved;
+pub use certificates::{Certificates, Printer, StandardOutput};
 pub use deliver::{Delivered, deliver_to, read_message, report_delivery, undecoded_in};
 pub use dispose::{day_of_disposal, dispose_by};
 pub use holds::change_holds;

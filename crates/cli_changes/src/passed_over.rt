@@ -5,6 +5,7 @@ ghost use Rattle.jiff.specs.Words.{epoch_day};
 ghost use Rattle.record_archive.specs.Archive.{Archive, Record, record_at};
 ghost use Rattle.record_choice.specs.Choices.{anyone};
 ghost use Rattle.record_choice.specs.Entries.{entry_of, entry_view, name_list};
+ghost use Rattle.record_choice.specs.Reads.{OnlyReads};
 ghost use Rattle.record_choice.specs.Reasons.{MayGo};
 ghost use Rattle.record_choice.specs.Views.{shows_hold, span_view};
 ghost use Rattle.cli_changes.specs.declared.passed_over.Cause.TheVariants.{Held, NotForDestruction, NotDue};
@@ -13,11 +14,9 @@ ghost use Rattle.cli_changes.specs.PassedOver.{IsCause, IsWith, is_for, range_sp
 use choice_words::add_number;
 use class_plan::{Date, Plan};
 use cli_console::{Failure, Walk, is_by, tell};
-use cli_history::StoreLedger;
 use command_lines::archives::TypedNumbers;
 use record_choice::{Choice, Repository, Span, destroys};
-use record_store::RecordEntry;
-use sqlite::Alter;
+use record_store::{RecordEntry, StoreFault};
 use std::alloc::{AllocError, Global};
 use tool_texts::{Shown, put};
 
@@ -130,12 +129,14 @@ fn add_page(
 }
 
 /// Those live records of a choice that are passed over.
-fn passed_of<S: Alter>(
+fn passed_of<R: Repository<Fault = StoreFault>>(
     rt: &HostRuntime,
-    archive: &mut StoreLedger<'_, S>,
+    archive: &mut R,
     choice: &Choice,
     day: Date,
-) -> Result<PassedOver, Failure> {
+) -> Result<PassedOver, Failure>
+    ensures { OnlyReads R.clean R.stands archive.old archive.new }
+{
     let mut passed = PassedOver::none(rt.alloc());
     let mut walk = Walk::from(choice, 1);
     for _ in 0..u64::MAX {
@@ -183,12 +184,14 @@ fn tell_numbers(
 
 /// Tells which live records in the ranges that are typed may not be destroyed by a day, and why. A failure is that of the
 /// store, or no memory.
-pub(crate) fn tell_passed_over<S: Alter>(
+pub(crate) fn tell_passed_over<R: Repository<Fault = StoreFault>>(
     rt: &HostRuntime,
-    archive: &mut StoreLedger<'_, S>,
+    archive: &mut R,
     typed: &[TypedNumbers],
     day: Date,
-) -> Result<(), Failure> {
+) -> Result<(), Failure>
+    ensures { OnlyReads R.clean R.stands archive.old archive.new }
+{
     let ranges = ranges_of(rt.alloc(), typed)?;
     if ranges.is_empty() {
         return Ok(());

@@ -3,8 +3,8 @@
 use crate::archives::Work;
 use class_plan::{Date, Plan};
 use cli_changes::{
-    Delivered, FilingRules, Intake, NamedRules, Timing, change_holds, deliver_to, dispose_by,
-    keeps_less, refile_records, release_all, replace_plan, take_new,
+    Certificates, Delivered, FilingRules, Intake, NamedRules, Timing, change_holds, deliver_to,
+    dispose_by, keeps_less, refile_records, release_all, replace_plan, take_new,
 };
 use cli_choice::{Change, Questions};
 use cli_console::Failure;
@@ -103,7 +103,10 @@ impl Changing<'_, '_> {
                 path,
                 is_agreed,
             } => replace_plan(rt, ledger, plan, path, is_agreed),
-            Changing::Dispose(asked, day) => dispose_by(rt, ledger, &asked, day, seals),
+            Changing::Dispose(asked, day) => {
+                let mut certificates = Certificates::on_output(rt, seals);
+                dispose_by(rt, ledger, &mut certificates, &asked, day)
+            }
             Changing::Chosen {
                 change,
                 choice,

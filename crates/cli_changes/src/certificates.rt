@@ -1,0 +1,188 @@
+//! Certificates of destruction: what each says, and where they are printed.
+
+ghost use Rattle.std.specs.Prelude.{◌≡◌, List, ℕ, is_none, option_map, IfOk};
+ghost use Rattle.record_choice.specs.Disposals.{certificate_view};
+ghost use Rattle.cli_history.specs.Titles.{title_seen, title_for};
+ghost use Rattle.cli_history.specs.declared.titles.Titles.{Titles};
+ghost use Rattle.cli_changes.specs.Certificates.{Certifies, IsCertificateLine, IsLineOf, IsTaken};
+
+use cli_console::{Failure, Status, now, tell, tell_words, write_text};
+use cli_history::{Fidelity, Seals};
+use cli_texts::{CapturedMessage, Certificate, ClassTitle, certificate_line, sum_text};
+use record_choice::{Destroyed, Registrar};
+use std::str;
+use tool_texts::Shown;
+
+/// Where certificates are printed.
+pub trait Printer: Drop {
+    /// This line was printed, and no other.
+    ghost prints: { Self → Self → List ℕ → Type 0 };
+
+    /// Prints a line. Where that fails, no more is to be printed, and the line is told.
+    fn print(&mut self, line: &Shown) -> Result<(), Failure>
+        ensures { prints self.old self.new line.now };
+}
+
+/// Writes a certificate. Where that fails, it goes to standard error instead, and no more is destroyed.
+fn write_certificate(rt: &HostRuntime, text: &Shown) -> Result<(), Failure> {
+    write_text(rt, text).map_err(|_| {
+        tell(rt, text);
+        Failure::told(
+            rt.alloc(),
+            Status::NotWritten,
+            "the certificate above could not be written to standard output; no further record is destroyed",
+        )
+    })
+}
+
+/// Prints on standard output.
+#[derive(Drop)]
+pub struct StandardOutput<'r> {
+    rt: &'r HostRuntime,
+}
+
+impl Printer for StandardOutput<'_> {
+    ghost prints = { λ old new line. Unit {0} };
+
+    fn print(&mut self, line: &Shown) -> Result<(), Failure> {
+        write_certificate(self.rt, line)
+    }
+}
+
+/// The certificates of a disposal, each printed as its record is destroyed.
+#[derive(Drop)]
+pub struct Certificates<'r, P: Printer> {
+    rt: &'r HostRuntime,
+    /// The seals of the messages and the titles of the classes, as the history has them.
+    pub(crate) seals: &'r Seals,
+    printer: P,
+    /// Whether a message is gone with a record.
+    is_any_gone: bool,
+}
+
+/// A certificate that is made out.
+#[derive(Drop)]
+pub struct Draft {
+    text: Shown,
+    /// Whether the message goes with the record.
+    is_gone: bool,
+}
+
+/// The message that was captured, where that of a record is another one.
+fn captured_beside<'s>(
+    seals: &'s Seals,
+    message: u32,
+    fidelity: Fidelity,
+) -> Option<CapturedMessage<'s>> {
+    match (fidelity, seals.length_and_sum(message)) {
+        (Fidelity::Altered(_), Some((octets, sum))) => Some(CapturedMessage {
+            octets: octets as usize,
+            sum: str::from_utf8(sum).unwrap_or(""),
+        }),
+        _ => None,
+    }
+}
+
+/// The title of the class of a record that is about to be destroyed, if it has one.
+fn title_beside<'s>(seals: &'s Seals, destroyed: &Destroyed) -> Option<ClassTitle<'s>>
+    ensures { option_map title_seen result ≡ title_for seals.now.titles destroyed.now.entry }
+{
+    seals.titles().of_class(destroyed.entry.path.as_slice())
+}
+
+/// What is certified of a record that is about to be destroyed, with the title of its class, the message that was captured, where
+/// its own is another one, and the digits of its message's sum, at a moment.
+fn facts_of<'d>(
+    destroyed: &'d Destroyed,
+    title: Option<ClassTitle<'d>>,
+    captured: Option<CapturedMessage<'d>>,
+    sum: &'d str,
+    moment: u64,
+) -> Certificate<'d>
+    ensures { (titles : Titles) → option_map title_seen title.entry ≡
+        title_for titles destroyed.now.entry
+        → Certifies destroyed.now titles sum.now moment result }
+{
+    let entry = &destroyed.entry;
+    Certificate {
+        number: entry.number,
+        path: entry.path.as_slice(),
+        title,
+        due: entry.due,
+        octets: destroyed.octets,
+        sum,
+        moment,
+        kept_by: destroyed.kept_by,
+        captured,
+    }
+}
+
+/// The certificate of a record that is about to be destroyed. Where the message is not the one that was captured, it says so,
+/// and which one that was.
+fn certificate_of(rt: &HostRuntime, seals: &Seals, destroyed: &Destroyed) -> Result<Shown, Failure>
+    ensures { IfOk result (λ line. IsCertificateLine destroyed.now seals.now.titles line) }
+{
+    let message = destroyed.entry.message;
+    let sum = sum_text(rt.alloc(), destroyed.sum.as_slice())?;
+    let fidelity = seals.fidelity(message, destroyed.octets as u64, sum.as_bytes());
+    let title = title_beside(seals, destroyed);
+    let captured = captured_beside(seals, message, fidelity);
+    let facts = facts_of(destroyed, title, captured, sum.as_str(), now(rt)?);
+    Ok(certificate_line(rt.alloc(), &facts)?)
+}
+
+impl<'r> Certificates<'r, StandardOutput<'r>> {
+    /// Certificates on standard output, by the seals and the titles of a history.
+    pub fn on_output(rt: &'r HostRuntime, seals: &'r Seals) -> Certificates<'r, StandardOutput<'r>>
+        ensures { result.seals.now ≡ seals.now }
+    {
+        Certificates {
+            rt,
+            seals,
+            printer: StandardOutput { rt },
+            is_any_gone: false,
+        }
+    }
+}
+
+impl<P: Printer> Certificates<'_, P> {
+    /// Tells, where a message is gone with a record, what is left of it.
+    pub(crate) fn tell_gone(&self) {
+        if self.is_any_gone {
+            tell_words(
+                self.rt,
+                "the messages are gone from the archive, but their octets may still lie in unused parts of its file; copy makes a store without them",
+            );
+        }
+    }
+}
+
+impl<P: Printer> Registrar for Certificates<'_, P> {
+    type Fault = Failure;
+
+    type Draft = Draft;
+
+    ghost says = { λ draft certificate. IsLineOf certificate draft.text
+        × (draft.is_gone ≡ is_none certificate.kept_by) };
+
+    ghost takes = { λ old new certificate. IsTaken P.prints old new certificate };
+
+    ghost is_open = { λ certificates. Unit {0} };
+
+    fn draft(&self, destroyed: &Destroyed) -> Result<Draft, Failure>
+        ensures said { IfOk result (λ draft. IsLineOf (certificate_view destroyed.now) draft.text
+            × (draft.is_gone ≡ is_none destroyed.now.kept_by)) }
+        ensures titled { IfOk result (λ draft.
+            IsCertificateLine destroyed.now self.now.seals.now.titles draft.text) }
+    {
+        Ok(Draft {
+            text: certificate_of(self.rt, self.seals, destroyed)?,
+            is_gone: destroyed.kept_by.is_none(),
+        })
+    }
+
+    fn take(&mut self, draft: Draft) -> Result<(), Failure> {
+        self.is_any_gone = self.is_any_gone || draft.is_gone;
+        self.printer.print(&draft.text)
+    }
+}
