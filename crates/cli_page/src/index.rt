@@ -348,7 +348,8 @@ impl Index {
         record: &Record<'_>,
         letter: Option<(u32, &Headers)>,
     ) -> Result<(), AllocError>
-        ensures ok { OnOk result (map row_view self.new.rows.items ≡ map row_view self.old.rows.items
+        ensures ok { OnOk result (map row_view self.new.rows.items
+            ≡ map row_view self.old.rows.items
             ++ row_for «record».now (option_map (λ l. (l.0, l.1.now)) letter.entry) ∷ []) }
         ensures err { OnErr result (self.new.rows.items ≡ self.old.rows.items) }
     {
