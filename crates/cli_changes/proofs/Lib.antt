@@ -5,4 +5,3 @@ pub mod DueLaws
 pub mod DisposalLaws
 pub mod MeantLaws
 pub mod RunDisposals
-pub mod DisposalRows
