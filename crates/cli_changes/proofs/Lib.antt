@@ -6,4 +6,3 @@ pub mod DueLaws
 pub mod DisposalLaws
 pub mod MeantLaws
 pub mod RunDisposals
-pub mod DisposalRows
