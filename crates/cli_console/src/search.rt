@@ -104,7 +104,9 @@ fn miss_line<R: Repository<Fault = StoreFault>>(
     alloc: Global,
     archive: &mut R,
     number: u32,
-) -> Result<Shown, Failure> {
+) -> Result<Shown, Failure>
+    ensures { OnlyReads R.clean R.stands archive.old archive.new }
+{
     let word = format!(in alloc; "{number}")?;
     match archive.entry(number) {
         Ok(_) => {
@@ -281,7 +283,9 @@ impl<'s, 'a> Search<'s, 'a> {
         self,
         rt: &HostRuntime,
         archive: &mut R,
-    ) -> Result<(), Failure> {
+    ) -> Result<(), Failure>
+        ensures { OnlyReads R.clean R.stands archive.old archive.new }
+    {
         self.tell_unread(rt)?;
         let missing = not_found(
             rt.alloc(),
