@@ -12,3 +12,6 @@ pub mod Destructions
 pub mod DueToday
 pub mod PassedOver
 pub mod Runs
+pub mod Series
+pub mod Holdings
+pub mod Moves
