@@ -6,3 +6,10 @@ pub mod DueLaws
 pub mod DisposalLaws
 pub mod MeantLaws
 pub mod RunDisposals
+pub mod SeriesLaws
+pub mod HoldLaws
+pub mod FoundLaws
+pub mod RefileLaws
+pub mod ChangeLaws
+pub mod LookingLaws
+mod ChangeRows

@@ -14,3 +14,6 @@ pub mod DueToday
 pub mod PlanChanges
 pub mod PassedOver
 pub mod Runs
+pub mod Series
+pub mod Holdings
+pub mod Moves

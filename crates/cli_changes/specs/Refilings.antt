@@ -8,13 +8,13 @@ use Rattle.class_plan.specs.declared.schedules.Schedule.{Schedule}
 use Rattle.cli_choice.specs.Typed.{is_one}
 use Rattle.cli_console.specs.Days.{is_by}
 use Rattle.record_archive.specs.Archive.{destroys}
-use Rattle.record_choice.specs.declared.entry.RecordEntry.{RecordEntry}
+use Rattle.record_choice.specs.Entries.{RecordEntry}
 use Rattle.cli_changes.specs.declared.refilings.Fate.{Fate}
 use Rattle.cli_changes.specs.declared.refilings.Fate.TheVariants.{Moves, PassedOver, IsThere, IsDestroyed}
 
 -- WHICH RECORDS MOVE: those that are live and in another class
 abbrev pub moves : (to : List ℕ) → RecordEntry → Bool
-moves to e = not e.destroyed && not (bytes_eq e.path.items to)
+moves to e = not e.destroyed && not (bytes_eq e.path to)
 
 -- What is said of one that does not move and is typed by its number: that it is destroyed, or that it is there already
 abbrev pub why_not : RecordEntry → Fate

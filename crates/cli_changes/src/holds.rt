@@ -1,12 +1,41 @@
 //! `hold` and `release`: records that must not be destroyed.
 
-use choice_words::reads_as_numbers;
+ghost use Rattle.std.specs.Prelude.{◌≡◌, ◌||◌, ◌∷◌, [], true, false, not, IfOk, OnErr, OnOk};
+ghost use Rattle.record_archive.specs.Archive.{Archive};
+ghost use Rattle.record_archive.specs.Calls.{CarriesOut, Quietly};
+ghost use Rattle.record_choice.specs.Reads.{OnlyReads};
+ghost use Rattle.record_choice.specs.Views.{choice_view};
+ghost use Rattle.record_ledger.specs.Ledgers.{keeper_of};
+ghost use Rattle.cli_console.specs.Finds.{IsBounded, found_ahead, found_in};
+ghost use Rattle.cli_changes.specs.DueToday.{counted as counted_if};
+ghost use Rattle.cli_changes.specs.Holdings.{
+  AddsMeant,
+  HoldsWell,
+  IsHeld,
+  changed_numbers,
+  changed_on,
+  chosen_by,
+  hold_command,
+  held_by,
+  is_any_of,
+  meant_numbers,
+  more_meant,
+  more_seen,
+  none_meant,
+  none_seen,
+};
+ghost use Rattle.cli_changes.specs.Series.{ChangesAll, ChangesFirst, IsSoOf, KeepsAll, WasClean};
+
+use crate::due_today::counted;
+use crate::series::{Changed, RecordChange, change_each, judge_refused, refusal_told};
+use choice_words::{TypedNumbers, reads_as_numbers};
 use cli_choice::{Change, Questions, is_meant};
-use cli_console::{Failure, Search, Status, Walk, tell, write_text};
+use cli_console::{Failure, Reader, Search, Status, read_chosen, tell, write_text};
 use cli_history::StoreLedger;
+use cli_texts::Headers;
 use command_lines::archives::Choice;
 use record_archive::Records;
-use record_choice::Holder;
+use record_choice::{Holder, Repository};
 use record_store::{RecordEntry, StoreFault};
 use sqlite::Alter;
 use std::alloc::{AllocError, Global};
@@ -18,7 +47,10 @@ fn change_one<S: Alter>(
     change: Change,
     name: &[u8],
     number: u32,
-) -> Result<(), StoreFault> {
+) -> Result<(), StoreFault>
+    ensures { CarriesOut (keeper_of S.Store) archive.old archive.new
+        (hold_command change name.now number) Quietly result }
+{
     match change {
         Change::Place => archive.hold(name, number),
         Change::End => archive.release(name, number),
@@ -50,107 +82,168 @@ fn write_change(rt: &HostRuntime, change: Change, name: &str, number: u32) {
     }
 }
 
-/// Changes the hold of a name on a record, and writes that. Answers whether the archive did it; a refusal is told, and a fault
-/// of the store is the end.
-pub(crate) fn change_on<S: Alter>(
-    rt: &HostRuntime,
-    archive: &mut StoreLedger<'_, S>,
-    change: Change,
-    name: &str,
-    number: u32,
-) -> Result<bool, Failure> {
-    let Err(fault) = change_one(archive, change, name.as_bytes(), number) else {
-        write_change(rt, change, name, number);
-        return Ok(true);
-    };
-    let word = format!(in rt.alloc(); "{number}")?;
-    match Failure::of_store(rt.alloc(), word.as_str(), fault) {
-        Failure::Told(Status::BadData, text) => {
-            tell(rt, &text);
-            Ok(false)
+/// The change of the hold of a name on single records.
+#[derive(Clone, Copy)]
+pub(crate) struct HoldChange<'a> {
+    pub rt: &'a HostRuntime,
+    pub change: Change,
+    pub name: &'a str,
+}
+
+impl<S: Alter> RecordChange<StoreLedger<'_, S>> for HoldChange<'_> {
+    ghost keeper = { keeper_of S.Store };
+
+    ghost command = { λ it n a. hold_command it.change it.name.now n a };
+
+    /// Changes the hold on a record, and writes that. A refusal is told, and a fault of the store is the end.
+    fn change_one(&self, archive: &mut StoreLedger<'_, S>, number: u32) -> Result<bool, Failure> {
+        match change_one(archive, self.change, self.name.as_bytes(), number) {
+            Ok(()) => {
+                write_change(self.rt, self.change, self.name, number);
+                Ok(true)
+            }
+            Err(fault) => refusal_told(self.rt, number, fault),
         }
-        other => Err(other),
     }
 }
 
-/// What became of the records that were found.
-#[derive(Clone, Copy)]
-struct Changed {
-    /// Whether the archive did it on one.
-    is_any: bool,
-    /// Whether it refused one.
-    is_refused: bool,
-    /// How many live records were passed over, which are as they are to be already.
+/// The records of those that are found on which the hold of a name is to change.
+#[derive(Drop)]
+struct Meant<'a> {
+    change: Change,
+    name: &'a str,
+    typed: &'a [TypedNumbers],
+    /// Their numbers.
+    numbers: Vec<u32>,
+    /// How many live records are passed over, which are as they are to be already.
     passed: u64,
-    /// How many destroyed ones were passed over.
+    /// How many destroyed ones are passed over.
     destroyed: u64,
 }
 
-impl Changed {
-    /// Of no records.
-    fn none() -> Changed {
-        Changed {
-            is_any: false,
-            is_refused: false,
-            passed: 0,
-            destroyed: 0,
-        }
-    }
-
+impl Meant<'_> {
     /// Counts a record that is passed over.
-    fn pass_over(&mut self, entry: &RecordEntry) {
-        let count = if entry.destroyed {
-            &mut self.destroyed
-        } else {
-            &mut self.passed
-        };
-        *count = count.saturating_add(1);
+    fn pass_over(&mut self, entry: &RecordEntry)
+        ensures { self.new ≡ record self.old {
+          passed = counted_if (not entry.now.destroyed) self.old.passed;
+          destroyed = counted_if entry.now.destroyed self.old.destroyed;
+        } }
+    {
+        self.passed = counted(!entry.destroyed, self.passed);
+        self.destroyed = counted(entry.destroyed, self.destroyed);
     }
-}
 
-/// Changes the hold of a name on those records of a page that are meant, and adds what becomes of them.
-fn change_page<S: Alter>(
-    rt: &HostRuntime,
-    archive: &mut StoreLedger<'_, S>,
-    change: Change,
-    name: &str,
-    choice: &Choice<'_>,
-    page: &[RecordEntry],
-    changed: &mut Changed,
-) -> Result<(), Failure> {
-    let typed = choice.numbers.as_slice();
-    for entry in page {
-        if is_meant(change, name.as_bytes(), typed, entry) {
-            if change_on(rt, archive, change, name, entry.number)? {
-                changed.is_any = true;
-            } else {
-                changed.is_refused = true;
-            }
-        } else {
-            changed.pass_over(entry);
+    /// Adds the number of a record that is meant, and counts another one as passed over.
+    fn look_at(&mut self, entry: &RecordEntry) -> Result<(), Failure>
+        ensures { OnOk result (AddsMeant self.old (entry.now ∷ []) self.new) }
+    {
+        if is_meant(self.change, self.name.as_bytes(), self.typed, entry) {
+            self.numbers.push(entry.number)?;
+            return Ok(());
         }
+        self.pass_over(entry);
+        Ok(())
     }
-    Ok(())
 }
 
-/// Whether a record has a hold of a name.
-fn is_held_by<S: Alter>(
-    rt: &HostRuntime,
-    archive: &mut StoreLedger<'_, S>,
-    name: &str,
-) -> Result<bool, Failure> {
+impl Reader for Meant<'_> {
+    ghost takes = { λ old a es new. AddsMeant old es new };
+
+    fn take<R: Repository<Fault = StoreFault>>(
+        &mut self,
+        _archive: &mut R,
+        entry: &RecordEntry,
+        _headers: Option<&Headers>,
+    ) -> Result<(), Failure> {
+        self.look_at(entry)
+    }
+
+    fn rest(&mut self) -> Result<(), Failure> {
+        Ok(())
+    }
+
+    ghost takes_none = { λ meant a. none_meant meant };
+
+    ghost takes_more = { λ x y z a es fs one other. more_meant x y z es fs one other };
+}
+
+/// The records of those that are found on which the hold of a name is to change: the numbers of each that is meant, in
+/// their order, and no other.
+fn meant_of<'a, R: Repository<Fault = StoreFault>>(
+    archive: &mut R,
+    search: &mut Search<'_, '_>,
+    hold: HoldChange<'a>,
+    typed: &'a [TypedNumbers],
+) -> Result<Meant<'a>, Failure>
+    requires { IsBounded search.old }
+    ensures reads { OnlyReads R.clean R.stands archive.old archive.new }
+    ensures meant { IfOk result (λ m. R.clean archive.new → (a : Archive) → R.stands archive.old a
+        → m.numbers.items ≡ meant_numbers hold.entry.change hold.entry.name.now typed.now
+        (found_ahead search.old a)) }
+{
+    let mut meant = Meant {
+        change: hold.change,
+        name: hold.name,
+        typed,
+        numbers: Vec::new(hold.rt.alloc()),
+        passed: 0,
+        destroyed: 0,
+    };
+    search.read_found(hold.rt, archive, &mut meant)?;
+    Ok(meant)
+}
+
+/// Whether records were handed over.
+#[derive(Clone, Copy)]
+struct Seen {
+    is_any: bool,
+}
+
+impl Reader for Seen {
+    ghost takes = { λ old a es new. new.is_any ≡ (old.is_any || is_any_of es) };
+
+    fn take<R: Repository<Fault = StoreFault>>(
+        &mut self,
+        _archive: &mut R,
+        _entry: &RecordEntry,
+        _headers: Option<&Headers>,
+    ) -> Result<(), Failure> {
+        self.is_any = true;
+        Ok(())
+    }
+
+    fn rest(&mut self) -> Result<(), Failure> {
+        Ok(())
+    }
+
+    ghost takes_none = { λ seen a. none_seen seen.is_any };
+
+    ghost takes_more = { λ x y z a es fs one other.
+        more_seen x.is_any y.is_any z.is_any es fs one other };
+}
+
+/// The live records that the hold of a name keeps.
+pub(crate) fn held_choice(alloc: Global, name: &str) -> Result<record_choice::Choice, AllocError>
+    ensures { IfOk result (λ c. choice_view c ≡ chosen_by name.now) }
+{
     let mut held = record_choice::Choice::live();
-    held.held = Some(Holder::Named(Vec::from_slice(rt.alloc(), name.as_bytes())?));
-    let mut walk = Walk::from(&held, 1);
-    for _ in 0..u64::MAX {
-        let Some(page) = walk.next_page(rt, archive)? else {
-            break;
-        };
-        if !page.is_empty() {
-            return Ok(true);
-        }
-    }
-    Ok(false)
+    held.held = Some(Holder::Named(Vec::from_slice(alloc, name.as_bytes())?));
+    Ok(held)
+}
+
+/// Whether a live record has a hold of a name.
+fn is_held_by<R: Repository<Fault = StoreFault>>(
+    rt: &HostRuntime,
+    archive: &mut R,
+    name: &str,
+) -> Result<bool, Failure>
+    ensures reads { OnlyReads R.clean R.stands archive.old archive.new }
+    ensures held { IfOk result (λ b. R.clean archive.new → (a : Archive) → R.stands archive.old a
+        → b ≡ is_any_of (held_by name.now a)) }
+{
+    let mut seen = Seen { is_any: false };
+    read_chosen(rt, archive, &held_choice(rt.alloc(), name)?, &mut seen)?;
+    Ok(seen.is_any)
 }
 
 /// The name of a hold, and what is said of it.
@@ -179,24 +272,33 @@ pub(crate) fn end_of_none<S: Alter>(
     archive: &mut StoreLedger<'_, S>,
     name: &str,
     is_refused: bool,
-) -> Result<(), Failure> {
+) -> Result<(), Failure>
+    ensures reads { KeepsAll (keeper_of S.Store) archive.old archive.new }
+    ensures held { OnOk result (IsSoOf (keeper_of S.Store) archive.old archive.new
+        (λ a. is_any_of (held_by name.now a) ≡ true)) }
+    ensures accepted { OnOk result (is_refused ≡ false) }
+{
     let alloc = rt.alloc();
-    if !is_held_by(rt, archive, name)? {
+    let is_held = is_held_by(rt, archive, name)?;
+    if !is_held {
         return Err(not_held(alloc, name));
     }
-    if is_refused {
-        return Err(Failure::Reported(Status::BadData));
-    }
+    judge_refused(is_refused)?;
     let words = "none of these records has this hold; the subcommand holds lists the holds";
     tell(rt, &said_of(alloc, name, words)?);
     Ok(())
 }
 
 /// That a hold was placed on no record, and why: none was found, or it keeps those that were found already.
-fn no_more_line(alloc: Global, name: &str, changed: Changed) -> Result<Shown, AllocError> {
+fn no_more_line(
+    alloc: Global,
+    name: &str,
+    passed: u64,
+    destroyed: u64,
+) -> Result<Shown, AllocError> {
     let mut line = Shown::new(alloc);
     put!(line; "hold " named(name.as_bytes()) " keeps no record more: ")?;
-    match (changed.passed, changed.destroyed) {
+    match (passed, destroyed) {
         (0, 0) => line.words("no record is found")?,
         (0, destroyed) => put!(line; "found 0 live, " value(&destroyed) " destroyed")?,
         (passed, _) => put!(line; "0 new, " value(&passed) " kept already")?,
@@ -205,15 +307,67 @@ fn no_more_line(alloc: Global, name: &str, changed: Changed) -> Result<Shown, Al
     Ok(line)
 }
 
-/// Writes that a hold was placed on no record. That is no failure: a hold is placed again after each intake.
-fn write_no_more(rt: &HostRuntime, name: &str, changed: Changed) -> Result<(), Failure> {
-    write_text(rt, &no_more_line(rt.alloc(), name, changed)?)
+/// Ends what placed a hold on records: where it was placed on none, and none was refused, that is written. `BadData` where one was
+/// refused, which was told.
+fn end_placing(rt: &HostRuntime, meant: &Meant<'_>, changed: Changed) -> Result<(), Failure>
+    ensures { OnOk result (changed.is_refused ≡ false) }
+{
+    judge_refused(changed.is_refused)?;
+    if changed.is_any {
+        return Ok(());
+    }
+    let line = no_more_line(rt.alloc(), meant.name, meant.passed, meant.destroyed)?;
+    write_text(rt, &line)
+}
+
+/// Ends what ended a hold on records. `BadData` where one was refused, which was told; where it ended on none, also as for
+/// `end_of_none`.
+fn end_releasing<S: Alter>(
+    rt: &HostRuntime,
+    archive: &mut StoreLedger<'_, S>,
+    name: &str,
+    changed: Changed,
+) -> Result<(), Failure>
+    ensures reads { KeepsAll (keeper_of S.Store) archive.old archive.new }
+    ensures held { OnOk result (changed.is_any ≡ false
+        → IsSoOf (keeper_of S.Store) archive.old archive.new
+        (λ a. is_any_of (held_by name.now a) ≡ true)) }
+    ensures accepted { OnOk result (changed.is_refused ≡ false) }
+{
+    if !changed.is_any {
+        return end_of_none(rt, archive, name, changed.is_refused);
+    }
+    judge_refused(changed.is_refused)
+}
+
+/// Ends a change of holds that was tried on all records that are meant.
+fn end_change<S: Alter>(
+    archive: &mut StoreLedger<'_, S>,
+    hold: &HoldChange<'_>,
+    meant: &Meant<'_>,
+    changed: Changed,
+) -> Result<(), Failure>
+    ensures reads { KeepsAll (keeper_of S.Store) archive.old archive.new }
+    ensures held { OnOk result (changed.is_any ≡ false
+        → IsSoOf (keeper_of S.Store) archive.old archive.new
+        (λ a. IsHeld hold.now.change hold.now.name.now a)) }
+    ensures accepted { OnOk result (changed.is_refused ≡ false) }
+{
+    match hold.change {
+        Change::Place => end_placing(hold.rt, meant, changed),
+        Change::End => end_releasing(hold.rt, archive, hold.name, changed),
+    }
 }
 
 /// Changes the hold of a name on the records that are found. Those that are typed by themselves, and that are not found or
 /// that the archive refuses, are told, and are a failure in the end. So is the end of a hold that no record has; where it is
 /// none of the records that are found that has it, and none is refused, this is told; where a hold is placed on none, and none is
-/// refused, that is written. `BadData` where the class is none of the plan.
+/// refused, that is written: it is no failure, since a hold is placed again after each intake. No record is changed before all are
+/// found. `BadData` where the class is none of the plan.
+///
+/// Where it succeeds, the hold is placed on each record that is found, is live and does not have it yet, or ended on each that is
+/// found and has it, and nothing else of the archive has changed. Where it fails, it is so for the first of them, in the order of
+/// their numbers, up to one of them, none or all, and nothing else has changed.
 pub fn change_holds<S: Alter>(
     rt: &HostRuntime,
     archive: &mut StoreLedger<'_, S>,
@@ -221,21 +375,21 @@ pub fn change_holds<S: Alter>(
     name: &str,
     choice: &Choice<'_>,
     questions: &Questions,
-) -> Result<(), Failure> {
+) -> Result<(), Failure>
+    ensures falls { WasClean (keeper_of S.Store) archive.old archive.new }
+    ensures done { OnOk result (ChangesAll (keeper_of S.Store) archive.old archive.new
+        (changed_on change name.now)
+        (λ a. changed_numbers change name.now (found_in choice.now questions.now a))
+        (λ a. HoldsWell change name.now choice.now.numbers.items
+        (found_in choice.now questions.now a) a)) }
+    ensures failed { OnErr result (ChangesFirst (keeper_of S.Store) archive.old archive.new
+        (changed_on change name.now)
+        (λ a. changed_numbers change name.now (found_in choice.now questions.now a))) }
+{
     let mut search = Search::new(rt, archive, choice, questions)?;
-    let mut changed = Changed::none();
-    for _ in 0..u64::MAX {
-        let Some(page) = search.next_page(rt, archive)? else {
-            break;
-        };
-        let page = page.as_slice();
-        change_page(rt, archive, change, name, choice, page, &mut changed)?;
-    }
+    let hold = HoldChange { rt, change, name };
+    let meant = meant_of(archive, &mut search, hold, choice.numbers.as_slice())?;
+    let changed = change_each(&hold, archive, meant.numbers.as_slice())?;
     search.end(rt, archive)?;
-    match change {
-        Change::End if !changed.is_any => end_of_none(rt, archive, name, changed.is_refused),
-        _ if changed.is_refused => Err(Failure::Reported(Status::BadData)),
-        Change::Place if !changed.is_any => write_no_more(rt, name, changed),
-        _ => Ok(()),
-    }
+    end_change(archive, &hold, &meant, changed)
 }

@@ -13,6 +13,7 @@
 //! - `holds` and `whole_holds`: records that must not be destroyed, and the end of a hold on all of them; `keeping`: whether a
 //!   new plan keeps less;
 //! - `refile`: another class for records; `refilings`: which of them get it; `due_today`: what is due at once by a change;
+//! - `series`: how single records are changed, one after another, for `holds`, `whole_holds` and `refile`;
 //! - `titles`: titles of classes, which a file gives;
 //! - `dispose` and `destroying`: the destruction of what is due; `certificates`: what is certified of each record; `approved`: the
 //!   numbers in a file of what was approved; `passed_over`: what it passes over; `runs`: records in runs, by what is noted of
@@ -20,7 +21,8 @@
 //!
 //! Each works on a store that is lent to it. What it writes, and what a Maildir or a terminal does, no contract speaks of:
 //! tests of the program show it. `specs/Moments` says when a clock is refused, `specs/Imports` what becomes of a message of
-//! old mail, and `specs/Refilings` which records get another class.
+//! old mail, `specs/Refilings` which records get another class, and `specs/Series`, `specs/Holdings` and `specs/Moves` what a
+//! subcommand changes of the records that are found.
 #![tactic(auto)]
 
 mod altered;
@@ -54,6 +56,7 @@ mod rule_checks;
 mod rules;
 mod rules_sum;
 mod runs;
+mod series;
 mod time_limit;
 mod time_of_day;
 mod titles;

@@ -1,23 +1,46 @@
 //! `refile`: records that get another class of the plan.
 
+ghost use Rattle.std.specs.Prelude.{◌≡◌, ◌||◌, ◌∷◌, [], true, false, not, IfOk, OnErr, OnOk};
+ghost use Rattle.class_plan.specs.Plans.{has};
+ghost use Rattle.record_archive.specs.Archive.{Archive};
+ghost use Rattle.record_archive.specs.Refiling.{refile};
+ghost use Rattle.record_choice.specs.Reads.{OnlyReads};
+ghost use Rattle.record_ledger.specs.Ledgers.{keeper_of, keeps_history};
+ghost use Rattle.cli_console.specs.Finds.{IsBounded, TakesThese, found_ahead, found_in};
+ghost use Rattle.cli_changes.specs.Moves.{
+  AddsMoving,
+  MovesOne,
+  RefilesWell,
+  is_refused as is_refused_one,
+  more_moving,
+  moved_to,
+  moving_numbers,
+  none_moving,
+};
+ghost use Rattle.cli_changes.specs.Series.{ChangesAll, ChangesFirst, WasClean};
+ghost use Rattle.std.specs.List.{list_any};
+
 use crate::due_today::{DueToday, put_due_today};
 use crate::refilings::{Fate, fate_of};
+use crate::series::{RecordChange, change_each, judge_refused, refusal_line, refusal_told};
+use choice_words::TypedNumbers;
 use class_plan::{Date, Plan};
 use cli_choice::Questions;
-use cli_console::{
-    Failure, Search, Status, agrees, refusal_words, tell, tell_words, today, write_text,
-};
+use cli_console::{Failure, Reader, Search, Status, agrees, tell, tell_words, today, write_text};
 use cli_history::StoreLedger;
-use cli_texts::due_by;
+use cli_texts::{Headers, due_by};
 use command_lines::archives::{Choice, Refiling};
-use record_store::{ArchiveRefusal, RecordEntry};
+use record_choice::Repository;
+use record_store::{ArchiveRefusal, RecordEntry, StoreFault};
 use sqlite::Alter;
 use std::alloc::{AllocError, Global};
 use tool_plans::meant_class;
 use tool_texts::{Shown, put};
 
 /// Finds that a move can be told: the store has a history. Else `BadData`.
-fn judge_history<S: Alter>(rt: &HostRuntime, ledger: &StoreLedger<'_, S>) -> Result<(), Failure> {
+fn judge_history<S: Alter>(rt: &HostRuntime, ledger: &StoreLedger<'_, S>) -> Result<(), Failure>
+    ensures { OnOk result (keeps_history ledger.now.kept ≡ true) }
+{
     if ledger.is_noted() {
         return Ok(());
     }
@@ -40,7 +63,9 @@ fn no_class(alloc: Global, to: &str, plan: &Plan) -> Result<Shown, AllocError> {
 }
 
 /// Finds that the class which records are to get is one of the plan, open or closed. Else `BadData` (59).
-fn judge_class(alloc: Global, to: &str, plan: &Plan) -> Result<(), Failure> {
+fn judge_class(alloc: Global, to: &str, plan: &Plan) -> Result<(), Failure>
+    ensures { OnOk result (has plan.now.rows to.now ≡ true) }
+{
     if plan.schedule_of(to.as_bytes()).is_none() {
         return Err(Failure::shown(Status::BadData, no_class(alloc, to, plan)));
     }
@@ -78,17 +103,14 @@ fn there_line(alloc: Global, number: u32, to: &[u8]) -> Result<Shown, AllocError
     Ok(line)
 }
 
-/// That a record which is typed is destroyed.
-fn destroyed_line(alloc: Global, number: u32) -> Result<Shown, AllocError> {
-    let refusal = ArchiveRefusal::Destroyed.number();
-    let mut line = Shown::new(alloc);
-    put!(line; value(&number) ": " value(&refusal) ": " words(refusal_words(refusal)))?;
-    Ok(line)
-}
-
 /// What a refiling changes.
 #[derive(Drop)]
-struct Moves {
+struct Moves<'a> {
+    rt: &'a HostRuntime,
+    /// The class that records get.
+    to: &'a [u8],
+    typed: &'a [TypedNumbers],
+    today: Date,
     /// The numbers of the records that get the class.
     numbers: Vec<u32>,
     /// How many of them are due at once, before and after.
@@ -98,46 +120,69 @@ struct Moves {
     is_refused: bool,
 }
 
-impl Moves {
-    /// Adds a record that gets the class, and writes what that changes.
-    fn add(
+impl Reader for Moves<'_> {
+    ghost takes = { λ old a es new. AddsMoving old es new };
+
+    /// Takes a record that is found: it moves, is passed over, or is told.
+    fn take<R: Repository<Fault = StoreFault>>(
         &mut self,
-        rt: &HostRuntime,
+        archive: &mut R,
         entry: &RecordEntry,
-        to: &[u8],
-        plan: &Plan,
-        today: Date,
+        _headers: Option<&Headers>,
     ) -> Result<(), Failure> {
-        let due = due_by(plan, to, entry.day);
-        write_text(rt, &move_line(rt.alloc(), entry, to, due)?)?;
-        self.before.add(entry, entry.path.as_slice(), plan, today);
-        self.after.add(entry, to, plan, today);
+        self.look_at(entry, archive.plan())
+    }
+
+    fn rest(&mut self) -> Result<(), Failure> {
+        Ok(())
+    }
+
+    ghost takes_none = { λ moves a. none_moving moves };
+
+    ghost takes_more = { λ x y z a es fs one other. more_moving x y z es fs one other };
+}
+
+impl Moves<'_> {
+    /// Adds a record that gets the class, and writes what that changes.
+    fn add(&mut self, entry: &RecordEntry, plan: &Plan) -> Result<(), Failure>
+        ensures { OnOk result (MovesOne self.old entry.now.number self.new) }
+    {
+        let due = due_by(plan, self.to, entry.day);
+        write_text(self.rt, &move_line(self.rt.alloc(), entry, self.to, due)?)?;
+        self.before
+            .add(entry, entry.path.as_slice(), plan, self.today);
+        self.after.add(entry, self.to, plan, self.today);
         Ok(self.numbers.push(entry.number)?)
     }
 
-    /// Takes the records of a page that are found: each moves, is passed over, or is told.
-    fn take_page(
-        &mut self,
-        rt: &HostRuntime,
-        page: &[RecordEntry],
-        to: &[u8],
-        choice: &Choice<'_>,
-        plan: &Plan,
-        today: Date,
-    ) -> Result<(), Failure> {
-        let alloc = rt.alloc();
-        for entry in page {
-            match fate_of(entry, to, choice.numbers.as_slice()) {
-                Fate::Moves => self.add(rt, entry, to, plan, today)?,
-                Fate::PassedOver => {}
-                Fate::IsThere => tell(rt, &there_line(alloc, entry.number, to)?),
-                Fate::IsDestroyed => {
-                    tell(rt, &destroyed_line(alloc, entry.number)?);
-                    self.is_refused = true;
-                }
+    /// Adds a record if it gets the class. Where one that is typed does not, this is told.
+    fn look_at(&mut self, entry: &RecordEntry, plan: &Plan) -> Result<(), Failure>
+        ensures { OnOk result (AddsMoving self.old (entry.now ∷ []) self.new) }
+    {
+        let alloc = self.rt.alloc();
+        match fate_of(entry, self.to, self.typed) {
+            Fate::Moves => self.add(entry, plan),
+            Fate::PassedOver => Ok(()),
+            Fate::IsThere => {
+                tell(self.rt, &there_line(alloc, entry.number, self.to)?);
+                Ok(())
+            }
+            Fate::IsDestroyed => {
+                let refusal = ArchiveRefusal::Destroyed;
+                tell(self.rt, &refusal_line(alloc, entry.number, refusal)?);
+                self.is_refused = true;
+                Ok(())
             }
         }
-        Ok(())
+    }
+
+    /// Notes whether all numbers that are typed by themselves were found.
+    fn note_missing(&mut self, is_all_found: bool)
+        ensures { self.new ≡ record self.old {
+          is_refused = self.old.is_refused || not is_all_found;
+        } }
+    {
+        self.is_refused = self.is_refused || !is_all_found;
     }
 
     /// How many records get the class, and how many are due at once by that, in three lines.
@@ -160,31 +205,51 @@ fn is_all_found(ended: Result<(), Failure>) -> Result<bool, Failure> {
     }
 }
 
+/// Has each record that is found taken once: it moves, is passed over, or is told.
+fn take_found<R: Repository<Fault = StoreFault>>(
+    archive: &mut R,
+    search: &mut Search<'_, '_>,
+    moves: &mut Moves<'_>,
+) -> Result<(), Failure>
+    requires { IsBounded search.old }
+    ensures reads { OnlyReads R.clean R.stands archive.old archive.new }
+    ensures moves { OnOk result (R.clean archive.new → (a : Archive) → R.stands archive.old a
+        → TakesThese (λ old b es new. AddsMoving old es new) moves.old a
+        (found_ahead search.old a) moves.new) }
+{
+    search.read_found(moves.rt, archive, moves)
+}
+
 /// Finds the records that get a class, and writes for each what that changes.
-fn moves_shown<S: Alter>(
-    rt: &HostRuntime,
-    ledger: &mut StoreLedger<'_, S>,
-    to: &[u8],
-    choice: &Choice<'_>,
+fn moves_shown<'a, R: Repository<Fault = StoreFault>>(
+    rt: &'a HostRuntime,
+    archive: &mut R,
+    to: &'a [u8],
+    choice: &'a Choice<'_>,
     questions: &Questions,
-) -> Result<Moves, Failure> {
-    let today = today(rt)?;
+) -> Result<Moves<'a>, Failure>
+    ensures reads { OnlyReads R.clean R.stands archive.old archive.new }
+    ensures moves { IfOk result (λ m. R.clean archive.new → (a : Archive) → R.stands archive.old a
+        → m.numbers.items ≡ moving_numbers to.now (found_in choice.now questions.now a)) }
+    ensures refused { IfOk result (λ m. m.is_refused ≡ false → R.clean archive.new
+        → (a : Archive) → R.stands archive.old a
+        → list_any (is_refused_one choice.now.numbers.items)
+        (found_in choice.now questions.now a) ≡ false) }
+{
     let mut moves = Moves {
+        rt,
+        to,
+        typed: choice.numbers.as_slice(),
+        today: today(rt)?,
         numbers: Vec::new(rt.alloc()),
         before: DueToday::none(),
         after: DueToday::none(),
         is_refused: false,
     };
-    let mut search = Search::new(rt, ledger, choice, questions)?;
-    for _ in 0..u64::MAX {
-        let Some(page) = search.next_page(rt, ledger)? else {
-            break;
-        };
-        moves.take_page(rt, page.as_slice(), to, choice, ledger.plan_kept(), today)?;
-    }
-    if !is_all_found(search.end(rt, ledger))? {
-        moves.is_refused = true;
-    }
+    let mut search = Search::new(rt, archive, choice, questions)?;
+    take_found(archive, &mut search, &mut moves)?;
+    let is_all_found = is_all_found(search.end(rt, archive))?;
+    moves.note_missing(is_all_found);
     Ok(moves)
 }
 
@@ -203,44 +268,39 @@ fn write_refiled(rt: &HostRuntime, number: u32, to: &[u8]) {
     }
 }
 
-/// Gives a record a class, and writes that. Answers whether the archive did it; a refusal is told, and a fault of the store is
-/// the end.
-fn refile_one<S: Alter>(
-    rt: &HostRuntime,
-    ledger: &mut StoreLedger<'_, S>,
-    number: u32,
-    to: &[u8],
-) -> Result<bool, Failure> {
-    let Err(fault) = ledger.refile(number, to) else {
-        write_refiled(rt, number, to);
-        return Ok(true);
-    };
-    let word = format!(in rt.alloc(); "{number}")?;
-    match Failure::of_store(rt.alloc(), word.as_str(), fault) {
-        Failure::Told(Status::BadData, text) => {
-            tell(rt, &text);
-            Ok(false)
+/// The refiling of single records.
+#[derive(Clone, Copy)]
+struct RefilingTo<'a> {
+    rt: &'a HostRuntime,
+    /// The class that they get.
+    to: &'a [u8],
+}
+
+impl<S: Alter> RecordChange<StoreLedger<'_, S>> for RefilingTo<'_> {
+    ghost keeper = { keeper_of S.Store };
+
+    ghost command = { λ it n a. refile a n it.to.now };
+
+    /// Gives a record the class, and writes that. A refusal is told, and a fault of the store is the end.
+    fn change_one(&self, ledger: &mut StoreLedger<'_, S>, number: u32) -> Result<bool, Failure> {
+        match ledger.refile(number, self.to) {
+            Ok(()) => {
+                write_refiled(self.rt, number, self.to);
+                Ok(true)
+            }
+            Err(fault) => refusal_told(self.rt, number, fault),
         }
-        other => Err(other),
     }
 }
 
-/// Gives records a class, one after the other. Answers whether the archive did it on each.
-fn refile_all<S: Alter>(
-    rt: &HostRuntime,
-    ledger: &mut StoreLedger<'_, S>,
-    numbers: &[u32],
-    to: &[u8],
-) -> Result<bool, Failure> {
-    let mut is_done = true;
-    for number in numbers {
-        is_done = refile_one(rt, ledger, *number, to)? && is_done;
+/// Writes how many records get another class, and finds that someone agrees to that, else `Usage`; or tells that none does.
+fn judge_moves(rt: &HostRuntime, moves: &Moves<'_>, is_agreed: bool) -> Result<(), Failure> {
+    if moves.numbers.is_empty() {
+        if !moves.is_refused {
+            tell_words(rt, "none of these records gets another class");
+        }
+        return Ok(());
     }
-    Ok(is_done)
-}
-
-/// Writes how many records get another class, and finds that someone agrees to that. Else `Usage`.
-fn judge_agreed(rt: &HostRuntime, moves: &Moves, is_agreed: bool) -> Result<(), Failure> {
     write_text(rt, &moves.totals(rt.alloc())?)?;
     if is_agreed || agrees(rt, "refile these records?") {
         return Ok(());
@@ -259,25 +319,34 @@ fn judge_agreed(rt: &HostRuntime, moves: &Moves, is_agreed: bool) -> Result<(), 
 /// `BadData` where the store has no history, where a class is none of the plan (59), and in the end where a record that is typed
 /// is not found (80), does not meet the conditions or is destroyed (84); `Usage` where nobody agrees; `TryAgain` where the database
 /// refuses, after those that were refiled before.
+///
+/// Where it succeeds, each record that is found, is live and in another class is in this class of the plan, and nothing else of the
+/// archive has changed. Where it fails, it is so for the first of them, in the order of their numbers, up to one of them, none or
+/// all, and nothing else has changed.
 pub fn refile_records<S: Alter>(
     rt: &HostRuntime,
     ledger: &mut StoreLedger<'_, S>,
     refiling: Refiling<'_>,
     choice: &Choice<'_>,
     questions: &Questions,
-) -> Result<(), Failure> {
+) -> Result<(), Failure>
+    ensures falls { WasClean (keeper_of S.Store) ledger.old ledger.new }
+    ensures noted { OnOk result (keeps_history ledger.old.kept ≡ true) }
+    ensures done { OnOk result (ChangesAll (keeper_of S.Store) ledger.old ledger.new
+        (moved_to refiling.entry.to.now)
+        (λ a. moving_numbers refiling.entry.to.now (found_in choice.now questions.now a))
+        (λ a. RefilesWell refiling.entry.to.now choice.now.numbers.items
+        (found_in choice.now questions.now a) a)) }
+    ensures failed { OnErr result (ChangesFirst (keeper_of S.Store) ledger.old ledger.new
+        (moved_to refiling.entry.to.now)
+        (λ a. moving_numbers refiling.entry.to.now (found_in choice.now questions.now a))) }
+{
     judge_history(rt, ledger)?;
     judge_class(rt.alloc(), refiling.to, ledger.plan_kept())?;
     let to = refiling.to.as_bytes();
     let moves = moves_shown(rt, ledger, to, choice, questions)?;
-    if !moves.numbers.is_empty() {
-        judge_agreed(rt, &moves, refiling.is_agreed)?;
-    } else if !moves.is_refused {
-        tell_words(rt, "none of these records gets another class");
-    }
-    let is_done = refile_all(rt, ledger, moves.numbers.as_slice(), to)?;
-    if moves.is_refused || !is_done {
-        return Err(Failure::Reported(Status::BadData));
-    }
-    Ok(())
+    judge_moves(rt, &moves, refiling.is_agreed)?;
+    let changed = change_each(&RefilingTo { rt, to }, ledger, moves.numbers.as_slice())?;
+    judge_refused(moves.is_refused)?;
+    judge_refused(changed.is_refused)
 }

@@ -2,6 +2,7 @@
 
 ghost use Rattle.std.specs.Prelude.{◌≡◌};
 ghost use Rattle.std.specs.Str.{bytes_eq};
+ghost use Rattle.record_choice.specs.Entries.{entry_view};
 ghost use Rattle.cli_changes.specs.Refilings.{fate_of as fate_meant, is_destroyable as may_be_destroyed, moves, why_not as why_it_stays};
 
 use choice_words::TypedNumbers;
@@ -33,14 +34,14 @@ fn is_same_path(one: &[u8], other: &[u8]) -> bool
 
 /// Whether a record gets a class: it is live, and in another one.
 fn gets(entry: &RecordEntry, to: &[u8]) -> bool
-    ensures { result ≡ moves to.now entry.now }
+    ensures { result ≡ moves to.now (entry_view entry.now) }
 {
     !entry.destroyed && !is_same_path(entry.path.as_slice(), to)
 }
 
 /// Why a record does not get a class.
 fn why_not(entry: &RecordEntry) -> Fate
-    ensures { result ≡ why_it_stays entry.now }
+    ensures { result ≡ why_it_stays (entry_view entry.now) }
 {
     if entry.destroyed {
         Fate::IsDestroyed
@@ -52,7 +53,7 @@ fn why_not(entry: &RecordEntry) -> Fate
 /// What becomes of a record that is chosen for a class, by the numbers that are typed: one that is live and in another class gets
 /// it. Another one is passed over, unless its number is typed by itself.
 pub fn fate_of(entry: &RecordEntry, to: &[u8], typed: &[TypedNumbers]) -> Fate
-    ensures { result ≡ fate_meant typed.now to.now entry.now }
+    ensures { result ≡ fate_meant typed.now to.now (entry_view entry.now) }
 {
     if gets(entry, to) {
         return Fate::Moves;

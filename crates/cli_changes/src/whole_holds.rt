@@ -1,28 +1,29 @@
 //! `release --all`: the end of a hold on each record that has it.
 
-ghost use Rattle.std.specs.Prelude.{◌≡◌, Some, IfOk};
-ghost use Rattle.record_choice.specs.Choices.{every_live_record, named};
-ghost use Rattle.record_choice.specs.Views.{choice_view};
+ghost use Rattle.std.specs.Prelude.{◌≡◌, ◌++◌, map, true, IfOk, OnErr, OnOk};
+ghost use Rattle.record_archive.specs.Archive.{Archive};
+ghost use Rattle.record_choice.specs.Entries.{entry_view};
+ghost use Rattle.record_choice.specs.Reads.{OnlyReads};
+ghost use Rattle.record_ledger.specs.Ledgers.{keeper_of};
+ghost use Rattle.cli_changes.specs.Holdings.{
+  changed_on,
+  held_by,
+  is_any_of,
+  more_listed,
+  none_listed,
+  numbers_of,
+};
+ghost use Rattle.cli_changes.specs.Series.{ChangesAll, ChangesFirst, WasClean};
 
-use crate::holds::{change_on, end_of_none};
+use crate::holds::{HoldChange, end_of_none, held_choice};
+use crate::series::{change_each, judge_refused};
 use cli_choice::Change;
-use cli_console::{Failure, Status, Walk, agrees, write_text};
+use cli_console::{Failure, Reader, Status, agrees, read_chosen, write_text};
 use cli_history::StoreLedger;
-use cli_texts::{ListedHeaders, Row, listed_line};
-use record_choice::{Choice, Holder};
-use record_store::RecordEntry;
+use cli_texts::{Headers, ListedHeaders, Row, listed_line};
+use record_choice::Repository;
+use record_store::{RecordEntry, StoreFault};
 use sqlite::Alter;
-use std::alloc::{AllocError, Global};
-
-/// The live records that the hold of a name keeps.
-fn held_by(alloc: Global, name: &str) -> Result<Choice, AllocError>
-    ensures { IfOk result (λ c.
-        choice_view c ≡ record every_live_record { held = Some (named name.now) }) }
-{
-    let mut held = Choice::live();
-    held.held = Some(Holder::Named(Vec::from_slice(alloc, name.as_bytes())?));
-    Ok(held)
-}
 
 /// A record as it is listed.
 fn row_of(entry: &RecordEntry) -> Row<'_> {
@@ -36,57 +37,80 @@ fn row_of(entry: &RecordEntry) -> Row<'_> {
     }
 }
 
-/// Lists the records that a hold keeps. Answers whether there is one.
-fn list_held<S: Alter>(
-    rt: &HostRuntime,
-    archive: &mut StoreLedger<'_, S>,
-    held: &Choice,
-) -> Result<bool, Failure> {
-    let mut is_any = false;
-    let mut walk = Walk::from(held, 1);
-    for _ in 0..u64::MAX {
-        let Some(page) = walk.next_page(rt, archive)? else {
-            break;
-        };
-        for entry in page.iter() {
-            is_any = true;
-            let line = listed_line(rt.alloc(), &row_of(entry), ListedHeaders::Unasked)?;
-            write_text(rt, &line)?;
-        }
-    }
-    Ok(is_any)
+/// A list of records that is written as they are handed over.
+#[derive(Drop)]
+struct HeldList<'a> {
+    rt: &'a HostRuntime,
+    /// The numbers of those that are listed.
+    numbers: Vec<u32>,
 }
 
-/// Ends a hold on the records that it keeps. Answers whether the archive refused one, which was told.
-fn end_held<S: Alter>(
+impl Reader for HeldList<'_> {
+    ghost takes = { λ old a es new.
+        new.numbers.items ≡ old.numbers.items ++ numbers_of (map entry_view es) };
+
+    fn take<R: Repository<Fault = StoreFault>>(
+        &mut self,
+        _archive: &mut R,
+        entry: &RecordEntry,
+        _headers: Option<&Headers>,
+    ) -> Result<(), Failure> {
+        let line = listed_line(self.rt.alloc(), &row_of(entry), ListedHeaders::Unasked)?;
+        write_text(self.rt, &line)?;
+        Ok(self.numbers.push(entry.number)?)
+    }
+
+    fn rest(&mut self) -> Result<(), Failure> {
+        Ok(())
+    }
+
+    ghost takes_none = { λ list a. none_listed list.numbers.items };
+
+    ghost takes_more = { λ x y z a es fs one other.
+        more_listed x.numbers.items y.numbers.items z.numbers.items es fs one other };
+}
+
+/// Lists the live records that the hold of a name keeps. Answers the numbers of all that are listed, in their order.
+fn list_held<R: Repository<Fault = StoreFault>>(
     rt: &HostRuntime,
-    archive: &mut StoreLedger<'_, S>,
-    held: &Choice,
+    archive: &mut R,
     name: &str,
-) -> Result<bool, Failure> {
-    let mut is_refused = false;
-    let mut walk = Walk::from(held, 1);
-    for _ in 0..u64::MAX {
-        let Some(page) = walk.next_page(rt, archive)? else {
-            break;
-        };
-        for entry in page.iter() {
-            is_refused = !change_on(rt, archive, Change::End, name, entry.number)? || is_refused;
-        }
-    }
-    Ok(is_refused)
+) -> Result<Vec<u32>, Failure>
+    ensures reads { OnlyReads R.clean R.stands archive.old archive.new }
+    ensures listed { IfOk result (λ v. R.clean archive.new → (a : Archive) → R.stands archive.old a
+        → v.items ≡ numbers_of (held_by name.now a)) }
+{
+    let mut list = HeldList {
+        rt,
+        numbers: Vec::new(rt.alloc()),
+    };
+    read_chosen(rt, archive, &held_choice(rt.alloc(), name)?, &mut list)?;
+    let HeldList { numbers, .. } = list;
+    Ok(numbers)
 }
 
-/// Ends the hold of a name on each record that has it, once these were listed, and someone agrees. `BadData` where no record has it,
-/// and where the archive refuses one, which is told; `Usage` where nobody agrees.
+/// Ends the hold of a name on each live record that has it, once these were listed, and someone agrees. `BadData` where no record
+/// has it, and where the archive refuses one, which is told; `Usage` where nobody agrees.
+///
+/// Where it succeeds, the hold is ended on each live record that has it, of which there is one at least, and nothing else of the
+/// archive has changed. Where it fails, it is so for the first of them, in the order of their numbers, up to one of them, none or
+/// all, and nothing else has changed.
 pub fn release_all<S: Alter>(
     rt: &HostRuntime,
     archive: &mut StoreLedger<'_, S>,
     name: &str,
     is_agreed: bool,
-) -> Result<(), Failure> {
-    let held = held_by(rt.alloc(), name)?;
-    if !list_held(rt, archive, &held)? {
+) -> Result<(), Failure>
+    ensures falls { WasClean (keeper_of S.Store) archive.old archive.new }
+    ensures done { OnOk result (ChangesAll (keeper_of S.Store) archive.old archive.new
+        (changed_on Change.End name.now) (λ a. numbers_of (held_by name.now a))
+        (λ a. is_any_of (held_by name.now a) ≡ true)) }
+    ensures failed { OnErr result (ChangesFirst (keeper_of S.Store) archive.old archive.new
+        (changed_on Change.End name.now) (λ a. numbers_of (held_by name.now a))) }
+{
+    let held = list_held(rt, archive, name)?;
+    let numbers = held.as_slice();
+    if numbers.is_empty() {
         return end_of_none(rt, archive, name, false);
     }
     if !is_agreed && !agrees(rt, "release all of these records?") {
@@ -96,8 +120,8 @@ pub fn release_all<S: Alter>(
             "no record is released; --yes releases them",
         ));
     }
-    if end_held(rt, archive, &held, name)? {
-        return Err(Failure::Reported(Status::BadData));
-    }
-    Ok(())
+    let change = Change::End;
+    let hold = HoldChange { rt, change, name };
+    let changed = change_each(&hold, archive, numbers)?;
+    judge_refused(changed.is_refused)
 }

@@ -1,0 +1,10 @@
+use Rattle.std.proofs.lemmas.Result.{on_ok_weaker}
+use Rattle.record_archive.specs.Archive.{Archive}
+use Rattle.cli_changes.specs.Holdings.{AddsMeant}
+use Rattle.std.proofs.Common.{◌∷◌, []}
+use Rattle.cli_changes.proofs.holds.MeantReader.take.Goals as goal
+
+pub returns-clause-taken : goal.returns-clause-taken
+returns-clause-taken g c =
+    on_ok_weaker c.look_at.result (λ (added : AddsMeant c.args.self.now (c.args.entry.now ∷ []) c.look_at.new.self) clean (a : Archive) s. added)
+    c.look_at.ensures

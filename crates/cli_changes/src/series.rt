@@ -1,0 +1,121 @@
+//! How records are changed, one after another.
+
+ghost use Rattle.std.specs.Prelude.{◌≡◌, ◌||◌, false, not, IfOk, OnErr, OnOk};
+ghost use Rattle.record_archive.specs.Archive.{Archive};
+ghost use Rattle.record_archive.specs.Calls.{Keeper};
+ghost use Rattle.record_archive.specs.Faults.{is_trouble};
+ghost use Rattle.cli_changes.specs.Series.{Command, IsTried, IsTriedOn, StopsIn};
+
+use cli_console::{Failure, Status, refusal_words, tell};
+use record_store::{ArchiveRefusal, StoreFault};
+use std::alloc::{AllocError, Global};
+use tool_texts::{Shown, put};
+
+/// A change of single records of an archive, which is told once it is made.
+pub(crate) trait RecordChange<A> {
+    /// What keeps the archive.
+    ghost keeper: { Keeper A Archive };
+
+    /// The archive's command on the record of a number.
+    ghost command: { Self → Command };
+
+    /// Has the archive change a record, and tells what became of that. Answers whether it was done; else the archive refused.
+    /// A failure is that of the store, or no memory; then nothing has changed.
+    fn change_one(&self, archive: &mut A, number: u32) -> Result<bool, Failure>
+        ensures falls { keeper.clean archive.new → keeper.clean archive.old }
+        ensures tried { IfOk result (λ is_done. keeper.clean archive.new → (a : Archive)
+            → keeper.stands archive.old a
+            → IsTried (keeper.stands archive.new) a (command self.now number a) is_done) }
+        ensures failed { OnErr result ((a : Archive) → keeper.stands archive.old a
+            → keeper.stands archive.new a) };
+}
+
+/// What became of records that were to be changed.
+#[derive(Clone, Copy)]
+pub(crate) struct Changed {
+    /// Whether the archive did it on one.
+    pub is_any: bool,
+    /// Whether it refused one.
+    pub is_refused: bool,
+}
+
+impl Changed {
+    /// The same with one record more, on which the archive did it or refused it.
+    fn and_one(self, is_done: bool) -> Changed
+        ensures any { result.is_any ≡ (self.is_any || is_done) }
+        ensures refused { result.is_refused ≡ (self.is_refused || not is_done) }
+    {
+        Changed {
+            is_any: self.is_any || is_done,
+            is_refused: self.is_refused || !is_done,
+        }
+    }
+}
+
+/// Tries a change on the records of these numbers, in this order, and on no other, up to the first failure.
+pub(crate) fn change_each<A, C: RecordChange<A>>(
+    change: &C,
+    archive: &mut A,
+    numbers: &[u32],
+) -> Result<Changed, Failure>
+    ensures falls { C.keeper.clean archive.new → C.keeper.clean archive.old }
+    ensures tried { IfOk result (λ d. C.keeper.clean archive.new → (a : Archive)
+        → C.keeper.stands archive.old a → IsTriedOn (C.keeper.stands archive.new)
+        (C.command change.now) numbers.now a d.is_any d.is_refused) }
+    ensures stopped { OnErr result (C.keeper.clean archive.new → (a : Archive)
+        → C.keeper.stands archive.old a → StopsIn (C.keeper.stands archive.new)
+        (C.command change.now) numbers.now a) }
+{
+    let mut changed = Changed {
+        is_any: false,
+        is_refused: false,
+    };
+    for number in numbers {
+        let is_done = change.change_one(archive, *number)?;
+        changed = changed.and_one(is_done);
+    }
+    Ok(changed)
+}
+
+/// That the archive refuses to change a record.
+pub(crate) fn refusal_line(
+    alloc: Global,
+    number: u32,
+    refusal: ArchiveRefusal,
+) -> Result<Shown, AllocError> {
+    let refusal = refusal.number();
+    let mut line = Shown::new(alloc);
+    put!(line; value(&number) ": " value(&refusal) ": " words(refusal_words(refusal)))?;
+    Ok(line)
+}
+
+/// Tells that the archive refused to change a record, and answers that it was not done. Any other fault is a failure.
+pub(crate) fn refusal_told(
+    rt: &HostRuntime,
+    number: u32,
+    fault: StoreFault,
+) -> Result<bool, Failure>
+    ensures undone { IfOk result (λ is_done. is_done ≡ false) }
+    ensures refused { OnOk result (is_trouble fault ≡ false) }
+{
+    match fault {
+        StoreFault::Refused(refusal) => {
+            tell(rt, &refusal_line(rt.alloc(), number, refusal)?);
+            Ok(false)
+        }
+        trouble => {
+            let word = format!(in rt.alloc(); "{number}")?;
+            Err(Failure::of_store(rt.alloc(), word.as_str(), trouble))
+        }
+    }
+}
+
+/// Finds that no record was refused. Else `BadData`; which one it is was told.
+pub(crate) fn judge_refused(is_refused: bool) -> Result<(), Failure>
+    ensures { OnOk result (is_refused ≡ false) }
+{
+    if is_refused {
+        return Err(Failure::Reported(Status::BadData));
+    }
+    Ok(())
+}
