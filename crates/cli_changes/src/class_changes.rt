@@ -102,9 +102,8 @@ fn put_schedule(
     before: Option<&ClassState>,
     after: &ClassState,
 ) -> Result<(), AllocError>
-    ensures { OnOk result (text.new ≡ text.old
-        ++ schedule_words (option_map (λ b. state_view b.now) before.entry)
-        (state_view after.now)) }
+    ensures { OnOk result (text.new ≡ text.old ++ schedule_words
+        (option_map (λ b. state_view b.now) before.entry) (state_view after.now)) }
 {
     if has_same_schedule(before, after) {
         return Ok(());
