@@ -16,6 +16,15 @@ use record_store::Store;
 use sqlite::{Alter, Connection};
 use std::alloc::{AllocError, Global};
 
+/// What is changed of the records of a choice.
+#[derive(Clone, Copy)]
+pub enum ChosenChange<'a> {
+    /// Places or ends the hold of a name on them.
+    Hold(Change, &'a str),
+    /// Gives them another class.
+    Refile(Refiling<'a>),
+}
+
 /// What is changed in an archive by an author.
 #[derive(Drop)]
 pub enum Changing<'a, 't> {
@@ -27,16 +36,9 @@ pub enum Changing<'a, 't> {
     },
     /// Lists or destroys what is due by a day.
     Dispose(Disposal, Date),
-    /// Places or ends the hold of a name on records.
-    Hold {
-        change: Change,
-        name: &'a str,
-        choice: &'t Choice<'a>,
-        questions: Questions,
-    },
-    /// Gives records another class.
-    Refile {
-        refiling: Refiling<'a>,
+    /// Changes the records of a choice, of whose messages these questions are asked.
+    Chosen {
+        change: ChosenChange<'a>,
         choice: &'t Choice<'a>,
         questions: Questions,
     },
@@ -56,20 +58,35 @@ fn purpose_of(alloc: Global, present: &Plan, new: &Plan) -> Result<Purpose, Allo
     }
 }
 
+/// Changes the records of a choice.
+fn change_chosen<S: Alter>(
+    rt: &HostRuntime,
+    ledger: &mut StoreLedger<'_, S>,
+    change: ChosenChange<'_>,
+    choice: &Choice<'_>,
+    questions: &Questions,
+) -> Result<(), Failure> {
+    match change {
+        ChosenChange::Hold(change, name) => {
+            change_holds(rt, ledger, change, name, choice, questions)
+        }
+        ChosenChange::Refile(refiling) => refile_records(rt, ledger, refiling, choice, questions),
+    }
+}
+
 impl Changing<'_, '_> {
     /// For what the ledger of an archive with a plan is opened.
     fn purpose(&self, alloc: Global, present: &Plan) -> Result<Purpose, AllocError> {
         match self {
             Changing::ReplacePlan { plan, .. } => purpose_of(alloc, present, plan),
             Changing::Dispose(asked, _) if !asked.destroys => Ok(Purpose::Listing),
-            Changing::Hold {
-                change: Change::Place,
+            Changing::Chosen {
+                change: ChosenChange::Hold(Change::Place, _),
                 ..
             } => Ok(Purpose::Keeping),
-            Changing::Dispose(..)
-            | Changing::Hold { .. }
-            | Changing::Refile { .. }
-            | Changing::ReleaseAll { .. } => Ok(Purpose::Ending),
+            Changing::Dispose(..) | Changing::Chosen { .. } | Changing::ReleaseAll { .. } => Ok(
+                Purpose::Ending,
+            ),
         }
     }
 
@@ -87,17 +104,11 @@ impl Changing<'_, '_> {
                 is_agreed,
             } => replace_plan(rt, ledger, plan, path, is_agreed),
             Changing::Dispose(asked, day) => dispose_by(rt, ledger, &asked, day, seals),
-            Changing::Hold {
+            Changing::Chosen {
                 change,
-                name,
                 choice,
                 questions,
-            } => change_holds(rt, ledger, change, name, choice, &questions),
-            Changing::Refile {
-                refiling,
-                choice,
-                questions,
-            } => refile_records(rt, ledger, refiling, choice, &questions),
+            } => change_chosen(rt, ledger, change, choice, &questions),
             Changing::ReleaseAll { name, is_agreed } => release_all(rt, ledger, name, is_agreed),
         }
     }

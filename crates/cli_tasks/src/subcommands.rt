@@ -2,7 +2,7 @@
 
 use crate::archives::{Archives, Work, lend, settled};
 use crate::beginnings::{accept_found, begin, require_reasons};
-use crate::changes::{ChangeBy, Changing, DeliverOne, TakeNew};
+use crate::changes::{ChangeBy, Changing, ChosenChange, DeliverOne, TakeNew};
 use crate::copy::{Paths, copy_to};
 use crate::drafts::make;
 use crate::histories::{CheckAll, ReadHistory};
@@ -22,7 +22,7 @@ use cli_readings::{
 };
 use command_lines::archives::{
     Attribution, Choice, ChosenTask, Command, CommandLine, DisposalAsked, Filing, HistoryTask,
-    Listing, Refiling, RulesChecked, Target, Telling, TypedNumber, Why,
+    Listing, RulesChecked, Target, Telling, TypedNumber, Why,
 };
 use record_store::Store;
 use sqlite::{Alter, Connection};
@@ -280,48 +280,21 @@ fn read_records<'a, A: Archives>(
     lend(rt, archives, store, work)
 }
 
-/// A change of the holds of a name.
-#[derive(Clone, Copy)]
-struct HoldChange<'a> {
-    change: Change,
-    name: &'a str,
-}
-
-/// Places or ends the hold of a name on the records of a choice.
-fn change_holds_of<'a, A: Archives>(
+/// Changes the records of a choice.
+fn change_records<'a, A: Archives>(
     rt: &HostRuntime,
     archives: &A,
     store: &str,
     choice: &Choice<'a>,
-    hold: HoldChange<'a>,
+    chosen: ChosenChange<'a>,
     told: &Attribution<'a>,
 ) -> Result<(), Failure> {
-    let questions = judge_choice(rt, choice)?;
-    let holds = Changing::Hold {
-        change: hold.change,
-        name: hold.name,
+    let chosen = Changing::Chosen {
+        change: chosen,
         choice,
-        questions,
+        questions: judge_choice(rt, choice)?,
     };
-    change(rt, archives, store, holds, told)
-}
-
-/// Gives the records of a choice another class.
-fn refile<'a, A: Archives>(
-    rt: &HostRuntime,
-    archives: &A,
-    store: &str,
-    choice: &Choice<'a>,
-    refiling: Refiling<'a>,
-    told: &Attribution<'a>,
-) -> Result<(), Failure> {
-    let questions = judge_choice(rt, choice)?;
-    let refile = Changing::Refile {
-        refiling,
-        choice,
-        questions,
-    };
-    change(rt, archives, store, refile, told)
+    change(rt, archives, store, chosen, told)
 }
 
 /// Does something with the records of a choice.
@@ -344,20 +317,17 @@ fn on_records<'a, A: Archives>(
             read_records(rt, archives, store, choice, &Reading::Report { day: *day })
         }
         ChosenTask::Hold(name) => {
-            let hold = HoldChange {
-                change: Change::Place,
-                name: *name,
-            };
-            change_holds_of(rt, archives, store, &choice, hold, told)
+            let hold = ChosenChange::Hold(Change::Place, *name);
+            change_records(rt, archives, store, &choice, hold, told)
         }
         ChosenTask::Release(name) => {
-            let hold = HoldChange {
-                change: Change::End,
-                name: *name,
-            };
-            change_holds_of(rt, archives, store, &choice, hold, told)
+            let release = ChosenChange::Hold(Change::End, *name);
+            change_records(rt, archives, store, &choice, release, told)
         }
-        ChosenTask::Refile(refiling) => refile(rt, archives, store, &choice, *refiling, told),
+        ChosenTask::Refile(refiling) => {
+            let refile = ChosenChange::Refile(*refiling);
+            change_records(rt, archives, store, &choice, refile, told)
+        }
     }
 }
 

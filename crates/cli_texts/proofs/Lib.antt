@@ -4,3 +4,5 @@ pub mod MomentLemmas
 pub mod TextLemmas
 pub mod FieldLemmas
 mod FieldRows
+mod DueRows
+mod DueLemmas

@@ -1,4 +1,5 @@
 pub mod Cuts
+pub mod DueDays
 pub mod Headers
 pub mod Moments
 pub mod Sums

@@ -1,6 +1,11 @@
 //! A plan as the text of a plan file.
 
+ghost use Rattle.std.specs.Prelude.{◌≡◌, pos, option_map, IfSome};
+ghost use Rattle.jiff.specs.Words.{epoch_day};
 ghost use Rattle.class_plan.specs.Schedules.{IsInRange};
+ghost use Rattle.class_plan.specs.Calendar.{number_of_day, due_on};
+ghost use Rattle.class_plan.specs.Dates.{IsCaptureDay};
+ghost use Rattle.cli_texts.specs.DueDays.{due_by_plan};
 
 use class_plan::{Date, Plan, PlanFault, Schedule, date_of, day_number, schedule_text};
 use std::alloc::{AllocError, Global};
@@ -66,7 +71,12 @@ pub fn plan_text(alloc: Global, plan: &Plan) -> Result<String, AllocError> {
 
 /// The due date, by a plan, of a record that was captured in a class on a day; none where the class is permanent or none
 /// of the plan's, and for a day that is no day of a capture.
-pub fn due_by(plan: &Plan, path: &[u8], day: Date) -> Option<Date> {
+pub fn due_by(plan: &Plan, path: &[u8], day: Date) -> Option<Date>
+    ensures due { option_map epoch_day result
+        ≡ option_map pos (due_by_plan plan.now path.now (epoch_day day)) }
+    ensures capture { IsCaptureDay day → option_map number_of_day result
+        ≡ due_on plan.now path.now (number_of_day day) }
+{
     let number = day_number(day);
     if number > LAST_DAY {
         return None;

@@ -384,7 +384,7 @@ fn titles_asked<'a>(asked: &ArgMatches<'a>) -> Command<'a> {
 /// What is to be destroyed.
 fn disposal_asked(alloc: Global, asked: &ArgMatches<'_>) -> Result<Disposal, NoCommand> {
     Ok(Disposal {
-        day: day_asked(alloc, asked, words::DAY)?,
+        day: day_asked(alloc, asked, &words::DAY)?,
         destroys: has_flag(asked, words::YES),
         is_damaged: damage_asked(alloc, asked)?,
         numbers: numbers_asked(alloc, asked)?,
@@ -483,7 +483,7 @@ fn chosen_asked<'a>(
         "release" => return Ok(Some(release_asked(alloc, asked)?)),
         "refile" => return Ok(Some(refile_asked(alloc, asked)?)),
         "report" => {
-            let day = day_asked(alloc, asked, words::DAY)?;
+            let day = day_asked(alloc, asked, &words::DAY)?;
             (conditions_asked(alloc, asked)?, ChosenTask::Report { day })
         }
         _ => return Ok(None),

@@ -2,7 +2,7 @@
 
 use crate::reading::{Line, NoCommand, read_by, shown_words, value_of, words_of_process};
 use crate::table::{OPTION, Word, argument_of, bare_command};
-use clap::Command;
+use clap::{ArgMatches, Command};
 use std::alloc::{AllocError, Global};
 use std::process::ExitCode;
 
@@ -33,25 +33,41 @@ fn command<'a>(alloc: Global) -> Result<Command<'a>, AllocError> {
     .arg(argument_of(alloc, &STORE)?)
 }
 
-/// Reads the command line of the process. Help, and why a word is refused, are printed.
-pub fn read_command_line(rt: &HostRuntime) -> Result<CommandLine, NoCommand> {
-    let alloc = rt.alloc();
-    let words = words_of_process(rt)?;
-    let shown = shown_words(alloc, words.as_slice())?;
-    let line = Line {
+/// Some words, and the command that reads them.
+fn line_of<'a>(alloc: Global, words: &'a [String]) -> Result<Line<'a>, AllocError> {
+    Ok(Line {
         command: command(alloc)?,
-        words: words.as_slice(),
-    };
-    let told = Line {
-        command: command(alloc)?,
-        words: shown.as_slice(),
-    };
-    let matches = read_by(rt, line, told)?;
-    let store = match value_of(&matches, STORE) {
+        words,
+    })
+}
+
+/// The options that were found.
+fn options_in(alloc: Global, matches: &ArgMatches<'_>) -> Result<CommandLine, AllocError> {
+    let store = match value_of(matches, STORE) {
         Some(path) => Some(String::from_str(alloc, path)?),
         None => None,
     };
     Ok(CommandLine { store })
+}
+
+/// Reads words, which are told of as they are shown.
+fn read_words(
+    rt: &HostRuntime,
+    words: &[String],
+    shown: &[String],
+) -> Result<CommandLine, NoCommand> {
+    let alloc = rt.alloc();
+    let line = line_of(alloc, words)?;
+    let told = line_of(alloc, shown)?;
+    let matches = read_by(rt, line, told)?;
+    Ok(options_in(alloc, &matches)?)
+}
+
+/// Reads the command line of the process. Help, and why a word is refused, are printed.
+pub fn read_command_line(rt: &HostRuntime) -> Result<CommandLine, NoCommand> {
+    let words = words_of_process(rt)?;
+    let shown = shown_words(rt.alloc(), words.as_slice())?;
+    read_words(rt, words.as_slice(), shown.as_slice())
 }
 
 /// Ends without a session: tells of a lack of memory, which alone is not told yet.

@@ -268,23 +268,35 @@ fn why_asked<'a>(alloc: Global, asked: &ArgMatches<'a>) -> Result<Why<'a>, NoCom
     })
 }
 
+/// What the subcommand of a name is asked to do.
+fn command_asked<'a>(
+    alloc: Global,
+    name: &str,
+    asked: &ArgMatches<'a>,
+) -> Result<Command<'a>, NoCommand> {
+    match name {
+        "frame" => Ok(Command::Frame {
+            file: value_of(asked, words::COMMANDS),
+        }),
+        "explain" => Ok(Command::Explain(explain_asked(asked))),
+        "check" => Ok(Command::Check(check_asked(alloc, asked)?)),
+        "compile" => compile_asked(asked),
+        "dump" => Ok(Command::Dump {
+            image: required(asked, words::IMAGE)?,
+        }),
+        "why" => Ok(Command::Why(why_asked(alloc, asked)?)),
+        "recipients" => recipients_asked(alloc, asked),
+        _ => Err(NoCommand::Unread),
+    }
+}
+
 /// Reads the words of a command line, the program's name first. A day that is not in the calendar of captures, and a
 /// message that is not clear, are `Wrong`; help, and what `clap` refuses, are printed.
 pub fn read_command<'a>(rt: &HostRuntime, words: &'a [String]) -> Result<Command<'a>, NoCommand> {
     let alloc = rt.alloc();
     let matches = read_words(rt, &words::program(alloc)?, words)?;
-    Ok(match matches.subcommand().ok_or(NoCommand::Unread)? {
-        ("frame", asked) => Command::Frame {
-            file: value_of(asked, words::COMMANDS),
-        },
-        ("explain", asked) => Command::Explain(explain_asked(asked)),
-        ("check", asked) => Command::Check(check_asked(alloc, asked)?),
-        ("compile", asked) => compile_asked(asked)?,
-        ("dump", asked) => Command::Dump {
-            image: required(asked, words::IMAGE)?,
-        },
-        ("why", asked) => Command::Why(why_asked(alloc, asked)?),
-        ("recipients", asked) => recipients_asked(alloc, asked)?,
-        _ => return Err(NoCommand::Unread),
-    })
+    match matches.subcommand() {
+        Some((name, asked)) => command_asked(alloc, name, asked),
+        None => Err(NoCommand::Unread),
+    }
 }

@@ -13,7 +13,7 @@ use Rattle.record_archive.specs.Faults.{WhereRefused}
 use Rattle.record_archive.specs.declared.fault.ArchiveRefusal.{ArchiveRefusal}
 use Rattle.record_store.specs.Faults.{StoreFault}
 use Rattle.record_store.specs.Stores.{LeavesAll, Falls}
-use Rattle.record_noted.specs.Histories.{StandsTold, TreesTold}
+use Rattle.record_noted.specs.Histories.{KeepsLines, StandsTold, TreesTold}
 use Rattle.record_noted.specs.declared.store.NotedStore.{NotedStore}
 
 module _ {S : Type 0} (g : Ghosts S) (old new : NotedStore S) where
@@ -25,10 +25,12 @@ module _ {S : Type 0} (g : Ghosts S) (old new : NotedStore S) where
   TellsTold (Err f) Answers Refuses = (a : Archive) → StandsTold g old a → StandsTold g new a ×
       (HasCleanDisk (state g new.store.conn) → WhereRefused (Refuses a) f)
 
-  -- Besides, a disk that is clean after the call was clean before it, and a crash leaves what it might have left before.
+  -- Besides, the lines beside the archive are the very same, a disk that is clean after the call was clean before it, and a crash
+  -- leaves what it might have left before.
   pub record ReadsTold {X : Type 0} (result : Result X StoreFault) (Answers : Archive → X → Type 0)
       (Refuses : Archive → ArchiveRefusal → Type 0) : Type 0 where
     pub tells : TellsTold result Answers Refuses
+    pub lines : KeepsLines g old new
     pub falls : Falls g old.store new.store
     pub crash : LeavesAll g old.store new.store
 

@@ -199,7 +199,7 @@ fn kind_asked(alloc: Global, asked: &ArgMatches<'_>) -> Result<Option<DeedKind>,
 fn events_asked<'a>(alloc: Global, asked: &ArgMatches<'a>) -> Result<HistoryAsked<'a>, NoCommand> {
     Ok(HistoryAsked {
         numbers: numbers_asked(alloc, asked)?,
-        since: day_asked(alloc, asked, words::EVENTS_SINCE)?,
+        since: day_asked(alloc, asked, &words::EVENTS_SINCE)?,
         by: value_of(asked, words::BY),
         kind: kind_asked(alloc, asked)?,
         is_json: has_flag(asked, JSON),

@@ -66,16 +66,16 @@ pub(super) fn numbers_asked(
 pub(super) fn day_asked(
     alloc: Global,
     asked: &ArgMatches<'_>,
-    word: Word,
+    word: &Word,
 ) -> Result<Option<Date>, NoCommand> {
-    let Some(text) = value_of(asked, word) else {
+    let Some(text) = value_of(asked, *word) else {
         return Ok(None);
     };
     match day_of(text) {
         Some(day) => Ok(Some(day)),
         None => Err(NoCommand::wrong_after(
             alloc,
-            word,
+            *word,
             text,
             "not a day of 1970 to 9999, written YYYY-MM-DD",
         )),
@@ -95,8 +95,8 @@ fn days_asked(
     alloc: Global,
     asked: &ArgMatches<'_>,
 ) -> Result<(Option<Date>, Option<Date>), NoCommand> {
-    let since = day_asked(alloc, asked, words::SINCE)?;
-    let until = day_asked(alloc, asked, words::UNTIL)?;
+    let since = day_asked(alloc, asked, &words::SINCE)?;
+    let until = day_asked(alloc, asked, &words::UNTIL)?;
     if is_backwards(since, until) {
         let reason = "the day of --until is before that of --since";
         return Err(NoCommand::Wrong(String::from_str(alloc, reason)?));
@@ -132,7 +132,7 @@ pub(super) fn conditions_asked<'a>(
         numbers: Vec::new(alloc),
         from: 1,
         class: value_of(asked, words::CLASS),
-        due: day_asked(alloc, asked, words::DUE)?,
+        due: day_asked(alloc, asked, &words::DUE)?,
         since,
         until,
         is_held: has_flag(asked, words::HELD),

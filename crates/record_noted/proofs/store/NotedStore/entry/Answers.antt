@@ -19,6 +19,7 @@ returns-in-Some g c = record {
             entry_found a s.1.stands.archive c.args.number (map entry_view rest) (entry_view e)
             (sym (map-append entry_view rest (e ∷ [])) ∙ ap (map entry_view) (sym (rw c.in-Some.is at c.pop.ensures.items)) ∙ read.1 clean) own,
       );
+  lines = c.entries.ensures.lines;
   falls = c.entries.ensures.falls;
   crash = c.entries.ensures.crash;
 }
@@ -26,6 +27,7 @@ returns-in-Some g c = record {
 pub returns : goal.returns
 returns g c = record {
   tells = λ (a : Archive) s. ((c.in_ok-entries.ensures.tells a s).0, λ clean r is. cc);
+  lines = c.entries.ensures.lines;
   falls = c.entries.ensures.falls;
   crash = c.entries.ensures.crash;
 }
@@ -36,4 +38,4 @@ returns-in_err-entries g c =
     c.from_residual.ensures.1
     (λ (a : Archive) s.
     let told = c.in_err-entries.ensures.tells a s in (told.0, λ clean r is. absurd (told.1 clean r is)))
-    c.entries.ensures.falls c.entries.ensures.crash
+    c.entries.ensures.lines c.entries.ensures.falls c.entries.ensures.crash

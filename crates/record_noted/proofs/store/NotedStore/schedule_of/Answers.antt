@@ -15,6 +15,9 @@ returns-in_err-record-clause-reads g c =
     (λ (a : Archive) s.
     let told = c.in_err-record.ensures.tells a s.1.stands in
     (stands_read g.S.Store c.args.self.now new refl refl c.record_at.ensures.behaves.falls c.record_at.ensures.still a s told.0, told.1))
+    (λ (a : Archive) (ls : List (List ℕ)) s.
+    lines_read g.S.Store c.args.self.now new refl refl c.record_at.ensures.behaves.falls c.record_at.ensures.still a ls s
+    (c.in_err-record.ensures.tells a s.stands).0)
     c.record_at.ensures.behaves.falls c.record_at.ensures.crash
 
 pub returns-clause-reads : goal.returns-clause-reads
@@ -32,6 +35,9 @@ returns-clause-reads g c = record {
               ∙ ap (λ p. schedule_at p c.in_ok-record.record.path.items) plan)),
         ),
       );
+  lines = λ (a : Archive) (ls : List (List ℕ)) s.
+      lines_read g.S.Store c.args.self.now (record c.args.self.now { store = c.record_at.new.self }) refl refl
+      c.record_at.ensures.behaves.falls c.record_at.ensures.still a ls s (c.in_ok-record.ensures.tells a s.stands).0;
   falls = c.record_at.ensures.behaves.falls;
   crash = c.record_at.ensures.crash;
 }
