@@ -1,5 +1,6 @@
 -- Due days by a plan, worked.
 use Rattle.std.proofs.Common.{◌≡◌, ◌∷◌, [], codes, pos, negsuc, refl, true, false, Some, None}
+use Rattle.jiff_core.specs.Calendar.{days_from_civil, day_count, days_of_years, days_of_months}
 use Rattle.class_plan.specs.declared.schedules.Unit.TheVariants.{Days, Years}
 use Rattle.class_plan.specs.declared.schedules.Action.TheVariants.{Destroy}
 use Rattle.class_plan.specs.declared.schedules.Schedule.TheVariants.{Permanent, After}
@@ -17,7 +18,7 @@ worked = record {
 
 -- 2023-11-14 and seven years
 seven_years : due_by_plan worked (codes "a") (pos 19675) ≡ Some 22232
-unfolding worked
+unfolding worked days_from_civil day_count days_of_years days_of_months
 seven_years = refl
 
 last_day_of_captures : due_by_plan worked (codes "b") (pos 84005) ≡ Some 84006
