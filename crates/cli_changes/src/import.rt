@@ -174,6 +174,7 @@ fn take_mbox<A: Records>(room: &mut ImportRoom<'_, A>, path: &str) -> Result<(),
         room.take_from_mbox(path, number, message)?;
         number = number.saturating_add(1);
     }
+    room.note_undated(path, messages.undated());
     Ok(())
 }
 
@@ -261,7 +262,7 @@ fn import_into<A: Records>(
 }
 
 /// Captures old mail in a store: each message once, in the order of the sources, of the messages of an mbox, and of the names of
-/// files. A message that is captured already is passed over, and one without a moment stays, which is told. The the others are
+/// files. A message that is captured already is passed over, and one without a moment stays, which is told. The others are
 /// captured all the same. What lies beside the messages of a folder is told in the end. `BadData` where messages stay, and where a folder
 /// has none; where some were given up they may be taken later, `TryAgain`.
 pub fn import_mail<'a, S: Alter>(

@@ -4,9 +4,10 @@ ghost use Rattle.std.specs.Prelude.{◌≡◌, is_ok};
 ghost use Rattle.cli_changes.specs.Imports.{is_complete, no_messages, one_more, with_staying};
 
 use cli_console::{Failure, Status, tell, write_text};
+use mail_boxes::UndatedLines;
 use mail_dates::{Dated, Dating};
 use mail_intake::Reason;
-use mail_sources::PassedOver;
+use mail_sources::{PassedOver, maildir_around};
 use std::alloc::{AllocError, Global};
 use tool_texts::{Shown, put};
 
@@ -180,17 +181,45 @@ pub(crate) fn tell_maildirs(rt: &HostRuntime, passed: &PassedOver) {
     }
 }
 
-/// What is told of a folder without a message.
-fn empty_words(alloc: Global, path: &str) -> Result<Shown, AllocError> {
+/// What is told of a folder without a message, with the path of the Maildir to which it belongs, if that is known.
+fn empty_words(alloc: Global, path: &str, maildir: Option<&str>) -> Result<Shown, AllocError> {
     let mut text = Shown::new(alloc);
     put!(text; "no message is found in " named(path.as_bytes()))?;
+    if let Some(maildir) = maildir {
+        put!(text; "; to import the Maildir, name " named(maildir.as_bytes()))?;
+    }
     Ok(text)
 }
 
-/// Tells that a folder has no message.
+/// Tells that a folder has no message, and of which Maildir it is a part.
 pub(crate) fn tell_empty(rt: &HostRuntime, path: &str) {
-    if let Ok(text) = empty_words(rt.alloc(), path) {
+    if let Ok(text) = empty_words(rt.alloc(), path, maildir_around(rt, path)) {
         tell(rt, &text);
+    }
+}
+
+/// What is told of lines of an mbox that look like separators and have no date.
+fn undated_lines_words(
+    alloc: Global,
+    path: &str,
+    first: u64,
+    count: u64,
+) -> Result<Shown, AllocError> {
+    let mut text = Shown::new(alloc);
+    put!(text; named(path.as_bytes()) ": line " value(&first)
+        " begins with From and has no date, so no message begins there")?;
+    if count > 1 {
+        put!(text; "; there are " value(&count) " such lines")?;
+    }
+    Ok(text)
+}
+
+/// Tells of the lines of an mbox that look like separators and have no date, if there are any.
+pub(crate) fn tell_undated(rt: &HostRuntime, path: &str, lines: UndatedLines) {
+    if let Some(first) = lines.first {
+        if let Ok(text) = undated_lines_words(rt.alloc(), path, first, lines.count) {
+            tell(rt, &text);
+        }
     }
 }
 

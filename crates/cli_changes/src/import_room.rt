@@ -4,7 +4,9 @@ use crate::deliver::{desk_failure, undecoded_in};
 use crate::fault_words::given_up_words;
 use crate::import::MailImport;
 use crate::import_fate::{Fate, fate_of};
-use crate::import_log::{ImportTally, tell_empty, tell_known, tell_maildirs, undated_words};
+use crate::import_log::{
+    ImportTally, tell_empty, tell_known, tell_maildirs, tell_undated, undated_words,
+};
 use crate::intake_room::{given_up, unfit, unread, words_of};
 use crate::no_mail::imported_words;
 use crate::time_limit::{TimeLimit, too_slow_reason};
@@ -13,7 +15,7 @@ use cli_console::Failure;
 use cli_sources::payload_of_no_link;
 use desk_commands::{Capture, DeskFault, MAX_MESSAGE_OCTETS, Payload};
 use filing_desk::{Delivery, Desk, deliver};
-use mail_boxes::{BoxMessage, judge_message};
+use mail_boxes::{BoxMessage, UndatedLines, judge_message};
 use mail_dates::date_message;
 use mail_intake::Reason;
 use mail_sources::PassedOver;
@@ -274,6 +276,11 @@ impl<'a, A: Records> ImportRoom<'a, A> {
         self.speak();
         tell_empty(self.job.rt, path);
         self.tally.empty = self.tally.empty.saturating_add(1);
+    }
+
+    /// Tells which lines of the mbox at a path look like separators and have no date.
+    pub fn note_undated(&mut self, path: &str, lines: UndatedLines) {
+        tell_undated(self.job.rt, path, lines);
     }
 
     /// Notes what lies beside the messages of a source, and tells of the Maildirs among that.

@@ -1,3 +1,4 @@
 pub mod LineLemmas
 pub mod Rows
 pub mod SplitLemmas
+pub mod UndatedLemmas

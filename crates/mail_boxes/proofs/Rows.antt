@@ -5,6 +5,7 @@ use Rattle.mail_head.specs.Fields.{field_of, fields_of}
 use Rattle.mail_boxes.specs.Boxes.{groups, messages_of, without_last_empty}
 use Rattle.mail_boxes.specs.Marks.{has_date, is_quoted, is_separator, unquoted}
 use Rattle.mail_boxes.specs.NoMail.{have_another, is_mbox}
+use Rattle.mail_boxes.specs.Undated.{undated}
 
 separators_are : map is_separator (
     codes "From ann@example.org Wed Jan  7 10:00:00 2009\n" ∷ codes "From - Wed Jan 7 10:00 2009\n"
@@ -38,3 +39,10 @@ mboxes_are : map is_mbox (
     ≡ true ∷ false ∷ false ∷ false ∷ []
 unfolding have_another raw_lines has_date
 mboxes_are = refl
+
+-- of three lines that begin with "From " and have no date, the first stands in a paragraph, and the last two after an empty line
+undated_are : undated 1 true (codes "From a Wed Jan  7 10:00 2009\n" ∷ codes "A: 1\n" ∷ codes "From b\n" ∷ codes "\n" ∷ codes "From c\n"
+    ∷ codes "\r\n" ∷ codes "From d Wed Jan  7 10:00 2009\n" ∷ codes "\n" ∷ codes "From e\n" ∷ codes "\n" ∷ codes ">From f\n" ∷ [])
+    ≡ 5 ∷ 9 ∷ []
+unfolding undated has_date
+undated_are = refl

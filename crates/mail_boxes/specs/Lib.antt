@@ -2,3 +2,4 @@ pub mod Boxes
 pub mod Marks
 pub mod NoMail
 pub mod Splitters
+pub mod Undated

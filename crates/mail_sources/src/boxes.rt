@@ -1,6 +1,6 @@
 //! The messages of an mbox in a file, one at a time.
 
-use mail_boxes::{BoxMessage, MessageSplitter};
+use mail_boxes::{BoxMessage, MessageSplitter, UndatedLines};
 use std::alloc::AllocError;
 use std::fs::{self, File};
 use std::io::{self, BufRead, BufReader};
@@ -62,6 +62,7 @@ pub struct BoxReader {
     /// None at the end of the file.
     splitter: Option<MessageSplitter>,
     line: Vec<u8>,
+    undated: UndatedLines,
 }
 
 impl BoxReader {
@@ -75,11 +76,19 @@ impl BoxReader {
         if splitter.is_none() && !line.is_empty() {
             return Err(BoxFault::NoMbox);
         }
+        let mut undated = UndatedLines::none();
+        undated.take(line.as_slice());
         Ok(BoxReader {
             reader,
             splitter,
             line,
+            undated,
         })
+    }
+
+    /// Which of the lines so far look like separators and have no date, so that they belong to messages.
+    pub fn undated(&self) -> UndatedLines {
+        self.undated
     }
 
     /// The next message; none at the end. After an error there are no more.
@@ -92,6 +101,7 @@ impl BoxReader {
             if self.line.is_empty() {
                 break;
             }
+            self.undated.take(self.line.as_slice());
             if let Some(message) = splitter.feed(self.line.as_slice())? {
                 self.splitter = Some(splitter);
                 return Ok(Some(message));

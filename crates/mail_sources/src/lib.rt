@@ -17,4 +17,4 @@ mod sources;
 pub use boxes::{BoxFault, BoxReader};
 pub use files::MailFiles;
 pub use passed::PassedOver;
-pub use sources::{Source, SourceFault, source_at};
+pub use sources::{Source, SourceFault, maildir_around, source_at};

@@ -65,3 +65,18 @@ pub fn source_at<'a>(rt: &HostRuntime, path: &'a str) -> Result<Source<'a>, Sour
     BoxReader::open(rt, path)?;
     Ok(Source::Mbox(path))
 }
+
+/// The path of the folder in which the one at a path lies, if it is named `cur` or `new`.
+fn folder_around(path: &str) -> Option<&str> {
+    let path = path.trim_end_matches('/');
+    path.strip_suffix("/cur").or(path.strip_suffix("/new"))
+}
+
+/// The path of the Maildir to which the folder at a path belongs, as its `cur` or `new`; none where that is not known.
+pub fn maildir_around<'a>(rt: &HostRuntime, path: &'a str) -> Option<&'a str> {
+    let folder = folder_around(path)?;
+    match is_maildir(rt, folder) {
+        Ok(true) => Some(folder),
+        Ok(false) | Err(_) => None,
+    }
+}
