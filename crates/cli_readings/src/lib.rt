@@ -19,6 +19,7 @@ mod judge;
 mod list;
 mod report;
 mod show;
+mod sink;
 mod sums;
 mod twice;
 mod why;

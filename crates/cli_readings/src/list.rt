@@ -1,13 +1,22 @@
 //! `list`: the records, a line each.
 
+ghost use Rattle.std.specs.Prelude.{◌≡◌, ◌∷◌, ◌++◌, [], ℕ, List, IfOk, IfSome, OnOk, is_none, true, string_bytes};
+ghost use Rattle.record_archive.specs.Archive.{Archive};
+ghost use Rattle.record_choice.specs.Reads.{OnlyReads};
+ghost use Rattle.cli_console.specs.Finds.{IsBounded, TakesThese, found_ahead, found_in};
+ghost use Rattle.cli_readings.specs.Lists.{AreTextsOf, HasText, IsHeaderOf, IsRowOf, IsTextOf, Lists, PushesRow, WritesList, between, end_of, head_of, more_listed, none_listed};
+ghost use Rattle.cli_readings.specs.Sinks.{Writes};
+
+use crate::sink::{Sink, StandardOutput};
 use cli_choice::Questions;
-use cli_console::{Failure, Found, Search, message_of, write_data};
+use cli_console::{Failure, Reader, Search, message_of};
 use cli_texts::{
     Headers, LIST_HEADER, LIST_HEADER_WITH_TEXTS, ListedHeaders, Row, headers_of, json_object,
     listed_line, listed_row,
 };
 use command_lines::archives::{Choice, Format, Listing};
-use record_store::{RecordEntry, Store};
+use record_choice::Repository;
+use record_store::{RecordEntry, Store, StoreFault};
 use sqlite::Alter;
 use std::alloc::{AllocError, Global};
 
@@ -15,7 +24,9 @@ use std::alloc::{AllocError, Global};
 const PIECE: usize = 65_536;
 
 /// A record as it is listed.
-pub fn row_of(entry: &RecordEntry) -> Row<'_> {
+pub fn row_of(entry: &RecordEntry) -> Row<'_>
+    ensures { IsRowOf entry.now result }
+{
     Row {
         number: entry.number,
         path: entry.path.as_slice(),
@@ -26,12 +37,17 @@ pub fn row_of(entry: &RecordEntry) -> Row<'_> {
     }
 }
 
-/// What the header of a record's message says, where the message is there and was not read before.
-pub(crate) fn headers_of_record<S: Alter>(
+/// What the header of a record's message says; none where it is destroyed.
+pub(crate) fn headers_of_record<R: Repository<Fault = StoreFault>>(
     rt: &HostRuntime,
-    archive: &mut Store<S>,
+    archive: &mut R,
     entry: &RecordEntry,
-) -> Result<Option<Headers>, Failure> {
+) -> Result<Option<Headers>, Failure>
+    ensures reads { OnlyReads R.clean R.stands archive.old archive.new }
+    ensures none { IfOk result (λ h. is_none h ≡ entry.now.destroyed) }
+    ensures texts { IfOk result (λ o. R.clean archive.new → (a : Archive)
+        → R.stands archive.old a → IfSome o (λ h. AreTextsOf a entry.now.number h)) }
+{
     if entry.destroyed {
         return Ok(None);
     }
@@ -39,159 +55,295 @@ pub(crate) fn headers_of_record<S: Alter>(
     Ok(Some(headers_of(rt.alloc(), message.as_slice())?))
 }
 
-/// What is listed of the header of a record, where it is asked for.
-pub(crate) fn listed(headers: Option<&Headers>) -> ListedHeaders<'_> {
-    match headers {
-        Some(texts) => ListedHeaders::Texts(texts),
-        None => ListedHeaders::Destroyed,
-    }
+/// What stands before an object of JSON.
+fn text_between(is_first: bool) -> &'static str
+    ensures { result.now ≡ between is_first }
+{
+    if is_first { "\n" } else { ",\n" }
 }
 
-/// Adds a record to a text.
-pub(crate) fn push_record(
+/// A record as a JSON object, after what stands between it and the one before.
+fn json_row(
     alloc: Global,
-    text: &mut Vec<u8>,
-    entry: &RecordEntry,
+    row: &Row<'_>,
+    headers: ListedHeaders<'_>,
+    is_first: bool,
+) -> Result<Vec<u8>, AllocError>
+    ensures { IfOk result
+        (λ text. (object : List ℕ) × (text.items ≡ between is_first ++ object)) }
+{
+    let mut text = Vec::from_slice(alloc, text_between(is_first).as_bytes())?;
+    let object = json_object(alloc, row, headers)?;
+    text.extend_from_slice(object.as_bytes())?;
+    Ok(text)
+}
+
+/// What is listed of a record in a format.
+pub(crate) fn row_text(
+    alloc: Global,
+    row: &Row<'_>,
     headers: ListedHeaders<'_>,
     format: Format,
     is_first: bool,
-) -> Result<(), AllocError> {
-    let row = row_of(entry);
+) -> Result<Vec<u8>, AllocError>
+    ensures { IfOk result (λ text. IsTextOf format is_first row.now headers.entry text.items) }
+{
     match format {
         Format::Lines => {
-            text.extend_from_slice(listed_line(alloc, &row, headers)?.as_str().as_bytes())
+            let line = listed_line(alloc, row, headers)?;
+            Vec::from_slice(alloc, line.as_str().as_bytes())
         }
-        Format::Csv => text.extend_from_slice(listed_row(alloc, &row, headers)?.as_slice()),
-        Format::Json => {
-            text.extend_from_slice(if is_first {
-                b"\n".as_slice()
-            } else {
-                b",\n".as_slice()
-            })?;
-            text.extend_from_slice(json_object(alloc, &row, headers)?.as_bytes())
-        }
+        Format::Csv => listed_row(alloc, row, headers),
+        Format::Json => json_row(alloc, row, headers, is_first),
         Format::Numbers => {
-            let line = format!(in alloc; "{}\n", entry.number)?;
-            text.extend_from_slice(line.as_bytes())
+            let number = row.number;
+            Ok(format!(in alloc; "{number}\n")?.into_bytes())
         }
-        Format::Count => Ok(()),
+        Format::Count => Ok(Vec::new(alloc)),
     }
 }
 
-/// The text of a list, which is written piece by piece.
-#[derive(Drop)]
-struct ListText<'a> {
-    rt: &'a HostRuntime,
-    format: Format,
-    text: Vec<u8>,
-    /// How many records it has.
-    count: u64,
-}
-
-impl ListText<'_> {
-    /// Adds a record, and writes the text where it is long.
-    fn add(&mut self, entry: &RecordEntry, headers: ListedHeaders<'_>) -> Result<(), Failure> {
-        let is_first = self.count == 0;
-        let alloc = self.rt.alloc();
-        push_record(alloc, &mut self.text, entry, headers, self.format, is_first)?;
-        self.count = self.count.saturating_add(1);
-        if self.text.len() >= PIECE {
-            self.write()?;
-        }
-        Ok(())
+/// What a list has before its records.
+fn text_before(listing: Listing) -> &'static str
+    ensures { result.now ≡ head_of listing.format listing.headers }
+{
+    match listing.format {
+        Format::Lines | Format::Numbers | Format::Count => "",
+        Format::Csv if listing.headers => LIST_HEADER_WITH_TEXTS,
+        Format::Csv => LIST_HEADER,
+        Format::Json => "[",
     }
-
-    /// Writes what is not written yet.
-    fn write(&mut self) -> Result<(), Failure> {
-        write_data(self.rt, self.text.as_slice())?;
-        self.text.clear();
-        Ok(())
-    }
-}
-
-/// Adds the records that are found.
-fn add_records<S: Alter>(
-    rt: &HostRuntime,
-    archive: &mut Store<S>,
-    search: &mut Search<'_, '_>,
-    list: &mut ListText<'_>,
-) -> Result<(), Failure> {
-    for _ in 0..u64::MAX {
-        let Some(page) = search.next_page(rt, archive)? else {
-            break;
-        };
-        for entry in page.iter() {
-            list.add(entry, ListedHeaders::Unasked)?;
-        }
-        list.write()?;
-    }
-    Ok(())
-}
-
-/// Adds the records of a page with what the headers of their messages say. Where no message was read for what is asked, it
-/// is read here.
-fn add_page_with_headers<S: Alter>(
-    rt: &HostRuntime,
-    archive: &mut Store<S>,
-    page: &Found,
-    list: &mut ListText<'_>,
-) -> Result<(), Failure> {
-    for (at, entry) in page.entries.iter().enumerate() {
-        match page.headers.get(at) {
-            Some(headers) => list.add(entry, ListedHeaders::Texts(headers))?,
-            None => {
-                let headers = headers_of_record(rt, archive, entry)?;
-                list.add(entry, listed(headers.as_ref()))?;
-            }
-        }
-    }
-    list.write()
-}
-
-/// Adds the records that are found with what the headers of their messages say.
-fn add_records_with_headers<S: Alter>(
-    rt: &HostRuntime,
-    archive: &mut Store<S>,
-    search: &mut Search<'_, '_>,
-    list: &mut ListText<'_>,
-) -> Result<(), Failure> {
-    for _ in 0..u64::MAX {
-        let Some(page) = search.next_with_headers(rt, archive)? else {
-            break;
-        };
-        add_page_with_headers(rt, archive, &page, list)?;
-    }
-    Ok(())
-}
-
-/// Writes the records that are found. Answers how many there are.
-fn write_records<S: Alter>(
-    rt: &HostRuntime,
-    archive: &mut Store<S>,
-    search: &mut Search<'_, '_>,
-    listing: Listing,
-) -> Result<u64, Failure> {
-    let mut list = ListText {
-        rt,
-        format: listing.format,
-        text: Vec::new(rt.alloc()),
-        count: 0,
-    };
-    if listing.headers {
-        add_records_with_headers(rt, archive, search, &mut list)?;
-    } else {
-        add_records(rt, archive, search, &mut list)?;
-    }
-    Ok(list.count)
 }
 
 /// What a format has after so many records.
-fn text_after(alloc: Global, format: Format, count: u64) -> Result<String, AllocError> {
+fn text_after(alloc: Global, format: Format, count: u64) -> Result<String, AllocError>
+    ensures { IfOk result (λ text. string_bytes text ≡ end_of format count) }
+{
     match format {
         Format::Lines | Format::Csv | Format::Numbers => Ok(String::new(alloc)),
         Format::Json => String::from_str(alloc, "\n]\n"),
         Format::Count => format!(in alloc; "{count}\n"),
     }
+}
+
+/// The text of a list, which is written piece by piece.
+#[derive(Drop)]
+pub(crate) struct ListText<'a, K> {
+    pub(crate) rt: &'a HostRuntime,
+    sink: K,
+    pub(crate) listing: Listing,
+    /// What is not written yet.
+    text: Vec<u8>,
+    /// How many records it has.
+    pub(crate) count: u64,
+}
+
+impl<'a, K: Sink + Drop> ListText<'a, K> {
+    /// A list without records, of which nothing is written yet.
+    pub(crate) fn new(rt: &'a HostRuntime, listing: Listing, sink: K) -> ListText<'a, K>
+        ensures sink { result.sink ≡ sink }
+        ensures listing { result.listing ≡ listing }
+        ensures text { result.text.items ≡ [] }
+        ensures count { result.count ≡ 0 }
+    {
+        let text = Vec::new(rt.alloc());
+        ListText {
+            rt,
+            sink,
+            listing,
+            text,
+            count: 0,
+        }
+    }
+
+    /// Adds a text that is no record's to what is to be written.
+    pub(crate) fn push(&mut self, text: &str) -> Result<(), AllocError>
+        ensures text { OnOk result (Writes (HasText K.written) self.old self.new text.now) }
+        ensures count { OnOk result (self.new.count ≡ self.old.count) }
+        ensures listing { OnOk result (self.new.listing ≡ self.old.listing) }
+    {
+        self.text.extend_from_slice(text.as_bytes())?;
+        Ok(())
+    }
+
+    /// Adds a record to what is to be written.
+    pub(crate) fn push_row(
+        &mut self,
+        entry: &RecordEntry,
+        headers: ListedHeaders<'_>,
+        is_first: bool,
+    ) -> Result<(), Failure>
+        requires { IsHeaderOf self.old.listing.headers entry.now headers }
+        ensures { OnOk result (PushesRow K.written is_first self.old entry.now self.new) }
+    {
+        let row = row_of(entry);
+        let text = row_text(
+            self.rt.alloc(),
+            &row,
+            headers,
+            self.listing.format,
+            is_first,
+        )?;
+        self.text.extend_from_slice(text.as_slice())?;
+        self.count = self.count.saturating_add(1);
+        Ok(())
+    }
+
+    /// Adds the next record to what is to be written.
+    fn add_row(&mut self, entry: &RecordEntry, headers: ListedHeaders<'_>) -> Result<(), Failure>
+        requires { IsHeaderOf self.old.listing.headers entry.now headers }
+        ensures { OnOk result (Lists K.written self.old (entry.now ∷ []) self.new) }
+    {
+        let is_first = self.count == 0;
+        self.push_row(entry, headers, is_first)?;
+        Ok(())
+    }
+
+    /// Writes what is not written yet.
+    pub(crate) fn write(&mut self) -> Result<(), Failure>
+        ensures same { OnOk result (Lists K.written self.old [] self.new) }
+        ensures all { OnOk result (self.new.text.items ≡ []) }
+    {
+        self.sink.write(self.text.as_slice())?;
+        self.text.clear();
+        Ok(())
+    }
+
+    /// Writes what is not written yet, where it is long.
+    #[tactic(auto, using(crate::specs::Lists::none_listed))]
+    fn write_long(&mut self) -> Result<(), Failure>
+        ensures { OnOk result (Lists K.written self.old [] self.new) }
+    {
+        if self.text.len() < PIECE {
+            return Ok(());
+        }
+        self.write()?;
+        Ok(())
+    }
+
+    /// Adds a record, and writes the text where it is long.
+    fn add(&mut self, entry: &RecordEntry, headers: ListedHeaders<'_>) -> Result<(), Failure>
+        requires { IsHeaderOf self.old.listing.headers entry.now headers }
+        ensures { OnOk result (Lists K.written self.old (entry.now ∷ []) self.new) }
+    {
+        self.add_row(entry, headers)?;
+        self.write_long()?;
+        Ok(())
+    }
+
+    /// Adds a record, with what the header of its message says, which is read.
+    fn add_read<R: Repository<Fault = StoreFault>>(
+        &mut self,
+        archive: &mut R,
+        entry: &RecordEntry,
+    ) -> Result<(), Failure>
+        requires { self.old.listing.headers ≡ true }
+        ensures reads { OnlyReads R.clean R.stands archive.old archive.new }
+        ensures added { OnOk result (Lists K.written self.old (entry.now ∷ []) self.new) }
+    {
+        match headers_of_record(self.rt, archive, entry)? {
+            Some(headers) => self.add(entry, ListedHeaders::Texts(&headers)),
+            None => self.add(entry, ListedHeaders::Destroyed),
+        }
+    }
+
+    /// Adds a text that is no record's, and writes it.
+    pub(crate) fn put(&mut self, text: &str) -> Result<(), Failure>
+        ensures text { OnOk result (Writes (HasText K.written) self.old self.new text.now) }
+        ensures count { OnOk result (self.new.count ≡ self.old.count) }
+        ensures listing { OnOk result (self.new.listing ≡ self.old.listing) }
+        ensures all { OnOk result (self.new.text.items ≡ []) }
+    {
+        self.push(text)?;
+        self.write()?;
+        Ok(())
+    }
+
+    /// Adds what its format has after its records, and writes it.
+    pub(crate) fn end(&mut self) -> Result<(), Failure>
+        ensures text { OnOk result (Writes (HasText K.written) self.old self.new
+            (end_of self.old.listing.format self.old.count)) }
+        ensures all { OnOk result (self.new.text.items ≡ []) }
+    {
+        let after = text_after(self.rt.alloc(), self.listing.format, self.count)?;
+        self.put(after.as_str())
+    }
+}
+
+impl<K: Sink + Drop> Reader for ListText<'_, K> {
+    ghost takes = { λ old a es new. Lists K.written old es new };
+
+    /// Adds the record, with what the header of its message says where that is listed. Where the search has not read the
+    /// message, it is read here.
+    fn take<R: Repository<Fault = StoreFault>>(
+        &mut self,
+        archive: &mut R,
+        entry: &RecordEntry,
+        headers: Option<&Headers>,
+    ) -> Result<(), Failure> {
+        if !self.listing.headers {
+            return self.add(entry, ListedHeaders::Unasked);
+        }
+        match headers {
+            Some(headers) => self.add(entry, ListedHeaders::Texts(headers)),
+            None => self.add_read(archive, entry),
+        }
+    }
+
+    fn rest(&mut self) -> Result<(), Failure> {
+        self.write()?;
+        Ok(())
+    }
+
+    ghost takes_none = { λ list a. none_listed K.written list };
+
+    ghost takes_more = { λ x y z a es fs one other. more_listed K.written x y z es fs one other };
+}
+
+/// Adds the records that are found to a list.
+fn add_found<R: Repository<Fault = StoreFault>, K: Sink + Drop>(
+    rt: &HostRuntime,
+    archive: &mut R,
+    search: &mut Search<'_, '_>,
+    list: &mut ListText<'_, K>,
+) -> Result<(), Failure>
+    requires { IsBounded search.old }
+    ensures reads { OnlyReads R.clean R.stands archive.old archive.new }
+    ensures listed { OnOk result (R.clean archive.new → (a : Archive) → R.stands archive.old a
+        → TakesThese (λ old b es new. Lists K.written old es new) list.old a
+        (found_ahead search.old a) list.new) }
+{
+    if list.listing.headers {
+        search.read_with_headers(rt, archive, list)
+    } else {
+        search.read_found(rt, archive, list)
+    }
+}
+
+/// Writes the list of the records that are found to a sink: each of them once, in the order of their numbers, between what its
+/// format has before and after them. Answers the search, which is at its end, and the sink. `BadData` where the class is none
+/// of the plan.
+fn list_to<'s, 'a, R: Repository<Fault = StoreFault>, K: Sink + Drop>(
+    rt: &HostRuntime,
+    archive: &mut R,
+    choice: &'s Choice<'a>,
+    questions: &'s Questions,
+    listing: Listing,
+    sink: K,
+) -> Result<(Search<'s, 'a>, K), Failure>
+    ensures reads { OnlyReads R.clean R.stands archive.old archive.new }
+    ensures listed { IfOk result (λ ended. R.clean archive.new → (a : Archive)
+        → R.stands archive.old a
+        → TakesThese (λ before b es after. WritesList K.written listing before es after) sink a
+        (found_in choice.now questions.now a) ended.1) }
+{
+    let mut search = Search::new(rt, archive, choice, questions)?;
+    let mut list = ListText::new(rt, listing, sink);
+    list.put(text_before(listing))?;
+    add_found(rt, archive, &mut search, &mut list)?;
+    list.end()?;
+    let ListText { sink, .. } = list;
+    Ok((search, sink))
 }
 
 /// Writes the records that meet a choice, and whose messages have what is asked of them, with what a format has before and
@@ -203,18 +355,7 @@ pub fn write_list<S: Alter>(
     questions: &Questions,
     listing: Listing,
 ) -> Result<(), Failure> {
-    let before = match listing.format {
-        Format::Lines | Format::Numbers | Format::Count => "",
-        Format::Csv if listing.headers => LIST_HEADER_WITH_TEXTS,
-        Format::Csv => LIST_HEADER,
-        Format::Json => "[",
-    };
-    let mut search = Search::new(rt, archive, choice, questions)?;
-    write_data(rt, before.as_bytes())?;
-    let count = write_records(rt, archive, &mut search, listing)?;
-    write_data(
-        rt,
-        text_after(rt.alloc(), listing.format, count)?.as_bytes(),
-    )?;
+    let output = StandardOutput { rt };
+    let (search, _) = list_to(rt, archive, choice, questions, listing, output)?;
     search.end(rt, archive)
 }

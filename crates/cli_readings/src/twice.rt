@@ -1,6 +1,6 @@
 //! `list --twice`: the records whose messages were captured twice.
 
-use crate::list::{headers_of_record, listed, push_record};
+use crate::list::{headers_of_record, row_of, row_text};
 use cli_choice::{Group, Groups, SealKey, Sealed};
 use cli_console::{Failure, Walk, message_of, write_data};
 use cli_history::Seals;
@@ -104,14 +104,18 @@ impl TwiceText<'_> {
         self.text.extend_from_slice(beside.as_bytes())?;
         self.count = self.count.saturating_add(1);
         let format = self.listing.format;
-        if self.listing.headers {
+        let row = row_of(&entry);
+        let text = if self.listing.headers {
             let headers = headers_of_record(self.rt, archive, &entry)?;
-            let listed = listed(headers.as_ref());
-            push_record(alloc, &mut self.text, &entry, listed, format, is_first)?;
+            let listed = match &headers {
+                Some(texts) => ListedHeaders::Texts(texts),
+                None => ListedHeaders::Destroyed,
+            };
+            row_text(alloc, &row, listed, format, is_first)?
         } else {
-            let unasked = ListedHeaders::Unasked;
-            push_record(alloc, &mut self.text, &entry, unasked, format, is_first)?;
-        }
+            row_text(alloc, &row, ListedHeaders::Unasked, format, is_first)?
+        };
+        self.text.extend_from_slice(text.as_slice())?;
         Ok(())
     }
 
