@@ -13,10 +13,10 @@ use Rattle.choice_words.specs.declared.choice.Choice as words
 use Rattle.cli_choice.specs.declared.questions.Questions.{Questions}
 use Rattle.cli_choice.specs.Questions.{question_of}
 use Rattle.cli_choice.specs.Typed.{choice_typed}
-use Rattle.cli_console.specs.Finds.{found_in}
+use Rattle.cli_console.specs.Finds.{HasSingles, found_in, numbers_of}
 use Rattle.cli_choice.specs.Holds.{is_meant}
 use Rattle.cli_changes.specs.Holdings.{IsHeld, HoldsWell, changed_numbers, changed_on, chosen_by, held_by, hold_command, is_any_of}
-use Rattle.cli_changes.specs.Holdings.{meant_numbers, numbers_of}
+use Rattle.cli_changes.specs.Holdings.{meant_numbers}
 use Rattle.cli_changes.specs.Moves.{moved_to, moving_numbers}
 use Rattle.cli_changes.specs.Refilings.{moves}
 use Rattle.cli_changes.specs.Series.{Command, IsTriedOn, StopsIn}
@@ -113,8 +113,10 @@ pub hold_well : (S : Archive → Type 0) (a : Archive) → IsArchive a → (chan
     (questions : Questions) (any refused : Bool) → refused ≡ false
     → IsTriedOn S (hold_command change name) (meant_numbers change name typed.numbers.items (found_in typed questions a)) a any refused
     → (any ≡ false → (b : Archive) → S b → IsHeld change name b)
+    → HasSingles typed.numbers.items (found_in typed questions a)
     → HoldsWell change name typed.numbers.items (found_in typed questions a) a
-hold_well S a is change name typed questions any refused well tried seen = record {
+hold_well S a is change name typed questions any refused well tried seen each = record {
+  each_found = each;
   accepted = sym (all_done S (hold_command change name) (changed_on change name) (hold_is_each change name)
       (meant_numbers change name typed.numbers.items (found_in typed questions a)) a any refused
       (hold_up a is change name typed questions) well tried)

@@ -24,7 +24,8 @@ use Rattle.cli_texts.specs.DueDays.{due_by_plan}
 use Rattle.cli_changes.specs.declared.due_today.DueToday.{DueToday}
 use Rattle.cli_changes.specs.declared.plan_changes.Changes.{Changes}
 use Rattle.cli_changes.specs.declared.plan_changes.PlanChanges.{PlanChanges}
-use Rattle.cli_changes.specs.DueToday.{counted, is_due_in, may_go_in, with_entry, with_record}
+use Rattle.cli_console.specs.Counts.{counted}
+use Rattle.cli_changes.specs.DueToday.{is_due_in, may_go_in, with_entry, with_record}
 use Rattle.cli_changes.specs.PlanChanges.{is_same_due, moves, due_today, figures, no_changes, changes_in, in_class, AreChanges}
 use Rattle.cli_changes.specs.PlanChanges.{with_change, with_changes, CountAlso}
 

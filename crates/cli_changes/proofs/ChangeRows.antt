@@ -6,7 +6,8 @@ use Rattle.cli_choice.specs.declared.holds.Change.TheVariants.{Place, End}
 use Rattle.record_archive.specs.Archive.{Archive, Hold, Record}
 use Rattle.record_archive.specs.Refiling.{refile}
 use Rattle.record_choice.specs.Entries.{RecordEntry, entry_of}
-use Rattle.cli_changes.specs.Holdings.{changed_numbers, changed_on, held_by, hold_command, hold_of, meant_numbers, numbers_of}
+use Rattle.cli_console.specs.Finds.{numbers_of}
+use Rattle.cli_changes.specs.Holdings.{changed_numbers, changed_on, held_by, hold_command, hold_of, meant_numbers}
 use Rattle.cli_changes.specs.Moves.{is_refused, moved_to, moving_numbers}
 use Rattle.cli_changes.specs.Series.{answers_on, tried_on}
 

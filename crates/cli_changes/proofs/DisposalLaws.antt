@@ -8,7 +8,7 @@ use Rattle.std.proofs.lemmas.List.Sorted.{IsPermutation-refl, IsPermutation-sym,
 use Rattle.record_archive.specs.Archive.{Archive, IsArchive, destroy_on}
 use Rattle.record_archive.specs.Calls.{Makes}
 use Rattle.record_archive.specs.declared.fault.ArchiveRefusal.{ArchiveRefusal}
-use Rattle.record_choice.specs.Disposals.{Certificate, Destroys, HandsOver, IsCertificate, asked_list}
+use Rattle.record_choice.specs.Disposals.{Certificate, Destroys, HandsOver, asked_list}
 use Rattle.cli_changes.specs.Destructions.{DisposesAsked, EachOnce, IsDisposal, has_begun, numbers_of}
 use Rattle.cli_changes.proofs.DueLaws.{asked_are}
 

@@ -9,8 +9,8 @@ use Rattle.std.specs.Ordering.{is_gt}
 use Rattle.std.proofs.lemmas.List.Sorted.{IsPermutation-refl, IsPermutation-sym, IsPermutation-trans, IsPermutation-cons}
 use Rattle.std.proofs.lemmas.List.Sorted.{IsPermutation-middle, IsPermutation-map, list_any-IsPermutation}
 use Rattle.class_plan.specs.Plans.{schedule_at}
-use Rattle.record_archive.specs.Archive.{Archive, IsArchive, Record, Line, record_at, has_number, is_held, is_live, is_by, is_by_any}
-use Rattle.record_archive.specs.Archive.{is_due, due_of, due_list, due_list_on, destroys, destroy_on, destroy_by, from_1970}
+use Rattle.record_archive.specs.Archive.{Archive, IsArchive, Record, Line, record_at, has_number, is_held, is_by}
+use Rattle.record_archive.specs.Archive.{is_due, due_of, due_list, due_list_on, destroys, destroy_by, from_1970}
 use Rattle.record_archive.specs.Archive.{line_cmp, line_of, without}
 use Rattle.record_archive.specs.Lists.{IsAscending, insert_sorted, sort_by}
 use Rattle.record_archive.specs.declared.fault.ArchiveRefusal.{ArchiveRefusal}

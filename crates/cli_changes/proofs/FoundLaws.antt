@@ -17,9 +17,11 @@ use Rattle.cli_choice.specs.declared.holds.Change.TheVariants.{Place, End}
 use Rattle.choice_words.specs.declared.numbers.TypedNumbers.{TypedNumbers}
 use Rattle.cli_choice.specs.Typed.{is_one}
 use Rattle.cli_choice.specs.Holds.{is_changed, is_meant}
-use Rattle.cli_changes.specs.Holdings.{changed_numbers, chosen_by, held_by, hold_command, is_any_of, meant_numbers, numbers_of}
+use Rattle.cli_choice.proofs.Parting.{all_found}
+use Rattle.cli_console.specs.Finds.{numbers_of}
+use Rattle.cli_changes.specs.Holdings.{changed_numbers, chosen_by, held_by, hold_command, is_any_of, meant_numbers}
 use Rattle.cli_changes.proofs.SeriesLaws.{does}
-use Rattle.cli_changes.proofs.HoldLaws.{both_off, ends, ends_is, other_number, places, places_is}
+use Rattle.cli_changes.proofs.HoldLaws.{both_off, ends, ends_is, places, places_is}
 
 -- ---- in the order of their numbers
 
@@ -50,26 +52,8 @@ numbers_ascending a is p q =
 
 -- ---- each record is the one that its number finds
 
-same_number : (n : ℕ) → (n == n) ≡ true
-same_number n = grind arith
-
-numbers_find : (rs : List Record) → IsAscending Below rs → AllByRecursion (λ r. find (has_number r.number) rs ≡ Some r) rs
-numbers_find [] up = tt
-numbers_find (r ∷ rs) up = (
-  ap (λ b. cond b (Some r) (find (has_number r.number) rs)) (same_number r.number),
-  later rs up.0 (numbers_find rs up.1),
-)
-  where
-    later : (xs : List Record) → AllByRecursion (Below r) xs → AllByRecursion (λ x. find (has_number x.number) rs ≡ Some x) xs
-        → AllByRecursion (λ x. find (has_number x.number) (r ∷ rs) ≡ Some x) xs
-    later [] low h = tt
-    later (x ∷ xs) low h = (
-      ap (λ b. cond b (Some r) (find (has_number x.number) rs)) (other_number r.number x.number low.0) ∙ h.0,
-      later xs low.1 h.1,
-    )
-
 pub each_found : (a : Archive) → IsArchive a → (q : Record → Bool) → AllByRecursion (λ r. record_at a r.number ≡ Some r) (filter q a.records)
-each_found a is q = all_kept (λ r. record_at a r.number ≡ Some r) q a.records (numbers_find a.records is.in_order)
+each_found a is q = all_kept (λ r. record_at a r.number ≡ Some r) q a.records (all_found a.records is.in_order)
 
 -- ---- a hold keeps live records alone
 

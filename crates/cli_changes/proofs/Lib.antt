@@ -12,4 +12,5 @@ pub mod FoundLaws
 pub mod RefileLaws
 pub mod ChangeLaws
 pub mod LookingLaws
+pub mod DueListLaws
 mod ChangeRows

@@ -1,6 +1,6 @@
 -- Records that are looked at, one after another.
 use Rattle.std.specs.Prelude.{◌≡◌, ◌==◌, ℕ, Bool, true, false, not, ◌||◌, ◌&&◌, if◌then◌else◌, List, [], ◌∷◌, ◌++◌, map, filter, length}
-use Rattle.std.proofs.Common.{sym, ap, refl, ◌∙◌, arith, cond}
+use Rattle.std.proofs.Common.{sym, ap, refl, ◌∙◌, arith, cond, true≢false}
 use Rattle.std.specs.List.{list_any}
 use Rattle.std.proofs.lemmas.Bool.Decides.{nat_tests}
 use Rattle.std.proofs.lemmas.List.{append-nil}
@@ -9,10 +9,11 @@ use Rattle.choice_words.specs.declared.numbers.TypedNumbers.{TypedNumbers}
 use Rattle.cli_choice.specs.Typed.{is_one}
 use Rattle.record_choice.specs.Entries.{RecordEntry, entry_view}
 use Rattle.record_choice.specs.declared.entry.RecordEntry as own
+use Rattle.cli_console.specs.Finds.{numbers_of}
 use Rattle.cli_changes.specs.declared.refilings.Fate.{Fate}
 use Rattle.cli_changes.specs.declared.refilings.Fate.TheVariants.{Moves, PassedOver, IsThere, IsDestroyed}
 use Rattle.cli_changes.specs.declared.refile.Moves as moved
-use Rattle.cli_changes.specs.Holdings.{is_any_of, numbers_of}
+use Rattle.cli_changes.specs.Holdings.{is_any_of}
 use Rattle.cli_changes.specs.Moves.{AddsMoving, MovesOne, is_refused}
 use Rattle.cli_changes.specs.Refilings.{fate_of, moves}
 use Rattle.cli_changes.proofs.SeriesLaws.{or_off}
@@ -123,3 +124,12 @@ looked_staying old new e f is stays to typed numbers refused = record {
       ∙ append-nil old.numbers.items);
   refused = refused ∙ or_one old.is_refused (is_refused old.typed.now (entry_view e)) (is_destroyed f) is.refused;
 }
+
+-- ---- the numbers that are typed by themselves
+
+-- none is missing where a refiling notes no refusal, and what it notes last is whether all were found
+pub none_missing : (old all refused : Bool) (missing : List ℕ) → refused ≡ (old || not all) → refused ≡ false → all ≡ not (is_any_of missing)
+    → missing ≡ []
+none_missing old all refused [] noted accepted is = refl
+none_missing old all refused (n ∷ ns) noted accepted is =
+    absurd (true≢false (seen_one old ∙ ap (λ b. old || not b) (sym is) ∙ sym noted ∙ accepted))

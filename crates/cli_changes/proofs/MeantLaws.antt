@@ -3,6 +3,7 @@ use Rattle.std.proofs.Common.{◌≡◌, ◌∙◌, ◌<◌, ◌==◌, ◌||◌,
 use Rattle.std.proofs.Common.{refl, sym, ap, ap₂, subst, arith, true≢false}
 use Rattle.std.proofs.lemmas.Bool.Decides.{nat_tests}
 use Rattle.std.proofs.lemmas.List.Folds.{list_any-append}
+use Rattle.std.proofs.Math.Bool.{or_assoc}
 use Rattle.std.specs.List.{AllByRecursion}
 use Rattle.choice_words.specs.Ranges.{is_meant_by}
 use Rattle.choice_words.specs.declared.numbers.TypedNumbers.{TypedNumbers}
@@ -13,7 +14,7 @@ use Rattle.command_lines.specs.declared.archives.Disposal.{Disposal}
 use Rattle.record_archive.specs.Archive.{Archive, Line}
 use Rattle.record_archive.specs.declared.line.Line as code
 use Rattle.record_archive.specs.Lines.{line_view}
-use Rattle.record_choice.specs.Disposals.{Certificate, asked_list, disposable_list, is_asked, is_one_of}
+use Rattle.record_choice.specs.Disposals.{Certificate, asked_list, disposable_list, is_one_of}
 use Rattle.record_choice.specs.Reasons.{MayGo}
 use Rattle.record_choice.proofs.Asked.{none_asked}
 use Rattle.cli_history.specs.declared.seals.Seals.{Seals}
@@ -29,10 +30,6 @@ pub numbers_viewed : (ls : List code.Line) → numbers_of (map line_view ls) ≡
 numbers_viewed [] = refl
 numbers_viewed (l ∷ ls) = ap (λ k. l.number ∷ k) (numbers_viewed ls)
 
-or_assoc : (a b c : Bool) → (a || (b || c)) ≡ ((a || b) || c)
-or_assoc true b c = refl
-or_assoc false b c = refl
-
 or_swap : (a b c : Bool) → (a || (b || c)) ≡ (b || (a || c))
 or_swap true true c = refl
 or_swap true false c = refl
@@ -42,7 +39,7 @@ or_swap false false c = refl
 -- a number is meant where it is typed by itself, or in a range
 meant_is : (ws : List TypedNumbers) (n : ℕ) → is_meant_by ws n ≡ (is_one_of (singles ws) n || is_ranged ws n)
 meant_is [] n = refl
-meant_is (One m ∷ ws) n = ap (λ b. (n == m) || b) (meant_is ws n) ∙ or_assoc (n == m) (is_one_of (singles ws) n) (is_ranged ws n)
+meant_is (One m ∷ ws) n = ap (λ b. (n == m) || b) (meant_is ws n) ∙ sym (or_assoc (n == m) (is_one_of (singles ws) n) (is_ranged ws n))
 meant_is (Range first last ∷ ws) n =
     ap (λ b. (nat_le first n && nat_le n last) || b) (meant_is ws n)
     ∙ or_swap (nat_le first n && nat_le n last) (is_one_of (singles ws) n) (is_ranged ws n)

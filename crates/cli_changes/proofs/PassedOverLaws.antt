@@ -1,5 +1,5 @@
 -- Why a record is passed over.
-use Rattle.std.proofs.Common.{◌≡◌, Bool, Option, Some, None, option_map, refl}
+use Rattle.std.proofs.Common.{◌≡◌, Option, Some, None, option_map, refl}
 use Rattle.jiff.specs.Words.{epoch_day}
 use Rattle.jiff_core.specs.declared.civil.date.Date.{Date}
 use Rattle.cli_console.specs.Days.{is_by}

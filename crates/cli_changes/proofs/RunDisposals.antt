@@ -1,6 +1,6 @@
 -- Disposals of the records of runs, and what they are for a command.
-use Rattle.std.proofs.Common.{◌≡◌, ◌∙◌, ◌<◌, ◌≤◌, ◌+◌, ◌==◌, ℕ, ℤ, Bool, true, false, cond, List, [], ◌∷◌, ◌++◌, length, take, drop}
-use Rattle.std.proofs.Common.{Option, Some, Result, Ok, Err, refl, sym, ap, subst, arith, append_assoc, true≢false}
+use Rattle.std.proofs.Common.{◌≡◌, ◌∙◌, ◌<◌, ◌+◌, ℕ, ℤ, Bool, true, false, List, [], ◌∷◌, ◌++◌, length, take, drop}
+use Rattle.std.proofs.Common.{Result, Ok, Err, refl, sym, ap, subst, arith, append_assoc, true≢false}
 use Rattle.std.proofs.lemmas.List.{take-append-drop, drop_all}
 use Rattle.std.proofs.lemmas.List.Elements.{All-from_recursion, recursion_from_All}
 use Rattle.std.proofs.lemmas.List.Sorted.{IsPermutation-refl, IsPermutation-sym, All-permutation}
@@ -18,7 +18,7 @@ use Rattle.cli_history.specs.declared.seals.Seals.{Seals}
 use Rattle.cli_changes.specs.declared.altered.Damage.{Damage}
 use Rattle.cli_changes.specs.declared.runs.Run.{Run}
 use Rattle.cli_changes.specs.Destructions.{AreApproved, DisposesAsked, DisposesUnaltered, EachOnce, IsDisposal, IsSettled}
-use Rattle.cli_changes.specs.Destructions.{has_begun, numbers_of}
+use Rattle.cli_changes.specs.Destructions.{numbers_of}
 use Rattle.cli_changes.specs.Runs.{AreFilled, IsUnaltered, records_of}
 use Rattle.cli_changes.proofs.CountLaws.{once_counted, once_moved, times, times_once}
 use Rattle.cli_changes.proofs.DueLaws.{asked_once}

@@ -11,7 +11,7 @@ use Rattle.cli_choice.specs.Typed.{singles}
 use Rattle.command_lines.specs.declared.archives.Disposal.{Disposal}
 use Rattle.record_archive.specs.Archive.{Archive, Line}
 use Rattle.record_archive.specs.Lines.{line_view}
-use Rattle.record_choice.specs.Disposals.{Certificate, Destroys, asked_list, disposable_list}
+use Rattle.record_choice.specs.Disposals.{Certificate, Destroys, HandsOver, asked_list, disposable_list}
 use Rattle.record_choice.specs.Reads.{OnlyReads}
 use Rattle.record_choice.specs.Reasons.{MayGo}
 use Rattle.record_choice.specs.declared.destruction.End.{End}
@@ -59,6 +59,13 @@ abbrev pub meant_numbers : Archive → (day : ℤ) → List TypedNumbers → Lis
 meant_numbers a day typed = filter (is_meant typed) (numbers_of (disposable_list a day))
 
 -- ---- what is destroyed
+
+-- CERTIFICATES ARE HANDED OVER, one after another, and this holds of them and of the archive that was kept, where what is read is what
+-- was written
+abbrev pub HandsOverFor : {C : Type 0} (takes : C → C → Certificate → Type 0) (old new : C) (is_read : Type 0) (kept : Archive → Type 0)
+    (So : List Certificate → Archive → Type 0) → Type 0
+HandsOverFor takes old new is_read kept So =
+    (cs : List Certificate) × HandsOver takes old cs new × (is_read → (a : Archive) → kept a → So cs a)
 
 -- no number is there twice
 abbrev pub EachOnce : List ℕ → Type 0

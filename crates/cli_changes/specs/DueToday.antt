@@ -1,19 +1,18 @@
 -- How many records are due at once, and may be destroyed at once.
-use Rattle.std.specs.Prelude.{ℕ, ◌+◌, ◌-◌, ◌^◌, ◌&&◌, ◌==◌, min, not, Bool, if◌then◌else◌, ℤ, pos, List, length, option_map, Option}
+use Rattle.std.specs.Prelude.{ℕ, ◌&&◌, ◌==◌, not, Bool, ℤ, pos}
+use Rattle.std.specs.Prelude.{List, [], ◌∷◌, ◌++◌, length, codes, option_map, Option}
 use Rattle.jiff_core.specs.declared.civil.date.Date.{Date}
 use Rattle.class_plan.specs.Plans.{Listing, schedule_at}
 use Rattle.class_plan.specs.declared.schedules.Schedule.{Schedule}
+use Rattle.cli_console.specs.Counts.{counted}
 use Rattle.cli_console.specs.Days.{is_by}
 use Rattle.cli_texts.specs.DueDays.{due_by_plan}
+use Rattle.cli_texts.specs.Words.{number, words}
 use Rattle.record_archive.specs.Archive.{destroys}
 use Rattle.record_choice.specs.Entries.{RecordEntry}
 use Rattle.record_choice.specs.Views.{shows_due}
 use Rattle.cli_changes.specs.declared.due_today.DueToday.{DueToday}
 use Rattle.cli_changes.specs.Refilings.{is_destroyable}
-
--- one more where it is so, up to the greatest number of 64 bits
-abbrev pub counted : (is_so : Bool) → ℕ → ℕ
-counted is_so count = if is_so then min (count + 1) (2 ^ 64 - 1) else count
 
 -- A LIVE RECORD IS DUE by a day, as if it were in the class of a path of a plan. Days are counted from 1970-01-01.
 abbrev pub is_due_in : Listing → (path : List ℕ) → (today : ℤ) → RecordEntry → Bool
@@ -39,3 +38,15 @@ with_record due schedule is_held today counts = record {
   all = counted (is_by due today) counts.all;
   destroyable = counted (is_destroyable due schedule is_held today) counts.destroyable;
 }
+
+-- ---- as it is told
+
+-- a count after a change and before it, in a line
+unfoldable pub count_line : (what : List ℕ) → (after before : ℕ) → List ℕ
+count_line what after before = words what ++ number after ++ words (codes ", before ") ++ number before ++ 10 ∷ []
+
+-- HOW MANY ARE DUE AT ONCE, and may be destroyed at once, after a change and before it: a line each
+abbrev pub due_today_lines : (before after : DueToday) → List ℕ
+due_today_lines before after =
+    count_line (codes "records that are due at once: ") after.all before.all
+    ++ count_line (codes "records that may be destroyed at once: ") after.destroyable before.destroyable

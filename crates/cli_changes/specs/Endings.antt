@@ -1,5 +1,6 @@
 -- With which status a delivery or an intake ends, and what is answered of a message.
-use Rattle.std.specs.Prelude.{◌≡◌, ◌||◌, ℕ, nat_lt, ◌==◌, Bool, true, false, not, if◌then◌else◌, List, length, Option, Some, None, Result, Ok, Err, is_ok}
+use Rattle.std.specs.Prelude.{◌≡◌, ◌||◌, ℕ, nat_lt, ◌==◌, Bool, true, false, not, if◌then◌else◌, List, length}
+use Rattle.std.specs.Prelude.{Option, Some, None, Result, Ok, Err, is_ok}
 use Rattle.std.specs.declared.io.ErrorKind.{ErrorKind}
 use Rattle.std.specs.declared.io.ErrorKind.TheVariants as kind
 use Rattle.desk_commands.specs.declared.fault.DeskFault.{DeskFault}

@@ -1,5 +1,5 @@
 -- On which records a hold is placed, or ended.
-use Rattle.std.specs.Prelude.{◌≡◌, ◌||◌, ◌&&◌, not, ℕ, Bool, true, false, List, ◌++◌, ◌∷◌, [], map, filter, Result, Some, None}
+use Rattle.std.specs.Prelude.{◌≡◌, ◌||◌, ◌&&◌, not, ℕ, Bool, true, false, List, ◌++◌, ◌∷◌, [], map, filter, Result, Some}
 use Rattle.std.proofs.Common.{sym, ap, ap₂, refl, ◌∙◌}
 use Rattle.std.proofs.lemmas.List.{append_assoc, append-nil, map-append}
 use Rattle.std.proofs.lemmas.List.Elements.{filter-append}
@@ -11,10 +11,11 @@ use Rattle.cli_choice.specs.Holds.{is_changed, is_meant}
 use Rattle.record_archive.specs.Archive as archive
 use Rattle.record_archive.specs.Archive.{Archive, Hold}
 use Rattle.record_archive.specs.declared.fault.ArchiveRefusal.{ArchiveRefusal}
-use Rattle.record_choice.specs.Choices.{Choice, chosen, every_live_record, named}
+use Rattle.record_choice.specs.Choices.{Choice, every_live_record, named}
 use Rattle.record_choice.specs.Disposals.{is_one_of}
-use Rattle.record_choice.specs.Entries.{RecordEntry, entry_of, entry_view}
+use Rattle.record_choice.specs.Entries.{RecordEntry, entry_view}
 use Rattle.record_choice.specs.declared.entry.RecordEntry as own
+use Rattle.cli_console.specs.Finds.{HasSingles, entries_of, numbers_of}
 use Rattle.cli_changes.specs.declared.holds.Meant.{Meant}
 
 -- ---- what is changed
@@ -34,9 +35,6 @@ changed_on End name ns a = record a { holds = filter (λ (h : Hold). not (bytes_
 
 -- ---- on which records
 
-abbrev pub numbers_of : List RecordEntry → List ℕ
-numbers_of es = map (λ (e : RecordEntry). e.number) es
-
 -- THE NUMBERS OF THOSE that are tried, of records that are found
 abbrev pub meant_numbers : Change → (name : List ℕ) → List TypedNumbers → List RecordEntry → List ℕ
 meant_numbers change name typed es = numbers_of (filter (is_meant change name typed) es)
@@ -50,7 +48,7 @@ abbrev pub chosen_by : List ℕ → Choice
 chosen_by name = record every_live_record { held = Some (named name) }
 
 abbrev pub held_by : List ℕ → Archive → List RecordEntry
-held_by name a = map (entry_of a) (chosen None (chosen_by name) a)
+held_by name a = entries_of (chosen_by name) a
 
 -- there is one at least
 abbrev pub is_any_of : {X : Type 0} → List X → Bool
@@ -62,8 +60,10 @@ abbrev pub IsHeld : Change → (name : List ℕ) → Archive → Type 0
 IsHeld Place name a = Unit {0}
 IsHeld End name a = is_any_of (held_by name a) ≡ true
 
--- A CHANGE ENDS WELL only where the archive refuses none of those that are typed by their numbers, and a live record has the hold that ends
+-- A CHANGE ENDS WELL only where each number that is typed by itself is found, the archive refuses none of these, and a live record has the
+-- hold that ends
 pub record HoldsWell (change : Change) (name : List ℕ) (typed : List TypedNumbers) (found : List RecordEntry) (a : Archive) : Type 0 where
+  pub each_found : HasSingles typed found
   pub accepted : meant_numbers change name typed found ≡ changed_numbers change name found
   pub held : IsHeld change name a
 
@@ -79,14 +79,11 @@ pub record AddsMeant (old : Meant) (es : List own.RecordEntry) (new : Meant) : T
 pub none_meant : (x : Meant) → AddsMeant x [] x
 none_meant x = record { change = refl; name = refl; typed = refl; numbers = sym (append-nil x.numbers.items) }
 
-more_numbers : (c : Change) (name : List ℕ) (typed : List TypedNumbers) (es fs : List own.RecordEntry)
-    → meant_numbers c name typed (map entry_view es) ++ meant_numbers c name typed (map entry_view fs)
-    ≡ meant_numbers c name typed (map entry_view (es ++ fs))
-more_numbers c name typed es fs =
-    sym (ap (meant_numbers c name typed) (map-append entry_view es fs)
-    ∙ ap (map (λ (e : RecordEntry). e.number)) (filter-append (is_meant c name typed) (map entry_view es) (map entry_view fs))
-    ∙ map-append (λ (e : RecordEntry). e.number) (filter (is_meant c name typed) (map entry_view es))
-    (filter (is_meant c name typed) (map entry_view fs)))
+-- the numbers of those of some records that are so, and then of those of others
+pub more_numbers : (is_so : RecordEntry → Bool) (es fs : List RecordEntry)
+    → numbers_of (filter is_so es) ++ numbers_of (filter is_so fs) ≡ numbers_of (filter is_so (es ++ fs))
+more_numbers is_so es fs =
+    sym (ap numbers_of (filter-append is_so es fs) ∙ map-append (λ (e : RecordEntry). e.number) (filter is_so es) (filter is_so fs))
 
 pub more_meant : (x y z : Meant) (es fs : List own.RecordEntry) → AddsMeant x es y → AddsMeant y fs z → AddsMeant x (es ++ fs) z
 more_meant x y z es fs one other = record {
@@ -99,7 +96,8 @@ more_meant x y z es fs one other = record {
       ∙ ap (λ l. l ++ meant_numbers x.change x.name.now x.typed.now (map entry_view fs)) one.numbers
       ∙ append_assoc x.numbers.items (meant_numbers x.change x.name.now x.typed.now (map entry_view es))
       (meant_numbers x.change x.name.now x.typed.now (map entry_view fs))
-      ∙ ap (λ l. x.numbers.items ++ l) (more_numbers x.change x.name.now x.typed.now es fs);
+      ∙ ap (λ l. x.numbers.items ++ l) (more_numbers (is_meant x.change x.name.now x.typed.now) (map entry_view es) (map entry_view fs)
+      ∙ ap (meant_numbers x.change x.name.now x.typed.now) (sym (map-append entry_view es fs)));
 }
 
 -- ---- whether records were handed over

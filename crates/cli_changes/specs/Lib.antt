@@ -17,3 +17,7 @@ pub mod Runs
 pub mod Series
 pub mod Holdings
 pub mod Moves
+pub mod RefilingLines
+pub mod HoldLines
+pub mod ReasonLines
+pub mod DueLines

@@ -1,9 +1,9 @@
 -- Which of the records that are found get another class.
 use Rattle.std.specs.Prelude.{◌≡◌, ◌&&◌, ◌||◌, ℕ, Bool, true, false, List, ◌++◌, ◌∷◌, [], map, filter, if◌then◌else◌}
 use Rattle.std.proofs.Common.{sym, ap, ap₂, refl, ◌∙◌}
+use Rattle.std.proofs.Math.Bool.{or_assoc}
 use Rattle.std.specs.List.{list_any}
 use Rattle.std.proofs.lemmas.List.{append_assoc, append-nil, map-append}
-use Rattle.std.proofs.lemmas.List.Elements.{filter-append}
 use Rattle.std.proofs.lemmas.List.Folds.{list_any-append}
 use Rattle.choice_words.specs.declared.numbers.TypedNumbers.{TypedNumbers}
 use Rattle.class_plan.specs.Plans.{has}
@@ -13,8 +13,9 @@ use Rattle.record_archive.specs.Refiling.{in_class}
 use Rattle.record_choice.specs.Disposals.{is_one_of}
 use Rattle.record_choice.specs.Entries.{RecordEntry, entry_view}
 use Rattle.record_choice.specs.declared.entry.RecordEntry as own
+use Rattle.cli_console.specs.Finds.{HasSingles, numbers_of}
 use Rattle.cli_changes.specs.declared.refile.Moves.{Moves}
-use Rattle.cli_changes.specs.Holdings.{numbers_of}
+use Rattle.cli_changes.specs.Holdings.{more_numbers}
 use Rattle.cli_changes.specs.Refilings.{moves}
 
 -- THE RECORDS OF THESE NUMBERS ARE IN ANOTHER CLASS. All else is as before.
@@ -29,9 +30,10 @@ moving_numbers to es = numbers_of (filter (moves to) es)
 abbrev pub is_refused : List TypedNumbers → RecordEntry → Bool
 is_refused typed e = list_any (is_one e.number) typed && e.destroyed
 
--- A REFILING ENDS WELL only where the plan has the class, and no record that is typed by its number is destroyed
+-- A REFILING ENDS WELL only where the plan has the class, each number that is typed by itself is found, and none of these is destroyed
 pub record RefilesWell (to : List ℕ) (typed : List TypedNumbers) (found : List RecordEntry) (a : Archive) : Type 0 where
   pub class : has a.plan.rows to ≡ true
+  pub each_found : HasSingles typed found
   pub accepted : list_any (is_refused typed) found ≡ false
 
 -- ---- what is added
@@ -54,17 +56,8 @@ or_none : (x : Bool) → x ≡ (x || false)
 or_none true = refl
 or_none false = refl
 
-or_assoc : (x y z : Bool) → ((x || y) || z) ≡ (x || (y || z))
-or_assoc true y z = refl
-or_assoc false y z = refl
-
 pub none_moving : (x : Moves) → AddsMoving x [] x
 none_moving x = record { to = refl; typed = refl; numbers = sym (append-nil x.numbers.items); refused = or_none x.is_refused }
-
-more_numbers : (to : List ℕ) (es fs : List RecordEntry) → moving_numbers to es ++ moving_numbers to fs ≡ moving_numbers to (es ++ fs)
-more_numbers to es fs =
-    sym (ap numbers_of (filter-append (moves to) es fs)
-    ∙ map-append (λ (e : RecordEntry). e.number) (filter (moves to) es) (filter (moves to) fs))
 
 pub more_moving : (x y z : Moves) (es fs : List own.RecordEntry) → AddsMoving x es y → AddsMoving y fs z → AddsMoving x (es ++ fs) z
 more_moving x y z es fs one other =
@@ -76,7 +69,7 @@ more_moving x y z es fs one other =
       typed = other.typed ∙ one.typed;
       numbers = other.numbers ∙ ap₂ (λ l t. l ++ moving_numbers t back) one.numbers one.to
           ∙ append_assoc x.numbers.items (moving_numbers x.to.now front) (moving_numbers x.to.now back)
-          ∙ ap (λ l. x.numbers.items ++ l) (more_numbers x.to.now front back ∙ ap (moving_numbers x.to.now) joined);
+          ∙ ap (λ l. x.numbers.items ++ l) (more_numbers (moves x.to.now) front back ∙ ap (moving_numbers x.to.now) joined);
       refused = other.refused ∙ ap₂ (λ b t. b || list_any (is_refused t) back) one.refused one.typed
           ∙ or_assoc x.is_refused (list_any (is_refused x.typed.now) front) (list_any (is_refused x.typed.now) back)
           ∙ ap (λ b. x.is_refused || b) (sym (list_any-append (is_refused x.typed.now) front back)

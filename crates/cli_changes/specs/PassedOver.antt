@@ -1,5 +1,5 @@
 -- What a disposal passes over, and why.
-use Rattle.std.specs.Prelude.{◌≡◌, ℕ, ℤ, ◌==◌, ◌||◌, Bool, true, false, List, [], ◌∷◌, flat_map, Option, Some, None, Err}
+use Rattle.std.specs.Prelude.{◌≡◌, ℕ, ℤ, ◌==◌, ◌||◌, Bool, true, false, List, [], ◌∷◌, ◌++◌, flat_map, codes, Option, Some, Err}
 use Rattle.choice_words.specs.Ranges.{is_meant_by}
 use Rattle.choice_words.specs.declared.numbers.TypedNumbers.{TypedNumbers}
 use Rattle.choice_words.specs.declared.numbers.TypedNumbers.TheVariants.{One, Range}
@@ -7,6 +7,8 @@ use Rattle.record_archive.specs.Archive.{Archive, destroy_on}
 use Rattle.record_archive.specs.declared.fault.ArchiveRefusal.{ArchiveRefusal}
 use Rattle.record_archive.specs.declared.fault.ArchiveRefusal.TheVariants as refusal
 use Rattle.record_choice.specs.Choices.{Span}
+use Rattle.cli_texts.specs.Words.{words}
+use Rattle.cli_console.specs.Numbers.{typed_words}
 use Rattle.cli_changes.specs.declared.passed_over.Cause.{Cause}
 use Rattle.cli_changes.specs.declared.passed_over.Cause.TheVariants as cause
 
@@ -38,3 +40,9 @@ range_span (Range first last) = record { first = first; last = last } ∷ []
 -- THE RANGES that are typed, in their order
 abbrev pub range_spans : List TypedNumbers → List Span
 range_spans typed = flat_map range_span typed
+
+-- ---- as it is told
+
+-- WHICH RECORDS ARE PASSED OVER, and why
+unfoldable pub passed_words : (why : List ℕ) → List TypedNumbers → List ℕ
+passed_words why numbers = words (codes "passed over, ") ++ words why ++ words (codes ":") ++ flat_map typed_words numbers

@@ -1,6 +1,6 @@
 -- What a new plan changes for the live records of an archive. Days are counted from 1970-01-01.
 use Rattle.std.specs.Prelude.{◌≡◌, ℕ, ◌-◌, ◌^◌, ◌||◌, ◌==◌, nat_lt, min, not, Bool, true, false, if◌then◌else◌, ℤ, pos}
-use Rattle.std.specs.Prelude.{List, [], ◌∷◌, filter, map, count_by, option_map, Option, Some, None, Vec}
+use Rattle.std.specs.Prelude.{List, [], ◌∷◌, filter, map, count_by, codes, option_map, Option, Some, None, Vec}
 use Rattle.std.proofs.Common.{refl, sym, ap, subst, ◌∙◌, ◌++◌}
 use Rattle.std.proofs.lemmas.List.{map-append}
 use Rattle.std.proofs.lemmas.List.Elements.{filter-append}
@@ -8,18 +8,20 @@ use Rattle.std.specs.Ordering.{int_eq}
 use Rattle.std.specs.Str.{bytes_eq}
 use Rattle.std.specs.declared.alloc.Global.{Global}
 use Rattle.jiff.specs.Words.{epoch_day}
-use Rattle.jiff_core.specs.declared.civil.date.Date.{Date}
 use Rattle.class_plan.specs.Plans.{Listing}
 use Rattle.cli_texts.specs.DueDays.{due_by_plan}
+use Rattle.cli_texts.specs.Words.{number, words}
 use Rattle.record_archive.specs.Archive.{Archive}
-use Rattle.record_choice.specs.Choices.{chosen, every_live_record}
-use Rattle.record_choice.specs.Entries.{RecordEntry, entry_of, entry_view}
+use Rattle.record_choice.specs.Choices.{every_live_record}
+use Rattle.record_choice.specs.Entries.{RecordEntry, entry_view}
 use Rattle.record_choice.specs.declared.entry.RecordEntry as own
+use Rattle.cli_console.specs.Counts.{counted}
+use Rattle.cli_console.specs.Finds.{entries_of}
 use Rattle.cli_changes.specs.declared.due_today.DueToday.{DueToday}
 use Rattle.cli_changes.specs.declared.plan_changes.Changes.{Changes}
 use Rattle.cli_changes.specs.declared.plan_changes.Changing.{Changing}
 use Rattle.cli_changes.specs.declared.plan_changes.PlanChanges.{PlanChanges}
-use Rattle.cli_changes.specs.DueToday.{counted, is_due_in, may_go_in, with_entry}
+use Rattle.cli_changes.specs.DueToday.{due_today_lines, is_due_in, may_go_in, with_entry}
 
 -- the same due day, or none
 abbrev pub is_same_due : Option ℤ → Option ℤ → Bool
@@ -79,12 +81,16 @@ pub record AreChanges (present new : Listing) (today : ℤ) (es : List RecordEnt
 
 -- the live records of an archive
 abbrev pub live_entries : Archive → List RecordEntry
-live_entries a = map (entry_of a) (chosen None every_live_record a)
+live_entries a = entries_of every_live_record a
 
--- WHAT A PLAN CHANGES IN AN ARCHIVE on some day
-pub record IsChangedBy (a : Archive) (new : Listing) (changes : PlanChanges) : Type 0 where
-  pub day : Date
-  pub told : AreChanges a.plan new (epoch_day day) (live_entries a) changes
+-- ---- as it is told
+
+unfoldable pub moved_line : (moved : ℕ) → List ℕ
+moved_line moved = words (codes "due dates that move: ") ++ number moved ++ 10 ∷ []
+
+-- what changes for all records, in three lines
+abbrev pub all_lines : Changes → List ℕ
+all_lines c = moved_line c.moved ++ due_today_lines c.before c.after
 
 -- ---- one record after the other
 

@@ -1,5 +1,6 @@
 -- Records in runs of those of whose destruction the same is noted, and those of them whose messages were altered.
-use Rattle.std.specs.Prelude.{◌≡◌, ◌<◌, ◌==◌, ℕ, not, Bool, true, false, List, [], map, filter, flat_map, length, codes, is_ok, Option, Some, None, Result, Ok, Err}
+use Rattle.std.specs.Prelude.{◌≡◌, ◌<◌, ◌==◌, ℕ, not, Bool, true, false, List, map, filter, flat_map, length}
+use Rattle.std.specs.Prelude.{codes, is_ok, Option, Some, None, Result, Ok, Err}
 use Rattle.std.specs.List.{AllByRecursion}
 use Rattle.std.specs.Str.{bytes_eq}
 use Rattle.record_archive.specs.Archive.{Archive, body_of}

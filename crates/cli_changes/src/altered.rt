@@ -1,6 +1,7 @@
 //! Records that are due, and whose messages are not the ones that were captured.
 
-ghost use Rattle.std.specs.Prelude.{◌≡◌, ◌==◌, false, length, IfOk, IfErr};
+ghost use Rattle.std.specs.Prelude.{◌≡◌, ◌++◌, ◌==◌, false, length, IfOk, IfErr, OnOk};
+ghost use Rattle.cli_changes.specs.DueLines.{altered_note, altered_words as altered_words_of, due_line as due_line_of};
 ghost use Rattle.cli_changes.specs.Runs.{IsListEnd, IsRefusal, altered as altered_of, is_refused as is_disposal_refused};
 
 use crate::runs::Run;
@@ -33,7 +34,10 @@ pub fn altered_in(alloc: Global, runs: &[Run]) -> Result<Vec<u32>, AllocError>
 }
 
 /// That the message of a record is not the one that was captured.
-fn altered_words(alloc: Global, number: u32) -> Result<Shown, AllocError> {
+#[tactic(auto, unfolding(crate::specs::DueLines::altered_words))]
+fn altered_words(alloc: Global, number: u32) -> Result<Shown, AllocError>
+    ensures { IfOk result (λ words. words ≡ altered_words_of number) }
+{
     let mut words = Shown::new(alloc);
     put!(words; "record " value(&number) ": its message is not the one that was captured")?;
     Ok(words)
@@ -47,13 +51,22 @@ fn tell_altered(rt: &HostRuntime, altered: &[u32]) -> Result<(), AllocError> {
     Ok(())
 }
 
-/// The line of a record that is due. It says where the record is one of these, whose messages are not the ones that were
-/// captured.
-pub fn due_line(alloc: Global, line: &Line, altered: &[u32]) -> Result<Shown, AllocError> {
-    let mut text = captured_words(alloc, line)?;
-    if altered.binary_search(&line.number).is_ok() {
-        text.words("; its message is not the one that was captured")?;
+/// Adds that the message of a record is not the one that was captured, where that is so.
+fn put_altered(text: &mut Shown, is_altered: bool) -> Result<(), AllocError>
+    ensures { OnOk result (text.new ≡ text.old ++ altered_note is_altered) }
+{
+    if is_altered {
+        return text.words("; its message is not the one that was captured");
     }
+    Ok(())
+}
+
+/// The line of a record that is due. It says where the message of the record is not the one that was captured.
+pub fn due_line(alloc: Global, line: &Line, is_altered: bool) -> Result<Shown, AllocError>
+    ensures { IfOk result (λ text. text ≡ due_line_of line.now is_altered) }
+{
+    let mut text = captured_words(alloc, line)?;
+    put_altered(&mut text, is_altered)?;
     text.end_line()?;
     Ok(text)
 }

@@ -1,10 +1,10 @@
 //! Certificates of destruction: what each says, and where they are printed.
 
 ghost use Rattle.std.specs.Prelude.{◌≡◌, List, ℕ, is_none, option_map, IfOk};
-ghost use Rattle.record_choice.specs.Disposals.{certificate_view};
+ghost use Rattle.cli_history.specs.Seals.{known, length_and_sum as told_of};
 ghost use Rattle.cli_history.specs.Titles.{title_seen, title_for};
-ghost use Rattle.cli_history.specs.declared.titles.Titles.{Titles};
-ghost use Rattle.cli_changes.specs.Certificates.{Certifies, IsCertificateLine, IsLineOf, IsTaken};
+ghost use Rattle.cli_history.specs.declared.seals.Seals.{Seals};
+ghost use Rattle.cli_changes.specs.Certificates.{Certifies, IsCaptured, IsCapturedBeside, IsCertificateLine, IsLineOf, IsTaken};
 
 use cli_console::{Failure, Status, now, tell, tell_words, write_text};
 use cli_history::{Fidelity, Seals};
@@ -73,7 +73,9 @@ fn captured_beside<'s>(
     seals: &'s Seals,
     message: u32,
     fidelity: Fidelity,
-) -> Option<CapturedMessage<'s>> {
+) -> Option<CapturedMessage<'s>>
+    ensures { IsCaptured fidelity (option_map told_of (known seals.now message)) result }
+{
     match (fidelity, seals.length_and_sum(message)) {
         (Fidelity::Altered(_), Some((octets, sum))) => Some(CapturedMessage {
             octets: octets as usize,
@@ -99,9 +101,11 @@ fn facts_of<'d>(
     sum: &'d str,
     moment: u64,
 ) -> Certificate<'d>
-    ensures { (titles : Titles) → option_map title_seen title.entry ≡
-        title_for titles destroyed.now.entry
-        → Certifies destroyed.now titles sum.now moment result }
+    ensures { (seals : Seals) → option_map title_seen title.entry ≡
+        title_for seals.titles destroyed.now.entry
+        → IsCapturedBeside seals destroyed.now.entry.message destroyed.now.octets sum.now
+        captured.entry
+        → Certifies destroyed.now seals sum.now moment result }
 {
     let entry = &destroyed.entry;
     Certificate {
@@ -120,7 +124,7 @@ fn facts_of<'d>(
 /// The certificate of a record that is about to be destroyed. Where the message is not the one that was captured, it says so,
 /// and which one that was.
 fn certificate_of(rt: &HostRuntime, seals: &Seals, destroyed: &Destroyed) -> Result<Shown, Failure>
-    ensures { IfOk result (λ line. IsCertificateLine destroyed.now seals.now.titles line) }
+    ensures { IfOk result (λ line. IsCertificateLine destroyed.now seals.now line) }
 {
     let message = destroyed.entry.message;
     let sum = sum_text(rt.alloc(), destroyed.sum.as_slice())?;
@@ -162,19 +166,15 @@ impl<P: Printer> Registrar for Certificates<'_, P> {
 
     type Draft = Draft;
 
-    ghost says = { λ draft certificate. IsLineOf certificate draft.text
+    ghost says = { λ certificates draft certificate.
+        IsLineOf certificates.seals.now certificate draft.text
         × (draft.is_gone ≡ is_none certificate.kept_by) };
 
     ghost takes = { λ old new certificate. IsTaken P.prints old new certificate };
 
     ghost is_open = { λ certificates. Unit {0} };
 
-    fn draft(&self, destroyed: &Destroyed) -> Result<Draft, Failure>
-        ensures said { IfOk result (λ draft. IsLineOf (certificate_view destroyed.now) draft.text
-            × (draft.is_gone ≡ is_none destroyed.now.kept_by)) }
-        ensures titled { IfOk result (λ draft.
-            IsCertificateLine destroyed.now self.now.seals.now.titles draft.text) }
-    {
+    fn draft(&self, destroyed: &Destroyed) -> Result<Draft, Failure> {
         Ok(Draft {
             text: certificate_of(self.rt, self.seals, destroyed)?,
             is_gone: destroyed.kept_by.is_none(),

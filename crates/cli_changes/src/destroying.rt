@@ -1,11 +1,10 @@
 //! The destruction of records that are asked for, and why it ends where that is no success.
 
-ghost use Rattle.std.specs.Prelude.{List, is_ok};
+ghost use Rattle.std.specs.Prelude.{◌≡◌, ◌++◌, flat_map, is_ok, OnOk};
 ghost use Rattle.jiff.specs.Words.{epoch_day};
-ghost use Rattle.record_archive.specs.Archive.{Archive};
-ghost use Rattle.record_choice.specs.Disposals.{Certificate, HandsOver};
 ghost use Rattle.cli_console.specs.Failures.{IsOfStore};
-ghost use Rattle.cli_changes.specs.Destructions.{DisposesAsked, IsSettled, IsUndone};
+ghost use Rattle.cli_changes.specs.Destructions.{DisposesAsked, HandsOverFor, IsSettled, IsUndone};
+ghost use Rattle.cli_changes.specs.ReasonLines.{action_of, hold_words};
 
 use class_plan::{Action, Date, Schedule};
 use cli_console::{Failure, Status};
@@ -15,7 +14,9 @@ use std::alloc::{AllocError, Global};
 use tool_texts::{Shown, put};
 
 /// Adds the names of holds, each in quotation marks after a blank.
-fn put_names(text: &mut Shown, names: &[Vec<u8>]) -> Result<(), AllocError> {
+fn put_names(text: &mut Shown, names: &[Vec<u8>]) -> Result<(), AllocError>
+    ensures { OnOk result (text.new ≡ text.old ++ flat_map hold_words names.now) }
+{
     for name in names {
         put!(text; " " quoted(name.as_slice()))?;
     }
@@ -23,7 +24,9 @@ fn put_names(text: &mut Shown, names: &[Vec<u8>]) -> Result<(), AllocError> {
 }
 
 /// The word of a schedule for what is done with its records.
-fn action_word(schedule: Option<Schedule>) -> &'static str {
+fn action_word(schedule: Option<Schedule>) -> &'static str
+    ensures { result.now ≡ action_of schedule }
+{
     match schedule {
         Some(Schedule::After { action, .. }) => match action {
             Action::Review => "review",
@@ -102,10 +105,9 @@ pub(crate) fn destroy_numbers<R: Repository<Fault = StoreFault>, K: Registrar<Fa
 ) -> Result<(), Failure>
     requires { K.is_open certificates.old }
     ensures falls { R.clean archive.new → R.clean archive.old }
-    ensures these { (cs : List Certificate)
-        × HandsOver K.takes certificates.old cs certificates.new
-        × (R.clean archive.new → (a : Archive) → R.stands archive.old a
-        → DisposesAsked (R.stands archive.new) (epoch_day day) numbers.now (is_ok result) cs a) }
+    ensures these { HandsOverFor K.takes certificates.old certificates.new (R.clean archive.new)
+        (R.stands archive.old) (λ cs a. DisposesAsked (R.stands archive.new) (epoch_day day)
+        numbers.now (is_ok result) cs a) }
 {
     match dispose(rt.alloc(), archive, certificates, numbers, day) {
         Ok(Disposed { end, .. }) => settle(rt, end),

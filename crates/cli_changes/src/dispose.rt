@@ -1,19 +1,21 @@
 //! `dispose`: what is due, and its destruction. Which records these are, `record_choice` decides.
 
-ghost use Rattle.std.specs.Prelude.{◌≡◌, [], List, false, true, is_ok, IfOk, OnOk};
+ghost use Rattle.std.specs.Prelude.{◌≡◌, [], false, true, is_ok, IfOk, OnOk};
+ghost use Rattle.cli_console.specs.Sinks.{Writes};
 ghost use Rattle.std.specs.List.{AllByRecursion};
 ghost use Rattle.jiff.specs.Words.{epoch_day};
 ghost use Rattle.record_archive.specs.Archive.{Archive};
-ghost use Rattle.record_choice.specs.Disposals.{Certificate, HandsOver, asked_list};
+ghost use Rattle.record_choice.specs.Disposals.{asked_list};
 ghost use Rattle.record_choice.specs.Reads.{OnlyReads};
 ghost use Rattle.record_choice.specs.Reasons.{MayGo};
 ghost use Rattle.record_ledger.specs.Ledgers.{KeptFor};
 ghost use Rattle.cli_choice.specs.Disposals.{IsMeant};
 ghost use Rattle.cli_changes.specs.declared.dispose.Fate.TheVariants.{Destroyed, Listed};
 ghost use Rattle.cli_changes.specs.Certificates.{IsTaken};
-ghost use Rattle.cli_changes.specs.Destructions.{AreApproved, DisposesAsked, DisposesUnaltered, EachOnce, IsAskedFor};
+ghost use Rattle.cli_changes.specs.Destructions.{AreApproved, DisposesAsked, DisposesUnaltered, EachOnce, HandsOverFor, IsAskedFor};
 ghost use Rattle.cli_changes.specs.Destructions.{IsDisposal, IsDisposalOf};
 ghost use Rattle.cli_changes.specs.Destructions.{IsOnlyRead, IsRead, fate_asked};
+ghost use Rattle.cli_changes.specs.DueLines.{ListsAsked, due_line as due_line_of, due_lines};
 ghost use Rattle.cli_changes.specs.Runs.{AreFilled, altered as altered_of, records_of};
 
 use crate::altered::{Damage, altered_in, due_line, end_list, judge_altered};
@@ -22,14 +24,15 @@ use crate::destroying::{destroy_numbers, refused, unread};
 use crate::passed_over::tell_passed_over;
 use crate::runs::{Run, runs_of};
 use class_plan::Date;
-use cli_choice::{Meant, meant_of};
-use cli_console::{Failure, judge_day, tell, today, write_text};
+use cli_choice::{Meant, meant_of, set_of};
+use cli_console::{Failure, Sink, StandardOutput, judge_day, tell, today};
 use cli_history::{Seals, StoreLedger};
 use command_lines::archives::{Disposal, TypedNumbers};
 use record_archive::Line;
 use record_choice::{Repository, asked_lines};
 use record_store::StoreFault;
 use sqlite::Alter;
+use std::alloc::Global;
 use tool_texts::{Shown, put};
 
 /// Which records a disposal by a day is about. What it passes over in ranges is told.
@@ -51,7 +54,7 @@ fn meant_by<R: Repository<Fault = StoreFault>>(
     }
 }
 
-/// Tells that no record may be destroyed by a day, of those that this is said of.
+/// Tells that none of some records is due by a day and may be destroyed. `whose` are the words for these records.
 fn tell_none(rt: &HostRuntime, whose: &'static str, day: Date) -> Result<(), Failure> {
     let mut text = Shown::new(rt.alloc());
     put!(text; words(whose) " is due by " value(&day) " and may be destroyed")?;
@@ -59,7 +62,7 @@ fn tell_none(rt: &HostRuntime, whose: &'static str, day: Date) -> Result<(), Fai
     Ok(())
 }
 
-/// Destroys the records of a run, which has one, with a certificate for each. Their events have its notes.
+/// Destroys the records of a run, of which there is one at least. Each gets a certificate, and an event with the notes of the run.
 fn destroy_run<S: Alter, P: Printer>(
     rt: &HostRuntime,
     archive: &mut StoreLedger<'_, S>,
@@ -68,11 +71,10 @@ fn destroy_run<S: Alter, P: Printer>(
     day: Date,
 ) -> Result<(), Failure>
     ensures falls { IsRead S.Store archive.new → IsRead S.Store archive.old }
-    ensures these { (cs : List Certificate)
-        × HandsOver (IsTaken P.prints) certificates.old cs certificates.new
-        × (IsRead S.Store archive.new → (a : Archive) → KeptFor S.Store archive.old.kept a
-        → DisposesAsked (KeptFor S.Store archive.new.kept) (epoch_day day) run.now.numbers.items
-        (is_ok result) cs a) }
+    ensures these { HandsOverFor (IsTaken P.prints) certificates.old certificates.new
+        (IsRead S.Store archive.new) (KeptFor S.Store archive.old.kept)
+        (λ cs a. DisposesAsked (KeptFor S.Store archive.new.kept) (epoch_day day)
+        run.now.numbers.items (is_ok result) cs a) }
 {
     archive.set_notes(run.notes());
     let done = destroy_numbers(rt, archive, certificates, run.numbers(), day);
@@ -89,10 +91,9 @@ fn destroy_runs<S: Alter, P: Printer>(
     day: Date,
 ) -> Result<(), Failure>
     ensures falls { IsRead S.Store archive.new → IsRead S.Store archive.old }
-    ensures these { (cs : List Certificate)
-        × HandsOver (IsTaken P.prints) certificates.old cs certificates.new
-        × (IsRead S.Store archive.new → (a : Archive) → KeptFor S.Store archive.old.kept a
-        → AreFilled runs.now → EachOnce (records_of runs.now)
+    ensures these { HandsOverFor (IsTaken P.prints) certificates.old certificates.new
+        (IsRead S.Store archive.new) (KeptFor S.Store archive.old.kept)
+        (λ cs a. AreFilled runs.now → EachOnce (records_of runs.now)
         → IsDisposal (KeptFor S.Store archive.new.kept) (epoch_day day) (records_of runs.now)
         (is_ok result) cs a) }
 {
@@ -176,11 +177,10 @@ fn destroy_asked<S: Alter, P: Printer>(
     day: Date,
 ) -> Result<(), Failure>
     ensures falls { IsRead S.Store archive.new → IsRead S.Store archive.old }
-    ensures these { (cs : List Certificate)
-        × HandsOver (IsTaken P.prints) certificates.old cs certificates.new
-        × (IsRead S.Store archive.new → (a : Archive) → KeptFor S.Store archive.old.kept a
-        → DisposesUnaltered certificates.old.seals.now damage (KeptFor S.Store archive.new.kept)
-        (epoch_day day) numbers.now (is_ok result) cs a) }
+    ensures these { HandsOverFor (IsTaken P.prints) certificates.old certificates.new
+        (IsRead S.Store archive.new) (KeptFor S.Store archive.old.kept)
+        (λ cs a. DisposesUnaltered certificates.old.seals.now damage
+        (KeptFor S.Store archive.new.kept) (epoch_day day) numbers.now (is_ok result) cs a) }
 {
     let seals: &Seals = certificates.seals;
     let runs = approved_runs(rt, archive, seals, damage, numbers, day)?;
@@ -192,9 +192,62 @@ fn destroy_asked<S: Alter, P: Printer>(
     Ok(())
 }
 
-/// Lists the records of some numbers, all that are due where there is no number, a line each. `BadData` in the end where the
-/// message of one is not the one that was captured, which is told.
-fn list_asked<R: Repository<Fault = StoreFault>>(
+/// Writes the line of a record that is due to a sink.
+fn write_line<K: Sink>(
+    alloc: Global,
+    line: &Line,
+    is_altered: bool,
+    sink: &mut K,
+) -> Result<(), Failure>
+    ensures { OnOk result (Writes K.written sink.old sink.new (due_line_of line.now is_altered)) }
+{
+    let text = due_line(alloc, line, is_altered)?;
+    sink.write(text.as_str().as_bytes())
+}
+
+/// Writes the lines of records that are due to a sink, in their order. They say of some of these that their messages are not the
+/// ones that were captured.
+fn write_lines<K: Sink>(
+    alloc: Global,
+    lines: &[Line],
+    altered: &[u32],
+    sink: &mut K,
+) -> Result<(), Failure>
+    ensures { OnOk result (Writes K.written sink.old sink.new (due_lines altered.now lines.now)) }
+{
+    let set = set_of(alloc, altered)?;
+    for line in lines {
+        write_line(alloc, line, set.contains(&line.number), sink)?;
+    }
+    Ok(())
+}
+
+/// Lists the records of some numbers, all that are due where there is no number, in a sink, a line each. Answers the numbers of
+/// those whose messages are not the ones that were captured, upwards.
+fn list_asked<R: Repository<Fault = StoreFault>, K: Sink>(
+    rt: &HostRuntime,
+    archive: &mut R,
+    seals: &Seals,
+    numbers: &[u32],
+    day: Date,
+    sink: &mut K,
+) -> Result<Vec<u32>, Failure>
+    ensures reads { OnlyReads R.clean R.stands archive.old archive.new }
+    ensures listed { IfOk result (λ altered. R.clean archive.new → (a : Archive)
+        → R.stands archive.old a
+        → ListsAsked K.written seals.now a (epoch_day day) numbers.now sink.old sink.new) }
+{
+    let Asked { lines, altered, .. } = read_asked(rt, archive, seals, numbers, day)?;
+    write_lines(rt.alloc(), lines.as_slice(), altered.as_slice(), sink)?;
+    if lines.is_empty() {
+        tell_none(rt, "no record", day)?;
+    }
+    Ok(altered)
+}
+
+/// Lists the same on standard output. `BadData` in the end where the message of one is not the one that was captured, which is
+/// told.
+fn write_asked<R: Repository<Fault = StoreFault>>(
     rt: &HostRuntime,
     archive: &mut R,
     seals: &Seals,
@@ -205,14 +258,9 @@ fn list_asked<R: Repository<Fault = StoreFault>>(
     ensures may_go { OnOk result (R.clean archive.new → (a : Archive) → R.stands archive.old a
         → AllByRecursion (MayGo a (epoch_day day)) numbers.now) }
 {
-    let asked = read_asked(rt, archive, seals, numbers, day)?;
-    for line in asked.lines.as_slice() {
-        write_text(rt, &due_line(rt.alloc(), line, asked.altered.as_slice())?)?;
-    }
-    if asked.lines.is_empty() {
-        tell_none(rt, "no record", day)?;
-    }
-    end_list(rt, asked.altered.as_slice())
+    let mut output = StandardOutput::new(rt);
+    let altered = list_asked(rt, archive, seals, numbers, day, &mut output)?;
+    end_list(rt, altered.as_slice())
 }
 
 /// What is done with records that are due.
@@ -248,16 +296,15 @@ fn dispose_of<S: Alter, P: Printer>(
     ensures listed { fate ≡ Listed → (certificates.new ≡ certificates.old)
         × IsOnlyRead S.Store archive.old archive.new }
     ensures destroyed { (damage : Damage) → fate ≡ Destroyed damage
-        → (cs : List Certificate)
-        × HandsOver (IsTaken P.prints) certificates.old cs certificates.new
-        × (IsRead S.Store archive.new → (a : Archive) → KeptFor S.Store archive.old.kept a
-        → DisposesUnaltered certificates.old.seals.now damage (KeptFor S.Store archive.new.kept)
-        (epoch_day day) numbers.now (is_ok result) cs a) }
+        → HandsOverFor (IsTaken P.prints) certificates.old certificates.new
+        (IsRead S.Store archive.new) (KeptFor S.Store archive.old.kept)
+        (λ cs a. DisposesUnaltered certificates.old.seals.now damage
+        (KeptFor S.Store archive.new.kept) (epoch_day day) numbers.now (is_ok result) cs a) }
 {
     match fate {
         Fate::Listed => {
             let seals: &Seals = certificates.seals;
-            list_asked(rt, archive, seals, numbers, day)
+            write_asked(rt, archive, seals, numbers, day)
         }
         Fate::Destroyed(damage) => destroy_asked(rt, archive, certificates, damage, numbers, day),
     }
@@ -291,11 +338,11 @@ pub fn dispose_by<S: Alter, P: Printer>(
     ensures listed { asked.now.destroys ≡ false → (certificates.new ≡ certificates.old)
         × IsOnlyRead S.Store archive.old archive.new }
     // the records that are meant are destroyed and no other, each with its certificate, or none is
-    ensures destroyed { asked.now.destroys ≡ true → (cs : List Certificate)
-        × HandsOver (IsTaken P.prints) certificates.old cs certificates.new
-        × (IsRead S.Store archive.new → (a : Archive) → KeptFor S.Store archive.old.kept a
-        → IsDisposalOf certificates.old.seals.now asked.now (KeptFor S.Store archive.new.kept)
-        (epoch_day day) (is_ok result) cs a) }
+    ensures destroyed { asked.now.destroys ≡ true → HandsOverFor (IsTaken P.prints)
+        certificates.old certificates.new (IsRead S.Store archive.new)
+        (KeptFor S.Store archive.old.kept)
+        (λ cs a. IsDisposalOf certificates.old.seals.now asked.now
+        (KeptFor S.Store archive.new.kept) (epoch_day day) (is_ok result) cs a) }
 {
     let fate = fate_of(asked);
     let meant = meant_by(rt, archive, asked.numbers.as_slice(), day)?;

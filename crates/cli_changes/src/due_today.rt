@@ -1,13 +1,13 @@
 //! How many records are due at once, and may be destroyed at once.
 
-ghost use Rattle.std.specs.Prelude.{◌≡◌};
+ghost use Rattle.std.specs.Prelude.{◌≡◌, ◌++◌, OnOk};
 ghost use Rattle.jiff.specs.Words.{epoch_day};
 ghost use Rattle.record_choice.specs.Entries.{entry_view};
-ghost use Rattle.cli_changes.specs.DueToday.{counted as counted_if, with_entry, with_record};
+ghost use Rattle.cli_changes.specs.DueToday.{count_line, due_today_lines, with_entry, with_record};
 
 use crate::refilings::is_destroyable;
 use class_plan::{Date, Plan, Schedule};
-use cli_console::is_by;
+use cli_console::{counted, is_by};
 use cli_texts::due_by;
 use record_store::RecordEntry;
 use std::alloc::AllocError;
@@ -20,17 +20,6 @@ pub struct DueToday {
     pub all: u64,
     /// Those that no hold keeps, by a schedule that destroys.
     pub destroyable: u64,
-}
-
-/// One more where it is so, up to the greatest count.
-pub(crate) fn counted(is_so: bool, count: u64) -> u64
-    ensures { result ≡ counted_if is_so count }
-{
-    if is_so {
-        count.saturating_add(1)
-    } else {
-        count
-    }
 }
 
 impl DueToday {
@@ -69,15 +58,26 @@ impl DueToday {
     }
 }
 
-/// Adds how many records are due at once after a change and before it, and how many may be destroyed at once, a line each.
-pub fn put_due_today(
+/// Adds a count after a change and before it, in a line.
+#[tactic(auto, unfolding(crate::specs::DueToday::count_line))]
+fn put_count(
     text: &mut Shown,
-    before: DueToday,
-    after: DueToday,
-) -> Result<(), AllocError> {
-    put!(text; "records that are due at once: " value(&after.all) ", before " value(&before.all))?;
-    text.end_line()?;
-    put!(text; "records that may be destroyed at once: " value(&after.destroyable)
-        ", before " value(&before.destroyable))?;
+    what: &'static str,
+    after: u64,
+    before: u64,
+) -> Result<(), AllocError>
+    ensures { OnOk result (text.new ≡ text.old ++ count_line what.now after before) }
+{
+    put!(text; words(what) value(&after) ", before " value(&before))?;
     text.end_line()
+}
+
+/// Adds how many records are due at once after a change and before it, and how many may be destroyed at once, a line each.
+pub fn put_due_today(text: &mut Shown, before: DueToday, after: DueToday) -> Result<(), AllocError>
+    ensures { OnOk result (text.new ≡ text.old ++ due_today_lines before after) }
+{
+    let what = "records that are due at once: ";
+    put_count(text, what, after.all, before.all)?;
+    let what = "records that may be destroyed at once: ";
+    put_count(text, what, after.destroyable, before.destroyable)
 }

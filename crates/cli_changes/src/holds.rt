@@ -1,13 +1,14 @@
 //! `hold` and `release`: records that must not be destroyed.
 
-ghost use Rattle.std.specs.Prelude.{◌≡◌, ◌||◌, ◌∷◌, [], true, false, not, IfOk, OnErr, OnOk};
+ghost use Rattle.std.specs.Prelude.{◌≡◌, ◌||◌, ◌∷◌, ◌++◌, [], true, false, not, IfOk, OnErr, OnOk};
 ghost use Rattle.record_archive.specs.Archive.{Archive};
 ghost use Rattle.record_archive.specs.Calls.{CarriesOut, Quietly};
 ghost use Rattle.record_choice.specs.Reads.{OnlyReads};
 ghost use Rattle.record_choice.specs.Views.{choice_view};
 ghost use Rattle.record_ledger.specs.Ledgers.{keeper_of};
-ghost use Rattle.cli_console.specs.Finds.{IsBounded, found_ahead, found_in};
-ghost use Rattle.cli_changes.specs.DueToday.{counted as counted_if};
+ghost use Rattle.cli_console.specs.Counts.{counted as counted_if};
+ghost use Rattle.cli_console.specs.Finds.{IsAtEnd, IsBounded, found_ahead, found_in};
+ghost use Rattle.cli_changes.specs.HoldLines.{change_words, changed_line as changed_line_of, said_words};
 ghost use Rattle.cli_changes.specs.Holdings.{
   AddsMeant,
   HoldsWell,
@@ -26,11 +27,10 @@ ghost use Rattle.cli_changes.specs.Holdings.{
 };
 ghost use Rattle.cli_changes.specs.Series.{ChangesAll, ChangesFirst, IsSoOf, KeepsAll, WasClean};
 
-use crate::due_today::counted;
 use crate::series::{Changed, RecordChange, change_each, judge_refused, refusal_told};
 use choice_words::{TypedNumbers, reads_as_numbers};
 use cli_choice::{Change, Questions, is_meant};
-use cli_console::{Failure, Reader, Search, Status, read_chosen, tell, write_text};
+use cli_console::{Failure, Reader, Search, Status, counted, read_chosen, tell, write_text};
 use cli_history::StoreLedger;
 use cli_texts::Headers;
 use command_lines::archives::Choice;
@@ -57,19 +57,24 @@ fn change_one<S: Alter>(
     }
 }
 
+/// Adds words for what becomes of a hold.
+fn put_change(line: &mut Shown, change: Change) -> Result<(), AllocError>
+    ensures { OnOk result (line.new ≡ line.old ++ change_words change) }
+{
+    match change {
+        Change::Place => line.words(" hold "),
+        Change::End => line.words(" released "),
+    }
+}
+
 /// The line of a hold that was placed on a record, or released.
-fn changed_line(
-    alloc: Global,
-    change: Change,
-    name: &str,
-    number: u32,
-) -> Result<Shown, AllocError> {
+#[tactic(auto, unfolding(crate::specs::HoldLines::changed_line))]
+fn changed_line(alloc: Global, change: Change, name: &str, number: u32) -> Result<Shown, AllocError>
+    ensures { IfOk result (λ line. line ≡ changed_line_of change name.now number) }
+{
     let mut line = Shown::new(alloc);
     put!(line; "record " value(&number))?;
-    match change {
-        Change::Place => line.words(" hold ")?,
-        Change::End => line.words(" released ")?,
-    }
+    put_change(&mut line, change)?;
     line.named(name.as_bytes())?;
     line.end_line()?;
     Ok(line)
@@ -158,10 +163,6 @@ impl Reader for Meant<'_> {
         self.look_at(entry)
     }
 
-    fn rest(&mut self) -> Result<(), Failure> {
-        Ok(())
-    }
-
     ghost takes_none = { λ meant a. none_meant meant };
 
     ghost takes_more = { λ x y z a es fs one other. more_meant x y z es fs one other };
@@ -180,6 +181,8 @@ fn meant_of<'a, R: Repository<Fault = StoreFault>>(
     ensures meant { IfOk result (λ m. R.clean archive.new → (a : Archive) → R.stands archive.old a
         → m.numbers.items ≡ meant_numbers hold.entry.change hold.entry.name.now typed.now
         (found_ahead search.old a)) }
+    ensures ended { IfOk result (λ m. R.clean archive.new → (a : Archive) → R.stands archive.old a
+        → IsAtEnd search.old a search.new) }
 {
     let mut meant = Meant {
         change: hold.change,
@@ -209,10 +212,6 @@ impl Reader for Seen {
         _headers: Option<&Headers>,
     ) -> Result<(), Failure> {
         self.is_any = true;
-        Ok(())
-    }
-
-    fn rest(&mut self) -> Result<(), Failure> {
         Ok(())
     }
 
@@ -247,7 +246,10 @@ fn is_held_by<R: Repository<Fault = StoreFault>>(
 }
 
 /// The name of a hold, and what is said of it.
-fn said_of(alloc: Global, name: &str, words: &'static str) -> Result<Shown, AllocError> {
+#[tactic(auto, unfolding(crate::specs::HoldLines::said_words))]
+fn said_of(alloc: Global, name: &str, words: &'static str) -> Result<Shown, AllocError>
+    ensures { IfOk result (λ text. text ≡ said_words name.now words.now) }
+{
     let mut text = Shown::new(alloc);
     put!(text; named(name.as_bytes()) ": " words(words))?;
     Ok(text)
@@ -359,11 +361,12 @@ fn end_change<S: Alter>(
     }
 }
 
-/// Changes the hold of a name on the records that are found. Those that are typed by themselves, and that are not found or
-/// that the archive refuses, are told, and are a failure in the end. So is the end of a hold that no record has; where it is
-/// none of the records that are found that has it, and none is refused, this is told; where a hold is placed on none, and none is
-/// refused, that is written: it is no failure, since a hold is placed again after each intake. No record is changed before all are
-/// found. `BadData` where the class is none of the plan.
+/// Places the hold of a name on the records that are found, or ends it on them. No record is changed before all are found.
+///
+/// `BadData` where the class is none of the plan; and in the end where a number that is typed by itself is not found, or the archive
+/// refuses that record, each of which is told, and where no record of the archive has the hold that is to end (`Usage` where the name
+/// of the hold reads as numbers of records). It is no failure where a hold is placed on no further record, since a hold is placed
+/// again after each intake, nor where it ends on none of those that are found, while others have it. Either is told.
 ///
 /// Where it succeeds, the hold is placed on each record that is found, is live and does not have it yet, or ended on each that is
 /// found and has it, and nothing else of the archive has changed. Where it fails, it is so for the first of them, in the order of

@@ -1,6 +1,7 @@
 //! What a disposal passes over: those records in the ranges that are typed which may not be destroyed.
 
-ghost use Rattle.std.specs.Prelude.{◌≡◌, ◌++◌, ℕ, false, Some, map, IfOk, OnOk, MatchOption};
+ghost use Rattle.std.specs.Prelude.{◌≡◌, ◌++◌, ℕ, false, Some, flat_map, map, IfOk, OnOk, MatchOption};
+ghost use Rattle.cli_console.specs.Numbers.{typed_words};
 ghost use Rattle.jiff.specs.Words.{epoch_day};
 ghost use Rattle.record_archive.specs.Archive.{Archive, Record, record_at};
 ghost use Rattle.record_choice.specs.Choices.{anyone};
@@ -9,11 +10,11 @@ ghost use Rattle.record_choice.specs.Reads.{OnlyReads};
 ghost use Rattle.record_choice.specs.Reasons.{MayGo};
 ghost use Rattle.record_choice.specs.Views.{shows_hold, span_view};
 ghost use Rattle.cli_changes.specs.declared.passed_over.Cause.TheVariants.{Held, NotForDestruction, NotDue};
-ghost use Rattle.cli_changes.specs.PassedOver.{IsCause, IsWith, is_for, range_span, range_spans};
+ghost use Rattle.cli_changes.specs.PassedOver.{IsCause, IsWith, is_for, passed_words as passed_words_of, range_span, range_spans};
 
 use choice_words::add_number;
 use class_plan::{Date, Plan};
-use cli_console::{Failure, Walk, is_by, tell};
+use cli_console::{Failure, Walk, is_by, put_numbers, tell};
 use command_lines::archives::TypedNumbers;
 use record_choice::{Choice, Repository, Span, destroys};
 use record_store::{RecordEntry, StoreFault};
@@ -148,25 +149,28 @@ fn passed_of<R: Repository<Fault = StoreFault>>(
     Ok(passed)
 }
 
-/// Adds numbers of records as they are typed, after a blank.
-fn put_numbers(text: &mut Shown, numbers: TypedNumbers) -> Result<(), AllocError> {
-    match numbers {
-        TypedNumbers::One(number) => put!(text; " " value(&number)),
-        TypedNumbers::Range { first, last } => put!(text; " " value(&first) "-" value(&last)),
+/// Adds numbers of records as they are typed, each after a blank.
+fn put_all(text: &mut Shown, numbers: &[TypedNumbers]) -> Result<(), AllocError>
+    ensures { OnOk result (text.new ≡ text.old ++ flat_map typed_words numbers.now) }
+{
+    for typed in numbers {
+        put_numbers(text, *typed)?;
     }
+    Ok(())
 }
 
 /// That records are passed over, and why.
+#[tactic(auto, unfolding(crate::specs::PassedOver::passed_words))]
 fn passed_words(
     alloc: Global,
     why: &'static str,
     numbers: &[TypedNumbers],
-) -> Result<Shown, AllocError> {
+) -> Result<Shown, AllocError>
+    ensures { IfOk result (λ text. text ≡ passed_words_of why.now numbers.now) }
+{
     let mut text = Shown::new(alloc);
     put!(text; "passed over, " words(why) ":")?;
-    for typed in numbers {
-        put_numbers(&mut text, *typed)?;
-    }
+    put_all(&mut text, numbers)?;
     Ok(text)
 }
 

@@ -3,7 +3,7 @@
 use crate::class_changes::class_lines;
 use crate::plan_changes::{changes_by, changes_lines};
 use class_plan::Plan;
-use cli_console::{Failure, Status, agrees, write_data, write_text};
+use cli_console::{Failure, Status, agrees, today, write_data, write_text};
 use cli_history::StoreLedger;
 use cli_texts::{plan_of_text, plan_text};
 use record_archive::Records;
@@ -74,7 +74,7 @@ pub fn replace_plan<S: Alter>(
 ) -> Result<(), Failure> {
     judge_classes(rt, archive.plan(), &plan, path)?;
     write_text(rt, &class_lines(rt.alloc(), archive.plan(), &plan)?)?;
-    let changes = changes_by(rt, archive, &plan)?;
+    let changes = changes_by(rt, archive, &plan, today(rt)?)?;
     write_text(rt, &changes_lines(rt.alloc(), &changes)?)?;
     if !is_agreed && !agrees(rt, "replace the plan?") {
         return Err(Failure::told(

@@ -1,15 +1,15 @@
 //! What a new plan changes in an archive: which due dates move, and what is due at once by it.
 
-ghost use Rattle.std.specs.Prelude.{◌≡◌, ◌∷◌, [], option_map, IfOk, OnOk};
+ghost use Rattle.std.specs.Prelude.{◌≡◌, ◌∷◌, ◌++◌, [], option_map, IfOk, OnOk};
 ghost use Rattle.jiff.specs.Words.{epoch_day};
 ghost use Rattle.record_archive.specs.Archive.{Archive};
 ghost use Rattle.record_choice.specs.Entries.{entry_view};
 ghost use Rattle.record_choice.specs.Reads.{OnlyReads};
-ghost use Rattle.cli_changes.specs.PlanChanges.{is_any as is_any_of, is_same_due, no_changes, with_change, AreChanges, CountAlso, IsChangedBy, Takes, live_entries, none_taken, more_taken};
+ghost use Rattle.cli_changes.specs.PlanChanges.{all_lines, is_any as is_any_of, is_same_due, moved_line, no_changes, with_change, AreChanges, CountAlso, Takes, live_entries, none_taken, more_taken};
 
-use crate::due_today::{DueToday, counted, put_due_today};
+use crate::due_today::{DueToday, put_due_today};
 use class_plan::{Date, Plan, day_number};
-use cli_console::{Failure, Reader, read_chosen, today};
+use cli_console::{Failure, Reader, counted, read_chosen};
 use cli_texts::{Headers, due_by};
 use record_choice::{Choice, Repository};
 use record_store::{RecordEntry, StoreFault};
@@ -140,56 +140,48 @@ impl Reader for Changing<'_> {
         Ok(())
     }
 
-    fn rest(&mut self) -> Result<(), Failure> {
-        Ok(())
-    }
-
     ghost takes_none = { λ changing a. none_taken changing a };
 
     ghost takes_more = { λ x y z a es fs one other. more_taken x y z a es fs one other };
 }
 
-/// What a new plan changes in an archive by a day. A failure is that of the store.
-fn changes_on<R: Repository<Fault = StoreFault>>(
+/// What a new plan changes in an archive by a day, for all its live records. A failure is that of the store.
+pub fn changes_by<R: Repository<Fault = StoreFault>>(
     rt: &HostRuntime,
     archive: &mut R,
     plan: &Plan,
-    today: Date,
+    day: Date,
 ) -> Result<PlanChanges, Failure>
     ensures reads { OnlyReads R.clean R.stands archive.old archive.new }
     ensures changes { IfOk result (λ changes. R.clean archive.new → (a : Archive)
         → R.stands archive.old a
-        → AreChanges a.plan plan.now (epoch_day today) (live_entries a) changes) }
+        → AreChanges a.plan plan.now (epoch_day day) (live_entries a) changes) }
 {
     let mut changing = Changing {
         alloc: rt.alloc(),
         plan,
-        today,
+        today: day,
         changes: PlanChanges::none(rt.alloc()),
     };
     read_chosen(rt, archive, &Choice::live(), &mut changing)?;
     Ok(changing.changes)
 }
 
-/// What a new plan changes in an archive today, for all its live records. A failure is that of the store, or of the clock.
-pub fn changes_by<R: Repository<Fault = StoreFault>>(
-    rt: &HostRuntime,
-    archive: &mut R,
-    plan: &Plan,
-) -> Result<PlanChanges, Failure>
-    ensures reads { OnlyReads R.clean R.stands archive.old archive.new }
-    ensures changes { IfOk result (λ changes. R.clean archive.new → (a : Archive)
-        → R.stands archive.old a → IsChangedBy a plan.now changes) }
+/// Adds how many due dates move, in a line.
+#[tactic(auto, unfolding(crate::specs::PlanChanges::moved_line))]
+fn put_moved(text: &mut Shown, moved: u64) -> Result<(), AllocError>
+    ensures { OnOk result (text.new ≡ text.old ++ moved_line moved) }
 {
-    changes_on(rt, archive, plan, today(rt)?)
+    put!(text; "due dates that move: " value(&moved))?;
+    text.end_line()
 }
 
 /// Adds what a new plan changes for all records, in three lines.
-fn put_all(text: &mut Shown, changes: &Changes) -> Result<(), AllocError> {
-    let (before, after) = (changes.before, changes.after);
-    put!(text; "due dates that move: " value(&changes.moved))?;
-    text.end_line()?;
-    put_due_today(text, before, after)
+fn put_all(text: &mut Shown, changes: &Changes) -> Result<(), AllocError>
+    ensures { OnOk result (text.new ≡ text.old ++ all_lines changes.now) }
+{
+    put_moved(text, changes.moved)?;
+    put_due_today(text, changes.before, changes.after)
 }
 
 /// Adds what a new plan changes for the records of a class, in a line.

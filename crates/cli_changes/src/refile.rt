@@ -1,12 +1,14 @@
 //! `refile`: records that get another class of the plan.
 
-ghost use Rattle.std.specs.Prelude.{◌≡◌, ◌||◌, ◌∷◌, [], true, false, not, IfOk, OnErr, OnOk};
+ghost use Rattle.std.specs.Prelude.{◌≡◌, ◌||◌, ◌∷◌, ◌++◌, [], List, ℕ, true, false, not, IfOk, OnErr, OnOk};
 ghost use Rattle.class_plan.specs.Plans.{has};
 ghost use Rattle.record_archive.specs.Archive.{Archive};
 ghost use Rattle.record_archive.specs.Refiling.{refile};
 ghost use Rattle.record_choice.specs.Reads.{OnlyReads};
 ghost use Rattle.record_ledger.specs.Ledgers.{keeper_of, keeps_history};
-ghost use Rattle.cli_console.specs.Finds.{IsBounded, TakesThese, found_ahead, found_in};
+ghost use Rattle.cli_texts.specs.Lines.{due_words};
+ghost use Rattle.cli_console.specs.Finds.{HasSingles, IsAtEnd, IsBounded, IsEndOf, TakesThese, found_ahead, found_in};
+ghost use Rattle.cli_changes.specs.Holdings.{is_any_of};
 ghost use Rattle.cli_changes.specs.Moves.{
   AddsMoving,
   MovesOne,
@@ -17,6 +19,7 @@ ghost use Rattle.cli_changes.specs.Moves.{
   moving_numbers,
   none_moving,
 };
+ghost use Rattle.cli_changes.specs.RefilingLines.{move_line as move_line_of, refiled_line as refiled_line_of, there_words};
 ghost use Rattle.cli_changes.specs.Series.{ChangesAll, ChangesFirst, WasClean};
 ghost use Rattle.std.specs.List.{list_any};
 
@@ -73,7 +76,9 @@ fn judge_class(alloc: Global, to: &str, plan: &Plan) -> Result<(), Failure>
 }
 
 /// Adds a due date, or `never`.
-fn put_due(line: &mut Shown, due: Option<Date>) -> Result<(), AllocError> {
+fn put_due(line: &mut Shown, due: Option<Date>) -> Result<(), AllocError>
+    ensures { OnOk result (line.new ≡ line.old ++ due_words due) }
+{
     match due {
         Some(date) => line.value(&date),
         None => line.words("never"),
@@ -81,12 +86,15 @@ fn put_due(line: &mut Shown, due: Option<Date>) -> Result<(), AllocError> {
 }
 
 /// The line of a record that is to get a class: its number, its class and due date as they are, and as they will be.
+#[tactic(auto, unfolding(crate::specs::RefilingLines::move_line))]
 fn move_line(
     alloc: Global,
     entry: &RecordEntry,
     to: &[u8],
     due: Option<Date>,
-) -> Result<Shown, AllocError> {
+) -> Result<Shown, AllocError>
+    ensures { IfOk result (λ line. line ≡ move_line_of entry.now to.now due) }
+{
     let mut line = Shown::new(alloc);
     put!(line; "record " value(&entry.number) " class " named(entry.path.as_slice()) " due ")?;
     put_due(&mut line, entry.due)?;
@@ -97,7 +105,10 @@ fn move_line(
 }
 
 /// That a record which is typed has the class already.
-fn there_line(alloc: Global, number: u32, to: &[u8]) -> Result<Shown, AllocError> {
+#[tactic(auto, unfolding(crate::specs::RefilingLines::there_words))]
+fn there_line(alloc: Global, number: u32, to: &[u8]) -> Result<Shown, AllocError>
+    ensures { IfOk result (λ line. line ≡ there_words number to.now) }
+{
     let mut line = Shown::new(alloc);
     put!(line; value(&number) ": the record is in " named(to) " already")?;
     Ok(line)
@@ -131,10 +142,6 @@ impl Reader for Moves<'_> {
         _headers: Option<&Headers>,
     ) -> Result<(), Failure> {
         self.look_at(entry, archive.plan())
-    }
-
-    fn rest(&mut self) -> Result<(), Failure> {
-        Ok(())
     }
 
     ghost takes_none = { λ moves a. none_moving moves };
@@ -197,7 +204,10 @@ impl Moves<'_> {
 }
 
 /// Whether a search ended well. A number that was not found was told then; another failure is one.
-fn is_all_found(ended: Result<(), Failure>) -> Result<bool, Failure> {
+fn is_all_found(ended: Result<(), Failure>) -> Result<bool, Failure>
+    ensures { IfOk result (λ all. (missing : List ℕ) → IsEndOf missing ended
+        → all ≡ not (is_any_of missing)) }
+{
     match ended {
         Ok(()) => Ok(true),
         Err(Failure::Reported(Status::BadData)) => Ok(false),
@@ -216,6 +226,8 @@ fn take_found<R: Repository<Fault = StoreFault>>(
     ensures moves { OnOk result (R.clean archive.new → (a : Archive) → R.stands archive.old a
         → TakesThese (λ old b es new. AddsMoving old es new) moves.old a
         (found_ahead search.old a) moves.new) }
+    ensures ended { OnOk result (R.clean archive.new → (a : Archive) → R.stands archive.old a
+        → IsAtEnd search.old a search.new) }
 {
     search.read_found(moves.rt, archive, moves)
 }
@@ -235,6 +247,9 @@ fn moves_shown<'a, R: Repository<Fault = StoreFault>>(
         → (a : Archive) → R.stands archive.old a
         → list_any (is_refused_one choice.now.numbers.items)
         (found_in choice.now questions.now a) ≡ false) }
+    ensures found { IfOk result (λ m. m.is_refused ≡ false → R.clean archive.new
+        → (a : Archive) → R.stands archive.old a
+        → HasSingles choice.now.numbers.items (found_in choice.now questions.now a)) }
 {
     let mut moves = Moves {
         rt,
@@ -254,7 +269,10 @@ fn moves_shown<'a, R: Repository<Fault = StoreFault>>(
 }
 
 /// The line of a record that has got a class.
-fn refiled_line(alloc: Global, number: u32, to: &[u8]) -> Result<Shown, AllocError> {
+#[tactic(auto, unfolding(crate::specs::RefilingLines::refiled_line))]
+fn refiled_line(alloc: Global, number: u32, to: &[u8]) -> Result<Shown, AllocError>
+    ensures { IfOk result (λ line. line ≡ refiled_line_of number to.now) }
+{
     let mut line = Shown::new(alloc);
     put!(line; "record " value(&number) " refiled to " named(to))?;
     line.end_line()?;

@@ -5,13 +5,13 @@ ghost use Rattle.record_archive.specs.Archive.{Archive};
 ghost use Rattle.record_choice.specs.Entries.{entry_view};
 ghost use Rattle.record_choice.specs.Reads.{OnlyReads};
 ghost use Rattle.record_ledger.specs.Ledgers.{keeper_of};
+ghost use Rattle.cli_console.specs.Finds.{numbers_of};
 ghost use Rattle.cli_changes.specs.Holdings.{
   changed_on,
   held_by,
   is_any_of,
   more_listed,
   none_listed,
-  numbers_of,
 };
 ghost use Rattle.cli_changes.specs.Series.{ChangesAll, ChangesFirst, WasClean};
 
@@ -37,11 +37,11 @@ fn row_of(entry: &RecordEntry) -> Row<'_> {
     }
 }
 
-/// A list of records that is written as they are handed over.
+/// Writes the line of each record that it takes, and notes their numbers.
 #[derive(Drop)]
 struct HeldList<'a> {
     rt: &'a HostRuntime,
-    /// The numbers of those that are listed.
+    /// The numbers of the records that it took.
     numbers: Vec<u32>,
 }
 
@@ -58,10 +58,6 @@ impl Reader for HeldList<'_> {
         let line = listed_line(self.rt.alloc(), &row_of(entry), ListedHeaders::Unasked)?;
         write_text(self.rt, &line)?;
         Ok(self.numbers.push(entry.number)?)
-    }
-
-    fn rest(&mut self) -> Result<(), Failure> {
-        Ok(())
     }
 
     ghost takes_none = { λ list a. none_listed list.numbers.items };

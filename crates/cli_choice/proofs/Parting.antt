@@ -36,7 +36,7 @@ filter_both p q (x ∷ xs) = both_one (q x) (p x) p x (filter q xs) (filter (λ 
 
 -- ---- each record is the one that its number finds
 
-abbrev IsFound : Archive → Record → Type 0
+abbrev pub IsFound : Archive → Record → Type 0
 IsFound a r = record_at a r.number ≡ Some r
 
 same_number : (n : ℕ) → (n == n) ≡ true
@@ -45,7 +45,7 @@ same_number n = grind arith
 other_number : (m n : ℕ) → m < n → (m == n) ≡ false
 other_number m n h = grind (arith, nat_tests, h)
 
-all_found : (rs : List Record) → IsAscending Below rs → AllByRecursion (λ r. find (has_number r.number) rs ≡ Some r) rs
+pub all_found : (rs : List Record) → IsAscending Below rs → AllByRecursion (λ r. find (has_number r.number) rs ≡ Some r) rs
 all_found [] up = tt
 all_found (r ∷ rs) up = (
   ap (λ b. cond b (Some r) (find (has_number r.number) rs)) (same_number r.number),
@@ -60,7 +60,7 @@ all_found (r ∷ rs) up = (
       later xs low.1 h.1,
     )
 
-after_found : (a : Archive) → IsArchive a → (next : Option ℕ) → AllByRecursion (IsFound a) (records_after a next)
+pub after_found : (a : Archive) → IsArchive a → (next : Option ℕ) → AllByRecursion (IsFound a) (records_after a next)
 after_found a is None = tt
 after_found a is (Some n) = all_kept (IsFound a) (is_from n) a.records (all_found a.records is.in_order)
 

@@ -20,4 +20,4 @@ pub use holds::{Change, is_meant};
 pub use questions::{Answer, Questions, QuestionsFault};
 pub use search::{Beside, FoundPage, search_page};
 pub use twice::{Group, Groups, SealKey, Sealed};
-pub use typed::{bounds_of, choice_of, is_single, not_found, numbers_of};
+pub use typed::{bounds_of, choice_of, is_single, not_found, numbers_of, set_of};

@@ -140,7 +140,7 @@ pub fn is_single(typed: &[TypedNumbers], number: u32) -> bool
 }
 
 /// The set of some numbers.
-fn set_of(alloc: Global, numbers: &[u32]) -> Result<BTreeSet<u32>, AllocError>
+pub fn set_of(alloc: Global, numbers: &[u32]) -> Result<BTreeSet<u32>, AllocError>
     ensures { IfOk result (λ s. (n : ℕ) → contains nat_cmp s n ≡ is_one_of numbers.now n) }
 {
     let mut set = BTreeSet::new(alloc);

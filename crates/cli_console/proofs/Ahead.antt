@@ -37,7 +37,7 @@ unmet q c a r e =
     ap (λ b. ((b && where_asked (λ class. is_within class r.path) c.class) && is_as c a r && is_when c a r)
     && where_asked (λ asks. is_yes asks (message_of a r)) q) e
 
-apart : (b : Bool) → b ≡ true → b ≡ false → ⊥
+pub apart : (b : Bool) → b ≡ true → b ≡ false → ⊥
 apart true t f = absurd cc
 apart false t f = absurd cc
 
@@ -141,6 +141,7 @@ all_taken es all ahead so_far none =
 
 pub same_still : (x y z : Search) → IsSameSearch x y → IsSameSearch y z → IsSameSearch x z
 same_still x y z one other = record {
+  typed = other.typed ∙ one.typed;
   questions = other.questions ∙ one.questions;
   choice = other.choice ∙ one.choice;
   last = other.last ∙ one.last;

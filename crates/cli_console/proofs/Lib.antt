@@ -1,2 +1,4 @@
 pub mod Ahead
+pub mod Told
+pub mod Noted
 mod Rows

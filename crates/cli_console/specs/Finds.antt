@@ -1,9 +1,12 @@
 -- What a search has yet to find, and what a reader takes of it.
-use Rattle.std.specs.Prelude.{◌≡◌, ◌<◌, ◌≤◌, ◌^◌, ℕ, nat_le, true, ◌&&◌, List, [], ◌++◌, length, map, filter, Option, Some, None}
+use Rattle.std.specs.Prelude.{◌≡◌, ◌<◌, ◌≤◌, ◌^◌, ℕ, nat_le, true, not, ◌&&◌, List, [], ◌++◌, length, map, filter}
+use Rattle.std.specs.Prelude.{Option, Some, None, Result, Ok, Err}
 use Rattle.std.specs.List.{list_any}
 use Rattle.choice_words.specs.declared.choice.Choice as words
+use Rattle.choice_words.specs.declared.numbers.TypedNumbers.{TypedNumbers}
 use Rattle.record_archive.specs.Archive.{Record, Archive}
 use Rattle.record_choice.specs.Choices.{Choice, where_asked, is_in, meets_asked, chosen}
+use Rattle.record_choice.specs.Disposals.{is_one_of}
 use Rattle.record_choice.specs.Entries.{RecordEntry, entry_of, entry_view}
 use Rattle.record_choice.specs.Views.{choice_view}
 use Rattle.record_choice.specs.Walks.{chosen_after}
@@ -11,7 +14,10 @@ use Rattle.record_choice.specs.declared.choice.Choice as own_choice
 use Rattle.record_choice.specs.declared.entry.RecordEntry as own
 use Rattle.cli_choice.specs.declared.questions.Questions.{Questions}
 use Rattle.cli_choice.specs.Questions.{question_of}
-use Rattle.cli_choice.specs.Typed.{choice_typed}
+use Rattle.cli_choice.specs.Typed.{choice_typed, is_one, singles}
+use Rattle.cli_console.specs.declared.failure.Failure.{Failure}
+use Rattle.cli_console.specs.declared.failure.Failure.TheVariants.{Closed, NoMemory, Told, Reported}
+use Rattle.cli_console.specs.declared.failure.Status.TheVariants.{BadData, TryAgain}
 use Rattle.cli_console.specs.declared.search.Search.{Search}
 use Rattle.cli_console.specs.declared.walk.Walk.{Walk}
 
@@ -23,9 +29,12 @@ abbrev pub found_in : words.Choice → Questions → Archive → List RecordEntr
 found_in typed questions a =
     map (entry_of a) (filter (λ (r : Record). nat_le typed.from r.number && meets_asked (question_of questions) (choice_typed typed) a r) a.records)
 
--- the records of a choice, whatever their messages say
+-- THE RECORDS OF A CHOICE, whatever their messages say, in the order of their numbers
+abbrev pub entries_of : Choice → Archive → List RecordEntry
+entries_of c a = map (entry_of a) (chosen None c a)
+
 abbrev pub chosen_in : own_choice.Choice → Archive → List RecordEntry
-chosen_in c a = map (entry_of a) (chosen None (choice_view c) a)
+chosen_in c a = entries_of (choice_view c) a
 
 -- ---- what is yet to be found
 
@@ -47,6 +56,7 @@ IsBounded s = (n : ℕ) → 1 ≤ n → n < 2 ^ 32 → IsAsked (choice_view s.ch
 
 -- it is for the same records, wherever it stands
 pub record IsSameSearch (old new : Search) : Type 0 where
+  pub typed : new.typed.now ≡ old.typed.now
   pub questions : new.questions.now ≡ old.questions.now
   pub choice : new.choice ≡ old.choice
   pub last : new.last ≡ old.last
@@ -55,6 +65,45 @@ pub record IsSameSearch (old new : Search) : Type 0 where
 abbrev pub IsFirst : (all : List RecordEntry) → (page : Option (List RecordEntry)) → (ahead : List RecordEntry) → Type 0
 IsFirst all None ahead = all ≡ []
 IsFirst all (Some page) ahead = (1 ≤ length page) × (page ++ ahead ≡ all)
+
+-- ---- numbers that are typed by themselves
+
+abbrev pub numbers_of : List RecordEntry → List ℕ
+numbers_of es = map (λ (e : RecordEntry). e.number) es
+
+-- the numbers of these records that are typed by themselves
+abbrev pub singles_among : List TypedNumbers → List RecordEntry → List ℕ
+singles_among ts es = filter (λ n. list_any (is_one n) ts) (numbers_of es)
+
+-- those that are typed by themselves and are none of these
+abbrev pub missing_among : List TypedNumbers → List ℕ → List ℕ
+missing_among ts ns = filter (λ n. not (is_one_of ns n)) (singles ts)
+
+-- EACH NUMBER THAT IS TYPED BY ITSELF is that of one of these records
+abbrev pub HasSingles : List TypedNumbers → List RecordEntry → Type 0
+HasSingles ts es = missing_among ts (numbers_of es) ≡ []
+
+-- what a search has noted, and will note to its end, of the numbers that are typed by themselves
+abbrev pub noted_at_end : Search → Archive → List ℕ
+noted_at_end s a = s.found.items ++ singles_among s.typed.now.numbers.items (found_ahead s a)
+
+-- a search has come to its end
+pub record IsAtEnd (old : Search) (a : Archive) (new : Search) : Type 0 where
+  pub typed : new.typed.now ≡ old.typed.now
+  pub noted : new.found.items ≡ noted_at_end old a
+
+-- the numbers that are typed by themselves and that a search has not found
+abbrev pub missing_of : Search → List ℕ
+missing_of s = missing_among s.typed.now.numbers.items s.found.items
+
+-- HOW A SEARCH ENDS: well where no number is missing, and with a report as bad data where one is; another failure is that of
+-- the store, or no memory
+abbrev pub IsEndOf : (missing : List ℕ) → Result (Unit {0}) Failure → Type 0
+IsEndOf missing (Ok done) = missing ≡ []
+IsEndOf missing (Err (Reported status)) = (status ≡ BadData) × (missing ≡ [] → ⊥)
+IsEndOf missing (Err (Told status text)) = status ≡ TryAgain
+IsEndOf missing (Err NoMemory) = Unit {0}
+IsEndOf missing (Err Closed) = ⊥
 
 -- ---- readers
 

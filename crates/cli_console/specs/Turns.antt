@@ -1,5 +1,5 @@
 -- What a call for the next page answers.
-use Rattle.std.specs.Prelude.{◌≡◌, ◌<◌, ℕ, List, Vec, Option, Some, None, IsSome, IfSome, map, option_map}
+use Rattle.std.specs.Prelude.{◌≡◌, ◌<◌, ℕ, List, [], Vec, Option, Some, None, IsSome, IfSome, map, option_map}
 use Rattle.std.specs.declared.alloc.Global.{Global}
 use Rattle.record_archive.specs.Archive.{Archive}
 use Rattle.record_choice.specs.Choices.{Choice, Question}
@@ -10,6 +10,11 @@ use Rattle.record_choice.specs.Walks.{IsPageOf}
 -- the entries of a page
 abbrev pub page_view : Option (Vec own.RecordEntry Global) → Option (List RecordEntry)
 page_view o = option_map (λ v. map entry_view v.items) o
+
+-- the records of a page, and none where there is no page
+abbrev pub records_of : Option (List RecordEntry) → List RecordEntry
+records_of None = []
+records_of (Some page) = page
 
 -- it goes on above where it stood, if it does
 abbrev pub IsFurther : (from next : Option ℕ) → Type 0

@@ -1,8 +1,8 @@
 //! What the subcommands of `mailfile-store` share: how they report, and how they go over an archive.
 //!
 //! - `failure`: why something is not done, and the status that says so;
-//! - `output`: what is written for people and programs;
-//! - `clock`: the time and the day;
+//! - `output`: what is written for people and programs; `sink`: where lists are written;
+//! - `clock`: the time and the day; `counts`: counts that end at the greatest number;
 //! - `walk`: the records of an archive, a page at a time; `search`: those that a command line asks for;
 //! - `reader`: who takes records one by one; `readings`: how it is handed all that is found.
 //!
@@ -11,17 +11,21 @@
 #![tactic(auto)]
 
 mod clock;
+mod counts;
 mod failure;
 mod output;
 mod reader;
 mod readings;
 mod search;
+mod sink;
 mod walk;
 
 pub use clock::{day_or_today, is_by, judge_day, now, today};
+pub use counts::counted;
 pub use failure::{Failure, Status, refusal_words};
-pub use output::{agrees, tell, tell_words, write_data, write_text};
+pub use output::{agrees, put_numbers, tell, tell_words, write_data, write_text};
 pub use reader::Reader;
 pub use readings::read_chosen;
 pub use search::{Found, Search};
+pub use sink::{Sink, StandardOutput};
 pub use walk::{Walk, message_of};

@@ -1,9 +1,23 @@
 //! What is written for people and programs. A text for people is a [`Shown`] one, or words of the program.
 
+ghost use Rattle.std.specs.Prelude.{◌≡◌, ◌++◌, OnOk};
+ghost use Rattle.cli_console.specs.Numbers.{typed_words};
+
 use crate::failure::{Failure, Status};
-use std::alloc::Global;
+use choice_words::TypedNumbers;
+use std::alloc::{AllocError, Global};
 use std::io::{Error, ErrorKind, IsTerminal, Write};
-use tool_texts::Shown;
+use tool_texts::{Shown, put};
+
+/// Adds numbers of records as they are typed, after a blank.
+pub fn put_numbers(text: &mut Shown, numbers: TypedNumbers) -> Result<(), AllocError>
+    ensures { OnOk result (text.new ≡ text.old ++ typed_words numbers) }
+{
+    match numbers {
+        TypedNumbers::One(number) => put!(text; " " value(&number)),
+        TypedNumbers::Range { first, last } => put!(text; " " value(&first) "-" value(&last)),
+    }
+}
 
 /// The failure of a write to standard output.
 fn write_failure(alloc: Global, error: Error) -> Failure {

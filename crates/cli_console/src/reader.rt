@@ -4,6 +4,7 @@ ghost use Rattle.std.specs.Prelude.{◌∷◌, ◌++◌, [], List, IfSome, OnOk}
 ghost use Rattle.record_archive.specs.Archive.{Archive};
 ghost use Rattle.record_choice.specs.Reads.{OnlyReads};
 ghost use Rattle.record_choice.specs.declared.entry.RecordEntry.{RecordEntry};
+ghost use Rattle.cli_console.specs.Headers.{AreBeside, IsToldBeside};
 
 use crate::failure::Failure;
 use cli_texts::Headers;
@@ -25,11 +26,15 @@ pub trait Reader {
     ) -> Result<(), Failure>
         ensures reads { OnlyReads R.clean R.stands archive.old archive.new }
         ensures taken { OnOk result (R.clean archive.new → (a : Archive) → R.stands archive.old a
+            → IsToldBeside a entry.now headers.entry
             → takes self.old a (entry.now ∷ []) self.new) };
 
     /// Rests, once it has taken what a step of the search found. A failure ends the reading.
     fn rest(&mut self) -> Result<(), Failure>
-        ensures { OnOk result ((a : Archive) → takes self.old a [] self.new) };
+        ensures { OnOk result ((a : Archive) → takes self.old a [] self.new) }
+    {
+        Ok(())
+    }
 
     ghost takes_none: { (r : Self) (a : Archive) → takes r a [] r };
 
@@ -46,7 +51,7 @@ pub(crate) fn take_page<R: Repository<Fault = StoreFault>, K: Reader>(
 ) -> Result<(), Failure>
     ensures reads { OnlyReads R.clean R.stands archive.old archive.new }
     ensures taken { OnOk result (R.clean archive.new → (a : Archive) → R.stands archive.old a
-        → K.takes reader.old a entries.now reader.new) }
+        → AreBeside a entries.now headers.now → K.takes reader.old a entries.now reader.new) }
 {
     for (at, entry) in entries.iter().enumerate() {
         reader.take(archive, entry, headers.get(at))?;

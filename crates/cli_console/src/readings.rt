@@ -1,10 +1,10 @@
 //! How readers take all that is found.
 
-ghost use Rattle.std.specs.Prelude.{◌≤◌, ◌++◌, map, IfOk, OnOk};
+ghost use Rattle.std.specs.Prelude.{◌≡◌, ◌≤◌, ◌++◌, map, IfOk, OnOk};
 ghost use Rattle.record_archive.specs.Archive.{Archive};
 ghost use Rattle.record_choice.specs.Entries.{entry_view};
 ghost use Rattle.record_choice.specs.Reads.{OnlyReads};
-ghost use Rattle.cli_console.specs.Finds.{IsBounded, IsFirst, TakesThese, chosen_in, found_ahead};
+ghost use Rattle.cli_console.specs.Finds.{IsAtEnd, IsBounded, IsFirst, TakesThese, chosen_in, found_ahead, noted_at_end};
 ghost use Rattle.cli_console.specs.Turns.{page_view};
 
 use crate::failure::Failure;
@@ -28,6 +28,8 @@ impl Search<'_, '_> {
         ensures reads { OnlyReads R.clean R.stands archive.old archive.new }
         ensures taken { OnOk result (R.clean archive.new → (a : Archive) → R.stands archive.old a
             → TakesThese K.takes reader.old a (found_ahead self.old a) reader.new) }
+        ensures ended { OnOk result (R.clean archive.new → (a : Archive) → R.stands archive.old a
+            → IsAtEnd self.old a self.new) }
     {
         self.read(rt, archive, Beside::Nothing, PAGE, reader)
     }
@@ -43,6 +45,8 @@ impl Search<'_, '_> {
         ensures reads { OnlyReads R.clean R.stands archive.old archive.new }
         ensures taken { OnOk result (R.clean archive.new → (a : Archive) → R.stands archive.old a
             → TakesThese K.takes reader.old a (found_ahead self.old a) reader.new) }
+        ensures ended { OnOk result (R.clean archive.new → (a : Archive) → R.stands archive.old a
+            → IsAtEnd self.old a self.new) }
     {
         self.read(rt, archive, Beside::Headers, HEADERS_PAGE, reader)
     }
@@ -60,6 +64,9 @@ impl Search<'_, '_> {
             → R.stands archive.old a
             → IsFirst (found_ahead self.old a) (page_view o) (found_ahead self.new a)) }
         ensures bounded { OnOk result (IsBounded self.new) }
+        ensures typed { OnOk result (self.new.typed.now ≡ self.old.typed.now) }
+        ensures noted { OnOk result (R.clean archive.new → (a : Archive) → R.stands archive.old a
+            → noted_at_end self.new a ≡ noted_at_end self.old a) }
     {
         for _ in 0..u64::MAX {
             let Some(page) = self.step(rt, archive, Beside::Nothing, PAGE)? else {
@@ -85,6 +92,8 @@ impl Search<'_, '_> {
         ensures taken { OnOk result (R.clean archive.new → (a : Archive) → R.stands archive.old a
             → TakesThese K.takes reader.old a
             (map entry_view first.now ++ found_ahead self.old a) reader.new) }
+        ensures ended { OnOk result (R.clean archive.new → (a : Archive) → R.stands archive.old a
+            → IsAtEnd self.old a self.new) }
     {
         take_page(archive, reader, first, &[])?;
         self.read_found(rt, archive, reader)
@@ -104,6 +113,8 @@ impl Search<'_, '_> {
         ensures reads { OnlyReads R.clean R.stands archive.old archive.new }
         ensures taken { OnOk result (R.clean archive.new → (a : Archive) → R.stands archive.old a
             → TakesThese K.takes reader.old a (found_ahead self.old a) reader.new) }
+        ensures ended { OnOk result (R.clean archive.new → (a : Archive) → R.stands archive.old a
+            → IsAtEnd self.old a self.new) }
     {
         for _ in 0..u64::MAX {
             let Some(page) = self.step(rt, archive, beside, most)? else {

@@ -1,17 +1,19 @@
 //! A search for the records that a command is about. Which these are, `cli_choice` decides.
 
-ghost use Rattle.std.specs.Prelude.{◌≡◌, ◌≤◌, ℕ, [], map, nat_le, option_map, IfOk, IfSome, OnOk, if◌then◌else◌};
+ghost use Rattle.std.specs.Prelude.{◌≡◌, ◌≤◌, ◌++◌, ◌∷◌, ℕ, [], map, nat_le, option_map, IfErr, IfOk, IfSome, OnOk, if◌then◌else◌};
 ghost use Rattle.record_archive.specs.Archive.{Archive, IsArchive};
 ghost use Rattle.record_choice.specs.Entries.{entry_view};
 ghost use Rattle.record_choice.specs.Reads.{OnlyReads};
 ghost use Rattle.record_choice.specs.Views.{choice_view};
 ghost use Rattle.cli_choice.specs.Questions.{asks_nothing, question_of};
 ghost use Rattle.cli_choice.specs.Headers.{texts_view, texts_found};
-ghost use Rattle.cli_console.specs.Finds.{IsBounded, IsSameSearch, found_ahead, found_in};
-ghost use Rattle.cli_console.specs.Turns.{IsSearchTurn, page_view};
+ghost use Rattle.cli_console.specs.Failures.{IsToldAs};
+ghost use Rattle.cli_console.specs.Finds.{IsBounded, IsEndOf, IsSameSearch, found_ahead, found_in, missing_of, singles_among};
+ghost use Rattle.cli_console.specs.Turns.{IsSearchTurn, page_view, records_of};
+ghost use Rattle.cli_console.specs.declared.failure.Status.TheVariants.{TryAgain};
 
 use crate::failure::{Failure, Status};
-use crate::output::tell;
+use crate::output::{put_numbers, tell};
 use crate::walk::{PAGE, walk_failure};
 use choice_words::{Choice, TypedNumbers, add_number};
 use class_plan::Plan;
@@ -72,14 +74,6 @@ fn judge_class(alloc: Global, class: Option<&str>, plan: &Plan) -> Result<(), Fa
     }
 }
 
-/// Adds numbers of records as they are typed, after a blank.
-fn put_numbers(line: &mut Shown, numbers: TypedNumbers) -> Result<(), AllocError> {
-    match numbers {
-        TypedNumbers::One(number) => put!(line; " " value(&number)),
-        TypedNumbers::Range { first, last } => put!(line; " " value(&first) "-" value(&last)),
-    }
-}
-
 /// That records were not found, though they may be some of those that are looked for. Their numbers can be typed as they
 /// stand there.
 fn unread_line(alloc: Global, unread: &[TypedNumbers]) -> Result<Shown, AllocError> {
@@ -105,7 +99,8 @@ fn miss_line<R: Repository<Fault = StoreFault>>(
     archive: &mut R,
     number: u32,
 ) -> Result<Shown, Failure>
-    ensures { OnlyReads R.clean R.stands archive.old archive.new }
+    ensures reads { OnlyReads R.clean R.stands archive.old archive.new }
+    ensures fails { IfErr result (IsToldAs TryAgain) }
 {
     let word = format!(in alloc; "{number}")?;
     match archive.entry(number) {
@@ -121,16 +116,32 @@ fn miss_line<R: Repository<Fault = StoreFault>>(
     }
 }
 
+/// Notes the number of a record that was found, where it is typed by itself.
+fn note_single(
+    found: &mut Vec<u32>,
+    typed: &[TypedNumbers],
+    entry: &RecordEntry,
+) -> Result<(), AllocError>
+    ensures { OnOk result (found.new.items ≡
+        found.old.items ++ singles_among typed.now (entry_view entry.now ∷ [])) }
+{
+    if is_single(typed, entry.number) {
+        found.push(entry.number)?;
+    }
+    Ok(())
+}
+
 /// Notes which of the numbers that are typed by themselves were found.
 fn note_found(
     found: &mut Vec<u32>,
     typed: &[TypedNumbers],
     entries: &[RecordEntry],
-) -> Result<(), AllocError> {
+) -> Result<(), AllocError>
+    ensures { OnOk result (found.new.items ≡
+        found.old.items ++ singles_among typed.now (map entry_view entries.now)) }
+{
     for entry in entries {
-        if is_single(typed, entry.number) {
-            found.push(entry.number)?;
-        }
+        note_single(found, typed, entry)?;
     }
     Ok(())
 }
@@ -161,6 +172,8 @@ impl<'s, 'a> Search<'s, 'a> {
         ensures bounded { IfOk result (λ s. IsBounded s) }
         ensures found { IfOk result (λ s. (a : Archive) → IsArchive a
             → found_ahead s a ≡ found_in typed.now questions.now a) }
+        ensures typed { IfOk result (λ s. s.typed.now ≡ typed.now) }
+        ensures none { IfOk result (λ s. s.found.items ≡ []) }
     {
         let alloc = rt.alloc();
         judge_class(alloc, typed.class, archive.plan())?;
@@ -238,6 +251,9 @@ impl<'s, 'a> Search<'s, 'a> {
             (choice_view self.old.choice) a self.old.last self.old.from
             (page_view (option_map (λ p. p.found) o)) self.new.from) }
         ensures same { OnOk result (IsSameSearch self.old self.new) }
+        ensures noted { IfOk result (λ o. self.new.found.items ≡ self.old.found.items
+            ++ singles_among self.old.typed.now.numbers.items
+            (records_of (page_view (option_map (λ p. p.found) o)))) }
         ensures headers { IfOk result (λ o. R.clean archive.new → (a : Archive)
             → R.stands archive.old a → IfSome o (λ p. map texts_view p.headers.items ≡
             (if asks_nothing self.old.questions.now then []
@@ -284,7 +300,8 @@ impl<'s, 'a> Search<'s, 'a> {
         rt: &HostRuntime,
         archive: &mut R,
     ) -> Result<(), Failure>
-        ensures { OnlyReads R.clean R.stands archive.old archive.new }
+        ensures reads { OnlyReads R.clean R.stands archive.old archive.new }
+        ensures found { IsEndOf (missing_of self.entry) result }
     {
         self.tell_unread(rt)?;
         let missing = not_found(

@@ -8,7 +8,7 @@ ghost use Rattle.record_choice.specs.Entries.{entry_view};
 ghost use Rattle.record_choice.specs.Walks.{above, last_of};
 ghost use Rattle.record_history.specs.Spelled.{IsSpelledDeed};
 ghost use Rattle.record_history.specs.Views.{deed_view, event_view};
-ghost use Rattle.record_noted.specs.Histories.{StandsTold, StandsWith, rows_of};
+ghost use Rattle.record_noted.specs.Histories.{StandsWith, rows_of};
 ghost use Rattle.record_reads.specs.Events.{event_of as row_of};
 ghost use Rattle.cli_history.specs.Replays.{told_by};
 ghost use Rattle.cli_history.specs.Walks.{Glances, HasLines, IsNextEntries, IsNextPage, Looks, number_behind};
@@ -137,8 +137,8 @@ impl Entries {
         Entries { from: Some(1) }
     }
 
-    /// The next records; `None` at the end. The pages of a walk, joined, are the records of an archive that its history
-    /// explains, each of them once and in order. A failure is that of the store.
+    /// The next records; `None` at the end. The pages of a walk, joined, are the records of the archive, each of them once and
+    /// in order, whatever the history tells of them. A failure is that of the store.
     pub fn next_page<S: Alter>(
         &mut self,
         rt: &HostRuntime,
@@ -146,7 +146,7 @@ impl Entries {
     ) -> Result<Option<Vec<RecordEntry>>, Failure>
         ensures looks { Looks S.Store noted.old noted.new }
         ensures page { HasCleanDisk (state S.Store noted.new.store.conn) → (a : Archive)
-            → StandsTold S.Store noted.old a
+            → (ls : List (List ℕ)) → StandsWith S.Store noted.old a ls
             → IfOk result (IsNextEntries a self.old.from self.new.from) }
     {
         let Some(from) = self.from else {

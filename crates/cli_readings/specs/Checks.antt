@@ -13,8 +13,8 @@ use Rattle.cli_console.specs.Days.{is_by}
 use Rattle.cli_history.specs.Stored.{stored}
 use Rattle.cli_history.specs.declared.stored.StoredSeals.{StoredSeals}
 use Rattle.cli_texts.specs.Words.{number, words}
-use Rattle.cli_readings.specs.Lists.{greatest, one_more}
-use Rattle.cli_readings.specs.Sinks.{Writes}
+use Rattle.cli_console.specs.Counts.{counted, greatest, one_more}
+use Rattle.cli_console.specs.Sinks.{Writes}
 use Rattle.cli_readings.specs.declared.judge.Counting.{Counting}
 use Rattle.cli_readings.specs.declared.judge.Figures.{Figures}
 use Rattle.cli_readings.specs.declared.judge.Messages.{Messages}
@@ -120,14 +120,10 @@ pub record TellsContents {K : Type 0} (written : K → List ℕ → Type 0) (day
 
 -- ---- as it is counted
 
--- one more where it is so
-abbrev pub one_more_if : Bool → ℕ → ℕ
-one_more_if is_so count = if is_so then one_more count else count
-
 -- one more for each that is so
 abbrev pub more_where : (RecordEntry → Bool) → List RecordEntry → ℕ → ℕ
 more_where is_so [] n = n
-more_where is_so (e ∷ es) n = more_where is_so es (one_more_if (is_so e) n)
+more_where is_so (e ∷ es) n = more_where is_so es (counted (is_so e) n)
 
 -- the figures with these records too
 abbrev pub with_records : Date → List RecordEntry → Figures → Figures
@@ -153,7 +149,7 @@ pub record Counts (old : Counting) (a : Archive) (es : List RecordEntry) (new : 
 where_joined : (is_so : RecordEntry → Bool) (es fs : List RecordEntry) (n : ℕ)
     → more_where is_so fs (more_where is_so es n) ≡ more_where is_so (es ++ fs) n
 where_joined is_so [] fs n = refl
-where_joined is_so (e ∷ es) fs n = where_joined is_so es fs (one_more_if (is_so e) n)
+where_joined is_so (e ∷ es) fs n = where_joined is_so es fs (counted (is_so e) n)
 
 last_joined : (es fs : List RecordEntry) (n : ℕ) → last_number fs (last_number es n) ≡ last_number (es ++ fs) n
 last_joined [] fs n = refl
@@ -191,7 +187,7 @@ where_counted is_so (e ∷ es) n fits =
     go (is_so e) (where_counted is_so es) ∙ ap (λ k. min (n + k) greatest) (sym (sum_by-cons (λ x. if is_so x then 1 else 0) e es))
   where
     go : (b : Bool) → ((m : ℕ) → m ≤ greatest → more_where is_so es m ≡ min (m + count_by is_so es) greatest)
-        → more_where is_so es (one_more_if b n) ≡ min (n + ((if b then 1 else 0) + count_by is_so es)) greatest
+        → more_where is_so es (counted b n) ≡ min (n + ((if b then 1 else 0) + count_by is_so es)) greatest
     go true rest = rest (one_more n) (omega arith) ∙ omega arith
     go false rest = rest n fits ∙ omega arith
 

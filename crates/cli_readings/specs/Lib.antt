@@ -1,4 +1,4 @@
 pub mod Checks
 pub mod Lists
 pub mod Reports
-pub mod Sinks
+pub mod Shows

@@ -1,22 +1,23 @@
 -- What a list has of the records that are found.
 use Rattle.std.specs.Prelude.{◌≡◌, ℕ, Bool, true, false, ◌+◌, ◌-◌, ◌^◌, ◌==◌, if◌then◌else◌, min}
-use Rattle.std.specs.Prelude.{List, [], ◌∷◌, ◌++◌, length, codes, decimal, string_bytes, Ok, Some}
+use Rattle.std.specs.Prelude.{List, [], ◌∷◌, ◌++◌, length, codes, decimal}
 use Rattle.std.proofs.Common.{refl, sym, ap, ◌∙◌, subst, arith, ◌≤◌, zero-add}
 use Rattle.std.proofs.lemmas.Bool.{ne_eqb}
 use Rattle.std.proofs.lemmas.List.{append_assoc, append-nil}
-use Rattle.cli_texts.specs.declared.headers.Headers.{Headers}
 use Rattle.cli_texts.specs.declared.headers.ListedHeaders.{ListedHeaders}
 use Rattle.cli_texts.specs.declared.headers.ListedHeaders.TheVariants.{Unasked, Destroyed, Texts}
 use Rattle.cli_texts.specs.declared.records.Row.{Row}
-use Rattle.cli_texts.specs.Headers.{date_of, sender_of, subject_of, texts_in}
+use Rattle.cli_texts.specs.Headers.{texts_in}
 use Rattle.cli_texts.specs.Lines.{listed, texts_words}
 use Rattle.cli_texts.specs.Rows.{csv_line, listed_fields}
 use Rattle.command_lines.specs.declared.archives.Format.{Format}
 use Rattle.command_lines.specs.declared.archives.Format.TheVariants.{Lines, Csv, Json, Numbers, Count}
 use Rattle.command_lines.specs.declared.archives.Listing.{Listing}
-use Rattle.record_archive.specs.Archive.{Archive, message}
+use Rattle.record_archive.specs.Archive.{Archive}
 use Rattle.record_choice.specs.declared.entry.RecordEntry.{RecordEntry}
-use Rattle.cli_readings.specs.Sinks.{Writes, more_written, nothing_written}
+use Rattle.cli_console.specs.Counts.{greatest, one_more}
+use Rattle.cli_console.specs.Headers.{AreTextsOf}
+use Rattle.cli_console.specs.Sinks.{Writes, more_written, nothing_written}
 use Rattle.cli_readings.specs.declared.list.ListText.{ListText}
 
 -- ---- a record
@@ -30,20 +31,12 @@ pub record IsRowOf (e : RecordEntry) (r : Row) : Type 0 where
   pub holds : r.holds.now ≡ e.holds.items
   pub destroyed : r.destroyed ≡ e.destroyed
 
--- the texts of the header of the message of a record
-pub record AreTextsOf (a : Archive) (number : ℕ) (h : Headers) : Type 0 where
-  pub octets : List ℕ
-  pub of_it : message a number ≡ Ok (Some octets)
-  pub sender : string_bytes h.sender ≡ sender_of octets
-  pub subject : string_bytes h.subject ≡ subject_of octets
-  pub date : string_bytes h.date ≡ date_of octets
-
 -- what is listed of the header of its message: nothing where that is not asked for, and else its texts; they are left out only
 -- where the message is destroyed
-abbrev pub IsHeaderOf : (are_asked : Bool) → RecordEntry → ListedHeaders → Type 0
-IsHeaderOf are_asked e Unasked = are_asked ≡ false
-IsHeaderOf are_asked e Destroyed = (are_asked ≡ true) × (e.destroyed ≡ true)
-IsHeaderOf are_asked e (Texts headers) = are_asked ≡ true
+abbrev pub IsHeaderOf : Archive → (are_asked : Bool) → RecordEntry → ListedHeaders → Type 0
+IsHeaderOf a are_asked e Unasked = are_asked ≡ false
+IsHeaderOf a are_asked e Destroyed = (are_asked ≡ true) × (e.destroyed ≡ true)
+IsHeaderOf a are_asked e (Texts headers) = (are_asked ≡ true) × AreTextsOf a e.number headers.now
 
 -- what stands between two objects of JSON, and before the first one
 abbrev pub between : (is_first : Bool) → List ℕ
@@ -59,24 +52,20 @@ IsTextOf Numbers is_first r h text = text ≡ decimal r.number ++ 10 ∷ []
 IsTextOf Count is_first r h text = text ≡ []
 
 -- THE TEXT OF A RECORD in a list
-pub record IsListedAs (l : Listing) (is_first : Bool) (e : RecordEntry) (text : List ℕ) : Type 0 where
+pub record IsListedAs (a : Archive) (l : Listing) (is_first : Bool) (e : RecordEntry) (text : List ℕ) : Type 0 where
   pub row : Row
   pub row_is : IsRowOf e row
   pub headers : ListedHeaders
-  pub headers_are : IsHeaderOf l.headers e headers
+  pub headers_are : IsHeaderOf a l.headers e headers
   pub text_is : IsTextOf l.format is_first row headers text
 
 -- THE TEXT OF THESE RECORDS: that of each, once, in this order
-abbrev pub AreListedAs : Listing → (is_first : Bool) → List RecordEntry → List ℕ → Type 0
-AreListedAs l is_first [] text = text ≡ []
-AreListedAs l is_first (e ∷ es) text =
-    (row : List ℕ) × IsListedAs l is_first e row × (rest : List ℕ) × AreListedAs l false es rest × (text ≡ row ++ rest)
+abbrev pub AreListedAs : Archive → Listing → (is_first : Bool) → List RecordEntry → List ℕ → Type 0
+AreListedAs a l is_first [] text = text ≡ []
+AreListedAs a l is_first (e ∷ es) text =
+    (row : List ℕ) × IsListedAs a l is_first e row × (rest : List ℕ) × AreListedAs a l false es rest × (text ≡ row ++ rest)
 
 -- ---- a whole list
-
--- the greatest count, of 64 bits
-abbrev pub greatest : ℕ
-greatest = 2 ^ 64 - 1
 
 -- what stands before the records
 abbrev pub head_of : Format → (are_asked : Bool) → List ℕ
@@ -96,20 +85,16 @@ end_of Numbers count = []
 end_of Count count = decimal count ++ 10 ∷ []
 
 -- THE LIST OF THESE RECORDS
-pub record IsListOf (l : Listing) (es : List RecordEntry) (text : List ℕ) : Type 0 where
+pub record IsListOf (a : Archive) (l : Listing) (es : List RecordEntry) (text : List ℕ) : Type 0 where
   pub rows : List ℕ
-  pub are : AreListedAs l true es rows
+  pub are : AreListedAs a l true es rows
   pub whole : text ≡ head_of l.format l.headers ++ rows ++ end_of l.format (min (length es) greatest)
 
 -- the list of these records is written, and nothing else
-abbrev pub WritesList : {K : Type 0} (written : K → List ℕ → Type 0) → Listing → K → List RecordEntry → K → Type 0
-WritesList written l before es after = (text : List ℕ) × IsListOf l es text × Writes written before after text
+abbrev pub WritesList : {K : Type 0} (written : K → List ℕ → Type 0) → Archive → Listing → K → List RecordEntry → K → Type 0
+WritesList written a l before es after = (text : List ℕ) × IsListOf a l es text × Writes written before after text
 
 -- ---- as it is made
-
--- one more, up to the greatest count
-abbrev pub one_more : ℕ → ℕ
-one_more n = min (n + 1) greatest
 
 -- one more for each
 abbrev pub more_for : List RecordEntry → ℕ → ℕ
@@ -121,18 +106,19 @@ abbrev pub HasText : {K : Type 0} (written : K → List ℕ → Type 0) → List
 HasText written l text = (done : List ℕ) × written l.sink done × (done ++ l.text.items ≡ text)
 
 -- THESE RECORDS ARE ADDED to a list, each once, in this order, and nothing else
-pub record Lists {K : Type 0} (written : K → List ℕ → Type 0) (old : ListText K) (es : List RecordEntry) (new : ListText K) : Type 0 where
+pub record Lists {K : Type 0} (written : K → List ℕ → Type 0) (a : Archive) (old : ListText K) (es : List RecordEntry)
+    (new : ListText K) : Type 0 where
   pub rows : List ℕ
-  pub are : AreListedAs old.listing (old.count == 0) es rows
+  pub are : AreListedAs a old.listing (old.count == 0) es rows
   pub added : Writes (HasText written) old new rows
   pub counted : new.count ≡ more_for es old.count
   pub listing : new.listing ≡ old.listing
 
 -- one record is added to what is to be written
-pub record PushesRow {K : Type 0} (written : K → List ℕ → Type 0) (is_first : Bool) (old : ListText K) (e : RecordEntry)
+pub record PushesRow {K : Type 0} (written : K → List ℕ → Type 0) (a : Archive) (is_first : Bool) (old : ListText K) (e : RecordEntry)
     (new : ListText K) : Type 0 where
   pub row : List ℕ
-  pub is : IsListedAs old.listing is_first e row
+  pub is : IsListedAs a old.listing is_first e row
   pub added : Writes (HasText written) old new row
   pub counted : new.count ≡ one_more old.count
   pub listing : new.listing ≡ old.listing
@@ -148,14 +134,14 @@ not_first : (es : List RecordEntry) → first_after false es ≡ false
 not_first [] = refl
 not_first (e ∷ es) = refl
 
-rows_joined : (l : Listing) (is_first : Bool) (es fs : List RecordEntry) (t u : List ℕ) → AreListedAs l is_first es t
-    → AreListedAs l (first_after is_first es) fs u → AreListedAs l is_first (es ++ fs) (t ++ u)
-rows_joined l is_first [] fs t u one other = subst (λ s. AreListedAs l is_first fs (s ++ u)) (sym one) other
-rows_joined l is_first (e ∷ es) fs t u one other = (
+rows_joined : (a : Archive) (l : Listing) (is_first : Bool) (es fs : List RecordEntry) (t u : List ℕ) → AreListedAs a l is_first es t
+    → AreListedAs a l (first_after is_first es) fs u → AreListedAs a l is_first (es ++ fs) (t ++ u)
+rows_joined a l is_first [] fs t u one other = subst (λ s. AreListedAs a l is_first fs (s ++ u)) (sym one) other
+rows_joined a l is_first (e ∷ es) fs t u one other = (
   one.0,
   one.1,
   one.2 ++ u,
-  rows_joined l false es fs one.2 u one.3 (subst (λ b. AreListedAs l b fs u) (sym (not_first es)) other),
+  rows_joined a l false es fs one.2 u one.3 (subst (λ b. AreListedAs a l b fs u) (sym (not_first es)) other),
   ap (λ s. s ++ u) one.4 ∙ append_assoc one.0 one.2 u,
 )
 
@@ -174,37 +160,38 @@ pub count_of : (es : List RecordEntry) (n : ℕ) → n ≤ greatest → more_for
 count_of [] n fits = omega arith
 count_of (e ∷ es) n fits = count_of es (one_more n) (omega arith) ∙ omega arith
 
-module _ {K : Type 0} (written : K → List ℕ → Type 0) where
-  pub none_listed : (x : ListText K) → Lists written x [] x
+-- a text comes behind what is yet to be written
+pub text_kept : {K : Type 0} (written : K → List ℕ → Type 0) (x y : ListText K) (text : List ℕ) → y.sink ≡ x.sink
+    → y.text.items ≡ x.text.items ++ text → Writes (HasText written) x y text
+text_kept written x y text sink kept all had = (
+  had.0,
+  subst (λ s. written s had.0) (sym sink) had.1,
+  ap (λ t. had.0 ++ t) kept ∙ sym (append_assoc had.0 x.text.items text) ∙ ap (λ t. t ++ text) had.2,
+)
+
+module _ {K : Type 0} (written : K → List ℕ → Type 0) (a : Archive) where
+  pub none_listed : (x : ListText K) → Lists written a x [] x
   none_listed x = record { rows = []; are = refl; added = nothing_written (HasText written) x; counted = refl; listing = refl }
 
-  pub more_listed : (x y z : ListText K) (es fs : List RecordEntry) → Lists written x es y → Lists written y fs z → Lists written x (es ++ fs) z
+  pub more_listed : (x y z : ListText K) (es fs : List RecordEntry) → Lists written a x es y → Lists written a y fs z
+      → Lists written a x (es ++ fs) z
   more_listed x y z es fs one other = record {
     rows = one.rows ++ other.rows;
-    are = rows_joined x.listing (x.count == 0) es fs one.rows other.rows one.are
-        (subst (λ l. AreListedAs l (first_after (x.count == 0) es) fs other.rows) one.listing
-        (subst (λ b. AreListedAs y.listing b fs other.rows) (ap (λ n. n == 0) one.counted ∙ is_none es x.count) other.are));
+    are = rows_joined a x.listing (x.count == 0) es fs one.rows other.rows one.are
+        (subst (λ l. AreListedAs a l (first_after (x.count == 0) es) fs other.rows) one.listing
+        (subst (λ b. AreListedAs a y.listing b fs other.rows) (ap (λ n. n == 0) one.counted ∙ is_none es x.count) other.are));
     added = more_written (HasText written) x y z one.rows other.rows one.added other.added;
     counted = other.counted ∙ ap (more_for fs) one.counted ∙ counted_joined es fs x.count;
     listing = other.listing ∙ one.listing;
   }
 
-  -- a text comes behind what is yet to be written
-  pub text_kept : (x y : ListText K) (text : List ℕ) → y.sink ≡ x.sink → y.text.items ≡ x.text.items ++ text
-      → Writes (HasText written) x y text
-  text_kept x y text sink kept all had = (
-    had.0,
-    subst (λ s. written s had.0) (sym sink) had.1,
-    ap (λ t. had.0 ++ t) kept ∙ sym (append_assoc had.0 x.text.items text) ∙ ap (λ t. t ++ text) had.2,
-  )
-
-  pub row_pushed : (x y : ListText K) (is_first : Bool) (e : RecordEntry) (row : List ℕ) → IsListedAs x.listing is_first e row
+  pub row_pushed : (x y : ListText K) (is_first : Bool) (e : RecordEntry) (row : List ℕ) → IsListedAs a x.listing is_first e row
       → y.sink ≡ x.sink
-      → y.text.items ≡ x.text.items ++ row → y.count ≡ one_more x.count → y.listing ≡ x.listing → PushesRow written is_first x e y
+      → y.text.items ≡ x.text.items ++ row → y.count ≡ one_more x.count → y.listing ≡ x.listing → PushesRow written a is_first x e y
   row_pushed x y is_first e row is sink kept count listing =
-      record { row = row; is = is; added = text_kept x y row sink kept; counted = count; listing = listing }
+      record { row = row; is = is; added = text_kept written x y row sink kept; counted = count; listing = listing }
 
-  pub one_listed : (x y : ListText K) (e : RecordEntry) → PushesRow written (x.count == 0) x e y → Lists written x (e ∷ []) y
+  pub one_listed : (x y : ListText K) (e : RecordEntry) → PushesRow written a (x.count == 0) x e y → Lists written a x (e ∷ []) y
   one_listed x y e pushed = record {
     rows = pushed.row;
     are = (pushed.row, pushed.is, [], refl, sym (append-nil pushed.row));
@@ -215,7 +202,7 @@ module _ {K : Type 0} (written : K → List ℕ → Type 0) where
 
   -- what was yet to be written is written
   pub text_written : (x y : ListText K) → Writes written x.sink y.sink x.text.items → y.text.items ≡ [] → y.count ≡ x.count
-      → y.listing ≡ x.listing → Lists written x [] y
+      → y.listing ≡ x.listing → Lists written a x [] y
   text_written x y writes empty count listing = record {
     rows = [];
     are = refl;
@@ -230,16 +217,16 @@ module _ {K : Type 0} (written : K → List ℕ → Type 0) where
 
   -- a list that has begun with its head, has these records added to it and is ended with its end is that of these records
   pub whole_list : (l : Listing) (before : K) (es : List RecordEntry) (x y z u : ListText K) → x.sink ≡ before → x.listing ≡ l → x.text.items ≡ []
-      → x.count ≡ 0 → Writes (HasText written) x y (head_of l.format l.headers) → y.count ≡ x.count → y.listing ≡ x.listing → Lists written y es z
-      → Writes (HasText written) z u (end_of z.listing.format z.count) → u.text.items ≡ [] → WritesList written l before es u.sink
+      → x.count ≡ 0 → Writes (HasText written) x y (head_of l.format l.headers) → y.count ≡ x.count → y.listing ≡ x.listing → Lists written a y es z
+      → Writes (HasText written) z u (end_of z.listing.format z.count) → u.text.items ≡ [] → WritesList written a l before es u.sink
   whole_list l before es x y z u sink listing empty none head count same added end all =
       let counted : z.count ≡ min (length es) greatest =
       added.counted ∙ ap (more_for es) (count ∙ none) ∙ count_of es 0 (omega arith) ∙ ap (λ n. min n greatest) (zero-add (length es)) in
       let is : y.listing ≡ l = same ∙ listing in
       let ended : end_of z.listing.format z.count ≡ end_of l.format (min (length es) greatest) =
       ap (λ k. end_of k.format z.count) (added.listing ∙ is) ∙ ap (end_of l.format) counted in
-      let rows = subst (λ k. AreListedAs k true es added.rows) is
-      (subst (λ n. AreListedAs y.listing (n == 0) es added.rows) (count ∙ none) added.are) in
+      let rows = subst (λ k. AreListedAs a k true es added.rows) is
+      (subst (λ n. AreListedAs a y.listing (n == 0) es added.rows) (count ∙ none) added.are) in
       let head_text = head_of l.format l.headers in
       let end_text = end_of l.format (min (length es) greatest) in
       let text = head_text ++ added.rows ++ end_text in (

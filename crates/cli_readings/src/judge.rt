@@ -4,12 +4,13 @@ ghost use Rattle.std.specs.Prelude.{◌≡◌, ◌∷◌, ◌++◌, [], ℕ, Non
 ghost use Rattle.record_archive.specs.Archive.{Archive};
 ghost use Rattle.record_choice.specs.Reads.{OnlyReads};
 ghost use Rattle.cli_console.specs.Finds.{TakesThese};
-ghost use Rattle.cli_readings.specs.Checks.{AreNone, CountsMessages, CountsUnless, Counts, NotesSeal, TellsContents, contents_text, count_line, every_entry, is_kept, is_live_and_due, is_passed, more_counted, no_figures, none_counted, one_more_if, with_records};
-ghost use Rattle.cli_readings.specs.Sinks.{Writes};
+ghost use Rattle.cli_readings.specs.Checks.{AreNone, CountsMessages, CountsUnless, Counts, NotesSeal, TellsContents, contents_text, count_line, every_entry, is_kept, is_live_and_due, is_passed, more_counted, no_figures, none_counted, with_records};
+ghost use Rattle.cli_console.specs.Sinks.{Writes};
 
-use crate::sink::{Sink, StandardOutput};
 use class_plan::Date;
-use cli_console::{Failure, Reader, is_by, message_of, read_chosen, today};
+use cli_console::{
+    Failure, Reader, Sink, StandardOutput, counted, is_by, message_of, read_chosen, today,
+};
 use cli_history::StoredSeals;
 use cli_texts::Headers;
 use record_choice::{Choice, Repository};
@@ -17,17 +18,6 @@ use record_store::{EventLayout, RecordEntry, Store, StoreFault};
 use sqlite::Alter;
 use std::alloc::{AllocError, Global};
 use tool_texts::Shown;
-
-/// One more where it is so, up to the greatest count.
-fn counted(is_so: bool, count: u64) -> u64
-    ensures { result ≡ one_more_if is_so count }
-{
-    if is_so {
-        count.saturating_add(1)
-    } else {
-        count
-    }
-}
 
 /// Whether a record is live, and kept by a hold.
 fn is_held(entry: &RecordEntry) -> bool
@@ -174,10 +164,6 @@ impl Reader for Counting<'_> {
         Ok(())
     }
 
-    fn rest(&mut self) -> Result<(), Failure> {
-        Ok(())
-    }
-
     ghost takes_none = { λ counting a. none_counted counting a };
 
     ghost takes_more = { λ x y z a es fs one other. more_counted x y z a es fs one other };
@@ -271,7 +257,7 @@ pub fn write_contents<S: Alter>(
     archive: &mut Store<S>,
 ) -> Result<StoredSeals, Failure> {
     let is_noted = matches!(archive.event_layout(), EventLayout::Present);
-    let output = StandardOutput { rt };
+    let output = StandardOutput::new(rt);
     let (seals, _) = contents_to(rt, archive, today(rt)?, is_noted, output)?;
     Ok(seals)
 }

@@ -19,7 +19,6 @@ mod judge;
 mod list;
 mod report;
 mod show;
-mod sink;
 mod sums;
 mod twice;
 mod why;

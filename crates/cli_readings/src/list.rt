@@ -3,13 +3,13 @@
 ghost use Rattle.std.specs.Prelude.{◌≡◌, ◌∷◌, ◌++◌, [], ℕ, List, IfOk, IfSome, OnOk, is_none, true, string_bytes};
 ghost use Rattle.record_archive.specs.Archive.{Archive};
 ghost use Rattle.record_choice.specs.Reads.{OnlyReads};
+ghost use Rattle.cli_console.specs.Headers.{AreTextsOf};
 ghost use Rattle.cli_console.specs.Finds.{IsBounded, TakesThese, found_ahead, found_in};
-ghost use Rattle.cli_readings.specs.Lists.{AreTextsOf, HasText, IsHeaderOf, IsRowOf, IsTextOf, Lists, PushesRow, WritesList, between, end_of, head_of, more_listed, none_listed};
-ghost use Rattle.cli_readings.specs.Sinks.{Writes};
+ghost use Rattle.cli_readings.specs.Lists.{HasText, IsHeaderOf, IsRowOf, IsTextOf, Lists, PushesRow, WritesList, between, end_of, head_of, more_listed, none_listed};
+ghost use Rattle.cli_console.specs.Sinks.{Writes};
 
-use crate::sink::{Sink, StandardOutput};
 use cli_choice::Questions;
-use cli_console::{Failure, Reader, Search, message_of};
+use cli_console::{Failure, Reader, Search, Sink, StandardOutput, message_of};
 use cli_texts::{
     Headers, LIST_HEADER, LIST_HEADER_WITH_TEXTS, ListedHeaders, Row, headers_of, json_object,
     listed_line, listed_row,
@@ -173,8 +173,9 @@ impl<'a, K: Sink + Drop> ListText<'a, K> {
         headers: ListedHeaders<'_>,
         is_first: bool,
     ) -> Result<(), Failure>
-        requires { IsHeaderOf self.old.listing.headers entry.now headers }
-        ensures { OnOk result (PushesRow K.written is_first self.old entry.now self.new) }
+        ensures { OnOk result ((a : Archive)
+            → IsHeaderOf a self.old.listing.headers entry.now headers.entry
+            → PushesRow K.written a is_first self.old entry.now self.new) }
     {
         let row = row_of(entry);
         let text = row_text(
@@ -191,8 +192,9 @@ impl<'a, K: Sink + Drop> ListText<'a, K> {
 
     /// Adds the next record to what is to be written.
     fn add_row(&mut self, entry: &RecordEntry, headers: ListedHeaders<'_>) -> Result<(), Failure>
-        requires { IsHeaderOf self.old.listing.headers entry.now headers }
-        ensures { OnOk result (Lists K.written self.old (entry.now ∷ []) self.new) }
+        ensures { OnOk result ((a : Archive)
+            → IsHeaderOf a self.old.listing.headers entry.now headers.entry
+            → Lists K.written a self.old (entry.now ∷ []) self.new) }
     {
         let is_first = self.count == 0;
         self.push_row(entry, headers, is_first)?;
@@ -201,7 +203,7 @@ impl<'a, K: Sink + Drop> ListText<'a, K> {
 
     /// Writes what is not written yet.
     pub(crate) fn write(&mut self) -> Result<(), Failure>
-        ensures same { OnOk result (Lists K.written self.old [] self.new) }
+        ensures same { OnOk result ((a : Archive) → Lists K.written a self.old [] self.new) }
         ensures all { OnOk result (self.new.text.items ≡ []) }
     {
         self.sink.write(self.text.as_slice())?;
@@ -212,7 +214,7 @@ impl<'a, K: Sink + Drop> ListText<'a, K> {
     /// Writes what is not written yet, where it is long.
     #[tactic(auto, using(crate::specs::Lists::none_listed))]
     fn write_long(&mut self) -> Result<(), Failure>
-        ensures { OnOk result (Lists K.written self.old [] self.new) }
+        ensures { OnOk result ((a : Archive) → Lists K.written a self.old [] self.new) }
     {
         if self.text.len() < PIECE {
             return Ok(());
@@ -223,8 +225,9 @@ impl<'a, K: Sink + Drop> ListText<'a, K> {
 
     /// Adds a record, and writes the text where it is long.
     fn add(&mut self, entry: &RecordEntry, headers: ListedHeaders<'_>) -> Result<(), Failure>
-        requires { IsHeaderOf self.old.listing.headers entry.now headers }
-        ensures { OnOk result (Lists K.written self.old (entry.now ∷ []) self.new) }
+        ensures { OnOk result ((a : Archive)
+            → IsHeaderOf a self.old.listing.headers entry.now headers.entry
+            → Lists K.written a self.old (entry.now ∷ []) self.new) }
     {
         self.add_row(entry, headers)?;
         self.write_long()?;
@@ -239,7 +242,8 @@ impl<'a, K: Sink + Drop> ListText<'a, K> {
     ) -> Result<(), Failure>
         requires { self.old.listing.headers ≡ true }
         ensures reads { OnlyReads R.clean R.stands archive.old archive.new }
-        ensures added { OnOk result (Lists K.written self.old (entry.now ∷ []) self.new) }
+        ensures added { OnOk result (R.clean archive.new → (a : Archive)
+            → R.stands archive.old a → Lists K.written a self.old (entry.now ∷ []) self.new) }
     {
         match headers_of_record(self.rt, archive, entry)? {
             Some(headers) => self.add(entry, ListedHeaders::Texts(&headers)),
@@ -271,7 +275,7 @@ impl<'a, K: Sink + Drop> ListText<'a, K> {
 }
 
 impl<K: Sink + Drop> Reader for ListText<'_, K> {
-    ghost takes = { λ old a es new. Lists K.written old es new };
+    ghost takes = { λ old a es new. Lists K.written a old es new };
 
     /// Adds the record, with what the header of its message says where that is listed. Where the search has not read the
     /// message, it is read here.
@@ -295,9 +299,9 @@ impl<K: Sink + Drop> Reader for ListText<'_, K> {
         Ok(())
     }
 
-    ghost takes_none = { λ list a. none_listed K.written list };
+    ghost takes_none = { λ list a. none_listed K.written a list };
 
-    ghost takes_more = { λ x y z a es fs one other. more_listed K.written x y z es fs one other };
+    ghost takes_more = { λ x y z a es fs one other. more_listed K.written a x y z es fs one other };
 }
 
 /// Adds the records that are found to a list.
@@ -310,7 +314,7 @@ fn add_found<R: Repository<Fault = StoreFault>, K: Sink + Drop>(
     requires { IsBounded search.old }
     ensures reads { OnlyReads R.clean R.stands archive.old archive.new }
     ensures listed { OnOk result (R.clean archive.new → (a : Archive) → R.stands archive.old a
-        → TakesThese (λ old b es new. Lists K.written old es new) list.old a
+        → TakesThese (λ old b es new. Lists K.written b old es new) list.old a
         (found_ahead search.old a) list.new) }
 {
     if list.listing.headers {
@@ -334,7 +338,7 @@ fn list_to<'s, 'a, R: Repository<Fault = StoreFault>, K: Sink + Drop>(
     ensures reads { OnlyReads R.clean R.stands archive.old archive.new }
     ensures listed { IfOk result (λ ended. R.clean archive.new → (a : Archive)
         → R.stands archive.old a
-        → TakesThese (λ before b es after. WritesList K.written listing before es after) sink a
+        → TakesThese (λ before b es after. WritesList K.written b listing before es after) sink a
         (found_in choice.now questions.now a) ended.1) }
 {
     let mut search = Search::new(rt, archive, choice, questions)?;
@@ -355,7 +359,7 @@ pub fn write_list<S: Alter>(
     questions: &Questions,
     listing: Listing,
 ) -> Result<(), Failure> {
-    let output = StandardOutput { rt };
+    let output = StandardOutput::new(rt);
     let (search, _) = list_to(rt, archive, choice, questions, listing, output)?;
     search.end(rt, archive)
 }

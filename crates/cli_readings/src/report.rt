@@ -86,10 +86,6 @@ impl Reader for Reporting<'_> {
         }
     }
 
-    fn rest(&mut self) -> Result<(), Failure> {
-        Ok(())
-    }
-
     ghost takes_none = { λ reporting a. refl };
 
     ghost takes_more = { λ x y z a es fs one other.

@@ -1,12 +1,21 @@
 //! `show`: the message of a record.
 
+ghost use Rattle.std.specs.Prelude.{◌≡◌, IfOk, Ok, OnOk, Some, true};
+ghost use Rattle.record_archive.specs.Archive.{Archive, message};
+ghost use Rattle.record_choice.specs.Reads.{OnlyReads};
+ghost use Rattle.record_history.specs.Replay.{seal};
+ghost use Rattle.cli_history.specs.Seals.{fidelity, known};
+ghost use Rattle.cli_readings.specs.Shows.{IsEntryOf, is_unaltered};
+
 use cli_console::{Failure, Status, write_data, write_text};
 use cli_history::{Fidelity, Seals, altered_words};
 use command_lines::archives::TypedNumber;
 use mail_head::read_head;
 use mail_words::value_of;
-use record_store::{RecordEntry, Store};
+use record_choice::Repository;
+use record_store::{RecordEntry, Store, StoreFault};
 use sqlite::Alter;
+use std::alloc::Global;
 use tool_texts::{Shown, put};
 
 /// Writes the fields of a message as the archive reads them, a line each, numbered from 1.
@@ -24,53 +33,72 @@ fn write_fields(rt: &HostRuntime, message: &[u8]) -> Result<(), Failure> {
     write_text(rt, &text)
 }
 
-/// The number of the refusal of a record that is not there.
-const NO_RECORD: u8 = 80;
-
-/// The entry of a record. `BadData` where there is none of its number.
-pub fn entry_of<S: Alter>(
-    rt: &HostRuntime,
-    archive: &mut Store<S>,
-    record: TypedNumber<'_>,
-) -> Result<RecordEntry, Failure> {
-    let mut page = archive
-        .entries(record.number, 1)
-        .map_err(|fault| Failure::of_store(rt.alloc(), record.word, fault))?;
-    match page.pop() {
-        Some(entry) if entry.number == record.number => Ok(entry),
-        _ => Err(Failure::numbered(rt.alloc(), Status::BadData, record.word, NO_RECORD)),
-    }
+/// The entry of a record. `BadData` where there is none of its number (80).
+pub(crate) fn entry_of<R: Repository<Fault = StoreFault>>(
+    alloc: Global,
+    archive: &mut R,
+    typed: TypedNumber<'_>,
+) -> Result<RecordEntry, Failure>
+    ensures reads { OnlyReads R.clean R.stands archive.old archive.new }
+    ensures told { IfOk result (λ e. R.clean archive.new → (a : Archive) → R.stands archive.old a
+        → IsEntryOf a typed.entry.number e) }
+{
+    archive
+        .entry(typed.number)
+        .map_err(|fault| Failure::of_store(alloc, typed.word, fault))
 }
 
-/// Finds that the message of an entry is the one that was captured, where the store keeps a history. `BadData` where it is not.
-fn judge_message<S: Alter>(
-    rt: &HostRuntime,
-    archive: &mut Store<S>,
+/// Finds that octets are those that were captured as the message of an entry, as far as its seal is known. `BadData` where they
+/// are not.
+fn judge_octets(
+    alloc: Global,
+    seals: &Seals,
     entry: &RecordEntry,
-    message: &[u8],
-) -> Result<(), Failure> {
-    let seals = Seals::of_message(rt, archive, entry.message)?;
-    match seals.is_captured(rt.alloc(), entry.message, message)? {
+    octets: &[u8],
+) -> Result<(), Failure>
+    ensures { OnOk result
+        (is_unaltered (fidelity (known seals.now entry.now.message) (seal octets.now)) ≡ true) }
+{
+    match seals.is_captured(alloc, entry.message, octets)? {
         Fidelity::Unsealed | Fidelity::Same => Ok(()),
         Fidelity::Altered(event) => Err(Failure::shown(
             Status::BadData,
-            altered_words(rt.alloc(), entry.number, event),
+            altered_words(alloc, entry.number, event),
         )),
     }
 }
 
+/// The octets of the message of an entry. `BadData` where it is destroyed, and where they are not those that were captured, as
+/// far as its seal is known.
+fn octets_of<R: Repository<Fault = StoreFault>>(
+    alloc: Global,
+    archive: &mut R,
+    typed: TypedNumber<'_>,
+    entry: &RecordEntry,
+    seals: &Seals,
+) -> Result<Vec<u8>, Failure>
+    ensures reads { OnlyReads R.clean R.stands archive.old archive.new }
+    ensures told { IfOk result (λ octets. R.clean archive.new → (a : Archive)
+        → R.stands archive.old a → message a entry.now.number ≡ Ok (Some octets.items)) }
+    ensures captured { IfOk result (λ octets. is_unaltered
+        (fidelity (known seals.now entry.now.message) (seal octets.items)) ≡ true) }
+{
+    let octets = archive
+        .message(entry.number)
+        .map_err(|fault| Failure::of_store(alloc, typed.word, fault))?;
+    judge_octets(alloc, seals, entry, octets.as_slice())?;
+    Ok(octets)
+}
+
 /// The message of an entry. `BadData` where it is destroyed, and where it is not the one that was captured.
-pub fn message_of_entry<S: Alter>(
+pub(crate) fn message_of_entry<S: Alter>(
     rt: &HostRuntime,
     archive: &mut Store<S>,
-    record: TypedNumber<'_>,
+    typed: TypedNumber<'_>,
     entry: &RecordEntry,
 ) -> Result<Vec<u8>, Failure> {
-    let message = archive
-        .message(entry.number)
-        .map_err(|fault| Failure::of_store(rt.alloc(), record.word, fault))?;
-    judge_message(rt, archive, entry, message.as_slice())?;
-    Ok(message)
+    let seals = Seals::of_message(rt, archive, entry.message)?;
+    octets_of(rt.alloc(), archive, typed, entry, &seals)
 }
 
 /// The message of a record. `BadData` where there is no record of its number, where it is destroyed, and where its message is
@@ -78,10 +106,10 @@ pub fn message_of_entry<S: Alter>(
 pub fn message_of_record<S: Alter>(
     rt: &HostRuntime,
     archive: &mut Store<S>,
-    record: TypedNumber<'_>,
+    typed: TypedNumber<'_>,
 ) -> Result<Vec<u8>, Failure> {
-    let entry = entry_of(rt, archive, record)?;
-    message_of_entry(rt, archive, record, &entry)
+    let entry = entry_of(rt.alloc(), archive, typed)?;
+    message_of_entry(rt, archive, typed, &entry)
 }
 
 /// Writes a message to standard output, octet by octet, or the fields of its header.

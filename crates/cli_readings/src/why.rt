@@ -114,7 +114,7 @@ pub fn read_captured<S: Alter>(
     record: TypedNumber<'_>,
 ) -> Result<Captured, Failure> {
     let plan = archive.plan().copy()?;
-    let entry = entry_of(rt, archive, record)?;
+    let entry = entry_of(rt.alloc(), archive, record)?;
     let message = if entry.destroyed {
         None
     } else {

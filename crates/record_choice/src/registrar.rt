@@ -14,8 +14,8 @@ pub trait Registrar {
     /// A certificate that is made out.
     type Draft: Drop;
 
-    /// What a draft says.
-    ghost says: { Self.Draft → Certificate → Type 0 };
+    /// What its draft says.
+    ghost says: { Self → Self.Draft → Certificate → Type 0 };
 
     /// A certificate was handed over, and nothing else happened.
     ghost takes: { Self → Self → Certificate → Type 0 };
@@ -25,11 +25,11 @@ pub trait Registrar {
 
     /// Makes out the certificate of a record that is about to be destroyed.
     fn draft(&self, destroyed: &Destroyed) -> Result<Self::Draft, Self::Fault>
-        ensures { IfOk result (λ d. says d (certificate_view destroyed.now)) };
+        ensures { IfOk result (λ d. says self.now d (certificate_view destroyed.now)) };
 
     /// Takes the certificate of a record that was just destroyed. A failure ends the disposal.
     fn take(&mut self, draft: Self::Draft) -> Result<(), Self::Fault>
         requires { is_open self.old }
-        ensures taken { (c : Certificate) → says draft c → takes self.old self.new c }
+        ensures taken { (c : Certificate) → says self.old draft c → takes self.old self.new c }
         ensures open { OnOk result (is_open self.new) };
 }

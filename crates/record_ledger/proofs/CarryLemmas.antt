@@ -19,7 +19,7 @@ use Rattle.record_store.specs.Stores.{LacksRecord, Falls, Fate, Left, ShutAfter,
 use Rattle.record_store.proofs.RecordsLemmas.{met_before, shut_before}
 use Rattle.record_noted.specs.Histories.{IsTold, LeavesTold, Notes, StandsTold}
 use Rattle.record_noted.specs.Keepers.{FateTold, keeper_of}
-use Rattle.record_noted.specs.Readings.{LeavesToldNow, ReadsTold, TellsTold}
+use Rattle.record_noted.specs.Readings.{LeavesToldNow, ReadsWith}
 use Rattle.record_noted.specs.declared.store.NotedStore.{NotedStore}
 
 -- what the command has made, which the store stands for
@@ -152,32 +152,31 @@ module _ {S X : Type 0} (g : Ghosts S) (old mid : NotedStore S) (found : IsFound
 -- on a connection that was found open, something is read
 module _ {S X : Type 0} (g : Ghosts S) (old mid new : NotedStore S) (found : IsFoundOpen g old mid) (Answers : Archive → X → Type 0)
     (Refuses : Archive → ArchiveRefusal → Type 0) where
-  told_stands : (result : Result X StoreFault) → TellsTold g mid new result Answers Refuses → (a : Archive) → StandsTold g mid a → StandsTold g new a
-  told_stands (Ok x) tells a s = (tells a s).0
-  told_stands (Err f) tells a s = (tells a s).0
+  still_told : (result : Result X StoreFault) → ReadsWith g mid new result Answers Refuses → (a : Archive) → StandsTold g mid a → StandsTold g new a
+  still_told result reads a s = (s.0, reads.lines a s.0 s.1, s.2)
 
-  met_now : (result : Result X StoreFault) → ReadsTold g mid new result Answers Refuses → Met g old new
+  met_now : (result : Result X StoreFault) → ReadsWith g mid new result Answers Refuses → Met g old new
   met_now result reads = met_read g old mid new found.met found.same found.opened reads.falls reads.crash
 
   -- and the connection is open still
-  pub open_still : (result : Result X StoreFault) → ReadsTold g mid new result Answers Refuses
+  pub open_still : (result : Result X StoreFault) → ReadsWith g mid new result Answers Refuses
       → (HasCleanDisk (state g new.store.conn) → IsTrue (state g new.store.conn).is_open) → IsFoundOpen g old new
   open_still result reads opened = record {
-    same = λ a s. told_stands result reads.tells a (found.same a s);
+    same = λ a s. still_told result reads a (found.same a s);
     fell = λ clean. found.fell (reads.falls clean);
     opened = opened;
     met = met_now result reads;
   }
 
   -- what is read refuses the command
-  pub refused_by : {Y : Type 0} (f : StoreFault) → ReadsTold g mid new (Err f) Answers Refuses → (command : Archive → Result Archive ArchiveRefusal)
+  pub refused_by : {Y : Type 0} (f : StoreFault) → ReadsWith g mid new (Err f) Answers Refuses → (command : Archive → Result Archive ArchiveRefusal)
       → ((a : Archive) (r : ArchiveRefusal) → Refuses a r → command a ≡ Err r) → (Wanted : Archive → Y → Type 0) → (result : Result Y StoreFault)
       → IsErr result → IsErrAnd result (λ x. x ≡ f) → CarriesOut (keeper_of g) old new command Wanted result
   refused_by f reads command refuses Wanted (Err e) is e_is = record {
     was_clean = λ clean. found.fell (reads.falls clean);
     does = λ a s.
-        let told = reads.tells a (found.same a s) in
-        (told.0, λ clean r refused. refuses a r (told.1 clean r (sym e_is ∙ refused)));
+        let there = found.same a s in
+        (still_told (Err f) reads a there, λ clean r refused. refuses a r (reads.tells a there.0 there.1 clean r (sym e_is ∙ refused)));
     crash = λ clean a s fate may. inl (met_now (Err f) reads a s clean fate may);
     kept = tt;
   }
@@ -185,25 +184,27 @@ module _ {S X : Type 0} (g : Ghosts S) (old mid new : NotedStore S) (found : IsF
 
 -- on a connection that was found open, something is read, which the archive never refuses
 pub read_out : {S X : Type 0} (g : Ghosts S) (old mid new : NotedStore S) (found : IsFoundOpen g old mid) (Answers : Archive → X → Type 0)
-    → LeavesToldNow g new → (result : Result X StoreFault) → ReadsTold g mid new result Answers (λ a r. ⊥)
+    → LeavesToldNow g new → (result : Result X StoreFault) → ReadsWith g mid new result Answers (λ a r. ⊥)
     → ((a : Archive) → StandsTold g mid a → HasCleanDisk (state g new.store.conn) → IsTrue (state g mid.store.conn).is_open
     → OnOk result (IsTrue (state g new.store.conn).is_open)) → CarriesOut (keeper_of g) old new unchanged Answers result
 read_out g old mid new found Answers left (Ok x) reads stays = record {
   was_clean = λ clean. found.fell (reads.falls clean);
   does = λ clean a s.
-      let told = reads.tells a (found.same a s) in
-      (told.0, told.1 clean);
+      let there = found.same a s in
+      (still_told g old mid new found Answers (λ b r. ⊥) (Ok x) reads a there, reads.tells a there.0 there.1 clean);
   crash = λ clean a s fate may. inl (met_now g old mid new found Answers (λ b r. ⊥) (Ok x) reads a s clean fate may);
   kept = λ clean a s fate may.
       let there = found.same a s in
       let on = stays a there clean (found.opened (reads.falls clean)) in
-      (a, refl, kept_now g new left clean on a (reads.tells a there).0 fate may);
+      (a, refl, kept_now g new left clean on a (still_told g old mid new found Answers (λ b r. ⊥) (Ok x) reads a there) fate may);
 }
 read_out g old mid new found Answers left (Err f) reads stays = record {
   was_clean = λ clean. found.fell (reads.falls clean);
   does = λ a s.
-      let told = reads.tells a (found.same a s) in
-      (told.0, λ clean r refused. absurd (told.1 clean r refused));
+      let there = found.same a s in (
+        still_told g old mid new found Answers (λ b r. ⊥) (Err f) reads a there,
+        λ clean r refused. absurd (reads.tells a there.0 there.1 clean r refused),
+      );
   crash = λ clean a s fate may. inl (met_now g old mid new found Answers (λ b r. ⊥) (Err f) reads a s clean fate may);
   kept = tt;
 }

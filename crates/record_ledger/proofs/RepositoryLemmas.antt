@@ -10,22 +10,18 @@ use Rattle.record_archive.specs.declared.fault.ArchiveRefusal.{ArchiveRefusal}
 use Rattle.record_choice.specs.Reads.{OnlyReads}
 use Rattle.record_store.specs.Faults.{StoreFault}
 use Rattle.record_noted.specs.Histories.{StandsTold}
-use Rattle.record_noted.specs.Readings.{ReadsTold, TellsTold}
+use Rattle.record_noted.specs.Readings.{ReadsWith}
 use Rattle.record_noted.specs.declared.store.NotedStore.{NotedStore}
 
 -- what is read of a store with a history
 module _ {S X : Type 0} (g : Ghosts S) (old new : NotedStore S) (Answers : Archive → X → Type 0) (Refuses : Archive → ArchiveRefusal → Type 0) where
-  told_stands : (result : Result X StoreFault) → TellsTold g old new result Answers Refuses → (a : Archive) → StandsTold g old a → StandsTold g new a
-  told_stands (Ok x) tells a s = (tells a s).0
-  told_stands (Err f) tells a s = (tells a s).0
-
-  pub reads_noted : (result : Result X StoreFault) → ReadsTold g old new result Answers Refuses
+  pub reads_noted : (result : Result X StoreFault) → ReadsWith g old new result Answers Refuses
       → OnlyReads (λ n. HasCleanDisk (state g n.store.conn)) (StandsTold g) old new
-  reads_noted result reads = record { stands = told_stands result reads.tells; falls = reads.falls }
+  reads_noted result reads = record { stands = λ a s. (s.0, reads.lines a s.0 s.1, s.2); falls = reads.falls }
 
-  pub tells_noted : (result : Result X StoreFault) → ReadsTold g old new result Answers Refuses
+  pub tells_noted : (result : Result X StoreFault) → ReadsWith g old new result Answers Refuses
       → IfOk result (λ x. HasCleanDisk (state g new.store.conn) → (a : Archive) → StandsTold g old a → Answers a x)
-  tells_noted (Ok x) reads = λ clean a s. (reads.tells a s).1 clean
+  tells_noted (Ok x) reads = λ clean a s. reads.tells a s.0 s.1 clean
   tells_noted (Err f) reads = tt
 
 -- a command that is carried out

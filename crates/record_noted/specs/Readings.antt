@@ -1,5 +1,5 @@
 -- Calls that only read a store with a history, and what a crash leaves of it between two calls.
-use Rattle.std.specs.Prelude.{◌≡◌, ℕ, Some, Result, Ok, Err, IsTrue}
+use Rattle.std.specs.Prelude.{◌≡◌, ℕ, List, Some, Result, Ok, Err, IsTrue}
 use Rattle.std.specs.Option.{unwrap_or}
 use Rattle.sqlite.specs.Store.{Ghosts}
 use Rattle.sqlite.specs.State.{HasCleanDisk}
@@ -13,23 +13,22 @@ use Rattle.record_archive.specs.Faults.{WhereRefused}
 use Rattle.record_archive.specs.declared.fault.ArchiveRefusal.{ArchiveRefusal}
 use Rattle.record_store.specs.Faults.{StoreFault}
 use Rattle.record_store.specs.Stores.{LeavesAll, Falls}
-use Rattle.record_noted.specs.Histories.{KeepsLines, StandsTold, TreesTold}
+use Rattle.record_noted.specs.Histories.{KeepsLines, StandsTold, StandsWith, TreesTold}
 use Rattle.record_noted.specs.declared.store.NotedStore.{NotedStore}
 
 module _ {S : Type 0} (g : Ghosts S) (old new : NotedStore S) where
-  -- A call reads: the store stands for the same archive, which its history still explains, and while the disk is clean the
-  -- answer is the archive's.
-  abbrev pub TellsTold : {X : Type 0} → Result X StoreFault → (Archive → X → Type 0) → (Archive → ArchiveRefusal → Type 0) → Type 0
-  TellsTold (Ok x) Answers Refuses = (a : Archive) → StandsTold g old a → StandsTold g new a ×
-      (HasCleanDisk (state g new.store.conn) → Answers a x)
-  TellsTold (Err f) Answers Refuses = (a : Archive) → StandsTold g old a → StandsTold g new a ×
-      (HasCleanDisk (state g new.store.conn) → WhereRefused (Refuses a) f)
+  -- while the disk is clean, the answer is that of the archive for which the store stands, whichever lines are beside it
+  abbrev pub TellsWith : {X : Type 0} → Result X StoreFault → (Archive → X → Type 0) → (Archive → ArchiveRefusal → Type 0) → Type 0
+  TellsWith (Ok x) Answers Refuses = (a : Archive) → (ls : List (List ℕ)) → StandsWith g old a ls →
+      HasCleanDisk (state g new.store.conn) → Answers a x
+  TellsWith (Err f) Answers Refuses = (a : Archive) → (ls : List (List ℕ)) → StandsWith g old a ls →
+      HasCleanDisk (state g new.store.conn) → WhereRefused (Refuses a) f
 
-  -- Besides, the lines beside the archive are the very same, a disk that is clean after the call was clean before it, and a crash
-  -- leaves what it might have left before.
-  pub record ReadsTold {X : Type 0} (result : Result X StoreFault) (Answers : Archive → X → Type 0)
+  -- A call reads: it tells of the archive, the store stands for the same one beside the very same lines, a disk that is clean
+  -- after the call was clean before it, and a crash leaves what it might have left before.
+  pub record ReadsWith {X : Type 0} (result : Result X StoreFault) (Answers : Archive → X → Type 0)
       (Refuses : Archive → ArchiveRefusal → Type 0) : Type 0 where
-    pub tells : TellsTold result Answers Refuses
+    pub tells : TellsWith result Answers Refuses
     pub lines : KeepsLines g old new
     pub falls : Falls g old.store new.store
     pub crash : LeavesAll g old.store new.store

@@ -12,7 +12,7 @@ ghost use Rattle.record_archive.specs.Lines.{line_view};
 ghost use Rattle.record_choice.specs.Entries.{entries_from, entry_of, entry_view, OfRecord};
 ghost use Rattle.record_store.specs.Stores.{Falls, IsOpenOnOk, LacksRecord};
 ghost use Rattle.record_noted.specs.Histories.{IsTrouble, KeepsLines, StandsTold};
-ghost use Rattle.record_noted.specs.Readings.{IsScheduleOfRecord, LeavesToldNow, ReadsTold};
+ghost use Rattle.record_noted.specs.Readings.{IsScheduleOfRecord, LeavesToldNow, ReadsWith};
 
 use crate::store::NotedStore;
 use class_plan::{Date, Plan, Schedule};
@@ -72,7 +72,7 @@ impl<S: Alter> NotedStore<S> {
     /// The records from a number on, in the order of their numbers, at most `most` of them. The only refusals are 89
     /// (`sqlite`) and 99 (no memory).
     pub fn entries(&mut self, from: u32, most: usize) -> Result<Vec<RecordEntry>, StoreFault>
-        ensures { ReadsTold S.Store self.old self.new result
+        ensures { ReadsWith S.Store self.old self.new result
             (λ a v. map entry_view v.items ≡ take most (entries_from a from)) (λ a f. ⊥) }
     {
         self.store.entries(from, most)
@@ -80,7 +80,7 @@ impl<S: Alter> NotedStore<S> {
 
     /// The record with a number. Refused with 80 (no such record), 89 (`sqlite`) or 99 (no memory).
     pub fn entry(&mut self, number: u32) -> Result<RecordEntry, StoreFault>
-        ensures { ReadsTold S.Store self.old self.new result
+        ensures { ReadsWith S.Store self.old self.new result
             (λ a e. OfRecord a number (λ r. entry_view e ≡ entry_of a r))
             (λ a f. f ≡ ArchiveRefusal.NoRecord) }
     {
@@ -93,7 +93,7 @@ impl<S: Alter> NotedStore<S> {
 
     /// The schedule of a record's class. Refused with 80 (no such record), 89 (`sqlite`) or 99 (no memory).
     pub fn schedule_of(&mut self, number: u32) -> Result<Schedule, StoreFault>
-        ensures reads { ReadsTold S.Store self.old self.new result (IsScheduleOfRecord number)
+        ensures reads { ReadsWith S.Store self.old self.new result (IsScheduleOfRecord number)
             (LacksRecord number) }
         ensures lines { KeepsLines S.Store self.old self.new }
         ensures range { IfOk result (λ s. IsInRange s) }
@@ -108,7 +108,7 @@ impl<S: Alter> NotedStore<S> {
 
     /// The octets of a record's message. Refused with 80 (no such record), 84 (destroyed), 89 (`sqlite`) or 99 (no memory).
     pub fn message(&mut self, number: u32) -> Result<Vec<u8>, StoreFault>
-        ensures { ReadsTold S.Store self.old self.new result
+        ensures { ReadsWith S.Store self.old self.new result
             (λ a v. archive.message a number ≡ Ok (Some v.items))
             (λ a f. archive.message a number ≡ Err f) }
     {
@@ -117,7 +117,7 @@ impl<S: Alter> NotedStore<S> {
 
     /// The due list of a day. The only refusals are 89 (`sqlite`) and 99 (no memory).
     pub fn due(&mut self, day: Date) -> Result<Vec<Line>, StoreFault>
-        ensures reads { ReadsTold S.Store self.old self.new result
+        ensures reads { ReadsWith S.Store self.old self.new result
             (λ a v. map line_view v.items ≡ due_list_on a (epoch_day day)) (λ a f. ⊥) }
         ensures open { (a : Archive) → StandsTold S.Store self.old a
             → HasCleanDisk (state S.Store self.new.store.conn)

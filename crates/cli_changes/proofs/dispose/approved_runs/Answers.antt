@@ -1,6 +1,5 @@
-use Rattle.std.proofs.Common.{◌≡◌, ◌∙◌, sym, ap, subst}
+use Rattle.std.proofs.Common.{◌∙◌, sym}
 use Rattle.record_archive.specs.Archive.{Archive}
-use Rattle.cli_changes.specs.Runs.{is_refused}
 use Rattle.cli_changes.proofs.RunLaws.{none_refused, unaltered_all}
 use Rattle.cli_changes.proofs.dispose.approved_runs.Goals as goal
 

@@ -1,9 +1,8 @@
-use Rattle.std.proofs.Common.{◌≡◌, [], true, Bool, List, refl, sym, subst}
+use Rattle.std.proofs.Common.{[], true, refl, sym, subst}
 use Rattle.jiff.specs.Words.{epoch_day}
 use Rattle.record_archive.specs.Archive.{Archive}
-use Rattle.record_choice.specs.Disposals.{Certificate}
 use Rattle.record_ledger.specs.Ledgers.{KeptFor, kept_archive}
-use Rattle.cli_changes.specs.Destructions.{DisposesUnaltered, IsDisposal}
+use Rattle.cli_changes.specs.Destructions.{DisposesUnaltered}
 use Rattle.cli_changes.specs.Runs.{records_of}
 use Rattle.cli_changes.proofs.RunDisposals.{approved_disposed, failed, none_unaltered, whatever_comes}
 use Rattle.cli_changes.proofs.dispose.destroy_asked.Goals as goal

@@ -1,4 +1,4 @@
-use Rattle.std.proofs.Common.{◌≡◌, ◌∙◌, sym, ap, subst}
+use Rattle.std.proofs.Common.{sym, ap, subst}
 use Rattle.std.specs.Prelude.{is_ok}
 use Rattle.jiff.specs.Words.{epoch_day}
 use Rattle.record_archive.specs.Archive.{Archive}

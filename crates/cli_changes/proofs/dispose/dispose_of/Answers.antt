@@ -11,8 +11,8 @@ use Rattle.cli_changes.proofs.dispose.dispose_of.Goals as goal
 
 pub returns-in-Listed : goal.returns-in-Listed
 returns-in-Listed g c = record {
-  falls = λ clean. c.list_asked.ensures.reads.falls clean;
-  listed = λ e. (refl, c.list_asked.ensures.reads);
+  falls = λ clean. c.write_asked.ensures.reads.falls clean;
+  listed = λ e. (refl, c.write_asked.ensures.reads);
   destroyed = λ (damage : Damage) e. absurd cc;
 }
 

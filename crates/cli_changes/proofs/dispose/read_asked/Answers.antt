@@ -1,4 +1,4 @@
-use Rattle.std.proofs.Common.{◌≡◌, ◌∙◌, sym, ap, map, subst}
+use Rattle.std.proofs.Common.{◌∙◌, sym, ap, map, subst}
 use Rattle.std.specs.List.Sorted.{IsPermutation}
 use Rattle.record_archive.specs.Archive.{Archive}
 use Rattle.record_archive.specs.Lines.{line_view}

@@ -1,7 +1,8 @@
-use Rattle.std.proofs.Common.{◌≡◌, ◌∙◌, ap, subst}
+use Rattle.std.proofs.Common.{◌≡◌, ◌∙◌, [], ap, subst}
 use Rattle.record_archive.specs.Archive.{Archive}
 use Rattle.record_ledger.specs.Ledgers.{keeper_of, kept_archive}
-use Rattle.cli_console.specs.Finds.{found_ahead, found_in}
+use Rattle.cli_console.proofs.Noted.{has_singles}
+use Rattle.cli_console.specs.Finds.{HasSingles, found_ahead, found_in, missing_of}
 use Rattle.cli_changes.specs.Holdings.{changed_numbers, changed_on, hold_command, meant_numbers}
 use Rattle.cli_changes.specs.Series.{IsTriedOn, StopsIn}
 use Rattle.cli_changes.proofs.ChangeLaws.{all_first, hold_changes, hold_stops, hold_well, none_changed}
@@ -45,28 +46,39 @@ changed g c clean a s =
     c.args.name.now c.args.choice.now c.args.questions.now c.in_ok-changed.changed.is_any c.in_ok-changed.changed.is_refused
     (tried g c clean a s)
 
+-- and each number that is typed by itself is found, where none is missing
+each_found : (g : Over) (c : In_ok-changed g) → missing_of c.meant_of.new.search ≡ [] → (keeper_of g.S.Store).clean c.change_each.new.archive
+    → (a : Archive) → (keeper_of g.S.Store).stands c.args.archive.now a
+    → HasSingles c.args.choice.now.numbers.items (found_in c.args.choice.now c.args.questions.now a)
+each_found g c none clean a s =
+    has_singles c.args.choice.now (found_in c.args.choice.now c.args.questions.now a) c.in_ok-search.search c.meant_of.new.search a
+    c.in_ok-search.ensures.typed c.in_ok-search.ensures.none
+    (c.in_ok-search.ensures.found a (kept_archive g.S.Store c.args.archive.now.kept a s))
+    (c.in_ok-meant.ensures.ended (c.change_each.ensures.falls clean) a s) none
+
 pub returns-clause-done : goal.returns-clause-done
 returns-clause-done g c =
     let at = (goal.at.returns-clause-done g c).In_ok-changed in
     on_ok_both c.end_change.result c.end_change.ensures.held c.end_change.ensures.accepted (λ seen well clean (a : Archive) s.
-    let then = c.end.ensures.falls (c.end_change.ensures.reads.falls clean) in
+    let then = c.end.ensures.reads.falls (c.end_change.ensures.reads.falls clean) in
     let after = changed_on c.args.change c.args.name.now
     (changed_numbers c.args.change c.args.name.now (found_in c.args.choice.now c.args.questions.now a)) a in (
-      c.end_change.ensures.reads.stands after (c.end.ensures.stands after (changed g at then a s)),
+      c.end_change.ensures.reads.stands after (c.end.ensures.reads.stands after (changed g at then a s)),
       hold_well ((keeper_of g.S.Store).stands c.change_each.new.archive) a (kept_archive g.S.Store c.args.archive.now.kept a s)
           c.args.change c.args.name.now c.args.choice.now c.args.questions.now c.in_ok-changed.changed.is_any
-          c.in_ok-changed.changed.is_refused well (tried g at then a s) (λ none b now. seen none clean b (c.end.ensures.stands b now)),
+          c.in_ok-changed.changed.is_refused well (tried g at then a s) (λ none b now. seen none clean b (c.end.ensures.reads.stands b now))
+          (each_found g at (c.in_ok-end.ensures.found) then a s),
     ))
 
 pub returns-clause-failed : goal.returns-clause-failed
 returns-clause-failed g c =
     let at = (goal.at.returns-clause-failed g c).In_ok-changed in
     on_err c.end_change.result _ (λ clean (a : Archive) s.
-    let then = c.end.ensures.falls (c.end_change.ensures.reads.falls clean) in
+    let then = c.end.ensures.reads.falls (c.end_change.ensures.reads.falls clean) in
     let made = changed_on c.args.change c.args.name.now in
     let numbers = changed_numbers c.args.change c.args.name.now (found_in c.args.choice.now c.args.questions.now a) in
     all_first ((keeper_of g.S.Store).stands c.end_change.new.archive) made numbers a
-    (c.end_change.ensures.reads.stands (made numbers a) (c.end.ensures.stands (made numbers a) (changed g at then a s))))
+    (c.end_change.ensures.reads.stands (made numbers a) (c.end.ensures.reads.stands (made numbers a) (changed g at then a s))))
 
 pub returns-in_err-end-clause-failed : goal.returns-in_err-end-clause-failed
 returns-in_err-end-clause-failed g c =
@@ -75,7 +87,7 @@ returns-in_err-end-clause-failed g c =
     let made = changed_on c.args.change c.args.name.now in
     let numbers = changed_numbers c.args.change c.args.name.now (found_in c.args.choice.now c.args.questions.now a) in
     all_first ((keeper_of g.S.Store).stands c.end.new.archive) made numbers a
-    (c.end.ensures.stands (made numbers a) (changed g at (c.end.ensures.falls clean) a s)))
+    (c.end.ensures.reads.stands (made numbers a) (changed g at (c.end.ensures.reads.falls clean) a s)))
 
 pub returns-in_err-changed-clause-failed : goal.returns-in_err-changed-clause-failed
 returns-in_err-changed-clause-failed g c =

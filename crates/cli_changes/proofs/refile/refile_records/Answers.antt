@@ -62,6 +62,7 @@ returns-clause-done g c =
       moved g at.In_ok-changed clean a s,
       record {
         class = there g at.In_ok-judge_class a s;
+        each_found = c.in_ok-moves.ensures.found c.in_ok-judge_refused.ensures (c.change_each.ensures.falls clean) a s;
         accepted = c.in_ok-moves.ensures.refused c.in_ok-judge_refused.ensures (c.change_each.ensures.falls clean) a s;
       },
     )) c.judge_refused-2.ensures

@@ -1,9 +1,9 @@
-use Rattle.std.proofs.Common.{◌≡◌, ◌∙◌, ◌++◌, ◌∷◌, [], ◌+◌, take, get_or, map, sym, ap, rules, subst, refl}
+use Rattle.std.proofs.Common.{◌≡◌, ◌∙◌, ◌++◌, ◌∷◌, [], get_or, map, sym, ap, subst, refl}
 use Rattle.std.proofs.lemmas.List.{map-append, take_more}
 use Rattle.std.specs.List.{AllByRecursion}
 use Rattle.record_archive.specs.Archive.{Archive}
 use Rattle.cli_history.specs.Seals.{notes_for}
-use Rattle.cli_changes.specs.Runs.{IsFidelityOf, IsNoted, noted, records_of}
+use Rattle.cli_changes.specs.Runs.{IsFidelityOf, IsNoted, noted}
 use Rattle.cli_changes.proofs.RunLaws.{all_more}
 use Rattle.cli_changes.proofs.runs.runs_of.Goals as goal
 

@@ -3,7 +3,8 @@ use Rattle.std.proofs.lemmas.Result.{on_ok_weaker}
 use Rattle.record_archive.specs.Archive.{Archive}
 use Rattle.record_ledger.specs.Ledgers.{keeper_of, kept_archive}
 use Rattle.cli_choice.specs.declared.holds.Change.TheVariants.{End}
-use Rattle.cli_changes.specs.Holdings.{changed_on, held_by, hold_command, numbers_of}
+use Rattle.cli_console.specs.Finds.{numbers_of}
+use Rattle.cli_changes.specs.Holdings.{changed_on, held_by, hold_command}
 use Rattle.cli_changes.specs.Series.{IsTriedOn, StopsIn}
 use Rattle.cli_changes.proofs.ChangeLaws.{all_first, none_changed, release_changes, release_stops}
 use Rattle.cli_changes.proofs.HoldLaws.{hold_is_each}

@@ -42,7 +42,7 @@ loop-preserved g c =
           (c.in_ok-page.ensures.page mid a stood) in
           let took =
           subst (λ l. g.K.Reader.takes c.loop.reader a l c.take_page.new.reader) c.as_slice.ensures.value
-          (c.in_ok-take_page.ensures.taken clean a (c.next_page.ensures.reads.stands a stood)) in (
+          (c.in_ok-take_page.ensures.taken clean a (c.next_page.ensures.reads.stands a stood) tt) in (
             so_far.0 ++ page,
             more_taken so_far.0 page (chosen_in c.args.choice.now a) (chosen_ahead c.loop.walk a) (chosen_ahead c.next_page.new.self a) so_far.1
                 turn.1,

@@ -2,7 +2,7 @@ use Rattle.std.proofs.Common.{◌∙◌, ap, length, refl, subst}
 use Rattle.class_plan.specs.Plans.{Listing}
 use Rattle.record_archive.specs.Archive.{Archive}
 use Rattle.cli_readings.specs.Checks.{all_figures, contents_text, with_records}
-use Rattle.cli_readings.specs.Sinks.{Writes}
+use Rattle.cli_console.specs.Sinks.{Writes}
 use Rattle.cli_readings.proofs.judge.contents_to.Goals as goal
 
 pub returns-clause-told : goal.returns-clause-told

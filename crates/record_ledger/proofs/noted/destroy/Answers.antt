@@ -91,7 +91,7 @@ returns g c =
           (IsDestruction c.args.number (number_since c.args.day)) c.destroy-done.result done.notes
           (λ clean a ls s told. (
             c.in_ok-schedule.schedule,
-            (c.in_ok-schedule.ensures.reads.tells a (ls, opened.lines a ls s, told)).1 clean,
+            c.in_ok-schedule.ensures.reads.tells a ls (opened.lines a ls s) clean,
             refl,
           ));
     }

@@ -8,8 +8,8 @@ none_by None false e = absurd (true≢false (sym e))
 none_by (Some n) true e = absurd (true≢false e)
 none_by (Some n) false e = refl
 
-pub returns-clause-said : goal.returns-clause-said
-returns-clause-said g c = (
-  (c.args.destroyed.now, c.args.self.now.seals.now.titles, refl, c.in_ok-certificate_of.ensures),
+pub returns : goal.returns
+returns g c = (
+  (c.args.destroyed.now, refl, c.in_ok-certificate_of.ensures),
   none_by c.args.destroyed.now.kept_by c.is_none.result c.is_none.ensures,
 )

@@ -6,5 +6,5 @@ use Rattle.cli_changes.proofs.holds.MeantReader.take.Goals as goal
 
 pub returns-clause-taken : goal.returns-clause-taken
 returns-clause-taken g c =
-    on_ok_weaker c.look_at.result (λ (added : AddsMeant c.args.self.now (c.args.entry.now ∷ []) c.look_at.new.self) clean (a : Archive) s. added)
-    c.look_at.ensures
+    let adds = AddsMeant c.args.self.now (c.args.entry.now ∷ []) c.look_at.new.self in
+    on_ok_weaker c.look_at.result (λ (added : adds) clean (a : Archive) s told. added) c.look_at.ensures

@@ -6,7 +6,7 @@ use Rattle.cli_changes.specs.PlanChanges.{CountAlso}
 use Rattle.cli_changes.proofs.plan_changes.ChangingReader.take.Goals as goal
 
 pub returns-clause-taken : goal.returns-clause-taken
-returns-clause-taken g c = λ clean (a : Archive) s.
+returns-clause-taken g c = λ clean (a : Archive) s told.
     let was = c.args.self.now in
     let plan = c.plan.ensures a s in
     record {

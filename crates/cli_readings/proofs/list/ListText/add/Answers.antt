@@ -1,8 +1,9 @@
 use Rattle.std.proofs.Common.{[], ◌∷◌}
+use Rattle.record_archive.specs.Archive.{Archive}
 use Rattle.cli_readings.specs.Lists.{more_listed}
 use Rattle.cli_readings.proofs.list.ListText.add.Goals as goal
 
 pub returns : goal.returns
-returns g c =
-    more_listed g.K.Sink.written c.args.self.now c.add_row.new.self c.write_long.new.self (c.args.entry.now ∷ []) [] c.in_ok-add_row.ensures
-    c.in_ok-write_long.ensures
+returns g c = λ (a : Archive) are.
+    more_listed g.K.Sink.written a c.args.self.now c.add_row.new.self c.write_long.new.self (c.args.entry.now ∷ []) []
+    (c.in_ok-add_row.ensures a are) (c.in_ok-write_long.ensures a)

@@ -1,7 +1,7 @@
 use Rattle.std.proofs.Common.{◌∙◌, subst}
 use Rattle.std.proofs.lemmas.Result.{on_ok_weaker}
 use Rattle.cli_readings.specs.Lists.{HasText}
-use Rattle.cli_readings.specs.Sinks.{Writes}
+use Rattle.cli_console.specs.Sinks.{Writes}
 use Rattle.cli_readings.proofs.list.ListText.end.Goals as goal
 
 pub returns-clause-text : goal.returns-clause-text

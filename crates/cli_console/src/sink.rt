@@ -1,12 +1,13 @@
-//! Where lists are written.
+//! Where octets are written: standard output, or anything else.
 
 ghost use Rattle.std.specs.Prelude.{ℕ, List, OnOk, ⊤};
-ghost use Rattle.cli_readings.specs.Sinks.{Writes};
+ghost use Rattle.cli_console.specs.Sinks.{Writes};
 
-use cli_console::{Failure, write_data};
+use crate::failure::Failure;
+use crate::output::write_data;
 
 /// Where octets are written, one after another.
-pub(crate) trait Sink {
+pub trait Sink {
     /// These octets have been written, in this order, and no others.
     ghost written: { Self → List ℕ → Type 0 };
 
@@ -17,8 +18,15 @@ pub(crate) trait Sink {
 
 /// Standard output, of which nothing is claimed.
 #[derive(Clone, Copy)]
-pub(crate) struct StandardOutput<'a> {
-    pub(crate) rt: &'a HostRuntime,
+pub struct StandardOutput<'a> {
+    rt: &'a HostRuntime,
+}
+
+impl StandardOutput<'_> {
+    /// Standard output of the program.
+    pub fn new(rt: &HostRuntime) -> StandardOutput<'_> {
+        StandardOutput { rt }
+    }
 }
 
 impl Sink for StandardOutput<'_> {
