@@ -1,6 +1,5 @@
 -- A map of holds, and the numbers that it has under a name.
 use Rattle.std.proofs.Common.{◌≡◌, ℕ, ◌+◌, ◌-◌, ◌^◌, ◌<◌, ◌≤◌, suc, zero, min, Bool, true, false, cond, List, [], ◌∷◌, ◌++◌, length, get_or, drop}
-use Rattle.std.proofs.Common.{map, flat_map}
 use Rattle.std.proofs.Common.{Option, Some, None, Vec, Global, Ordering, Less, Equal, Greater, nat_cmp, refl, sym, ap, ◌∙◌, subst, append-nil}
 use Rattle.std.proofs.Common.{append_assoc, arith, length-append}
 use Rattle.std.proofs.Math.ListN.{drop_of_length-le}
@@ -13,7 +12,7 @@ use Rattle.std.specs.Map.{lookup, set_value}
 use Rattle.std.specs.BTreeMap.{is_at, insert_entry}
 use Rattle.std.specs.Ordering.{is_eq, match_ordering}
 use Rattle.cli_page.specs.declared.holds.Stretch.{Stretch}
-use Rattle.cli_page.specs.KeptNumbers.{Entry, count_up, numbers_in, numbers_of, kept_by, number_for, numbers_for, KeepsOneMore, KeepAlso}
+use Rattle.cli_page.specs.KeptNumbers.{Entry, count_up, numbers_in, numbers_of, kept_by, number_for, numbers_for, KeepsOneMore}
 
 -- how a look-up by a name compares it to a key
 abbrev pub compare : (name : List ℕ) → Vec ℕ Global → Ordering

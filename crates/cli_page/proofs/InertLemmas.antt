@@ -1,8 +1,8 @@
 -- What is escaped is inert.
-use Rattle.std.proofs.Common.{◌≡◌, ◌∙◌, ap, ℕ, zero, suc, Bool, true, false, List, [], ◌∷◌, ◌++◌, ◌<◌, ◌==◌, ◌&&◌, ◌||◌}
-use Rattle.std.proofs.Common.{◌/◌, ◌%◌, not, arith, rules, flat_map, refl, if◌then◌else◌}
+use Rattle.std.proofs.Common.{◌≡◌, ℕ, Bool, true, false, List, [], ◌∷◌, ◌++◌, ◌<◌, ◌==◌, ◌&&◌, ◌||◌}
+use Rattle.std.proofs.Common.{◌/◌, ◌%◌, not, arith, refl, if◌then◌else◌}
 use Rattle.std.specs.Prelude.{codes}
-use Rattle.cli_page.specs.Escaping.{shown_of, shown_all, is_inert, is_harmless, is_hidden, is_bracket, begins_entity, digit_of, digit_at, mark_of}
+use Rattle.cli_page.specs.Escaping.{shown_all, is_inert, is_harmless, is_hidden, is_bracket, digit_of, digit_at, mark_of}
 use Rattle.std.proofs.lemmas.Bool.{and_parts, or_parts}
 use Rattle.base64.proofs.Tables.{all_below_at}
 

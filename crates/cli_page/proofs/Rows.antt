@@ -1,12 +1,17 @@
 -- Examples of the definitions.
-use Rattle.std.proofs.Common.{◌≡◌, ◌∷◌, ◌++◌, [], codes, refl, false, true, Some, None}
+use Rattle.std.specs.Fmt.{digits}
+use Rattle.std.proofs.Common.{◌≡◌, ◌∷◌, ◌++◌, ℕ, List, [], codes, refl, false, true, Some, None}
+use Rattle.jiff_core.specs.declared.civil.date.Date.{Date}
 use Rattle.cli_page.specs.Marks.{read_all}
 use Rattle.class_plan.specs.declared.schedules.Action.TheVariants as action
-use Rattle.class_plan.specs.declared.schedules.Schedule.TheVariants.{Permanent, After}
+use Rattle.class_plan.specs.declared.schedules.Schedule.TheVariants.{After}
 use Rattle.class_plan.specs.declared.schedules.Unit.TheVariants.{Years}
-use Rattle.cli_page.specs.DueLists.{ruling_by, ruling_words, row_tag}
+use Rattle.cli_page.specs.DueLists.{ruling_by, ruling_words}
 use Rattle.cli_page.specs.declared.due_list.Ruling.TheVariants as ruling
 use Rattle.cli_page.specs.KeptNumbers.{numbers_of}
+use Rattle.cli_page.specs.Indexes.{condition_words, due_words, history_link, last_moment, letter_cells, moment_key, order_words}
+use Rattle.cli_page.specs.Timelines.{no_dates, timeline_head, timeline_of, total_shown, years_words}
+use Rattle.cli_page.specs.declared.index.Order.TheVariants.{Sender}
 use Rattle.cli_page.specs.Columns.{no_year, breadth_of, span_of, no_column, columns_from, columns_of}
 
 -- one year with records, 1971
@@ -47,3 +52,45 @@ free = refl
 -- two records apart
 one_and_seven : numbers_of (record { first = 1; more = 0 } ∷ record { first = 7; more = 0 } ∷ []) ≡ 1 ∷ 7 ∷ []
 one_and_seven = refl
+
+-- ---- the index of an export
+
+destroyed_without_a_due_date : (due : Date) → due_words true (Some due) ≡ codes "destroyed"
+destroyed_without_a_due_date due = refl
+
+never_due : due_words false None ≡ codes "never"
+never_due = refl
+
+-- a message that was altered has no link
+not_exported : letter_cells false None ≡ codes "<td></td><td></td><td></td><td>message altered, not exported</td></tr>\n"
+not_exported = refl
+
+of_all_records : condition_words None ≡ codes "none: all records of the store"
+of_all_records = refl
+
+without_a_history : history_link false ≡ []
+without_a_history = refl
+
+in_order_of_senders : order_words Sender ≡ codes "by sender"
+in_order_of_senders = refl
+
+-- what has no date comes last
+dated_last : moment_key None ≡ last_moment
+dated_last = refl
+
+-- ---- when records fall due
+
+its_year : years_words (record { from = 1971; years = 1; due = 1; later = 2 }) ≡ codes "1971"
+unfolding digits
+its_year = refl
+
+its_years : years_words (record { from = 1970; years = 2; due = 3; later = 1 }) ≡ codes "1970 to 1971"
+unfolding digits
+its_years = refl
+
+by_the_day_and_later : total_shown (record { from = 1970; years = 2; due = 3; later = 1 }) ≡ 4
+by_the_day_and_later = refl
+
+-- nothing is drawn where no live record has a due date
+nothing_drawn : (drawing : List ℕ) (day : Date) → timeline_of drawing [] 0 day ≡ timeline_head ++ no_dates
+nothing_drawn drawing day = refl

@@ -1,5 +1,5 @@
 -- A due date as it is counted.
-use Rattle.std.proofs.Common.{◌≡◌, ℕ, ℤ, pos, refl}
+use Rattle.std.proofs.Common.{◌≡◌, pos, refl}
 use Rattle.jiff.specs.Words.{epoch_day}
 use Rattle.jiff_core.specs.declared.civil.date.Date.{Date}
 use Rattle.cli_page.specs.declared.dates.DueDay.{DueDay}

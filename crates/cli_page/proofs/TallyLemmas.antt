@@ -1,12 +1,11 @@
 -- A record that is counted in one class.
-use Rattle.std.proofs.Common.{◌≡◌, ◌∙◌, sym, ap, ℕ, List, ◌<◌, length, get_or, set, Some, option_map, slice_get, refl, map}
+use Rattle.std.proofs.Common.{◌≡◌, ◌∙◌, sym, ap, ℕ, List, ◌<◌, length, get_or, set, Some, option_map, slice_get, refl}
 use Rattle.std.proofs.lemmas.Option.{slice_get_read, slice_get-map}
 use Rattle.std.proofs.lemmas.List.{get_or_default, map-set}
 use Rattle.std.proofs.Math.Seq.{map-set_same}
 use Rattle.cli_page.specs.Counting.{counted}
 use Rattle.cli_page.specs.Tallies.{HasPathAt, CountsOne, counts_of, paths_of}
 use Rattle.cli_page.specs.declared.counts.Seen.{Seen}
-use Rattle.cli_page.specs.declared.counts.Counts.{Counts}
 use Rattle.cli_page.specs.declared.tally.ClassCounts.{ClassCounts}
 use Rattle.cli_page.specs.declared.tally.Tally.{Tally}
 

@@ -1,5 +1,6 @@
 -- The years of a timeline, and its columns.
-use Rattle.std.specs.Prelude.{◌≡◌, ℕ, Bool, List, [], ◌∷◌, ◌++◌, ◌+◌, ◌-◌, ◌<◌, ◌==◌, ◌&&◌, ◌||◌, nat_lt, nat_le, if◌then◌else◌, slice_get, slice_set, Some, length, replicate}
+use Rattle.std.specs.Prelude.{◌≡◌, ℕ, Bool, List, [], ◌∷◌, ◌++◌, ◌+◌, ◌-◌, ◌==◌, ◌&&◌, ◌||◌}
+use Rattle.std.specs.Prelude.{nat_lt, nat_le, if◌then◌else◌, slice_get, slice_set, Some, length, replicate}
 use Rattle.std.specs.List.{sum_by, prefix_len, suffix_len}
 use Rattle.cli_page.specs.declared.dates.DueDay.{DueDay}
 use Rattle.cli_page.specs.declared.years.Year.{Year}

@@ -1,5 +1,5 @@
 -- What a report counts.
-use Rattle.std.specs.Prelude.{◌≡◌, ℕ, Bool, true, false, List, ◌+◌, ◌&&◌, not, nat_le, is_some, Option, Some, None, if◌then◌else◌, count_by, length}
+use Rattle.std.specs.Prelude.{◌≡◌, ℕ, Bool, false, List, ◌+◌, ◌&&◌, not, nat_le, is_some, Option, Some, None, if◌then◌else◌, count_by, length}
 use Rattle.cli_page.specs.declared.dates.DueDay.{DueDay}
 use Rattle.cli_page.specs.declared.counts.Seen.{Seen}
 use Rattle.cli_page.specs.declared.counts.Counts.{Counts}

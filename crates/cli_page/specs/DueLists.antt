@@ -1,5 +1,6 @@
 -- What a page lists as due, and what it says of each of these records.
-use Rattle.std.specs.Prelude.{ℕ, Bool, true, false, not, ◌&&◌, ◌==◌, if◌then◌else◌, List, [], ◌∷◌, ◌++◌, map, flat_map, count_by, length, Option, Some, None, codes, decimal, string_bytes}
+use Rattle.std.specs.Prelude.{ℕ, Bool, true, false, not, ◌&&◌, ◌==◌, if◌then◌else◌, List, [], ◌∷◌, ◌++◌, map, flat_map, count_by}
+use Rattle.std.specs.Prelude.{length, Option, Some, None, codes, decimal, string_bytes}
 use Rattle.jiff.specs.Words.{date_text}
 use Rattle.jiff_core.specs.declared.civil.date.Date.{Date}
 use Rattle.class_plan.specs.Plans.{Listing, schedule_at}

@@ -153,9 +153,9 @@ unfoldable pub index_title : List ℕ
 index_title = codes "Exported records"
 
 -- AN INDEX of some rows: the head of the page, what the index is about, and a row for each record, in their order
-unfoldable pub index_text : (policy style : List ℕ) → IndexHeading → List IndexRow → List ℕ
-index_text policy style about rows =
-    head_start policy ++ index_title ++ head_end style ++ facts about.file.now about.moment.now (length rows)
+unfoldable pub index_text : IndexHeading → List IndexRow → List ℕ
+index_text about rows =
+    head_start ++ index_title ++ head_end ++ facts about.file.now about.moment.now (length rows)
     ++ choice_facts (option_map (λ c. c.now) about.conditions) about.order ++ index_table_head about.has_history ++ flat_map index_row rows
     ++ index_end
 
@@ -194,8 +194,6 @@ IsOrdered Sender added shown = IsOrderedBy has_lower_sender added shown
 
 -- THE INDEX of the records that were added, each once
 pub record IsIndex (about : IndexHeading) (added : List Row) (text : List ℕ) : Type 0 where
-  pub policy : List ℕ
-  pub style : List ℕ
   pub rows : List Row
   pub ordered : IsOrdered about.order added rows
-  pub is : text ≡ index_text policy style about (map row_view rows)
+  pub is : text ≡ index_text about (map row_view rows)

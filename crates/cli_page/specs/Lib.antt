@@ -12,3 +12,4 @@ pub mod Seeing
 pub mod Heads
 pub mod Indexes
 pub mod Timelines
+pub mod Reports

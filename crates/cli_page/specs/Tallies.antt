@@ -1,5 +1,5 @@
 -- The counts of all classes.
-use Rattle.std.specs.Prelude.{◌≡◌, ℕ, List, ◌<◌, if◌then◌else◌, slice_get, slice_set, Some, length, map}
+use Rattle.std.specs.Prelude.{◌≡◌, ℕ, List, ◌<◌, slice_get, slice_set, Some, length, map}
 use Rattle.std.specs.List.{HoldsAt}
 use Rattle.class_plan.specs.Plans.{Row}
 use Rattle.cli_page.specs.Counting.{counted, is_dated, no_records, one_if}

@@ -1,6 +1,6 @@
 //! What each page begins with.
 
-ghost use Rattle.std.specs.Prelude.{◌≡◌, ◌++◌, ℕ, List, OnOk};
+ghost use Rattle.std.specs.Prelude.{◌≡◌, ◌++◌, OnOk};
 ghost use Rattle.cli_page.specs.Heads.{head_start, head_end};
 
 use crate::page::{Page, put};
@@ -9,7 +9,7 @@ use std::alloc::{AllocError, Global};
 
 /// Adds what comes before the title of a page.
 pub fn open_head(alloc: Global, page: &mut Page) -> Result<(), AllocError>
-    ensures { OnOk result ((policy : List ℕ) × (page.new ≡ page.old ++ head_start policy)) }
+    ensures { OnOk result (page.new ≡ page.old ++ head_start) }
 {
     let policy = policy(alloc)?;
     put!(page;
@@ -22,7 +22,7 @@ pub fn open_head(alloc: Global, page: &mut Page) -> Result<(), AllocError>
 
 /// Adds what comes after the title, and before the body.
 pub fn close_head(page: &mut Page) -> Result<(), AllocError>
-    ensures { OnOk result ((style : List ℕ) × (page.new ≡ page.old ++ head_end style)) }
+    ensures { OnOk result (page.new ≡ page.old ++ head_end) }
 {
     put!(page; "</title>\n<style>" markup(STYLE) "</style>\n</head>\n")
 }

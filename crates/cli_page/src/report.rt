@@ -1,9 +1,10 @@
 //! A report on an archive: what it counts and keeps of the records, and its parts.
 
-ghost use Rattle.std.specs.Prelude.{◌≡◌, ◌++◌, ◌&&◌, [], pos, map, is_some, option_map, IfOk, OnOk};
+ghost use Rattle.std.specs.Prelude.{◌≡◌, ◌++◌, ◌&&◌, [], List, ℕ, pos, map, is_some, option_map, IfOk, OnOk};
 ghost use Rattle.jiff.specs.Words.{epoch_day};
 ghost use Rattle.cli_page.specs.DueLists.{due_view};
 ghost use Rattle.cli_page.specs.KeptNumbers.{KeepAlso};
+ghost use Rattle.cli_page.specs.Reports.{IsReport, report_end};
 ghost use Rattle.cli_page.specs.Seeing.{due_seen, seen_for, listed_if, AddsRecord, report_day, listed_numbers, is_listed, number_if};
 
 use crate::counts::Seen;
@@ -17,7 +18,7 @@ use crate::tally::Tally;
 use crate::timeline::timeline;
 use class_plan::{Date, Plan};
 use cli_texts::{Headers, ListedTitle};
-use std::alloc::Global;
+use std::alloc::{AllocError, Global};
 
 /// A record, as a report reads it.
 #[derive(Clone, Copy)]
@@ -121,6 +122,16 @@ fn list_due(
     }
 }
 
+/// Adds the end of a report.
+#[tactic(auto, unfolding(crate::specs::Reports::report_end))]
+fn push_end(page: &mut Page) -> Result<(), AllocError>
+    ensures { OnOk result (page.new ≡ page.old ++ report_end) }
+{
+    page.markup(
+        "</main>\n<footer>Made by mailfile-store report. Days are those of UTC.</footer>\n</body>\n</html>\n",
+    )
+}
+
 impl Report {
     /// A report without records on the classes of a plan. A day before 1970 is refused.
     pub fn new(alloc: Global, plan: &Plan, day: Date) -> Result<Report, ReportFault>
@@ -162,22 +173,24 @@ impl Report {
         list_due(&mut self.due, plan, record, headers, is_due)
     }
 
-    /// Writes the report, for a heading with its day.
+    /// Writes the report, for a heading with its day: what it is about, its classes, when records fall due, what holds keep, and
+    /// what is due.
     pub fn write(
         &self,
         page: &mut Page,
         plan: &Plan,
         about: &Heading<'_>,
-    ) -> Result<(), ReportFault> {
+    ) -> Result<(), ReportFault>
+        ensures { OnOk result ((text : List ℕ) × IsReport plan.now about.now self.now text
+            × (page.new ≡ page.old ++ text)) }
+    {
         heading(self.alloc, page, about)?;
         totals(page, about, &self.tally.all, self.due.free_count() as u64)?;
         classes(self.alloc, page, plan, &self.tally, about)?;
         timeline(self.alloc, page, &self.tally, self.day)?;
         self.holds.section(page)?;
         self.due.section(page, about.titles, self.day)?;
-        page.markup(
-            "</main>\n<footer>Made by mailfile-store report. Days are those of UTC.</footer>\n</body>\n</html>\n",
-        )?;
+        push_end(page)?;
         Ok(())
     }
 }

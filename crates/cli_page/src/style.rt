@@ -1,9 +1,7 @@
 //! The style of a page, and the policy that lets nothing else in.
 
-ghost use Rattle.std.specs.Prelude.{◌≡◌, IfOk};
-ghost use Rattle.sha2.specs.Sha256.{sha256};
-ghost use Rattle.base64.specs.GeneralPurpose.{encode_of};
-ghost use Rattle.base64.specs.Engines.{standard};
+ghost use Rattle.std.specs.Prelude.{◌≡◌, IfOk, string_bytes};
+ghost use Rattle.cli_page.specs.Heads.{policy_for, style_sum as sum_of_style};
 
 use base64::engine::general_purpose::STANDARD;
 use sha2::{Digest, Sha256};
@@ -71,7 +69,10 @@ tfoot { display: table-row-group; }
 ";
 
 /// What a page lets in: nothing but this style, which is named by its SHA-256 (Content Security Policy Level 3, section 2.3.1).
-pub fn policy(alloc: Global) -> Result<String, AllocError> {
+#[tactic(auto, unfolding(crate::specs::Heads::policy_for))]
+pub fn policy(alloc: Global) -> Result<String, AllocError>
+    ensures { IfOk result (λ text. string_bytes text ≡ policy_for sum_of_style) }
+{
     let sum = style_sum(alloc)?;
     format!(in alloc;
         "default-src 'none'; style-src 'sha256-{sum}'; base-uri 'none'; form-action 'none'"
@@ -79,7 +80,10 @@ pub fn policy(alloc: Global) -> Result<String, AllocError> {
 }
 
 /// The SHA-256 of the style, in base64.
-fn style_sum(alloc: Global) -> Result<String, AllocError> {
+#[tactic(auto, unfolding(crate::specs::Heads::style_sum))]
+fn style_sum(alloc: Global) -> Result<String, AllocError>
+    ensures { IfOk result (λ sum. string_bytes sum ≡ sum_of_style) }
+{
     let mut hasher = Sha256::new();
     hasher.update(STYLE.as_bytes());
     let sum = hasher.finalize();

@@ -1,4 +1,4 @@
-use Rattle.std.proofs.Common.{◌≡◌, ◌++◌, ◌∙◌, ap, ℕ, codes, decimal, length}
+use Rattle.std.proofs.Common.{◌++◌, ◌∙◌, ap, ℕ, codes, decimal, length}
 use Rattle.std.specs.List.{count_by}
 use Rattle.cli_page.specs.DueLists.{counts, free_words, is_free}
 use Rattle.cli_page.proofs.PushLemmas.{pushed_3}

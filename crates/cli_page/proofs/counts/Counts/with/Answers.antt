@@ -1,5 +1,5 @@
-use Rattle.std.proofs.Common.{◌≡◌, rules, subst, sym}
-use Rattle.cli_page.specs.Counting.{counted, IsCountOf}
+use Rattle.std.proofs.Common.{◌≡◌, rules}
+use Rattle.cli_page.specs.Counting.{counted}
 use Rattle.cli_page.specs.declared.counts.Counts.{Counts}
 use Rattle.cli_page.proofs.CountLemmas.{counted_one}
 use Rattle.cli_page.proofs.counts.Counts.with.Goals as goal

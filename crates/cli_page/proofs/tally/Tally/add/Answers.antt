@@ -1,6 +1,5 @@
-use Rattle.std.proofs.Common.{rules, ap, ◌∙◌, sym, refl}
+use Rattle.std.proofs.Common.{ap, ◌∙◌, refl}
 use Rattle.cli_page.specs.Counting.{counted}
-use Rattle.cli_page.specs.declared.counts.Counts.{Counts}
 use Rattle.cli_page.specs.declared.tally.ClassCounts.{ClassCounts}
 use Rattle.cli_page.proofs.TallyLemmas.{counts_one, read_twice}
 use Rattle.cli_page.proofs.tally.Tally.add.Goals as goal
