@@ -2,21 +2,26 @@
 //!
 //! - `choice`: what is asked of the records that a command is about; `conditions`: the same as it can be typed;
 //! - `list`, `show`, `export`, `judge` (for `check`), `why` and `report`: these subcommands;
+//! - `exporting`: what an export makes of each record; `outgoing` and `destination`: where that goes, and how much it is;
 //! - `twice`: what `list --twice` lists;
 //! - `altered`: records whose messages are not the ones that were captured;
 //! - `folder`: the files of an export;
 //! - `sums`: what a copy is compared by.
 //!
-//! Each works on a store that is lent to it. What it writes, no contract speaks of: tests of the program show it.
+//! Each works on a store that is lent to it. What a list, a check, a report and an export hand over, contracts say; that it
+//! comes to a terminal or a file, tests of the program show.
 #![tactic(auto)]
 
 mod altered;
 mod choice;
 mod conditions;
+mod destination;
 mod export;
+mod exporting;
 mod folder;
 mod judge;
 mod list;
+mod outgoing;
 mod report;
 mod show;
 mod sums;

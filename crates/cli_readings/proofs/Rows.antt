@@ -1,0 +1,73 @@
+-- The definitions on worked rows.
+use Rattle.std.proofs.Common.{◌≡◌, ℕ, List, [], ◌∷◌, map, codes, None, Some, refl}
+use Rattle.std.specs.Fmt.{digits}
+use Rattle.std.specs.Str.{chars, is_utf8}
+use lib.Utf8.{encode}
+use Rattle.command_lines.specs.declared.archives.Format.TheVariants.{Json, Count}
+use Rattle.record_choice.specs.declared.entry.RecordEntry.{RecordEntry}
+use Rattle.cli_readings.specs.Exports.{count_of, file_name, sealed_fields, sum_line, without_again}
+use Rattle.cli_console.specs.Counts.{one_more}
+use Rattle.cli_readings.specs.Lists.{end_of}
+use Rattle.cli_readings.specs.Parts.{Part, altered_in, files_in, rows_in, subjects_in, sums_in}
+use Rattle.cli_readings.specs.Parts as part
+
+-- ---- lists
+
+ends_are : map (λ n. end_of Count n) (0 ∷ 12 ∷ []) ≡ codes "0\n" ∷ codes "12\n" ∷ []
+unfolding digits
+ends_are = refl
+
+object_ends : end_of Json 3 ≡ codes "\n]\n"
+object_ends = refl
+
+no_more : one_more 18446744073709551615 ≡ 18446744073709551615
+no_more = refl
+
+-- ---- exports
+
+name_is : file_name 12 ≡ codes "12.eml"
+unfolding digits
+name_is = refl
+
+line_is : sum_line (codes "ab") (file_name 12) ≡ codes "ab  12.eml\n"
+unfolding digits
+line_is = refl
+
+-- the length and the sum of a message that was captured, where these are known
+sealed_are : map sealed_fields (None ∷ Some (12, codes "ab") ∷ [])
+    ≡ ([] ∷ [] ∷ [] ∷ [] ∷ [] ∷ [] ∷ []) ∷ ([] ∷ codes "12" ∷ codes "ab" ∷ [] ∷ [] ∷ [] ∷ []) ∷ []
+unfolding digits is_utf8 chars encode
+sealed_are = refl
+
+abbrev of_message : RecordEntry → ℕ → ℕ → RecordEntry
+of_message e n m = record e { number = n; message = m }
+
+-- two records of one message, and one of another between two more
+firsts_are : (e : RecordEntry) → map (λ (x : RecordEntry). x.number)
+    (without_again None (of_message e 1 1 ∷ of_message e 2 1 ∷ of_message e 3 3 ∷ of_message e 4 1 ∷ [])) ≡ 1 ∷ 3 ∷ 4 ∷ []
+firsts_are e = refl
+
+-- a message of three octets, of which two records are listed; that of the second one is another one
+abbrev parts : List Part
+parts =
+    part.file (file_name 1) (codes "abc") ∷ part.sum (codes "x") ∷ part.subject 1 1 ∷ part.row (codes "a" ∷ []) ∷ part.altered 2
+    ∷ part.subject 2 2 ∷ part.row [] ∷ []
+
+count_is : count_of parts ≡ record { records = 2; messages = 1; octets = 3 }
+count_is = refl
+
+files_are : files_in parts ≡ (codes "1.eml", codes "abc") ∷ []
+unfolding digits
+files_are = refl
+
+sums_are : sums_in parts ≡ codes "x" ∷ []
+sums_are = refl
+
+rows_are : rows_in parts ≡ (codes "a" ∷ []) ∷ [] ∷ []
+rows_are = refl
+
+subjects_are : subjects_in parts ≡ (1, 1) ∷ (2, 2) ∷ []
+subjects_are = refl
+
+altered_are : altered_in parts ≡ 2 ∷ []
+altered_are = refl
