@@ -1,3 +1,4 @@
 pub mod Exported
+pub mod Grouped
 pub mod Pieces
 mod Rows

@@ -1,15 +1,55 @@
 -- The definitions on worked rows.
-use Rattle.std.proofs.Common.{◌≡◌, ℕ, List, [], ◌∷◌, map, codes, None, Some, refl}
+use Rattle.std.proofs.Common.{◌≡◌, ℕ, true, false, List, [], ◌∷◌, map, codes, None, Some, refl}
 use Rattle.std.specs.Fmt.{digits}
 use Rattle.std.specs.Str.{chars, is_utf8}
 use lib.Utf8.{encode}
-use Rattle.command_lines.specs.declared.archives.Format.TheVariants.{Json, Count}
+use Rattle.command_lines.specs.declared.archives.Format.TheVariants.{Lines, Csv, Json, Count}
 use Rattle.record_choice.specs.declared.entry.RecordEntry.{RecordEntry}
 use Rattle.cli_readings.specs.Exports.{count_of, file_name, sealed_fields, sum_line, without_again}
+use Rattle.cli_readings.specs.Groups.{Added, is_twice, with_key}
 use Rattle.cli_console.specs.Counts.{one_more}
 use Rattle.cli_readings.specs.Lists.{end_of}
 use Rattle.cli_readings.specs.Parts.{Part, altered_in, files_in, rows_in, subjects_in, sums_in}
 use Rattle.cli_readings.specs.Parts as part
+use Rattle.cli_readings.specs.Twice.{before_group, beside_record, head_beside, more_records}
+use Rattle.cli_readings.specs.declared.groups.Sealed.{Sealed}
+
+-- ---- what was captured twice
+
+abbrev sealed : ℕ → ℕ → Sealed
+sealed n m = record { number = n; message = m }
+
+-- four records, of which the first and the third have messages of one length and one sum
+abbrev added : List Added
+added =
+    ((1, codes "aa"), sealed 1 1) ∷ ((2, codes "aa"), sealed 2 2) ∷ ((1, codes "aa"), sealed 5 5) ∷ ((1, codes "bb"), sealed 7 7) ∷ []
+
+records_are : map (λ k. with_key k added) ((1, codes "aa") ∷ (2, codes "aa") ∷ (1, codes "bb") ∷ (2, codes "bb") ∷ [])
+    ≡ (sealed 1 1 ∷ sealed 5 5 ∷ []) ∷ (sealed 2 2 ∷ []) ∷ (sealed 7 7 ∷ []) ∷ [] ∷ []
+records_are = refl
+
+-- two captures; one capture in two classes; both; and one alone
+twice_are : map is_twice ((sealed 1 1 ∷ sealed 5 5 ∷ []) ∷ (sealed 2 2 ∷ sealed 3 2 ∷ [])
+    ∷ (sealed 2 2 ∷ sealed 3 2 ∷ sealed 7 7 ∷ []) ∷ (sealed 4 4 ∷ []) ∷ []) ≡ true ∷ false ∷ true ∷ false ∷ []
+twice_are = refl
+
+line_before : before_group Lines true (12, codes "ab") ≡ codes "octets 12 sha256 ab\n"
+unfolding digits is_utf8 chars encode
+line_before = refl
+
+object_before : before_group Json false (12, codes "ab") ≡ codes ",\n{\"octets\":12,\"sha256\":\"ab\",\"records\":["
+unfolding digits is_utf8 chars encode
+object_before = refl
+
+cells_beside : beside_record Csv (12, codes "ab") ≡ codes "12,ab,"
+unfolding digits is_utf8 chars encode
+cells_beside = refl
+
+head_of_groups : head_beside Csv false ≡ codes "octets,sha256,number,class,day,due,holds,destroyed\n"
+head_of_groups = refl
+
+three_records : more_records (sealed 1 1 ∷ sealed 2 2 ∷ sealed 3 3 ∷ []) 4 ≡ 7
+three_records = refl
 
 -- ---- lists
 

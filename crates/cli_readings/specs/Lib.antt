@@ -1,7 +1,9 @@
 pub mod Checks
 pub mod Exporting
 pub mod Exports
+pub mod Groups
 pub mod Lists
 pub mod Parts
 pub mod Reports
 pub mod Shows
+pub mod Twice

@@ -1,5 +1,5 @@
 -- What a list has of the records that are found.
-use Rattle.std.specs.Prelude.{◌≡◌, ℕ, Bool, true, false, ◌+◌, ◌-◌, ◌^◌, ◌==◌, if◌then◌else◌, min}
+use Rattle.std.specs.Prelude.{◌≡◌, ℕ, Bool, true, false, ◌+◌, ◌==◌, if◌then◌else◌, min}
 use Rattle.std.specs.Prelude.{List, [], ◌∷◌, ◌++◌, length, codes, decimal}
 use Rattle.std.proofs.Common.{refl, sym, ap, ◌∙◌, subst, arith, ◌≤◌, zero-add}
 use Rattle.std.proofs.lemmas.Bool.{ne_eqb}
@@ -149,7 +149,7 @@ counted_joined : (es fs : List RecordEntry) (n : ℕ) → more_for fs (more_for 
 counted_joined [] fs n = refl
 counted_joined (e ∷ es) fs n = counted_joined es fs (one_more n)
 
-is_some : (n : ℕ) → (one_more n == 0) ≡ false
+pub is_some : (n : ℕ) → (one_more n == 0) ≡ false
 is_some n = ne_eqb (one_more n) 0 (λ e. omega (arith, e))
 
 is_none : (es : List RecordEntry) (n : ℕ) → (more_for es n == 0) ≡ first_after (n == 0) es
@@ -168,6 +168,17 @@ text_kept written x y text sink kept all had = (
   subst (λ s. written s had.0) (sym sink) had.1,
   ap (λ t. had.0 ++ t) kept ∙ sym (append_assoc had.0 x.text.items text) ∙ ap (λ t. t ++ text) had.2,
 )
+
+-- a list to which three texts were added, and of which all is written
+pub whole_text : {K : Type 0} (written : K → List ℕ → Type 0) (before : K) (head rows rest : List ℕ) (x y z u : ListText K) → x.sink ≡ before
+    → x.text.items ≡ [] → Writes (HasText written) x y head → Writes (HasText written) y z rows → Writes (HasText written) z u rest
+    → u.text.items ≡ [] → Writes written before u.sink (head ++ rows ++ rest)
+whole_text written before head rows rest x y z u sink empty first second last all done had =
+    let begun : HasText written x done = (done, subst (λ s. written s done) (sym sink) had, ap (λ t. done ++ t) empty ∙ append-nil done) in
+    let has = last ((done ++ head) ++ rows) (second (done ++ head) (first done begun)) in
+    subst (λ t. written u.sink t)
+    (sym (append-nil has.0) ∙ ap (λ t. has.0 ++ t) (sym all) ∙ has.2 ∙ ap (λ t. t ++ rest) (append_assoc done head rows)
+    ∙ append_assoc done (head ++ rows) rest) has.1
 
 module _ {K : Type 0} (written : K → List ℕ → Type 0) (a : Archive) where
   pub none_listed : (x : ListText K) → Lists written a x [] x
@@ -228,14 +239,9 @@ module _ {K : Type 0} (written : K → List ℕ → Type 0) (a : Archive) where
       let rows = subst (λ k. AreListedAs a k true es added.rows) is
       (subst (λ n. AreListedAs a y.listing (n == 0) es added.rows) (count ∙ none) added.are) in
       let head_text = head_of l.format l.headers in
-      let end_text = end_of l.format (min (length es) greatest) in
-      let text = head_text ++ added.rows ++ end_text in (
-        text,
+      let end_text = end_of l.format (min (length es) greatest) in (
+        head_text ++ added.rows ++ end_text,
         record { rows = added.rows; are = rows; whole = refl },
-        λ done had.
-            let begun : HasText written x done = (done, subst (λ s. written s done) (sym sink) had, ap (λ t. done ++ t) empty ∙ append-nil done) in
-            let has = end ((done ++ head_text) ++ added.rows) (added.added (done ++ head_text) (head done begun)) in
-            subst (λ t. written u.sink t)
-            (sym (append-nil has.0) ∙ ap (λ t. has.0 ++ t) (sym all) ∙ has.2 ∙ ap (λ t. ((done ++ head_text) ++ added.rows) ++ t) ended
-            ∙ ap (λ t. t ++ end_text) (append_assoc done head_text added.rows) ∙ append_assoc done (head_text ++ added.rows) end_text) has.1,
+        whole_text written before head_text added.rows end_text x y z u sink empty head added.added
+            (subst (λ t. Writes (HasText written) z u t) ended end) all,
       )

@@ -3,7 +3,7 @@
 //! - `choice`: what is asked of the records that a command is about; `conditions`: the same as it can be typed;
 //! - `list`, `show`, `export`, `judge` (for `check`), `why` and `report`: these subcommands;
 //! - `exporting`: what an export makes of each record; `outgoing` and `destination`: where that goes, and how much it is;
-//! - `twice`: what `list --twice` lists;
+//! - `twice`: what `list --twice` lists; `groups`: records by the seals of their messages;
 //! - `altered`: records whose messages are not the ones that were captured;
 //! - `folder`: the files of an export;
 //! - `sums`: what a copy is compared by.
@@ -19,6 +19,7 @@ mod destination;
 mod export;
 mod exporting;
 mod folder;
+mod groups;
 mod judge;
 mod list;
 mod outgoing;

@@ -56,7 +56,7 @@ pub(crate) fn headers_of_record<R: Repository<Fault = StoreFault>>(
 }
 
 /// What stands before an object of JSON.
-fn text_between(is_first: bool) -> &'static str
+pub(crate) fn text_between(is_first: bool) -> &'static str
     ensures { result.now ≡ between is_first }
 {
     if is_first { "\n" } else { ",\n" }
@@ -79,7 +79,7 @@ fn json_row(
 }
 
 /// What is listed of a record in a format.
-pub(crate) fn row_text(
+fn row_text(
     alloc: Global,
     row: &Row<'_>,
     headers: ListedHeaders<'_>,
@@ -130,7 +130,7 @@ fn text_after(alloc: Global, format: Format, count: u64) -> Result<String, Alloc
 #[derive(Drop)]
 pub(crate) struct ListText<'a, K> {
     pub(crate) rt: &'a HostRuntime,
-    sink: K,
+    pub(crate) sink: K,
     pub(crate) listing: Listing,
     /// What is not written yet.
     text: Vec<u8>,

@@ -1,62 +1,119 @@
 //! `list --twice`: the records whose messages were captured twice.
 
-use crate::list::{headers_of_record, row_of, row_text};
-use cli_choice::{Group, Groups, SealKey, Sealed};
-use cli_console::{Failure, Walk, message_of, write_data};
+ghost use Rattle.std.specs.Prelude.{◌≡◌, ◌∷◌, [], false, None, true, IfOk, OnOk, string_bytes};
+ghost use Rattle.record_archive.specs.Archive.{Archive};
+ghost use Rattle.record_choice.specs.Reads.{OnlyReads};
+ghost use Rattle.cli_history.specs.Seals.{known};
+ghost use Rattle.cli_readings.specs.Groups.{key_of, records_of};
+ghost use Rattle.cli_readings.specs.Lists.{PushesRow};
+ghost use Rattle.cli_readings.specs.Shows.{IsEntryOf};
+ghost use Rattle.cli_readings.specs.Twice.{AddsBeside, AddsGroups, AreCapturedTwice, Gathers, IsKeyOf, WritesTwice, after_group, before_group, beside_record, head_beside, more_gathered, none_gathered, sum_text as sum_text_of};
+
+use crate::groups::{Group, Groups, SealKey, Sealed};
+use crate::list::{ListText, headers_of_record, text_between};
+use cli_console::{Failure, Reader, Sink, StandardOutput, message_of, read_chosen};
 use cli_history::Seals;
-use cli_texts::{LIST_HEADER, LIST_HEADER_WITH_TEXTS, ListedHeaders, sum_of};
+use cli_texts::{Headers, LIST_HEADER, LIST_HEADER_WITH_TEXTS, ListedHeaders, sum_of};
 use command_lines::archives::{Format, Listing};
 use record_choice::{Choice, Repository};
-use record_store::{RecordEntry, Store};
+use record_store::{RecordEntry, Store, StoreFault};
 use sqlite::Alter;
 use std::alloc::{AllocError, Global};
 use std::str;
 
-/// What stands for the message of a live record: what the history tells of it, or else its own length and SHA-256.
-fn seal_of_record<S: Alter>(
+/// The length and the SHA-256 of the octets of a live record's message. A failure is that of the store.
+fn own_seal<R: Repository<Fault = StoreFault>>(
     rt: &HostRuntime,
-    archive: &mut Store<S>,
-    seals: &Seals,
+    archive: &mut R,
     entry: &RecordEntry,
-) -> Result<SealKey, Failure> {
-    if let Some((octets, sum)) = seals.length_and_sum(entry.message) {
-        return Ok((octets, Vec::from_slice(rt.alloc(), sum)?));
-    }
+) -> Result<SealKey, Failure>
+    ensures reads { OnlyReads R.clean R.stands archive.old archive.new }
+    ensures told { IfOk result (λ seal. R.clean archive.new → (a : Archive)
+        → R.stands archive.old a → IsKeyOf None a entry.now (key_of seal)) }
+{
     let message = message_of(rt, archive, entry)?;
     let sum = sum_of(rt.alloc(), message.as_slice())?;
     Ok((message.len() as u64, sum.into_bytes()))
 }
 
-/// The live records of an archive by the seals of their messages.
-fn groups_of<S: Alter>(rt: &HostRuntime, archive: &mut Store<S>) -> Result<Groups, Failure> {
-    let seals = Seals::of(rt, archive)?;
-    let mut groups = Groups::new(rt.alloc());
-    let live = Choice::live();
-    let mut walk = Walk::from(&live, 1);
-    for _ in 0..u64::MAX {
-        let Some(page) = walk.next_page(rt, archive)? else {
-            break;
-        };
-        for entry in page.iter() {
-            let seal = seal_of_record(rt, archive, &seals, entry)?;
-            let record = Sealed {
-                number: entry.number,
-                message: entry.message,
-            };
-            groups.add(seal, record)?;
-        }
-    }
-    Ok(groups)
+/// What stands for the message of a live record: what the history tells of it, or else its own length and SHA-256.
+fn seal_of_record<R: Repository<Fault = StoreFault>>(
+    rt: &HostRuntime,
+    archive: &mut R,
+    seals: &Seals,
+    entry: &RecordEntry,
+) -> Result<SealKey, Failure>
+    ensures reads { OnlyReads R.clean R.stands archive.old archive.new }
+    ensures told { IfOk result (λ seal. R.clean archive.new → (a : Archive)
+        → R.stands archive.old a
+        → IsKeyOf (known seals.now entry.now.message) a entry.now (key_of seal)) }
+{
+    let Some((octets, sum)) = seals.length_and_sum(entry.message) else {
+        return own_seal(rt, archive, entry);
+    };
+    Ok((octets, Vec::from_slice(rt.alloc(), sum)?))
 }
 
-/// The text of the records whose messages were captured twice.
+/// Live records, as they are gathered.
 #[derive(Drop)]
-struct TwiceText<'a> {
+struct Grouping<'a> {
     rt: &'a HostRuntime,
-    listing: Listing,
-    text: Vec<u8>,
-    /// How many records it has.
-    count: u64,
+    seals: Seals,
+    groups: Groups,
+}
+
+impl Reader for Grouping<'_> {
+    ghost takes = { λ old a es new. Gathers old a es new };
+
+    fn take<R: Repository<Fault = StoreFault>>(
+        &mut self,
+        archive: &mut R,
+        entry: &RecordEntry,
+        _headers: Option<&Headers>,
+    ) -> Result<(), Failure> {
+        let seal = seal_of_record(self.rt, archive, &self.seals, entry)?;
+        let sealed = Sealed {
+            number: entry.number,
+            message: entry.message,
+        };
+        self.groups.add(seal, sealed)?;
+        Ok(())
+    }
+
+    ghost takes_none = { λ grouping a. none_gathered grouping a };
+
+    ghost takes_more = { λ x y z a es fs one other. more_gathered x y z a es fs one other };
+}
+
+/// The groups of the live records whose messages were captured twice, in the order of their first records, with what stands for
+/// their messages.
+fn groups_of<R: Repository<Fault = StoreFault>>(
+    rt: &HostRuntime,
+    archive: &mut R,
+    seals: Seals,
+) -> Result<Vec<(SealKey, Group)>, Failure>
+    ensures reads { OnlyReads R.clean R.stands archive.old archive.new }
+    ensures twice { IfOk result (λ groups. R.clean archive.new → (a : Archive)
+        → R.stands archive.old a → AreCapturedTwice a seals groups.items) }
+{
+    let mut grouping = Grouping {
+        rt,
+        seals,
+        groups: Groups::new(rt.alloc()),
+    };
+    read_chosen(rt, archive, &Choice::live(), &mut grouping)?;
+    let Grouping { groups, .. } = grouping;
+    Ok(groups.into_twice()?)
+}
+
+/// The sum of a seal as it is written.
+fn sum_text(seal: &SealKey) -> &str
+    ensures { result.now ≡ sum_text_of (key_of seal.now).1 }
+{
+    match str::from_utf8(seal.1.as_slice()) {
+        Ok(text) => text,
+        Err(_) => "",
+    }
 }
 
 /// What stands before the records of a group.
@@ -65,13 +122,16 @@ fn text_before(
     format: Format,
     seal: &SealKey,
     is_first: bool,
-) -> Result<String, AllocError> {
+) -> Result<String, AllocError>
+    ensures { IfOk result
+        (λ text. string_bytes text ≡ before_group format is_first (key_of seal.now)) }
+{
     let octets = seal.0;
-    let sum = str::from_utf8(seal.1.as_slice()).unwrap_or("");
+    let sum = sum_text(seal);
     match format {
         Format::Lines => format!(in alloc; "octets {octets} sha256 {sum}\n"),
         Format::Json => {
-            let sign = if is_first { "\n" } else { ",\n" };
+            let sign = text_between(is_first);
             format!(in alloc; "{sign}{{\"octets\":{octets},\"sha256\":\"{sum}\",\"records\":[")
         }
         Format::Csv | Format::Numbers | Format::Count => Ok(String::new(alloc)),
@@ -79,100 +139,201 @@ fn text_before(
 }
 
 /// What stands before each record of a group.
-fn text_beside(alloc: Global, format: Format, seal: &SealKey) -> Result<String, AllocError> {
+fn text_beside(alloc: Global, format: Format, seal: &SealKey) -> Result<String, AllocError>
+    ensures { IfOk result (λ text. string_bytes text ≡ beside_record format (key_of seal.now)) }
+{
     let octets = seal.0;
-    let sum = str::from_utf8(seal.1.as_slice()).unwrap_or("");
+    let sum = sum_text(seal);
     match format {
         Format::Csv => format!(in alloc; "{octets},{sum},"),
         Format::Lines | Format::Json | Format::Numbers | Format::Count => Ok(String::new(alloc)),
     }
 }
 
-impl TwiceText<'_> {
-    /// Adds a record of a group.
-    fn add_record<S: Alter>(
-        &mut self,
-        archive: &mut Store<S>,
-        number: u32,
-        beside: &str,
-        is_first: bool,
-    ) -> Result<(), Failure> {
-        let alloc = self.rt.alloc();
-        let entry = archive
-            .entry(number)
-            .map_err(|fault| Failure::of_store(alloc, "the store", fault))?;
-        self.text.extend_from_slice(beside.as_bytes())?;
-        self.count = self.count.saturating_add(1);
-        let format = self.listing.format;
-        let row = row_of(&entry);
-        let text = if self.listing.headers {
-            let headers = headers_of_record(self.rt, archive, &entry)?;
-            let listed = match &headers {
-                Some(texts) => ListedHeaders::Texts(texts),
-                None => ListedHeaders::Destroyed,
-            };
-            row_text(alloc, &row, listed, format, is_first)?
-        } else {
-            row_text(alloc, &row, ListedHeaders::Unasked, format, is_first)?
-        };
-        self.text.extend_from_slice(text.as_slice())?;
-        Ok(())
+/// What stands after the records of a group.
+fn text_after(format: Format) -> &'static str
+    ensures { result.now ≡ after_group format }
+{
+    match format {
+        Format::Json => "\n]}",
+        Format::Lines | Format::Csv | Format::Numbers | Format::Count => "",
     }
+}
 
-    /// Adds a group, and writes it.
-    fn add_group<S: Alter>(
-        &mut self,
-        archive: &mut Store<S>,
-        seal: &SealKey,
-        group: &Group,
-    ) -> Result<(), Failure> {
-        let alloc = self.rt.alloc();
-        let format = self.listing.format;
-        let before = text_before(alloc, format, seal, self.count == 0)?;
-        self.text.extend_from_slice(before.as_bytes())?;
-        let beside = text_beside(alloc, format, seal)?;
-        self.add_record(archive, group.first(), beside.as_str(), true)?;
-        for other in group.others() {
-            self.add_record(archive, other.number, beside.as_str(), false)?;
+/// The entry of a record that was gathered. A failure is that of the store.
+fn entry_of<R: Repository<Fault = StoreFault>>(
+    alloc: Global,
+    archive: &mut R,
+    number: u32,
+) -> Result<RecordEntry, Failure>
+    ensures reads { OnlyReads R.clean R.stands archive.old archive.new }
+    ensures told { IfOk result (λ e. R.clean archive.new → (a : Archive) → R.stands archive.old a
+        → IsEntryOf a number e) }
+{
+    archive
+        .entry(number)
+        .map_err(|fault| Failure::of_store(alloc, "the store", fault))
+}
+
+/// Adds a record to a list, with what the header of its message says where that is listed.
+fn push_entry<R: Repository<Fault = StoreFault>, K: Sink + Drop>(
+    archive: &mut R,
+    list: &mut ListText<'_, K>,
+    entry: &RecordEntry,
+    is_first: bool,
+) -> Result<(), Failure>
+    ensures reads { OnlyReads R.clean R.stands archive.old archive.new }
+    ensures pushed { OnOk result (R.clean archive.new → (a : Archive) → R.stands archive.old a
+        → PushesRow K.written a is_first list.old entry.now list.new) }
+{
+    if !list.listing.headers {
+        return list.push_row(entry, ListedHeaders::Unasked, is_first);
+    }
+    match headers_of_record(list.rt, archive, entry)? {
+        Some(headers) => list.push_row(entry, ListedHeaders::Texts(&headers), is_first),
+        None => list.push_row(entry, ListedHeaders::Destroyed, is_first),
+    }
+}
+
+/// Adds a record of a group to a list, and before it what stands beside it.
+fn add_record<R: Repository<Fault = StoreFault>, K: Sink + Drop>(
+    archive: &mut R,
+    list: &mut ListText<'_, K>,
+    sealed: Sealed,
+    beside: &str,
+    is_first: bool,
+) -> Result<(), Failure>
+    ensures reads { OnlyReads R.clean R.stands archive.old archive.new }
+    ensures added { OnOk result (R.clean archive.new → (a : Archive) → R.stands archive.old a
+        → AddsBeside K.written beside.now is_first list.old a (sealed ∷ []) list.new) }
+{
+    let entry = entry_of(list.rt.alloc(), archive, sealed.number)?;
+    list.push(beside)?;
+    push_entry(archive, list, &entry, is_first)?;
+    Ok(())
+}
+
+/// Adds records to a list of which none is the first of its group.
+fn add_others<R: Repository<Fault = StoreFault>, K: Sink + Drop>(
+    archive: &mut R,
+    list: &mut ListText<'_, K>,
+    others: &[Sealed],
+    beside: &str,
+) -> Result<(), Failure>
+    ensures reads { OnlyReads R.clean R.stands archive.old archive.new }
+    ensures added { OnOk result (R.clean archive.new → (a : Archive) → R.stands archive.old a
+        → AddsBeside K.written beside.now false list.old a others.now list.new) }
+{
+    for other in others {
+        add_record(archive, list, *other, beside, false)?;
+    }
+    Ok(())
+}
+
+/// Adds the records of a group to a list: its first one, and the others behind it.
+fn add_records<R: Repository<Fault = StoreFault>, K: Sink + Drop>(
+    archive: &mut R,
+    list: &mut ListText<'_, K>,
+    group: &Group,
+    beside: &str,
+) -> Result<(), Failure>
+    ensures reads { OnlyReads R.clean R.stands archive.old archive.new }
+    ensures added { OnOk result (R.clean archive.new → (a : Archive) → R.stands archive.old a
+        → AddsBeside K.written beside.now true list.old a (records_of group.now) list.new) }
+{
+    add_record(archive, list, group.first(), beside, true)?;
+    add_others(archive, list, group.others(), beside)?;
+    Ok(())
+}
+
+/// Adds a group to a list.
+fn add_group<R: Repository<Fault = StoreFault>, K: Sink + Drop>(
+    archive: &mut R,
+    list: &mut ListText<'_, K>,
+    keyed: &(SealKey, Group),
+) -> Result<(), Failure>
+    ensures reads { OnlyReads R.clean R.stands archive.old archive.new }
+    ensures added { OnOk result (R.clean archive.new → (a : Archive) → R.stands archive.old a
+        → AddsGroups K.written list.old a (keyed.now ∷ []) list.new) }
+{
+    let alloc = list.rt.alloc();
+    let format = list.listing.format;
+    let before = text_before(alloc, format, &keyed.0, list.count == 0)?;
+    let beside = text_beside(alloc, format, &keyed.0)?;
+    list.push(before.as_str())?;
+    add_records(archive, list, &keyed.1, beside.as_str())?;
+    list.push(text_after(format))?;
+    Ok(())
+}
+
+/// Adds a group to a list, and writes it.
+fn write_group<R: Repository<Fault = StoreFault>, K: Sink + Drop>(
+    archive: &mut R,
+    list: &mut ListText<'_, K>,
+    keyed: &(SealKey, Group),
+) -> Result<(), Failure>
+    ensures reads { OnlyReads R.clean R.stands archive.old archive.new }
+    ensures added { OnOk result (R.clean archive.new → (a : Archive) → R.stands archive.old a
+        → AddsGroups K.written list.old a (keyed.now ∷ []) list.new) }
+{
+    add_group(archive, list, keyed)?;
+    list.write()?;
+    Ok(())
+}
+
+/// Adds groups to a list, and writes them one after the other.
+fn write_groups<R: Repository<Fault = StoreFault>, K: Sink + Drop>(
+    archive: &mut R,
+    list: &mut ListText<'_, K>,
+    groups: &[(SealKey, Group)],
+) -> Result<(), Failure>
+    ensures reads { OnlyReads R.clean R.stands archive.old archive.new }
+    ensures added { OnOk result (R.clean archive.new → (a : Archive) → R.stands archive.old a
+        → AddsGroups K.written list.old a groups.now list.new) }
+{
+    for keyed in groups {
+        write_group(archive, list, keyed)?;
+    }
+    Ok(())
+}
+
+/// What stands before all groups.
+fn text_first(alloc: Global, listing: Listing) -> Result<String, AllocError>
+    ensures { IfOk result (λ text. string_bytes text
+        ≡ head_beside listing.format listing.headers) }
+{
+    match listing.format {
+        Format::Csv if listing.headers => {
+            format!(in alloc; "octets,sha256,{LIST_HEADER_WITH_TEXTS}")
         }
-        if let Format::Json = format {
-            self.text.extend_from_slice(b"\n]}")?;
-        }
-        self.write()
+        Format::Csv => format!(in alloc; "octets,sha256,{LIST_HEADER}"),
+        Format::Json => String::from_str(alloc, "["),
+        Format::Lines | Format::Numbers | Format::Count => Ok(String::new(alloc)),
     }
+}
 
-    /// Writes what is not written yet.
-    fn write(&mut self) -> Result<(), Failure> {
-        write_data(self.rt, self.text.as_slice())?;
-        self.text.clear();
-        Ok(())
-    }
-
-    /// Adds what stands before all groups.
-    fn begin(&mut self) -> Result<(), AllocError> {
-        let (first, rest) = match self.listing.format {
-            Format::Csv if self.listing.headers => ("octets,sha256,", LIST_HEADER_WITH_TEXTS),
-            Format::Csv => ("octets,sha256,", LIST_HEADER),
-            Format::Json => ("[", ""),
-            Format::Lines | Format::Numbers | Format::Count => ("", ""),
-        };
-        self.text.extend_from_slice(first.as_bytes())?;
-        self.text.extend_from_slice(rest.as_bytes())
-    }
-
-    /// Adds what stands after all groups, and writes it.
-    fn end(&mut self) -> Result<(), Failure> {
-        match self.listing.format {
-            Format::Json => self.text.extend_from_slice(b"\n]\n")?,
-            Format::Count => {
-                let count = self.count;
-                let line = format!(in self.rt.alloc(); "{count}\n")?;
-                self.text.extend_from_slice(line.as_bytes())?;
-            }
-            Format::Lines | Format::Csv | Format::Numbers => {}
-        }
-        self.write()
-    }
+/// Writes the list of what was captured twice to a sink: the groups of the live records whose messages were captured twice, each
+/// once, in the order of their first records, each with all of its records. Answers the sink. A failure is that of the store, that
+/// of the sink, or no memory.
+fn twice_to<R: Repository<Fault = StoreFault>, K: Sink + Drop>(
+    rt: &HostRuntime,
+    archive: &mut R,
+    listing: Listing,
+    seals: Seals,
+    sink: K,
+) -> Result<K, Failure>
+    ensures reads { OnlyReads R.clean R.stands archive.old archive.new }
+    ensures listed { IfOk result (λ after. R.clean archive.new → (a : Archive)
+        → R.stands archive.old a → WritesTwice K.written listing seals sink a after) }
+{
+    let groups = groups_of(rt, archive, seals)?;
+    let mut list = ListText::new(rt, listing, sink);
+    let first = text_first(rt.alloc(), listing)?;
+    list.push(first.as_str())?;
+    write_groups(archive, &mut list, groups.as_slice())?;
+    list.end()?;
+    let ListText { sink, .. } = list;
+    Ok(sink)
 }
 
 /// Writes the live records whose messages were captured twice: those with the octets of another message, by their length and
@@ -183,16 +344,7 @@ pub fn write_twice<S: Alter>(
     archive: &mut Store<S>,
     listing: Listing,
 ) -> Result<(), Failure> {
-    let groups = groups_of(rt, archive)?.into_twice()?;
-    let mut text = TwiceText {
-        rt,
-        listing,
-        text: Vec::new(rt.alloc()),
-        count: 0,
-    };
-    text.begin()?;
-    for (seal, group) in &groups {
-        text.add_group(archive, seal, group)?;
-    }
-    text.end()
+    let seals = Seals::of(rt, archive)?;
+    twice_to(rt, archive, listing, seals, StandardOutput::new(rt))?;
+    Ok(())
 }

@@ -1,0 +1,410 @@
+-- What `list --twice` gathers of the live records, and what it lists of them.
+use Rattle.std.specs.Prelude.{◌≡◌, ℕ, ◌+◌, ◌==◌, Bool, true, false, if◌then◌else◌, min}
+use Rattle.std.specs.Prelude.{List, [], ◌∷◌, ◌++◌, length, map, flat_map, option_map, Option, Some, None, Ok, codes, decimal}
+use Rattle.std.specs.Borrow.{Bor}
+use Rattle.std.specs.Str.{IsUtf8, is_utf8}
+use Rattle.std.proofs.Common.{refl, sym, ap, ◌∙◌, subst, arith, ◌<◌, ◌≤◌, get_or, take, zero-add}
+use Rattle.std.proofs.lemmas.List.{append_assoc, append-nil, take_all, take_more}
+use Rattle.std.proofs.lemmas.Str.{IsUtf8-from_is_utf8, is_utf8-from_IsUtf8}
+use Rattle.command_lines.specs.declared.archives.Format.{Format}
+use Rattle.command_lines.specs.declared.archives.Format.TheVariants.{Lines, Csv, Json, Numbers, Count}
+use Rattle.command_lines.specs.declared.archives.Listing.{Listing}
+use Rattle.record_archive.specs.Archive.{Archive, message}
+use Rattle.record_choice.specs.Choices.{chosen, every_live_record}
+use Rattle.record_choice.specs.Entries.{RecordEntry as Entry, entry_of, entry_view}
+use Rattle.record_choice.specs.declared.entry.RecordEntry.{RecordEntry}
+use Rattle.record_history.specs.Events.{Seal}
+use Rattle.cli_readings.specs.Groups.{Added, AreGroupsOf, AreTwice, Key, KeyedGroup, key_of, records_of}
+use Rattle.cli_readings.specs.declared.groups.Sealed.{Sealed}
+use Rattle.cli_console.specs.Counts.{greatest, one_more}
+use Rattle.cli_console.specs.Sinks.{Writes, more_written, nothing_written}
+use Rattle.cli_history.specs.Seals.{known, length_and_sum}
+use Rattle.cli_history.specs.declared.seals.Seals.{Seals}
+use Rattle.cli_texts.specs.Sums.{shown_sum}
+use Rattle.cli_readings.specs.Lists.{HasText, IsListedAs, Lists, PushesRow, between, end_of, head_of, is_some, whole_text}
+use Rattle.cli_readings.specs.Shows.{IsEntryOf}
+use Rattle.cli_readings.specs.declared.list.ListText.{ListText}
+use Rattle.cli_readings.specs.declared.twice.Grouping.{Grouping}
+
+-- ---- what was captured twice
+
+-- all live records of an archive, as they are listed
+abbrev pub every_live_entry : Archive → List Entry
+every_live_entry a = map (entry_of a) (chosen None every_live_record a)
+
+-- WHAT STANDS FOR THE MESSAGE OF A RECORD: what the history tells of it, or else the length and the sum of its octets
+abbrev pub IsKeyOf : Option (Seal × ℕ) → Archive → RecordEntry → Key → Type 0
+IsKeyOf (Some told) a e key = key ≡ length_and_sum told
+IsKeyOf None a e key = (octets : List ℕ) × (message a e.number ≡ Ok (Some octets)) × (key ≡ (length octets, shown_sum octets))
+
+-- a record as it is gathered
+abbrev pub sealed : RecordEntry → Sealed
+sealed e = record { number = e.number; message = e.message }
+
+-- THESE RECORDS ARE GATHERED by what stands for their messages, each once, in this order
+abbrev pub AreGathered : Archive → Seals → List RecordEntry → List Added → Type 0
+AreGathered a s [] gathered = gathered ≡ []
+AreGathered a s (e ∷ es) gathered =
+    (key : Key) × IsKeyOf (known s e.message) a e key × (rest : List Added) × AreGathered a s es rest × (gathered ≡ (key, sealed e) ∷ rest)
+
+-- THE GROUPS OF THE LIVE RECORDS OF AN ARCHIVE WHOSE MESSAGES WERE CAPTURED TWICE
+pub record AreCapturedTwice (a : Archive) (s : Seals) (groups : List KeyedGroup) : Type 0 where
+  pub entries : List RecordEntry
+  pub all : map entry_view entries ≡ every_live_entry a
+  pub gathered : List Added
+  pub each : AreGathered a s entries gathered
+  pub twice : AreTwice gathered groups
+
+-- ---- what is listed
+
+-- a sum as it is written
+abbrev pub sum_text : List ℕ → List ℕ
+sum_text sum = if is_utf8 sum then sum else []
+
+-- what stands before all groups
+abbrev pub head_beside : Format → (are_asked : Bool) → List ℕ
+head_beside Lines are_asked = []
+head_beside Csv are_asked = codes "octets,sha256," ++ head_of Csv are_asked
+head_beside Json are_asked = codes "["
+head_beside Numbers are_asked = []
+head_beside Count are_asked = []
+
+-- what stands before the records of a group
+abbrev pub before_group : Format → (is_first : Bool) → Key → List ℕ
+before_group Lines is_first key = codes "octets " ++ decimal key.0 ++ codes " sha256 " ++ sum_text key.1 ++ codes "\n"
+before_group Csv is_first key = []
+before_group Json is_first key =
+    between is_first ++ codes "{\"octets\":" ++ decimal key.0 ++ codes ",\"sha256\":\"" ++ sum_text key.1 ++ codes "\",\"records\":["
+before_group Numbers is_first key = []
+before_group Count is_first key = []
+
+-- what stands before each of them
+abbrev pub beside_record : Format → Key → List ℕ
+beside_record Lines key = []
+beside_record Csv key = decimal key.0 ++ codes "," ++ sum_text key.1 ++ codes ","
+beside_record Json key = []
+beside_record Numbers key = []
+beside_record Count key = []
+
+-- what stands after them
+abbrev pub after_group : Format → List ℕ
+after_group Lines = []
+after_group Csv = []
+after_group Json = codes "\n]}"
+after_group Numbers = []
+after_group Count = []
+
+-- the record of a number is listed
+pub record IsRecordListed (a : Archive) (l : Listing) (is_first : Bool) (number : ℕ) (row : List ℕ) : Type 0 where
+  pub entry : RecordEntry
+  pub of_it : IsEntryOf a number entry
+  pub listed : IsListedAs a l is_first entry row
+
+-- THE TEXT OF THE RECORDS OF A GROUP: that of each, once, in this order, behind what stands beside it
+abbrev pub AreBeside : Archive → Listing → (beside : List ℕ) → (is_first : Bool) → List Sealed → List ℕ → Type 0
+AreBeside a l beside is_first [] text = text ≡ []
+AreBeside a l beside is_first (r ∷ rs) text =
+    (row : List ℕ) × IsRecordListed a l is_first r.number row × (rest : List ℕ) × AreBeside a l beside false rs rest
+    × (text ≡ (beside ++ row) ++ rest)
+
+-- THE TEXT OF A GROUP
+pub record IsGroupText (a : Archive) (l : Listing) (is_first : Bool) (g : KeyedGroup) (text : List ℕ) : Type 0 where
+  pub rows : List ℕ
+  pub are : AreBeside a l (beside_record l.format (key_of g.0)) true (records_of g.1) rows
+  pub whole : text ≡ before_group l.format is_first (key_of g.0) ++ rows ++ after_group l.format
+
+-- the text of these groups: that of each, once, in this order
+abbrev pub AreGroupTexts : Archive → Listing → (is_first : Bool) → List KeyedGroup → List ℕ → Type 0
+AreGroupTexts a l is_first [] text = text ≡ []
+AreGroupTexts a l is_first (g ∷ gs) text =
+    (one : List ℕ) × IsGroupText a l is_first g one × (rest : List ℕ) × AreGroupTexts a l false gs rest × (text ≡ one ++ rest)
+
+-- the records of all groups
+abbrev pub all_records : List KeyedGroup → List Sealed
+all_records groups = flat_map (λ g. records_of g.1) groups
+
+-- THE LIST OF THESE GROUPS
+pub record IsListOfGroups (a : Archive) (l : Listing) (groups : List KeyedGroup) (text : List ℕ) : Type 0 where
+  pub rows : List ℕ
+  pub are : AreGroupTexts a l true groups rows
+  pub whole : text ≡ head_beside l.format l.headers ++ rows ++ end_of l.format (min (length (all_records groups)) greatest)
+
+-- THE LIST OF WHAT WAS CAPTURED TWICE in an archive is written, and nothing else
+pub record WritesTwice {K : Type 0} (written : K → List ℕ → Type 0) (l : Listing) (s : Seals) (before : K) (a : Archive)
+    (after : K) : Type 0 where
+  pub groups : List KeyedGroup
+  pub are : AreCapturedTwice a s groups
+  pub text : List ℕ
+  pub is : IsListOfGroups a l groups text
+  pub writes : Writes written before after text
+
+-- ---- as it is gathered
+
+-- these records are gathered, each once, in this order, and no other
+pub record Gathers (old : Grouping) (a : Archive) (es : List RecordEntry) (new : Grouping) : Type 0 where
+  pub gathered : List Added
+  pub are : AreGathered a old.seals es gathered
+  pub added : Writes AreGroupsOf old.groups new.groups gathered
+  pub seals : new.seals ≡ old.seals
+
+-- ---- as it is listed
+
+-- one more for each
+abbrev pub more_records : List Sealed → ℕ → ℕ
+more_records [] n = n
+more_records (r ∷ rs) n = more_records rs (one_more n)
+
+-- these records are added behind what stands beside each, each once, in this order, and nothing else
+pub record AddsBeside {K : Type 0} (written : K → List ℕ → Type 0) (beside : List ℕ) (is_first : Bool) (old : ListText K) (a : Archive)
+    (rs : List Sealed) (new : ListText K) : Type 0 where
+  pub rows : List ℕ
+  pub are : AreBeside a old.listing beside is_first rs rows
+  pub added : Writes (HasText written) old new rows
+  pub counted : new.count ≡ more_records rs old.count
+  pub listing : new.listing ≡ old.listing
+
+-- these groups are added, each once, in this order, and nothing else
+pub record AddsGroups {K : Type 0} (written : K → List ℕ → Type 0) (old : ListText K) (a : Archive) (gs : List KeyedGroup)
+    (new : ListText K) : Type 0 where
+  pub rows : List ℕ
+  pub are : AreGroupTexts a old.listing (old.count == 0) gs rows
+  pub added : Writes (HasText written) old new rows
+  pub counted : new.count ≡ more_records (all_records gs) old.count
+  pub listing : new.listing ≡ old.listing
+
+-- ---- its laws
+
+pub utf8_sum : (sum : List ℕ) → IsUtf8 sum → sum ≡ sum_text sum
+utf8_sum sum h = sym (ap (λ b. if b then sum else []) (is_utf8-from_IsUtf8 sum h))
+
+pub other_sum : (sum : List ℕ) → (IsUtf8 sum → ⊥) → [] ≡ sum_text sum
+other_sum sum h = go (is_utf8 sum) refl
+  where
+    go : (b : Bool) → is_utf8 sum ≡ b → [] ≡ sum_text sum
+    go true e = absurd (h (IsUtf8-from_is_utf8 sum e))
+    go false e = sym (ap (λ b. if b then sum else []) e)
+
+-- what the history tells stands for a message
+pub told_key : (o : Option (ℕ × Bor (List ℕ))) (k : Option (Seal × ℕ)) (x : ℕ × Bor (List ℕ)) (a : Archive) (e : RecordEntry) (sum : List ℕ)
+    → option_map (λ y. (y.0, y.1.now)) o ≡ option_map length_and_sum k → o ≡ Some x → sum ≡ x.1.now → IsKeyOf k a e (x.0, sum)
+told_key o None x a e sum same is sums = let no = sym same ∙ ap (option_map (λ y. (y.0, y.1.now))) is in absurd cc
+told_key o (Some told) x a e sum same is sums =
+    let both : Some (length_and_sum told) ≡ Some (x.0, x.1.now) = sym same ∙ ap (option_map (λ y. (y.0, y.1.now))) is in
+    let key : length_and_sum told ≡ (x.0, x.1.now) = cc in ap (λ s. (x.0, s)) sums ∙ sym key
+
+-- and it tells nothing where nothing is known
+pub untold : (o : Option (ℕ × Bor (List ℕ))) (k : Option (Seal × ℕ)) → option_map (λ y. (y.0, y.1.now)) o ≡ option_map length_and_sum k
+    → o ≡ None → None ≡ k
+untold o None same is = refl
+untold o (Some told) same is = let no = sym same ∙ ap (option_map (λ y. (y.0, y.1.now))) is in absurd cc
+
+gathered_joined : (a : Archive) (s : Seals) (es fs : List RecordEntry) (t u : List Added) → AreGathered a s es t → AreGathered a s fs u
+    → AreGathered a s (es ++ fs) (t ++ u)
+gathered_joined a s [] fs t u one other = subst (λ g. AreGathered a s fs (g ++ u)) (sym one) other
+gathered_joined a s (e ∷ es) fs t u one other =
+    (one.0, one.1, one.2 ++ u, gathered_joined a s es fs one.2 u one.3 other, ap (λ g. g ++ u) one.4)
+
+pub none_gathered : (x : Grouping) (a : Archive) → Gathers x a [] x
+none_gathered x a = record { gathered = []; are = refl; added = nothing_written AreGroupsOf x.groups; seals = refl }
+
+pub more_gathered : (x y z : Grouping) (a : Archive) (es fs : List RecordEntry) → Gathers x a es y → Gathers y a fs z → Gathers x a (es ++ fs) z
+more_gathered x y z a es fs one other = record {
+  gathered = one.gathered ++ other.gathered;
+  are = gathered_joined a x.seals es fs one.gathered other.gathered one.are (subst (λ s. AreGathered a s fs other.gathered) one.seals other.are);
+  added = more_written AreGroupsOf x.groups y.groups z.groups one.gathered other.gathered one.added other.added;
+  seals = other.seals ∙ one.seals;
+}
+
+pub one_gathered : (x y : Grouping) (a : Archive) (e : RecordEntry) (key : Key) → IsKeyOf (known x.seals e.message) a e key
+    → Writes AreGroupsOf x.groups y.groups ((key, sealed e) ∷ []) → y.seals ≡ x.seals → Gathers x a (e ∷ []) y
+one_gathered x y a e key is writes same =
+    record { gathered = (key, sealed e) ∷ []; are = (key, is, [], refl, refl); added = writes; seals = same }
+
+-- the next one is the first where there are none before it, and they begin with the first
+abbrev pub first_behind : {X : Type 0} → Bool → List X → Bool
+first_behind is_first [] = is_first
+first_behind is_first (x ∷ xs) = false
+
+never_first : {X : Type 0} (xs : List X) → first_behind false xs ≡ false
+never_first [] = refl
+never_first (x ∷ xs) = refl
+
+beside_joined : (a : Archive) (l : Listing) (beside : List ℕ) (is_first : Bool) (rs ss : List Sealed) (t u : List ℕ)
+    → AreBeside a l beside is_first rs t → AreBeside a l beside (first_behind is_first rs) ss u → AreBeside a l beside is_first (rs ++ ss) (t ++ u)
+beside_joined a l beside is_first [] ss t u one other = subst (λ s. AreBeside a l beside is_first ss (s ++ u)) (sym one) other
+beside_joined a l beside is_first (r ∷ rs) ss t u one other = (
+  one.0,
+  one.1,
+  one.2 ++ u,
+  beside_joined a l beside false rs ss one.2 u one.3 (subst (λ b. AreBeside a l beside b ss u) (sym (never_first rs)) other),
+  ap (λ s. s ++ u) one.4 ∙ append_assoc (beside ++ one.0) one.2 u,
+)
+
+groups_joined : (a : Archive) (l : Listing) (is_first : Bool) (gs hs : List KeyedGroup) (t u : List ℕ) → AreGroupTexts a l is_first gs t
+    → AreGroupTexts a l (first_behind is_first gs) hs u → AreGroupTexts a l is_first (gs ++ hs) (t ++ u)
+groups_joined a l is_first [] hs t u one other = subst (λ s. AreGroupTexts a l is_first hs (s ++ u)) (sym one) other
+groups_joined a l is_first (g ∷ gs) hs t u one other = (
+  one.0,
+  one.1,
+  one.2 ++ u,
+  groups_joined a l false gs hs one.2 u one.3 (subst (λ b. AreGroupTexts a l b hs u) (sym (never_first gs)) other),
+  ap (λ s. s ++ u) one.4 ∙ append_assoc one.0 one.2 u,
+)
+
+-- a group has a record at least, so that none behind it is the first
+is_begun : (r : Sealed) (rs : List Sealed) (n : ℕ) → (more_records (r ∷ rs) n == 0) ≡ false
+is_begun r [] n = is_some n
+is_begun r (q ∷ rs) n = is_begun q rs (one_more n)
+
+is_none : (gs : List KeyedGroup) (n : ℕ) → (more_records (all_records gs) n == 0) ≡ first_behind (n == 0) gs
+is_none [] n = refl
+is_none (g ∷ gs) n = is_begun g.1.first (g.1.others.items ++ all_records gs) n
+
+records_counted : (rs ss : List Sealed) (n : ℕ) → more_records ss (more_records rs n) ≡ more_records (rs ++ ss) n
+records_counted [] ss n = refl
+records_counted (r ∷ rs) ss n = records_counted rs ss (one_more n)
+
+more_of : (rs : List Sealed) (n : ℕ) → n ≤ greatest → more_records rs n ≡ min (n + length rs) greatest
+more_of [] n fits = omega arith
+more_of (r ∷ rs) n fits = more_of rs (one_more n) (omega arith) ∙ omega arith
+
+records_joined : (gs hs : List KeyedGroup) → all_records (gs ++ hs) ≡ all_records gs ++ all_records hs
+records_joined [] hs = refl
+records_joined (g ∷ gs) hs =
+    ap (λ rs. records_of g.1 ++ rs) (records_joined gs hs) ∙ sym (append_assoc (records_of g.1) (all_records gs) (all_records hs))
+
+module _ {K : Type 0} (written : K → List ℕ → Type 0) (a : Archive) where
+  -- a record comes behind what stands beside it
+  pub one_beside : (x y z : ListText K) (beside : List ℕ) (is_first : Bool) (r : Sealed) (e : RecordEntry)
+      → IsEntryOf a r.number e → Writes (HasText written) x y beside → y.count ≡ x.count → y.listing ≡ x.listing
+      → PushesRow written a is_first y e z → AddsBeside written beside is_first x a (r ∷ []) z
+  one_beside x y z beside is_first r e of_it text count same pushed = record {
+    rows = beside ++ pushed.row;
+    are = (
+      pushed.row,
+      record { entry = e; of_it = of_it; listed = subst (λ l. IsListedAs a l is_first e pushed.row) same pushed.is },
+      [],
+      refl,
+      sym (append-nil (beside ++ pushed.row)),
+    );
+    added = more_written (HasText written) x y z beside pushed.row text pushed.added;
+    counted = pushed.counted ∙ ap one_more count;
+    listing = pushed.listing ∙ same;
+  }
+
+  pub no_beside : (x : ListText K) (beside : List ℕ) (is_first : Bool) → AddsBeside written beside is_first x a [] x
+  no_beside x beside is_first =
+      record { rows = []; are = refl; added = nothing_written (HasText written) x; counted = refl; listing = refl }
+
+  pub more_beside : (x y z : ListText K) (beside : List ℕ) (is_first : Bool) (rs ss : List Sealed) → AddsBeside written beside is_first x a rs y
+      → AddsBeside written beside (first_behind is_first rs) y a ss z → AddsBeside written beside is_first x a (rs ++ ss) z
+  more_beside x y z beside is_first rs ss one other = record {
+    rows = one.rows ++ other.rows;
+    are = beside_joined a x.listing beside is_first rs ss one.rows other.rows one.are
+        (subst (λ l. AreBeside a l beside (first_behind is_first rs) ss other.rows) one.listing other.are);
+    added = more_written (HasText written) x y z one.rows other.rows one.added other.added;
+    counted = other.counted ∙ ap (more_records ss) one.counted ∙ records_counted rs ss x.count;
+    listing = other.listing ∙ one.listing;
+  }
+
+  -- the next one of some records is added, of which none is the first
+  pub next_beside : (x y z : ListText K) (beside : List ℕ) (rs : List Sealed) (i : ℕ) (d : Sealed) → i < length rs
+      → AddsBeside written beside false x a (take i rs) y → AddsBeside written beside false y a (get_or rs i d ∷ []) z
+      → AddsBeside written beside false x a (take (i + 1) rs) z
+  next_beside x y z beside rs i d there one other =
+      subst (λ l. AddsBeside written beside false x a l z) (sym (take_more rs i d there))
+      (more_beside x y z beside false (take i rs) (get_or rs i d ∷ []) one
+      (subst (λ b. AddsBeside written beside b y a (get_or rs i d ∷ []) z) (sym (never_first (take i rs))) other))
+
+  pub all_beside : (x y : ListText K) (beside : List ℕ) (rs : List Sealed) (i : ℕ) → length rs ≤ i
+      → AddsBeside written beside false x a (take i rs) y → AddsBeside written beside false x a rs y
+  all_beside x y beside rs i end adds = subst (λ l. AddsBeside written beside false x a l y) (take_all i rs end) adds
+
+  -- a group is the text before its records, that of these, and the text after them
+  pub one_group : (x y z u : ListText K) (g : KeyedGroup)
+      → Writes (HasText written) x y (before_group x.listing.format (x.count == 0) (key_of g.0)) → y.count ≡ x.count → y.listing ≡ x.listing
+      → AddsBeside written (beside_record x.listing.format (key_of g.0)) true y a (records_of g.1) z
+      → Writes (HasText written) z u (after_group x.listing.format) → u.count ≡ z.count → u.listing ≡ z.listing
+      → AddsGroups written x a (g ∷ []) u
+  one_group x y z u g before count same rows after counted listed =
+      let front = before_group x.listing.format (x.count == 0) (key_of g.0) in
+      let back = after_group x.listing.format in record {
+        rows = (front ++ rows.rows) ++ back;
+        are = (
+          (front ++ rows.rows) ++ back,
+          record {
+            rows = rows.rows;
+            are = subst (λ l. AreBeside a l (beside_record x.listing.format (key_of g.0)) true (records_of g.1) rows.rows) same rows.are;
+            whole = refl;
+          },
+          [],
+          refl,
+          sym (append-nil ((front ++ rows.rows) ++ back)),
+        );
+        added = more_written (HasText written) x z u (front ++ rows.rows) back
+            (more_written (HasText written) x y z front rows.rows before rows.added) after;
+        counted = counted ∙ rows.counted ∙ ap (more_records (records_of g.1)) count
+            ∙ ap (λ rs. more_records rs x.count) (sym (append-nil (records_of g.1)));
+        listing = listed ∙ rows.listing ∙ same;
+      }
+
+  -- and stays so when it is written
+  pub groups_kept : (x y z : ListText K) (gs : List KeyedGroup) → AddsGroups written x a gs y → Lists written a y [] z → AddsGroups written x a gs z
+  groups_kept x y z gs adds kept = record {
+    rows = adds.rows;
+    are = adds.are;
+    added = subst (λ t. Writes (HasText written) x z t) (ap (λ t. adds.rows ++ t) kept.are ∙ append-nil adds.rows)
+        (more_written (HasText written) x y z adds.rows kept.rows adds.added kept.added);
+    counted = kept.counted ∙ adds.counted;
+    listing = kept.listing ∙ adds.listing;
+  }
+
+  pub no_groups : (x : ListText K) → AddsGroups written x a [] x
+  no_groups x = record { rows = []; are = refl; added = nothing_written (HasText written) x; counted = refl; listing = refl }
+
+  more_groups : (x y z : ListText K) (gs hs : List KeyedGroup) → AddsGroups written x a gs y → AddsGroups written y a hs z
+      → AddsGroups written x a (gs ++ hs) z
+  more_groups x y z gs hs one other = record {
+    rows = one.rows ++ other.rows;
+    are = groups_joined a x.listing (x.count == 0) gs hs one.rows other.rows one.are
+        (subst (λ l. AreGroupTexts a l (first_behind (x.count == 0) gs) hs other.rows) one.listing
+        (subst (λ b. AreGroupTexts a y.listing b hs other.rows) (ap (λ n. n == 0) one.counted ∙ is_none gs x.count) other.are));
+    added = more_written (HasText written) x y z one.rows other.rows one.added other.added;
+    counted = other.counted ∙ ap (more_records (all_records hs)) one.counted ∙ records_counted (all_records gs) (all_records hs) x.count
+        ∙ ap (λ rs. more_records rs x.count) (sym (records_joined gs hs));
+    listing = other.listing ∙ one.listing;
+  }
+
+  -- the next one of some groups is added
+  pub next_group : (x y z : ListText K) (gs : List KeyedGroup) (i : ℕ) (d : KeyedGroup) → i < length gs → AddsGroups written x a (take i gs) y
+      → AddsGroups written y a (get_or gs i d ∷ []) z → AddsGroups written x a (take (i + 1) gs) z
+  next_group x y z gs i d there one other =
+      subst (λ l. AddsGroups written x a l z) (sym (take_more gs i d there)) (more_groups x y z (take i gs) (get_or gs i d ∷ []) one other)
+
+  pub all_groups : (x y : ListText K) (gs : List KeyedGroup) (i : ℕ) → length gs ≤ i → AddsGroups written x a (take i gs) y
+      → AddsGroups written x a gs y
+  all_groups x y gs i end adds = subst (λ l. AddsGroups written x a l y) (take_all i gs end) adds
+
+  -- a list that has begun with its head, has these groups added to it and is ended with its end is that of these groups
+  pub whole_twice : (l : Listing) (s : Seals) (before : K) (gs : List KeyedGroup) (x y z u : ListText K) → AreCapturedTwice a s gs → x.sink ≡ before
+      → x.listing ≡ l → x.text.items ≡ [] → x.count ≡ 0 → Writes (HasText written) x y (head_beside l.format l.headers) → y.count ≡ x.count
+      → y.listing ≡ x.listing → AddsGroups written y a gs z → Writes (HasText written) z u (end_of z.listing.format z.count)
+      → u.text.items ≡ [] → WritesTwice written l s before a u.sink
+  whole_twice l s before gs x y z u twice sink listing empty none head count same added end all =
+      let counted : z.count ≡ min (length (all_records gs)) greatest =
+      added.counted ∙ ap (more_records (all_records gs)) (count ∙ none) ∙ more_of (all_records gs) 0 (omega arith)
+      ∙ ap (λ n. min n greatest) (zero-add (length (all_records gs))) in
+      let is : y.listing ≡ l = same ∙ listing in
+      let ended : end_of z.listing.format z.count ≡ end_of l.format (min (length (all_records gs)) greatest) =
+      ap (λ k. end_of k.format z.count) (added.listing ∙ is) ∙ ap (end_of l.format) counted in
+      let rows = subst (λ k. AreGroupTexts a k true gs added.rows) is
+      (subst (λ n. AreGroupTexts a y.listing (n == 0) gs added.rows) (count ∙ none) added.are) in
+      let head_text = head_beside l.format l.headers in
+      let end_text = end_of l.format (min (length (all_records gs)) greatest) in record {
+        groups = gs;
+        are = twice;
+        text = head_text ++ added.rows ++ end_text;
+        is = record { rows = added.rows; are = rows; whole = refl };
+        writes = whole_text written before head_text added.rows end_text x y z u sink empty head added.added
+            (subst (λ t. Writes (HasText written) z u t) ended end) all;
+      }
