@@ -1,8 +1,11 @@
 -- Which numbers a file of approved numbers means.
-use Rattle.std.specs.Prelude.{◌≡◌, ℕ, ◌==◌, not, Bool, List, [], ◌∷◌, length, filter, flat_map, if◌then◌else◌, nat_eq, codes, Some, is_none}
+use Rattle.std.specs.Prelude.{◌≡◌, ◌<◌, ℕ, ◌==◌, not, Bool, true, List, [], ◌∷◌, length, filter, flat_map, if◌then◌else◌, nat_eq, codes}
+use Rattle.std.specs.Prelude.{Some, is_none, IfSome}
 use Rattle.std.specs.List.{slice_split, starts_with, find}
 use Rattle.std.specs.Char.{is_ascii_whitespace}
 use Rattle.choice_words.specs.Numbers.{numbers_typed}
+use Rattle.command_lines.specs.declared.archives.Disposal.{Disposal}
+use Rattle.command_lines.specs.declared.archives.approvals.DisposalAsked.{DisposalAsked}
 use Rattle.cli_changes.specs.declared.approved.NoNumbers.{NoNumbers}
 use Rattle.cli_changes.specs.declared.approved.NoNumbers.TheVariants.{Word, Empty, NoMemory}
 
@@ -39,3 +42,14 @@ abbrev pub IsRefused : List (List ℕ) → NoNumbers → Type 0
 IsRefused words (Word w) = find is_other words ≡ Some w.items
 IsRefused words Empty = words ≡ []
 IsRefused words NoMemory = Unit {0}
+
+-- ---- the disposal
+
+-- IT IS AS IT IS TYPED: whether records are destroyed, also those with altered messages, and by which day. Its numbers are those that are
+-- typed, or, where a file of approved ones is named, there is one at least.
+pub record IsAsTyped (asked : DisposalAsked) (d : Disposal) : Type 0 where
+  pub destroys : d.destroys ≡ asked.typed.destroys
+  pub is_damaged : d.is_damaged ≡ asked.typed.is_damaged
+  pub day : d.day ≡ asked.typed.day
+  pub numbers : is_none asked.approved ≡ true → d.numbers ≡ asked.typed.numbers
+  pub approved : IfSome asked.approved (λ path. 0 < length d.numbers.items)

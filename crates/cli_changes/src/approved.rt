@@ -1,10 +1,10 @@
 //! `dispose --approved`: the numbers of records that stand in a file.
 
-ghost use Rattle.std.specs.Prelude.{◌≡◌, ◌++◌, ◌<◌, map, Some, length, IfOk, IfErr, IfSome, OnOk};
+ghost use Rattle.std.specs.Prelude.{◌≡◌, ◌++◌, ◌<◌, map, Some, length, IfOk, IfErr, OnOk};
 ghost use Rattle.std.specs.Char.{is_ascii_whitespace};
 ghost use Rattle.std.specs.List.{slice_split};
 ghost use Rattle.choice_words.specs.Numbers.{numbers_typed};
-ghost use Rattle.cli_changes.specs.Approvals.{is_line_end, line_words, file_words, IsRefused};
+ghost use Rattle.cli_changes.specs.Approvals.{is_line_end, line_words, file_words, IsAsTyped, IsRefused};
 
 use choice_words::read_numbers;
 use cli_console::{Failure, Status};
@@ -210,7 +210,7 @@ fn approved_at(rt: &HostRuntime, path: &str) -> Result<Vec<TypedNumbers>, Failur
 /// line ends between them, each a number or a range. What stands after a # in a line is passed over. `Usage` where a word is
 /// none, and where there is no word: an empty file never stands for all records. `NoInput` where the file cannot be read.
 pub fn with_approved(rt: &HostRuntime, asked: DisposalAsked<'_>) -> Result<Disposal, Failure>
-    ensures { IfOk result (λ d. IfSome asked.entry.approved (λ path. 0 < length d.numbers.items)) }
+    ensures { IfOk result (IsAsTyped asked.entry) }
 {
     let DisposalAsked { typed, approved } = asked;
     match approved {

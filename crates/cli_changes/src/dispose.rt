@@ -1,6 +1,6 @@
 //! `dispose`: what is due, and its destruction. Which records these are, `record_choice` decides.
 
-ghost use Rattle.std.specs.Prelude.{◌≡◌, [], false, true, is_ok, IfOk, OnOk};
+ghost use Rattle.std.specs.Prelude.{◌≡◌, [], false, true, is_ok, IfOk, IfSome, OnOk};
 ghost use Rattle.cli_console.specs.Sinks.{Writes};
 ghost use Rattle.std.specs.List.{AllByRecursion};
 ghost use Rattle.jiff.specs.Words.{epoch_day};
@@ -310,8 +310,11 @@ fn dispose_of<S: Alter, P: Printer>(
     }
 }
 
-/// The day by which records are to be destroyed. `Usage` where it has not come yet.
-pub fn day_of_disposal(rt: &HostRuntime, asked: &Disposal) -> Result<Date, Failure> {
+/// The day by which records are to be destroyed: the one that is typed, or else that of the clock. `Usage` where it has not
+/// come yet.
+pub fn day_of_disposal(rt: &HostRuntime, asked: &Disposal) -> Result<Date, Failure>
+    ensures { IfOk result (λ day. IfSome asked.now.day (λ typed. day ≡ typed)) }
+{
     match asked.day {
         Some(day) => {
             judge_day(rt, day)?;
