@@ -11,6 +11,7 @@ pub mod HoldLaws
 pub mod FoundLaws
 pub mod RefileLaws
 pub mod ChangeLaws
+pub mod ReplacementLaws
 pub mod LookingLaws
 pub mod DueListLaws
 mod ChangeRows

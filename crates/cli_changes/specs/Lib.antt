@@ -15,6 +15,7 @@ pub mod PlanChanges
 pub mod PassedOver
 pub mod Runs
 pub mod Series
+pub mod Replacements
 pub mod Holdings
 pub mod Moves
 pub mod RefilingLines

@@ -21,8 +21,8 @@
 //!
 //! Each works on a store that is lent to it. What it writes, and what a Maildir or a terminal does, no contract speaks of:
 //! tests of the program show it. `specs/Moments` says when a clock is refused, `specs/Imports` what becomes of a message of
-//! old mail, `specs/Refilings` which records get another class, and `specs/Series`, `specs/Holdings` and `specs/Moves` what a
-//! subcommand changes of the records that are found.
+//! old mail, `specs/Refilings` which records get another class, `specs/Series`, `specs/Holdings` and `specs/Moves` what a
+//! subcommand changes of the records that are found, and `specs/Replacements` what a new plan changes.
 #![tactic(auto)]
 
 mod altered;

@@ -1,5 +1,10 @@
 //! `plan`: the plan of an archive, and another one in its place.
 
+ghost use Rattle.std.specs.Prelude.{OnErr, OnOk};
+ghost use Rattle.record_ledger.specs.Ledgers.{keeper_of};
+ghost use Rattle.cli_changes.specs.Replacements.{Replaces};
+ghost use Rattle.cli_changes.specs.Series.{KeepsAll, WasClean};
+
 use crate::class_changes::class_lines;
 use crate::plan_changes::{changes_by, changes_lines};
 use class_plan::Plan;
@@ -62,27 +67,49 @@ fn judge_classes(rt: &HostRuntime, present: &Plan, new: &Plan, path: &str) -> Re
     Err(Failure::shown(Status::BadData, text))
 }
 
+/// Finds that a plan may replace that of an archive: it has each of its classes, and once it was printed what that changes in the
+/// classes and for the records, someone agrees. `BadData` where a class is left out, before anything is printed; `Usage` where
+/// nobody agrees.
+fn judge_replacement<S: Alter>(
+    rt: &HostRuntime,
+    archive: &mut StoreLedger<'_, S>,
+    plan: &Plan,
+    path: &str,
+    is_agreed: bool,
+) -> Result<(), Failure>
+    ensures { KeepsAll (keeper_of S.Store) archive.old archive.new }
+{
+    judge_classes(rt, archive.plan(), plan, path)?;
+    write_text(rt, &class_lines(rt.alloc(), archive.plan(), plan)?)?;
+    let changes = changes_by(rt, archive, plan, today(rt)?)?;
+    write_text(rt, &changes_lines(rt.alloc(), &changes)?)?;
+    if is_agreed || agrees(rt, "replace the plan?") {
+        return Ok(());
+    }
+    Err(Failure::told(
+        rt.alloc(),
+        Status::Usage,
+        "the plan is not replaced; --yes replaces it",
+    ))
+}
+
 /// Replaces the plan of an archive by that of the file at a path, once it was printed what that changes in the classes and for the
 /// records, and someone agrees. `BadData` where the new plan leaves out a class of the present one, before anything is printed;
 /// `Usage` where nobody agrees.
+///
+/// Where it succeeds, the new plan is that of the archive, and nothing else of it has changed. Where it fails, nothing has changed.
 pub fn replace_plan<S: Alter>(
     rt: &HostRuntime,
     archive: &mut StoreLedger<'_, S>,
     plan: Plan,
     path: &str,
     is_agreed: bool,
-) -> Result<(), Failure> {
-    judge_classes(rt, archive.plan(), &plan, path)?;
-    write_text(rt, &class_lines(rt.alloc(), archive.plan(), &plan)?)?;
-    let changes = changes_by(rt, archive, &plan, today(rt)?)?;
-    write_text(rt, &changes_lines(rt.alloc(), &changes)?)?;
-    if !is_agreed && !agrees(rt, "replace the plan?") {
-        return Err(Failure::told(
-            rt.alloc(),
-            Status::Usage,
-            "the plan is not replaced; --yes replaces it",
-        ));
-    }
+) -> Result<(), Failure>
+    ensures falls { WasClean (keeper_of S.Store) archive.old archive.new }
+    ensures done { OnOk result (Replaces (keeper_of S.Store) archive.old archive.new plan) }
+    ensures failed { OnErr result (KeepsAll (keeper_of S.Store) archive.old archive.new) }
+{
+    judge_replacement(rt, archive, &plan, path, is_agreed)?;
     archive
         .revise(plan)
         .map_err(|fault| Failure::of_store(rt.alloc(), path, fault))
