@@ -1,0 +1,4 @@
+pub mod FindingLaws
+pub mod SourceLaws
+pub mod Taken
+mod Rows
