@@ -1,5 +1,6 @@
 pub mod Deliveries
 pub mod Imports
+pub mod Desks
 pub mod Moments
 pub mod Keeping
 pub mod Endings

@@ -1,6 +1,16 @@
 //! The rules by which mail is filed, and what is done where they are at fault.
 
-ghost use Rattle.std.specs.Prelude.{◌≡◌, ◌||◌, true, is_some, option_map, string_bytes, IfOk};
+ghost use Rattle.std.specs.Prelude.{
+  ◌≡◌,
+  ◌||◌,
+  true,
+  is_some,
+  option_map,
+  string_bytes,
+  IfErr,
+  IfOk,
+};
+ghost use Rattle.cli_changes.specs.Desks.{AreSet, IsDeskOf, IsGivenBack, IsSet};
 ghost use Rattle.cli_changes.specs.Endings.{captures, IsExcused};
 ghost use Rattle.cli_changes.specs.RuleSums.{rules_sum};
 
@@ -207,20 +217,40 @@ impl<'a> FilingRules<'a> {
         cause_of_fault(alloc, rules, plan, fault, message).unwrap_or(None)
     }
 
-    /// Sets the rules at a desk.
-    fn set<A: Records>(&self, rt: &HostRuntime, desk: &mut Desk<A>) -> Result<(), Failure> {
-        let Some(rules) = &self.rules else {
-            return Ok(());
-        };
-        let Err(fault) = set_rules(rt.alloc(), desk, rules) else {
-            return Ok(());
-        };
-        let words = fault.text(rt.alloc());
-        excuse(rt, &fault, words, self.on_fault, self.has_times)
+    /// Sets rules of a folder at a desk.
+    fn set_these<A: Records>(
+        &self,
+        rt: &HostRuntime,
+        desk: &mut Desk<A>,
+        rules: &Rules,
+    ) -> Result<(), Failure>
+        ensures { AreSet A.keeper rules.now self.now.on_fault desk.old desk.new result }
+    {
+        match set_rules(rt.alloc(), desk, rules) {
+            Ok(()) => Ok(()),
+            Err(fault) => {
+                let words = fault.text(rt.alloc());
+                excuse(rt, &fault, words, self.on_fault, self.has_times)
+            }
+        }
+    }
+
+    /// Sets the rules at a desk, if they can be had.
+    fn set<A: Records>(&self, rt: &HostRuntime, desk: &mut Desk<A>) -> Result<(), Failure>
+        ensures { IsSet A.keeper self.now.rules self.now.on_fault desk.old desk.new result }
+    {
+        match &self.rules {
+            Some(rules) => self.set_these(rt, desk, rules),
+            None => Ok(()),
+        }
     }
 
     /// A desk over an archive, with these rules. A failure hands the archive back.
-    pub fn desk<A: Records>(&self, rt: &HostRuntime, archive: A) -> Result<Desk<A>, (A, Failure)> {
+    pub fn desk<A: Records>(&self, rt: &HostRuntime, archive: A) -> Result<Desk<A>, (A, Failure)>
+        ensures desk { IfOk result (IsDeskOf A.keeper self.now archive) }
+        ensures given_back { IfErr result
+            (λ e. IsGivenBack A.keeper self.now archive e.0 e.1) }
+    {
         let mut desk = match Desk::new(rt.alloc(), archive) {
             Ok(desk) => desk,
             Err(archive) => return Err((archive, Failure::NoMemory)),
