@@ -8,6 +8,9 @@ pub mod MeantLaws
 pub mod RunDisposals
 pub mod SeriesLaws
 pub mod HoldLaws
+pub mod DayLaws
+pub mod DeliveryLaws
+pub mod ImportLaws
 pub mod FoundLaws
 pub mod RefileLaws
 pub mod ChangeLaws

@@ -69,16 +69,17 @@ IsRefusalBy (Some status) (Ends failure) = IsToldAs status failure
 abbrev pub IsRefusal : DeskFault → Refusal Failure → Type 0
 IsRefusal fault refusal = IsRefusalBy (desk_status fault) refusal
 
--- A MESSAGE IS TAKEN only where the desk answers that it is captured; where it is given up, it stays
-abbrev pub IsAnswer : Result Delivery DeskFault → Result Taken (Refusal Failure) → Type 0
-IsAnswer (Ok (Captured capture)) (Ok t) = t ≡ taken_of capture
-IsAnswer (Ok (Captured capture)) (Err refusal) = ⊥
-IsAnswer (Ok (GivenUp fault)) (Err (Stays why)) = IsGivenUp why
-IsAnswer (Ok OutOfTime) (Err (Stays why)) = IsGivenUp why
-IsAnswer (Ok (GivenUp fault)) _ = ⊥
-IsAnswer (Ok OutOfTime) _ = ⊥
-IsAnswer (Err fault) (Ok t) = ⊥
-IsAnswer (Err fault) (Err refusal) = IsRefusal fault refusal
+-- A MESSAGE IS TAKEN only where the desk answers that it is captured, and then this is answered of its capture; where it is given up, it
+-- stays
+abbrev pub IsAnswer : {T : Type 0} → (of : Capture → T) → Result Delivery DeskFault → Result T (Refusal Failure) → Type 0
+IsAnswer of (Ok (Captured capture)) (Ok t) = t ≡ of capture
+IsAnswer of (Ok (Captured capture)) (Err refusal) = ⊥
+IsAnswer of (Ok (GivenUp fault)) (Err (Stays why)) = IsGivenUp why
+IsAnswer of (Ok OutOfTime) (Err (Stays why)) = IsGivenUp why
+IsAnswer of (Ok (GivenUp fault)) _ = ⊥
+IsAnswer of (Ok OutOfTime) _ = ⊥
+IsAnswer of (Err fault) (Ok t) = ⊥
+IsAnswer of (Err fault) (Err refusal) = IsRefusal fault refusal
 
 -- the fault with which the run over a message ended
 abbrev pub fault_of : Delivery → Option RunFault

@@ -1,5 +1,6 @@
 pub mod Deliveries
 pub mod Imports
+pub mod Datings
 pub mod Desks
 pub mod Moments
 pub mod Keeping
@@ -14,6 +15,7 @@ pub mod ClassChanges
 pub mod DueToday
 pub mod PlanChanges
 pub mod PassedOver
+pub mod Rooms
 pub mod Runs
 pub mod Series
 pub mod Replacements

@@ -1,20 +1,31 @@
 //! `import`: old mail, from mboxes, folders of `.eml` files and Maildirs.
 
-ghost use Rattle.std.specs.Prelude.{◌≡◌};
-ghost use Rattle.cli_changes.specs.Imports.{notes_of};
+ghost use Rattle.std.specs.Prelude.{◌≡◌, ◌<◌, ◌*◌, ◌^◌, ℕ, pos, IfOk};
+ghost use Rattle.jiff.specs.Words.{epoch_day};
+ghost use Rattle.cli_changes.specs.Datings.{AreTermsOf, IsBeginning, IsDating};
+ghost use Rattle.cli_changes.specs.Endings.{EndsWith};
+ghost use Rattle.record_ledger.specs.Ledgers.{keeper_of};
+ghost use Rattle.cli_changes.specs.Imports.{
+  ImportsNoting,
+  IsImport,
+  IsImportOf,
+  notes_of,
+  status_of,
+};
 
+use crate::import_log::{end_of, tell_passed, write_tally};
 use crate::import_room::ImportRoom;
 use crate::intake::maildir_failure;
 use crate::intake_log::IntakeLog;
-use crate::moments::Timing;
+use crate::moments::{Timing, small_day};
 use crate::rules::FilingRules;
 use class_plan::{Date, day_number};
 use cli_console::{Failure, Status};
 use cli_history::StoreLedger;
 use command_lines::archives::{Dating as AskedDating, Import, Moment, Telling};
-use mail_boxes::BoxMessage;
 use mail_dates::Dating;
-use mail_sources::{BoxReader, MailFiles, PassedOver, Source, SourceFault, source_at};
+use mail_import::{ImportTally, Progress, Terms, import_sources};
+use mail_sources::{Source, SourceFault, source_at};
 use record_archive::Records;
 use record_known::Known;
 use sqlite::Alter;
@@ -32,11 +43,7 @@ pub struct MailImport<'a> {
     sources: Vec<Source<'a>>,
     pub(crate) filing: FilingRules<'a>,
     asked: AskedDating,
-    pub(crate) dating: Dating,
-    /// The moment at which the import began, in seconds since 1970.
-    pub(crate) now: u64,
-    /// Whether messages are captured again that are captured already.
-    pub(crate) is_again: bool,
+    pub(crate) terms: Terms,
     /// Whether nothing is told of what is captured and passed over.
     pub(crate) is_quiet: bool,
     /// Whether each message is told that is captured already.
@@ -51,10 +58,19 @@ fn not_come_words(alloc: Global, day: Date) -> Result<Shown, AllocError> {
     Ok(text)
 }
 
+/// The first second of a day from 1970-01-01 on, in seconds since then; 0 for an earlier day.
+fn start_of(day: Date) -> u64
+    ensures { (n : ℕ) → n < 2 ^ 32 → epoch_day day ≡ pos n → result ≡ n * 86400 }
+{
+    let number = small_day(day_number(day));
+    u64::from(number) * DAY
+}
+
 /// The beginning of a day, in seconds since 1970. `Usage` where the clock shows an earlier moment.
-fn beginning_of(rt: &HostRuntime, day: Date, now: u64) -> Result<u64, Failure> {
-    let number = u64::try_from(day_number(day)).unwrap_or(0);
-    let moment = number.saturating_mul(DAY);
+fn beginning_of(rt: &HostRuntime, day: Date, now: u64) -> Result<u64, Failure>
+    ensures { IfOk result (IsBeginning day now) }
+{
+    let moment = start_of(day);
     if moment > now {
         return Err(Failure::shown(Status::Usage, not_come_words(rt.alloc(), day)));
     }
@@ -62,7 +78,9 @@ fn beginning_of(rt: &HostRuntime, day: Date, now: u64) -> Result<u64, Failure> {
 }
 
 /// What gives the moment of a message, where the clock shows `now`. `Usage` where a day is asked for that has not come.
-fn dating_at(rt: &HostRuntime, asked: AskedDating, now: u64) -> Result<Dating, Failure> {
+fn dating_at(rt: &HostRuntime, asked: AskedDating, now: u64) -> Result<Dating, Failure>
+    ensures { IfOk result (IsDating asked now) }
+{
     match asked {
         AskedDating::Received => Ok(Dating::Received),
         AskedDating::Date => Ok(Dating::Date),
@@ -72,7 +90,7 @@ fn dating_at(rt: &HostRuntime, asked: AskedDating, now: u64) -> Result<Dating, F
 }
 
 /// The failure of a source of mail. `NoInput` where nothing is there, and `BadData` where it is no mbox.
-fn source_failure(rt: &HostRuntime, path: &str, fault: SourceFault) -> Failure {
+pub(crate) fn source_failure(rt: &HostRuntime, path: &str, fault: SourceFault) -> Failure {
     match fault {
         SourceFault::Io(error) if error.kind() == io::ErrorKind::NotFound => {
             Failure::at(rt.alloc(), Status::NoInput, path, &"no such file or folder")
@@ -106,7 +124,10 @@ impl<'a> MailImport<'a> {
     /// Old mail as it is asked for. `Usage` where its day has not come; `NoInput` where a source is not there, and `BadData` where it
     /// is no mbox. It may be done later, `TryAgain`, where the clock is not in the years 1970 to 2199, where a source cannot be
     /// looked at, or where rules are at fault and mail is not to go to `unfiled` then.
-    pub fn read(rt: &'a HostRuntime, asked: &Import<'a>) -> Result<MailImport<'a>, Failure> {
+    pub fn read(rt: &'a HostRuntime, asked: &Import<'a>) -> Result<MailImport<'a>, Failure>
+        ensures terms { IfOk result (λ job. AreTermsOf asked.now job.terms) }
+        ensures asked { IfOk result (λ job. job.asked ≡ asked.now.dating) }
+    {
         let mut timing = Timing::new(rt, Moment::Now)?;
         let now = timing.moment(rt)?;
         let dating = dating_at(rt, asked.dating, now)?;
@@ -119,9 +140,11 @@ impl<'a> MailImport<'a> {
             sources: sources_at(rt, asked.sources.as_slice())?,
             filing: FilingRules::read(rt, &asked.filing, false)?,
             asked: asked.dating,
-            dating,
-            now,
-            is_again: asked.is_again,
+            terms: Terms {
+                dating,
+                clock: now,
+                is_again: asked.is_again,
+            },
             is_quiet: asked.is_quiet,
             is_verbose: asked.is_verbose,
             log: IntakeLog::new(rt, telling),
@@ -146,100 +169,34 @@ fn notes_of(asked: AskedDating) -> &'static [u8]
     }
 }
 
-/// The messages of the mbox at a path.
-fn messages_of(rt: &HostRuntime, path: &str) -> Result<BoxReader, Failure> {
-    BoxReader::open(rt, path).map_err(|fault| source_failure(rt, path, SourceFault::from(fault)))
-}
-
-/// The next message of the mbox at a path.
-fn next_message(
-    rt: &HostRuntime,
-    path: &str,
-    messages: &mut BoxReader,
-) -> Result<Option<BoxMessage>, Failure> {
-    messages
-        .next_message()
-        .map_err(|error| maildir_failure(rt, path, error))
-}
-
-/// Takes the messages of the mbox at a path.
-fn take_mbox<A: Records>(room: &mut ImportRoom<'_, A>, path: &str) -> Result<(), Failure> {
-    let rt = room.job.rt;
-    let mut messages = messages_of(rt, path)?;
-    let mut number: u64 = 1;
-    for _ in 0..u64::MAX {
-        let Some(message) = next_message(rt, path, &mut messages)? else {
-            break;
-        };
-        room.take_from_mbox(path, number, message)?;
-        number = number.saturating_add(1);
+/// Says what became of all messages of an import that came to its end, and answers how it ended.
+fn close(rt: &HostRuntime, tally: &ImportTally, is_quiet: bool) -> Result<(), Failure>
+    ensures { EndsWith (status_of tally.now) result }
+{
+    if !is_quiet {
+        write_tally(rt, tally);
+        tell_passed(rt, tally);
     }
-    room.note_undated(path, messages.undated());
-    Ok(())
+    end_of(tally)
 }
 
-/// The files of a folder, which were listed.
-fn listed(
-    rt: &HostRuntime,
-    path: &str,
-    files: io::Result<MailFiles>,
-) -> Result<MailFiles, Failure> {
-    files.map_err(|error| maildir_failure(rt, path, error))
-}
-
-/// Takes the messages of the files of a source at a path, and notes what lies beside them.
-fn take_files<A: Records>(
-    room: &mut ImportRoom<'_, A>,
-    source: Source<'_>,
-    path: &str,
-    files: &MailFiles,
-) -> Result<(), Failure> {
-    for file in &files.paths {
-        room.take_file(file.as_str())?;
-    }
-    room.leave_nameless(files.nameless);
-    if files.paths.is_empty() && files.nameless == 0 {
-        room.note_empty(path);
-    }
-    let rt = room.job.rt;
-    let passed = PassedOver::of(rt, source).map_err(|error| maildir_failure(rt, path, error))?;
-    room.note_passed(&passed);
-    Ok(())
-}
-
-/// Takes the messages of a source.
-fn take_source<A: Records>(
-    room: &mut ImportRoom<'_, A>,
-    source: Source<'_>,
-) -> Result<(), Failure> {
-    match source {
-        Source::Mbox(path) => take_mbox(room, path),
-        Source::Folder(path) => {
-            let rt = room.job.rt;
-            let files = listed(rt, path, MailFiles::of_folder(rt, path))?;
-            take_files(room, source, path, &files)
-        }
-        Source::Maildir(path) => {
-            let rt = room.job.rt;
-            let files = listed(rt, path, MailFiles::of_maildir(rt, path))?;
-            take_files(room, source, path, &files)
-        }
-    }
-}
-
-/// Takes the messages of all sources, and says what became of them.
+/// Takes the messages of sources, and says what became of them.
 fn take_sources<A: Records>(
+    rt: &HostRuntime,
     room: &mut ImportRoom<'_, A>,
+    terms: &Terms,
+    known: Known,
     sources: &[Source<'_>],
-) -> Result<(), Failure> {
-    for source in sources {
-        take_source(room, *source)?;
-    }
-    if !room.job.is_quiet {
-        room.tally.write(room.job.rt);
-        room.tally.tell_passed(room.job.rt);
-    }
-    room.tally.status()
+    is_quiet: bool,
+) -> Result<(), Failure>
+    ensures { IsImport A.keeper terms.now known room.old room.new result }
+{
+    let mut progress = Progress {
+        known,
+        tally: ImportTally::none(),
+    };
+    import_sources(rt.alloc(), room, terms, &mut progress, sources)?;
+    close(rt, &progress.tally, is_quiet)
 }
 
 /// Captures old mail in an archive, without the messages that are known to be captured.
@@ -247,17 +204,21 @@ fn import_into<A: Records>(
     archive: A,
     job: MailImport<'_>,
     known: Known,
-) -> (A, Result<(), Failure>) {
+) -> (A, Result<(), Failure>)
+    ensures { IsImportOf A.keeper job.entry.filing job.entry.terms known archive result }
+{
     let mut job = job;
-    let none = Vec::new(job.rt.alloc());
-    let sources = mem::replace(&mut job.sources, none);
+    let rt = job.rt;
+    let terms = job.terms;
+    let is_quiet = job.is_quiet;
+    let sources = mem::replace(&mut job.sources, Vec::new(rt.alloc()));
     let plan = archive.plan().copy().ok();
-    let desk = match job.filing.desk(job.rt, archive) {
+    let desk = match job.filing.desk(rt, archive) {
         Ok(desk) => desk,
         Err((archive, failure)) => return (archive, Err(failure)),
     };
-    let mut room = ImportRoom::new(job, desk, plan, known);
-    let done = take_sources(&mut room, sources.as_slice());
+    let mut room = ImportRoom::new(job, desk, plan);
+    let done = take_sources(rt, &mut room, &terms, known, sources.as_slice(), is_quiet);
     (room.into_archive(), done)
 }
 
@@ -269,7 +230,10 @@ pub fn import_mail<'a, S: Alter>(
     archive: StoreLedger<'a, S>,
     job: MailImport<'_>,
     known: Known,
-) -> (StoreLedger<'a, S>, Result<(), Failure>) {
+) -> (StoreLedger<'a, S>, Result<(), Failure>)
+    ensures { ImportsNoting (keeper_of S.Store) job.entry.asked job.entry.filing job.entry.terms
+        known archive.entry result }
+{
     let mut archive = archive;
     archive.set_notes(notes_of(job.asked));
     import_into(archive, job, known)

@@ -234,7 +234,7 @@ impl<'a, A: Records> Room<'a, A> {
         done: Result<Delivery, DeskFault>,
         undecoded: &[Shown],
     ) -> Result<Taken, Refusal<Failure>>
-        ensures { IsAnswer done result }
+        ensures { IsAnswer taken_of done result }
     {
         match done {
             Ok(Delivery::Captured(capture)) => {

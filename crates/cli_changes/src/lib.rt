@@ -8,8 +8,8 @@
 //! - `moments`: when mail is captured; `time_limit`: how long the work on a message may take; `time_of_day`: that of a log;
 //! - `deliver` and `intake`: one message, and those of a Maildir; `intake_room`: the files, the desk and the log of an intake,
 //!   as the calls of `mail_intake`; `intake_log`: what is said of its messages; `intake_memory`: what was said on a day;
-//! - `import`: old mail; `import_fate` and `import_room`: what becomes of each message, and what is done with it;
-//!   `import_log`: what is said of it; `no_mail`: what looks like no message;
+//! - `import`: old mail; `import_room`: the files, the desk and the log of an import, as the calls of `mail_import`;
+//!   `import_log`: what is said of its messages; `no_mail`: what looks like no message;
 //! - `holds` and `whole_holds`: records that must not be destroyed, and the end of a hold on all of them; `keeping`: whether a
 //!   new plan keeps less;
 //! - `refile`: another class for records; `refilings`: which of them get it; `due_today`: what is due at once by a change;
@@ -20,9 +20,9 @@
 //!   each; `altered`: those of them whose messages are not the ones that were captured.
 //!
 //! Each works on a store that is lent to it. What it writes, and what a Maildir or a terminal does, no contract speaks of:
-//! tests of the program show it. `specs/Moments` says when a clock is refused, `specs/Imports` what becomes of a message of
-//! old mail, `specs/Refilings` which records get another class, `specs/Series`, `specs/Holdings` and `specs/Moves` what a
-//! subcommand changes of the records that are found, and `specs/Replacements` what a new plan changes.
+//! tests of the program show it. `specs/Moments` says when a clock is refused, `specs/Imports` how an import ends,
+//! `specs/Refilings` which records get another class, `specs/Series`, `specs/Holdings` and `specs/Moves` what a subcommand
+//! changes of the records that are found, and `specs/Replacements` what a new plan changes.
 #![tactic(auto)]
 
 mod altered;
@@ -36,7 +36,6 @@ mod due_today;
 mod fault_words;
 mod holds;
 mod import;
-mod import_fate;
 mod import_log;
 mod import_room;
 mod intake;

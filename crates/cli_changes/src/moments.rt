@@ -1,6 +1,6 @@
 //! When mail is captured: at a moment that is named, or at that of the clock, which is judged by the days of the store.
 
-ghost use Rattle.std.specs.Prelude.{◌≡◌, IfOk, IfErr};
+ghost use Rattle.std.specs.Prelude.{◌≡◌, ◌<◌, ◌^◌, ℕ, negsuc, pos, IfOk, IfErr};
 ghost use Rattle.cli_changes.specs.Moments.{IsMoment, IsRefused, day_of_moment};
 
 use class_plan::{Date, date_of, day_number};
@@ -121,6 +121,17 @@ fn moment_failure(alloc: Global, asked: Moment, fault: MomentFault) -> Failure {
 pub fn date_of_clock(rt: &HostRuntime) -> Option<Date> {
     let day = day_of_moment(now(rt).ok()?);
     date_of(i64::try_from(day).ok()?)
+}
+
+/// A day from 1970-01-01 on, as 32 bits count it; 0 for another one.
+pub(crate) fn small_day(day: i64) -> u32
+    ensures day { (n : ℕ) → n < 2 ^ 32 → day ≡ pos n → result ≡ n }
+    ensures early { (n : ℕ) → day ≡ negsuc n → result ≡ 0 }
+{
+    match u32::try_from(day) {
+        Ok(day) => day,
+        Err(_) => 0,
+    }
 }
 
 /// The later one of a day, where there is one, and those on which records were captured, in days since 1970-01-01.
