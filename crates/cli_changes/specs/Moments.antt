@@ -1,8 +1,18 @@
 -- The moment of a capture.
-use Rattle.std.specs.Prelude.{◌≡◌, ◌≤◌, ◌<◌, ◌+◌, ◌/◌, ℕ, Option, Some, None}
+use Rattle.std.specs.Prelude.{◌≡◌, ◌≤◌, ◌<◌, ◌+◌, ◌/◌, ℕ, ℤ, negsuc, pos, max, List, [], ◌++◌, fold, map, Option, Some, None}
+use Rattle.std.proofs.Common.{refl, sym, ap, ◌∙◌}
+use Rattle.std.proofs.lemmas.List.{map-append}
+use Rattle.std.proofs.lemmas.List.Sums.{fold-append}
+use Rattle.std.specs.List.{All, Contains}
 use Rattle.command_lines.specs.declared.archives.Moment.{Moment}
 use Rattle.command_lines.specs.declared.archives.Moment.TheVariants.{Unnamed, Now, At}
+use Rattle.record_archive.specs.Archive.{Archive, Record}
+use Rattle.record_archive.specs.Calls.{Keeper}
+use Rattle.record_choice.specs.Entries.{RecordEntry, entry_view}
+use Rattle.record_choice.specs.declared.entry.RecordEntry as own
+use Rattle.cli_changes.specs.Series.{IsSoOf}
 use Rattle.cli_changes.specs.declared.moments.MomentFault.{MomentFault}
+use Rattle.cli_changes.specs.declared.moments.Timing.{Timing}
 use Rattle.cli_changes.specs.declared.moments.MomentFault.TheVariants.{NotCome, PastLast, Behind}
 
 -- the last moment of the years 1970 to 2199, in seconds since 1970
@@ -34,3 +44,56 @@ IsRefused Unnamed now last PastLast = last_moment < now
 IsRefused Unnamed now last (Behind today day) =
     (now ≤ last_moment) × IsBehind now last × (today ≡ day_of_moment now) × (last ≡ Some day)
 IsRefused asked now last fault = ⊥
+
+-- the same, for what the clock shows now, of which no contract knows more
+abbrev pub IsMomentNow : Moment → (last : Option ℕ) → ℕ → Type 0
+IsMomentNow asked last moment = (now : ℕ) × IsMoment asked now last moment
+
+-- ---- the last day of an archive
+
+-- THE LAST OF SOME DAYS; none where there are none
+abbrev pub IsLast : List ℕ → Option ℕ → Type 0
+IsLast days None = days ≡ []
+IsLast days (Some last) = Contains days last × All (λ day. day ≤ last) days
+
+-- the days on which its records were captured, the destroyed ones too
+abbrev pub days_of : Archive → List ℕ
+days_of a = map (λ (r : Record). r.day) a.records
+
+-- it is looked for only where no moment is named, and the clock is not
+abbrev pub IsLookedFor : Moment → (before : Option ℕ) → Archive → (last : Option ℕ) → Type 0
+IsLookedFor Unnamed before a last = IsLast (days_of a) last
+IsLookedFor Now before a last = last ≡ before
+IsLookedFor (At named) before a last = last ≡ before
+
+-- THE MOMENT OF A CAPTURE in an archive, by the clock and by its last day
+abbrev pub IsMomentIn : {A : Type 0} → Keeper A Archive → Timing → (old new : A) → ℕ → Type 0
+IsMomentIn keeper timing old new moment = (last : Option ℕ) × IsMomentNow timing.asked last moment
+    × IsSoOf keeper old new (λ a. IsLookedFor timing.asked timing.last a last)
+
+-- the later day of two, if there is one before
+abbrev pub later_of : Option ℕ → ℕ → ℕ
+later_of None day = day
+later_of (Some last) day = max last day
+
+-- ---- as it is read
+
+-- the number of a day from 1970-01-01 on, and 0 of an earlier one
+abbrev pub number_from_1970 : ℤ → ℕ
+number_from_1970 (pos n) = n
+number_from_1970 (negsuc n) = 0
+
+-- the last day of these entries and one before them
+abbrev pub last_day_of : (before : Option ℕ) → List RecordEntry → Option ℕ
+last_day_of before es = fold (λ (last : Option ℕ) (e : RecordEntry). Some (later_of last (number_from_1970 e.day))) before es
+
+pub no_day : (x : Option ℕ) → x ≡ last_day_of x (map entry_view [])
+no_day x = refl
+
+pub more_days : (x y z : Option ℕ) (es fs : List own.RecordEntry) → y ≡ last_day_of x (map entry_view es)
+    → z ≡ last_day_of y (map entry_view fs) → z ≡ last_day_of x (map entry_view (es ++ fs))
+more_days x y z es fs one other =
+    other ∙ ap (λ (d : Option ℕ). last_day_of d (map entry_view fs)) one
+    ∙ sym (fold-append (λ (last : Option ℕ) (e : RecordEntry). Some (later_of last (number_from_1970 e.day))) x (map entry_view es)
+    (map entry_view fs))
+    ∙ ap (last_day_of x) (sym (map-append entry_view es fs))

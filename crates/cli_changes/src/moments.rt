@@ -1,10 +1,26 @@
 //! When mail is captured: at a moment that is named, or at that of the clock, which is judged by the days of the store.
 
-ghost use Rattle.std.specs.Prelude.{◌≡◌, ◌<◌, ◌^◌, ℕ, negsuc, pos, IfOk, IfErr};
-ghost use Rattle.cli_changes.specs.Moments.{IsMoment, IsRefused, day_of_moment};
+ghost use Rattle.std.specs.Prelude.{◌≡◌, ◌<◌, ◌^◌, ℕ, negsuc, pos, Some, map, IfOk, IfErr, OnOk};
+ghost use Rattle.record_archive.specs.Archive.{Archive};
+ghost use Rattle.record_choice.specs.Entries.{entry_view};
+ghost use Rattle.record_choice.specs.Reads.{OnlyReads};
+ghost use Rattle.cli_changes.specs.Moments.{
+  IsLast,
+  IsLookedFor,
+  IsMoment,
+  IsMomentNow,
+  IsRefused,
+  day_of_moment,
+  days_of,
+  last_day_of,
+  later_of as later_of_days,
+  more_days,
+  no_day,
+};
 
 use class_plan::{Date, date_of, day_number};
-use cli_console::{Failure, Status, Walk, now};
+use cli_console::{Failure, Reader, Status, now, read_chosen};
+use cli_texts::Headers;
 use command_lines::archives::Moment;
 use record_choice::{Choice, Repository};
 use record_store::{RecordEntry, StoreFault};
@@ -134,16 +150,46 @@ pub(crate) fn small_day(day: i64) -> u32
     }
 }
 
-/// The later one of a day, where there is one, and those on which records were captured, in days since 1970-01-01.
-fn last_of(last: Option<u32>, entries: &[RecordEntry]) -> Option<u32> {
-    let mut last = last;
-    for entry in entries {
-        let day = u32::try_from(day_number(entry.day)).unwrap_or(0);
-        if last.is_none_or(|last| last < day) {
-            last = Some(day);
-        }
+/// The later one of the last day so far, if there is one, and another.
+fn later_of(last: Option<u32>, day: u32) -> u32
+    ensures { result ≡ later_of_days last day }
+{
+    match last {
+        Some(last) => last.max(day),
+        None => day,
     }
-    last
+}
+
+/// The last day on which one of those records was captured that were taken.
+#[derive(Drop)]
+struct LastDay {
+    /// In days since 1970-01-01; none where no record was taken.
+    last: Option<u32>,
+}
+
+impl Reader for LastDay {
+    ghost takes = { λ old a es new. new.last ≡ last_day_of old.last (map entry_view es) };
+
+    fn take<R: Repository<Fault = StoreFault>>(
+        &mut self,
+        _archive: &mut R,
+        entry: &RecordEntry,
+        _headers: Option<&Headers>,
+    ) -> Result<(), Failure> {
+        let day = small_day(day_number(entry.day));
+        let last = later_of(self.last, day);
+        self.last = Some(last);
+        Ok(())
+    }
+
+    fn rest(&mut self) -> Result<(), Failure> {
+        Ok(())
+    }
+
+    ghost takes_none = { λ days a. no_day days.last };
+
+    ghost takes_more = { λ x y z a es fs one other.
+        more_days x.last y.last z.last es fs one other };
 }
 
 /// The last day on which a record of a store was captured, in days since 1970-01-01; none where there is no record. The
@@ -151,17 +197,24 @@ fn last_of(last: Option<u32>, entries: &[RecordEntry]) -> Option<u32> {
 fn last_day<R: Repository<Fault = StoreFault>>(
     rt: &HostRuntime,
     archive: &mut R,
-) -> Result<Option<u32>, Failure> {
-    let every = Choice::every();
-    let mut walk = Walk::from(&every, 1);
-    let mut last = None;
-    for _ in 0..u64::MAX {
-        let Some(page) = walk.next_page(rt, archive)? else {
-            break;
-        };
-        last = last_of(last, page.as_slice());
+) -> Result<Option<u32>, Failure>
+    ensures reads { OnlyReads R.clean R.stands archive.old archive.new }
+    ensures last { IfOk result (λ last. R.clean archive.new → (a : Archive)
+        → R.stands archive.old a → IsLast (days_of a) last) }
+{
+    let mut days = LastDay { last: None };
+    read_chosen(rt, archive, &Choice::every(), &mut days)?;
+    Ok(days.last)
+}
+
+/// The day of a moment, as 32 bits count it, or the last one of these.
+fn capture_day(moment: u64) -> u32
+    ensures { day_of_moment moment < 2 ^ 32 → result ≡ day_of_moment moment }
+{
+    match u32::try_from(day_of_moment(moment)) {
+        Ok(day) => day,
+        Err(_) => u32::MAX,
     }
-    Ok(last)
 }
 
 /// When mail is captured.
@@ -175,19 +228,31 @@ pub struct Timing {
 impl Timing {
     /// As it is asked for. `Usage` where a moment is named that has not come; `TryAgain` where there is no clock or it is
     /// not in the years 1970 to 2199.
-    pub fn new(rt: &HostRuntime, asked: Moment) -> Result<Timing, Failure> {
+    pub fn new(rt: &HostRuntime, asked: Moment) -> Result<Timing, Failure>
+        ensures { IfOk result (λ timing. timing.asked ≡ asked) }
+    {
         let timing = Timing { asked, last: None };
         timing.judged(rt)?;
         Ok(timing)
     }
 
-    /// The moment that is asked for, judged by the clock and by the last day.
-    fn judged(&self, rt: &HostRuntime) -> Result<u64, Failure> {
-        judge_moment(self.asked, now(rt)?, self.last).map_err(|fault| moment_failure(
+    /// The moment that is asked for, judged by what the clock shows and by the last day.
+    fn judged_at(&self, rt: &HostRuntime, clock: u64) -> Result<u64, Failure>
+        ensures { IfOk result (IsMoment self.now.asked clock self.now.last) }
+    {
+        judge_moment(self.asked, clock, self.last).map_err(|fault| moment_failure(
             rt.alloc(),
             self.asked,
             fault,
         ))
+    }
+
+    /// The same, where the clock is read first.
+    fn judged(&self, rt: &HostRuntime) -> Result<u64, Failure>
+        ensures { IfOk result (λ moment. IsMomentNow self.now.asked self.now.last moment) }
+    {
+        let clock = now(rt)?;
+        self.judged_at(rt, clock)
     }
 
     /// Looks for the last day of a store, where no moment is named. The failure is that of the store.
@@ -195,21 +260,36 @@ impl Timing {
         &mut self,
         rt: &HostRuntime,
         archive: &mut R,
-    ) -> Result<(), Failure> {
-        if let Moment::Unnamed = self.asked {
-            self.last = last_day(rt, archive)?;
+    ) -> Result<(), Failure>
+        ensures asked { self.new.asked ≡ self.old.asked }
+        ensures reads { OnlyReads R.clean R.stands archive.old archive.new }
+        ensures last { OnOk result (R.clean archive.new → (a : Archive)
+            → R.stands archive.old a
+            → IsLookedFor self.old.asked self.old.last a self.new.last) }
+    {
+        match self.asked {
+            Moment::Unnamed => {
+                let last = last_day(rt, archive)?;
+                self.last = last;
+                Ok(())
+            }
+            Moment::Now => Ok(()),
+            Moment::At(_) => Ok(()),
         }
-        Ok(())
     }
 
     /// The moment of a capture that is made now. `TryAgain` where the clock is wrong, also where it has gone back by more
     /// than a day since the last capture.
-    pub fn moment(&mut self, rt: &HostRuntime) -> Result<u64, Failure> {
+    pub fn moment(&mut self, rt: &HostRuntime) -> Result<u64, Failure>
+        ensures moment { IfOk result (λ moment. IsMomentNow self.old.asked self.old.last moment) }
+        ensures asked { self.new.asked ≡ self.old.asked }
+        ensures last { IfOk result (λ moment. day_of_moment moment < 2 ^ 32
+            → self.new.last ≡ Some (later_of_days self.old.last (day_of_moment moment))) }
+    {
         let moment = self.judged(rt)?;
-        let day = u32::try_from(day_of_moment(moment)).unwrap_or(u32::MAX);
-        if self.last.is_none_or(|last| last < day) {
-            self.last = Some(day);
-        }
+        let day = capture_day(moment);
+        let last = later_of(self.last, day);
+        self.last = Some(last);
         Ok(moment)
     }
 }
