@@ -1,8 +1,18 @@
 //! `deliver`: one message from standard input.
 
-ghost use Rattle.std.specs.Prelude.{◌≡◌, is_ok};
-ghost use Rattle.cli_changes.specs.Deliveries.{is_captured};
+ghost use Rattle.std.specs.Prelude.{◌≡◌, ℕ, List, is_ok, IfOk, IfSome};
+ghost use Rattle.desk_commands.specs.Limits.{greatest_message};
+ghost use Rattle.desk_commands.specs.Payloads.{IsOf};
+ghost use Rattle.cli_changes.specs.Deliveries.{
+  IsDelivered,
+  IsDeliveredAt,
+  IsDeliveredTo,
+  is_captured,
+};
 ghost use Rattle.cli_changes.specs.Endings.{desk_status as desk_status_of, fault_of, IsFailureOf};
+ghost use Rattle.cli_changes.specs.Moments.{IsMomentIn};
+ghost use Rattle.cli_changes.specs.Series.{KeepsAll};
+ghost use Rattle.record_ledger.specs.Ledgers.{keeper_of};
 
 use crate::fault_words::{Cause, fault_words, given_up_words};
 use crate::moments::{Timing, date_of_clock};
@@ -179,7 +189,9 @@ fn fault_in(outcome: &Delivery) -> Option<RunFault>
 }
 
 /// The octets of a message once more, if there is memory for them.
-fn copy_of(message: &Payload) -> Option<Vec<u8>> {
+fn copy_of(message: &Payload) -> Option<Vec<u8>>
+    ensures { IfSome result (λ octets. IsOf greatest_message message.now octets.items) }
+{
     match message {
         Payload::Whole(octets) => octets.clone().ok(),
         Payload::TooLong | Payload::NoMemory => None,
@@ -204,12 +216,30 @@ fn deliver_in_time<A: Records>(
     filing: &FilingRules<'_>,
     moment: u64,
     message: Payload,
-) -> Result<Delivery, Failure> {
+) -> Result<Delivery, Failure>
+    ensures { IfOk result (λ done. (octets : List ℕ) → IsOf greatest_message message octets
+        → IsDelivered A.keeper desk.old filing.now.officer.now moment octets
+        filing.now.on_fault (Ok done) desk.new) }
+{
     let mut time = TimeLimit::from_now(rt, filing.limit)?;
     let officer = filing.officer.as_bytes();
-    deliver(desk, officer, moment, message, filing.on_fault, &mut time).map_err(
-        |fault| delivery_failure(rt.alloc(), fault),
-    )
+    match deliver(desk, officer, moment, message, filing.on_fault, &mut time) {
+        Ok(done) => Ok(done),
+        Err(fault) => Err(delivery_failure(rt.alloc(), fault)),
+    }
+}
+
+/// What is known of the fault with which the run over a message of these octets ended, if it did.
+fn cause_in<A: Records>(
+    rt: &HostRuntime,
+    archive: &A,
+    filing: &FilingRules<'_>,
+    outcome: &Delivery,
+    octets: Option<Vec<u8>>,
+) -> Option<Cause> {
+    let fault = fault_in(outcome)?;
+    let octets = octets?;
+    filing.cause_of_fault(rt.alloc(), archive.plan(), fault, octets.as_slice())
 }
 
 /// Delivers a message at a moment, in seconds since 1970, to an archive by rules, and gives the archive back.
@@ -219,25 +249,23 @@ fn deliver_at<A: Records>(
     filing: &FilingRules<'_>,
     moment: u64,
     message: Payload,
-) -> (A, Result<Delivered, Failure>) {
+) -> (A, Result<Delivered, Failure>)
+    ensures { IfOk result.1 (λ d. (octets : List ℕ) → IsOf greatest_message message octets
+        → IsDeliveredTo A.keeper filing.now archive moment octets d.outcome result.0) }
+{
     let octets = copy_of(&message);
     let mut desk = match filing.desk(rt, archive) {
         Ok(desk) => desk,
         Err((archive, failure)) => return (archive, Err(failure)),
     };
-    let done = deliver_in_time(rt, &mut desk, filing, moment, message);
-    let archive = desk.into_store();
-    let outcome = match done {
-        Ok(outcome) => outcome,
-        Err(failure) => return (archive, Err(failure)),
-    };
-    let cause = match (fault_in(&outcome), octets) {
-        (Some(fault), Some(octets)) => {
-            filing.cause_of_fault(rt.alloc(), archive.plan(), fault, octets.as_slice())
+    match deliver_in_time(rt, &mut desk, filing, moment, message) {
+        Ok(outcome) => {
+            let archive = desk.into_store();
+            let cause = cause_in(rt, &archive, filing, &outcome, octets);
+            (archive, Ok(Delivered { outcome, cause }))
         }
-        _ => None,
-    };
-    (archive, Ok(Delivered { outcome, cause }))
+        Err(failure) => (desk.into_store(), Err(failure)),
+    }
 }
 
 /// The moment of a delivery to a store.
@@ -245,7 +273,11 @@ fn moment_at<S: Alter>(
     rt: &HostRuntime,
     archive: &mut StoreLedger<'_, S>,
     timing: Timing,
-) -> Result<u64, Failure> {
+) -> Result<u64, Failure>
+    ensures reads { KeepsAll (keeper_of S.Store) archive.old archive.new }
+    ensures moment { IfOk result
+        (IsMomentIn (keeper_of S.Store) timing archive.old archive.new) }
+{
     let mut timing = timing;
     timing.look(rt, archive)?;
     timing.moment(rt)
@@ -259,7 +291,11 @@ pub fn deliver_to<'a, S: Alter>(
     filing: &FilingRules<'_>,
     timing: Timing,
     message: Payload,
-) -> (StoreLedger<'a, S>, Result<Delivered, Failure>) {
+) -> (StoreLedger<'a, S>, Result<Delivered, Failure>)
+    ensures { IfOk result.1 (λ d. (octets : List ℕ) → IsOf greatest_message message octets
+        → IsDeliveredAt (keeper_of S.Store) timing filing.now archive.entry octets
+        d.outcome result.0) }
+{
     let mut archive = archive;
     match moment_at(rt, &mut archive, timing) {
         Ok(moment) => deliver_at(rt, archive, filing, moment, message),

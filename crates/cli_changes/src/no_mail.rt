@@ -1,5 +1,10 @@
 //! What looks like no message, though any octets could be one.
 
+ghost use Rattle.std.specs.Prelude.{◌≡◌, None, IsSome, MatchResult};
+ghost use Rattle.cli_console.specs.Failures.{IsToldAs};
+ghost use Rattle.mail_boxes.specs.NoMail.{no_mail};
+ghost use Rattle.cli_changes.specs.Deliveries.{no_mail_in};
+
 use cli_console::{Failure, Status};
 use desk_commands::Payload;
 use mail_boxes::{NoMail, judge_message};
@@ -25,15 +30,25 @@ pub(crate) fn imported_words(why: NoMail) -> &'static str {
     }
 }
 
+/// Refuses octets that look like no message.
+fn refuse_octets(alloc: Global, octets: &[u8]) -> Result<(), Failure>
+    ensures { MatchResult result (λ done. no_mail octets.now ≡ None)
+        (λ failure. IsSome (no_mail octets.now) × IsToldAs Status.BadData failure) }
+{
+    match judge_message(octets) {
+        Ok(()) => Ok(()),
+        Err(why) => Err(Failure::told(alloc, Status::BadData, delivered_words(why))),
+    }
+}
+
 /// Refuses a message that looks like none: `BadData` where it has no octets, where it is an mbox of two messages or more, and
 /// where it has no field of a header.
-pub fn refuse_no_mail(alloc: Global, message: &Payload) -> Result<(), Failure> {
-    let Payload::Whole(octets) = message else {
-        return Ok(());
-    };
-    judge_message(octets.as_slice()).map_err(|why| Failure::told(
-        alloc,
-        Status::BadData,
-        delivered_words(why),
-    ))
+pub fn refuse_no_mail(alloc: Global, message: &Payload) -> Result<(), Failure>
+    ensures { MatchResult result (λ done. no_mail_in message.now ≡ None)
+        (λ failure. IsSome (no_mail_in message.now) × IsToldAs Status.BadData failure) }
+{
+    match message {
+        Payload::Whole(octets) => refuse_octets(alloc, octets.as_slice()),
+        Payload::TooLong | Payload::NoMemory => Ok(()),
+    }
 }
