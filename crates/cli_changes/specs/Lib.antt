@@ -2,6 +2,7 @@ pub mod Deliveries
 pub mod Imports
 pub mod Datings
 pub mod Desks
+pub mod Intakes
 pub mod Moments
 pub mod Keeping
 pub mod Endings

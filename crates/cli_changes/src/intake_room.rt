@@ -1,8 +1,12 @@
 //! The room in which an intake is made: a Maildir in files, a desk over an archive, and a log.
 
-ghost use Rattle.std.specs.Prelude.{◌≡◌};
+ghost use Rattle.std.specs.Prelude.{◌≡◌, ℕ, List, IfErr, IfOk};
+ghost use Rattle.desk_commands.specs.Limits.{greatest_message};
+ghost use Rattle.desk_commands.specs.Payloads.{IsOf};
 ghost use Rattle.mail_intake.specs.declared.mailroom.Refusal.TheVariants.{Stays};
+ghost use Rattle.cli_changes.specs.Deliveries.{IsDropped, IsLeft, IsLeftBy};
 ghost use Rattle.cli_changes.specs.Endings.{taken_of, IsAnswer, IsGivenUp, IsRefusal};
+ghost use Rattle.cli_changes.specs.Intakes.{IsDeliveredNow, IsHandedOver, IsQuiet};
 
 use crate::deliver::{desk_status, undecoded_in};
 use crate::fault_words::{Cause, given_up_words};
@@ -155,7 +159,9 @@ impl<'a, A: Records> Room<'a, A> {
     }
 
     /// Tells of scripts that are not used, before anything else is said.
-    fn speak(&mut self) {
+    fn speak(&mut self)
+        ensures { IsQuiet self.old self.new }
+    {
         if !self.has_spoken {
             self.has_spoken = true;
             let job = &self.job;
@@ -164,7 +170,12 @@ impl<'a, A: Records> Room<'a, A> {
     }
 
     /// Delivers a message to the desk, within the time that it may take.
-    fn deliver_now(&mut self, message: Payload) -> Result<Result<Delivery, DeskFault>, Failure> {
+    fn deliver_now(&mut self, message: Payload) -> Result<Result<Delivery, DeskFault>, Failure>
+        ensures delivered { IfOk result (λ done. (octets : List ℕ)
+            → IsOf greatest_message message octets
+            → IsDeliveredNow A.keeper self.old octets done self.new) }
+        ensures undelivered { IfErr result (λ e. self.new.desk ≡ self.old.desk) }
+    {
         let rt = self.job.rt;
         let officer = self.job.filing.officer.as_bytes();
         let on_fault = self.job.filing.on_fault;
@@ -190,7 +201,9 @@ impl<'a, A: Records> Room<'a, A> {
     }
 
     /// Reports a capture.
-    fn report(&mut self, name: &str, capture: &Capture, undecoded: &[Shown]) {
+    fn report(&mut self, name: &str, capture: &Capture, undecoded: &[Shown])
+        ensures { IsQuiet self.old self.new }
+    {
         self.speak();
         let cause = capture.fault.and_then(|fault| self.cause_of(name, fault));
         self.job
@@ -208,7 +221,8 @@ impl<'a, A: Records> Room<'a, A> {
 
     /// That a message stays. Its capture is dropped.
     fn refused(&mut self, reason: Reason) -> Refusal<Failure>
-        ensures { result ≡ Stays reason }
+        ensures reason { result ≡ Stays reason }
+        ensures dropped { IsDropped A.keeper self.old.desk self.new.desk }
     {
         self.desk.drop_flights();
         Refusal::Stays(reason)
@@ -216,7 +230,8 @@ impl<'a, A: Records> Room<'a, A> {
 
     /// Why a message was not captured.
     fn refusal_of(&mut self, name: &str, fault: DeskFault) -> Refusal<Failure>
-        ensures { IsRefusal fault result }
+        ensures refusal { IsRefusal fault result }
+        ensures left { IsLeftBy A.keeper result self.old.desk self.new.desk }
     {
         match desk_status(fault) {
             None => self.refused(Reason::NoMemory),
@@ -234,7 +249,8 @@ impl<'a, A: Records> Room<'a, A> {
         done: Result<Delivery, DeskFault>,
         undecoded: &[Shown],
     ) -> Result<Taken, Refusal<Failure>>
-        ensures { IsAnswer taken_of done result }
+        ensures answer { IsAnswer taken_of done result }
+        ensures left { IsLeft A.keeper result self.old.desk self.new.desk }
     {
         match done {
             Ok(Delivery::Captured(capture)) => {
@@ -250,6 +266,18 @@ impl<'a, A: Records> Room<'a, A> {
                 Err(self.refused(reason))
             }
             Err(fault) => Err(self.refusal_of(name, fault)),
+        }
+    }
+
+    /// Hands a message to the desk.
+    fn hand_over(&mut self, name: &str, octets: Vec<u8>) -> Result<Taken, Refusal<Failure>>
+        ensures { IsHandedOver A.keeper self.old octets.items result self.new }
+    {
+        let message = Payload::Whole(octets);
+        let undecoded = undecoded_in(self.job.rt.alloc(), &message);
+        match self.deliver_now(message) {
+            Ok(done) => self.answer_to(name, done, undecoded.as_slice()),
+            Err(failure) => Err(Refusal::Ends(failure)),
         }
     }
 
@@ -294,13 +322,7 @@ impl<'a, A: Records> Mailroom for Room<'a, A> {
     }
 
     fn capture(&mut self, name: &str, octets: Vec<u8>) -> Result<Taken, Refusal<Failure>> {
-        let alloc = self.job.rt.alloc();
-        let message = Payload::Whole(octets);
-        let undecoded = undecoded_in(alloc, &message);
-        match self.deliver_now(message) {
-            Ok(done) => self.answer_to(name, done, undecoded.as_slice()),
-            Err(failure) => Err(Refusal::Ends(failure)),
-        }
+        self.hand_over(name, octets)
     }
 
     fn file_away(&mut self, name: &str) -> Result<(), Failure> {

@@ -1,0 +1,14 @@
+use Rattle.std.proofs.Common.{refl, inl, inr}
+use Rattle.cli_changes.proofs.intake_room.Room.hand_over.Goals as goal
+
+pub returns-in-Ok : goal.returns-in-Ok
+returns-in-Ok g c = inl (
+  c.in-Ok.done,
+  c.deliver_now.new.self,
+  c.in-Ok.ensures.delivered c.args.octets.items refl,
+  c.answer_to.ensures.answer,
+  c.answer_to.ensures.left,
+)
+
+pub returns : goal.returns
+returns g c = inr (c.in-Err.failure, refl, c.in-Err.ensures.undelivered)

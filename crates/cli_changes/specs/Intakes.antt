@@ -1,0 +1,33 @@
+-- What an intake does at its desk with a message.
+use Rattle.std.specs.Prelude.{◌≡◌, ◌⊎◌, ℕ, List, Result, Err}
+use Rattle.cli_console.specs.declared.failure.Failure.{Failure}
+use Rattle.desk_commands.specs.declared.fault.DeskFault.{DeskFault}
+use Rattle.filing_desk.specs.declared.deliveries.Delivery.{Delivery}
+use Rattle.mail_intake.specs.declared.mailroom.Refusal.{Refusal}
+use Rattle.mail_intake.specs.declared.mailroom.Refusal.TheVariants.{Ends}
+use Rattle.mail_intake.specs.declared.mailroom.Taken.{Taken}
+use Rattle.record_archive.specs.Archive.{Archive}
+use Rattle.record_archive.specs.Calls.{Keeper}
+use Rattle.cli_changes.specs.Deliveries.{IsDelivered, IsLeft}
+use Rattle.cli_changes.specs.Endings.{IsAnswer, taken_of}
+use Rattle.cli_changes.specs.Moments.{IsMomentNow}
+use Rattle.cli_changes.specs.declared.intake_room.Room.{Room}
+
+-- nothing was done at the desk, nor to what it works by
+pub record IsQuiet {A : Type 0} (before after : Room A) : Type 0 where
+  pub job : after.job ≡ before.job
+  pub desk : after.desk ≡ before.desk
+  pub timing : after.timing ≡ before.timing
+
+module _ {A : Type 0} (keeper : Keeper A Archive) where
+  -- the desk delivered these octets at a moment that the clock gives, for the officer of the intake
+  abbrev pub IsDeliveredNow : Room A → (octets : List ℕ) → Result Delivery DeskFault → Room A → Type 0
+  IsDeliveredNow before octets done after = (moment : ℕ) × IsMomentNow before.timing.asked before.timing.last moment
+      × IsDelivered keeper before.desk before.job.filing.officer.now moment octets before.job.filing.on_fault done after.desk
+
+  -- A MESSAGE IS HANDED OVER: the desk delivered these octets, once, and this is its answer; or it delivered nothing, for want of a clock
+  abbrev pub IsHandedOver : Room A → (octets : List ℕ) → Result Taken (Refusal Failure) → Room A → Type 0
+  IsHandedOver before octets answer after =
+      ((done : Result Delivery DeskFault) × (mid : Room A) × IsDeliveredNow before octets done mid
+      × IsAnswer taken_of done answer × IsLeft keeper answer mid.desk after.desk)
+      ⊎ ((failure : Failure) × (answer ≡ Err (Ends failure)) × (after.desk ≡ before.desk))
