@@ -1,5 +1,8 @@
 //! What is asked of the records that a command is about.
 
+ghost use Rattle.std.specs.Prelude.{◌≡◌, IfOk};
+ghost use Rattle.cli_choice.specs.Questions.{IsTestTyped, fields_typed};
+
 use cli_choice::{Questions, QuestionsFault};
 use cli_console::{Failure, Status, judge_day, refusal_words, tell};
 use command_lines::archives::Choice;
@@ -130,7 +133,10 @@ fn warn_of_fields(rt: &HostRuntime, test: &str) -> Result<(), AllocError> {
 
 /// Finds that the day of a choice has come, and reads what it asks of messages. It warns of names in a test that no field can
 /// have, for which nothing is found.
-pub fn judge_choice(rt: &HostRuntime, choice: &Choice<'_>) -> Result<Questions, Failure> {
+pub fn judge_choice(rt: &HostRuntime, choice: &Choice<'_>) -> Result<Questions, Failure>
+    ensures test { IfOk result (λ q. IsTestTyped choice.now.test q.test) }
+    ensures fields { IfOk result (λ q. q.fields ≡ fields_typed choice.now) }
+{
     if let Some(day) = choice.due {
         judge_day(rt, day)?;
     }
