@@ -3,8 +3,10 @@ use Rattle.std.proofs.Common.{◌≡◌, ℕ, true, false, List, [], ◌∷◌, 
 use Rattle.std.specs.Fmt.{digits}
 use Rattle.std.specs.Str.{chars, is_utf8}
 use lib.Utf8.{encode}
+use Rattle.choice_words.specs.declared.numbers.TypedNumbers.TheVariants.{One, Range}
 use Rattle.command_lines.specs.declared.archives.Format.TheVariants.{Lines, Csv, Json, Count}
 use Rattle.record_choice.specs.declared.entry.RecordEntry.{RecordEntry}
+use Rattle.cli_readings.specs.Altered.{altered_words, one_words, several_words}
 use Rattle.cli_readings.specs.Exports.{count_of, file_name, sealed_fields, sum_line, without_again}
 use Rattle.cli_readings.specs.Groups.{Added, is_twice, with_key}
 use Rattle.cli_console.specs.Counts.{one_more}
@@ -111,3 +113,11 @@ subjects_are = refl
 
 altered_are : altered_in parts ≡ 2 ∷ []
 altered_are = refl
+
+-- ---- records whose messages are others
+
+one_told : altered_words (One 3 ∷ []) ≡ one_words 3
+one_told = refl
+
+several_told : altered_words (One 3 ∷ Range 5 9 ∷ []) ≡ several_words (One 3 ∷ Range 5 9 ∷ [])
+several_told = refl

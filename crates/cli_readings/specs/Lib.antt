@@ -1,3 +1,4 @@
+pub mod Altered
 pub mod Checks
 pub mod Exporting
 pub mod Exports

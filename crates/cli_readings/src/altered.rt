@@ -1,7 +1,11 @@
 //! Records whose messages are not the ones that were captured.
 
+ghost use Rattle.std.specs.Prelude.{◌≡◌, ◌++◌, ◌==◌, ◌||◌, ℕ, false, flat_map, length, IfOk, IsOk, OnOk};
+ghost use Rattle.cli_console.specs.Numbers.{typed_words};
+ghost use Rattle.cli_readings.specs.Altered.{IsEnd, altered_words, is_noted, one_words, several_words};
+
 use choice_words::{TypedNumbers, add_number};
-use cli_console::{Failure, Status, tell};
+use cli_console::{Failure, Status, put_numbers, tell};
 use std::alloc::{AllocError, Global};
 use tool_texts::{Shown, put};
 
@@ -12,44 +16,70 @@ pub struct Altered {
     numbers: Vec<TypedNumbers>,
 }
 
-/// Adds numbers of records as they are typed, after a blank.
-fn put_numbers(line: &mut Shown, numbers: TypedNumbers) -> Result<(), AllocError> {
-    match numbers {
-        TypedNumbers::One(number) => put!(line; " " value(&number)),
-        TypedNumbers::Range { first, last } => put!(line; " " value(&first) "-" value(&last)),
+/// Adds numbers of records as they are typed, each after a blank.
+fn put_all(line: &mut Shown, numbers: &[TypedNumbers]) -> Result<(), AllocError>
+    ensures { OnOk result (line.new ≡ line.old ++ flat_map typed_words numbers.now) }
+{
+    for typed in numbers {
+        put_numbers(line, *typed)?;
     }
+    Ok(())
 }
 
-/// That the messages of some records are not the ones that were captured. The numbers can be typed as they stand there.
-fn altered_line(alloc: Global, numbers: &[TypedNumbers]) -> Result<Shown, AllocError> {
+/// That the message of a record is not the one that was captured.
+#[tactic(auto, unfolding(crate::specs::Altered::one_words))]
+fn one_line(alloc: Global, number: u32) -> Result<Shown, AllocError>
+    ensures { IfOk result (λ line. line ≡ one_words number) }
+{
     let mut line = Shown::new(alloc);
-    if let [TypedNumbers::One(number)] = numbers {
-        put!(line; "record " value(number) ": its message is not the one that was captured")?;
-        return Ok(line);
-    }
+    put!(line; "record " value(&number) ": its message is not the one that was captured")?;
+    Ok(line)
+}
+
+/// That the messages of some records are not the ones that were captured.
+#[tactic(auto, unfolding(crate::specs::Altered::several_words))]
+fn several_line(alloc: Global, numbers: &[TypedNumbers]) -> Result<Shown, AllocError>
+    ensures { IfOk result (λ line. line ≡ several_words numbers.now) }
+{
+    let mut line = Shown::new(alloc);
     line.words("records")?;
-    for word in numbers {
-        put_numbers(&mut line, *word)?;
-    }
+    put_all(&mut line, numbers)?;
     line.words(": the message of each is not the one that was captured")?;
     Ok(line)
 }
 
+/// That the messages of some records are not the ones that were captured. The numbers can be typed as they stand there.
+fn altered_line(alloc: Global, numbers: &[TypedNumbers]) -> Result<Shown, AllocError>
+    ensures { IfOk result (λ line. line ≡ altered_words numbers.now) }
+{
+    match numbers {
+        [TypedNumbers::One(number)] => one_line(alloc, *number),
+        _ => several_line(alloc, numbers),
+    }
+}
+
 impl Altered {
     /// No record.
-    pub fn none(alloc: Global) -> Altered {
+    pub fn none(alloc: Global) -> Altered
+        ensures { (n : ℕ) → is_noted result n ≡ false }
+    {
         Altered {
             numbers: Vec::new(alloc),
         }
     }
 
     /// Adds a record, after those with smaller numbers.
-    pub fn add(&mut self, number: u32) -> Result<(), AllocError> {
+    pub fn add(&mut self, number: u32) -> Result<(), AllocError>
+        ensures { OnOk result ((n : ℕ) → is_noted self.new n
+            ≡ (is_noted self.old n || (n == number))) }
+    {
         add_number(&mut self.numbers, number)
     }
 
     /// Whether there is no record.
-    pub fn is_empty(&self) -> bool {
+    pub fn is_empty(&self) -> bool
+        ensures { result ≡ (length self.now.numbers.items == 0) }
+    {
         self.numbers.is_empty()
     }
 
@@ -62,7 +92,10 @@ impl Altered {
     }
 
     /// Ends what was done without them. `BadData` where there is one, which was told.
-    pub fn end(&self) -> Result<(), Failure> {
+    pub fn end(&self) -> Result<(), Failure>
+        ensures ended { IsEnd (length self.now.numbers.items == 0) result }
+        ensures none { IsOk result → (n : ℕ) → is_noted self.now n ≡ false }
+    {
         if self.is_empty() {
             Ok(())
         } else {
