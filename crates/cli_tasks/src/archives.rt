@@ -1,5 +1,12 @@
 //! Where archives are kept, and what is done with them there.
 
+ghost use Rattle.std.specs.Prelude.{◌≡◌, ◌≢◌, ℕ, List, Ok, Result, IfOk, OnOk};
+ghost use Rattle.sqlite.specs.Store.{Ghosts};
+ghost use Rattle.sqlite.specs.Held.{Held};
+ghost use Rattle.record_store.specs.declared.store.Store.{Store};
+ghost use Rattle.cli_console.specs.declared.failure.Failure.{Failure};
+ghost use Rattle.cli_tasks.specs.Works.{IsDone};
+
 use crate::reports::tell_failure;
 use class_plan::Plan;
 use cli_console::{Failure, Status};
@@ -22,17 +29,30 @@ pub trait Work: Drop {
     /// What it comes to.
     type Answer: Drop;
 
+    /// What it makes of a store, by what it comes to and the connection that is left. Of a work that does not say it, nothing
+    /// is known.
+    ghost does: { (S : Type 0) → Ghosts S → Self → Store S → Result Self.Answer Failure → Held S
+        → Type 0 } = { λ S g it before done after. Unit {0} };
+
     /// Does it. The connection is given back whatever fails.
     fn work<S: Alter>(
         self,
         rt: &HostRuntime,
         archive: Store<S>,
-    ) -> (Connection<S>, Result<Self::Answer, Failure>);
+    ) -> (Connection<S>, Result<Self::Answer, Failure>)
+        ensures { does S S.Store self archive result.1 result.0 };
 }
 
 /// Where archives are kept, each at a path. Programs have files there; what is done with an archive knows nothing of them,
 /// and is proved beside them.
 pub trait Archives {
+    /// Where the database of an archive is.
+    type Kept: Alter;
+
+    /// This store was opened at this path. By it a contract over any archives says at which path a work is lent one; what is
+    /// there, it does not say.
+    ghost is_at: { Self → List ℕ → Store Self.Kept → Type 0 };
+
     /// Opens the archive at a path, lends it to a work, and closes it. Answers what the work came to, and how the archive
     /// was closed. The failure is that of an archive that cannot be had.
     fn lend<W: Work>(
@@ -40,7 +60,9 @@ pub trait Archives {
         rt: &HostRuntime,
         path: &str,
         work: W,
-    ) -> Result<(Result<W::Answer, Failure>, Closed), Failure>;
+    ) -> Result<(Result<W::Answer, Failure>, Closed), Failure>
+        ensures { IfOk result (λ x. IsDone (is_at self.now path.now)
+            (λ before after. W.does Self.Kept Self.Kept.Store work before x.0 after)) };
 
     /// Makes an archive with a plan that is to have its place at a path where nothing is. Answers the path of a draft, at
     /// which it is until then. Where that fails, nothing is left there.
@@ -70,7 +92,10 @@ pub fn settled<T: Drop>(
     path: &str,
     done: Result<T, Failure>,
     closed: Closed,
-) -> Result<T, Failure> {
+) -> Result<T, Failure>
+    ensures done { IfOk result (λ x. done ≡ Ok x) }
+    ensures kept { OnOk result (closed ≢ Closed.Doubtful) }
+{
     match closed {
         Closed::Whole | Closed::WithLog => done,
         Closed::Doubtful => {
@@ -93,7 +118,10 @@ pub fn lend<A: Archives, W: Work>(
     archives: &A,
     path: &str,
     work: W,
-) -> Result<W::Answer, Failure> {
+) -> Result<W::Answer, Failure>
+    ensures { IfOk result (λ x. IsDone (A.is_at archives.now path.now)
+        (λ before after. W.does A.Kept A.Kept.Store work before (Ok x) after)) }
+{
     let (done, closed) = archives.lend(rt, path, work)?;
     settled(rt, path, done, closed)
 }

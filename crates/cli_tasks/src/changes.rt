@@ -1,5 +1,11 @@
 //! What is changed in an archive, by whom and for what reason.
 
+ghost use Rattle.std.specs.Prelude.{◌≡◌, None, true, false, IfOk, OnOk};
+ghost use Rattle.cli_history.specs.Reasons.{changes as is_changed_for};
+ghost use Rattle.cli_history.specs.Walks.{Glances};
+ghost use Rattle.cli_tasks.specs.Changes.{Changes, ChangesChosen, Makes};
+ghost use Rattle.cli_tasks.specs.Purposes.{for_plan, purpose_of as purpose_of_change};
+
 use crate::archives::Work;
 use class_plan::{Date, Plan};
 use cli_changes::{
@@ -50,7 +56,9 @@ pub enum Changing<'a, 't> {
 }
 
 /// For what a ledger is opened in which a plan replaces the present one.
-fn purpose_of(alloc: Global, present: &Plan, new: &Plan) -> Result<Purpose, AllocError> {
+fn purpose_of(alloc: Global, present: &Plan, new: &Plan) -> Result<Purpose, AllocError>
+    ensures { IfOk result (λ p. p ≡ for_plan present.now new.now) }
+{
     if keeps_less(alloc, present, new)? {
         Ok(Purpose::Ending)
     } else {
@@ -65,7 +73,10 @@ fn change_chosen<S: Alter>(
     change: ChosenChange<'_>,
     choice: &Choice<'_>,
     questions: &Questions,
-) -> Result<(), Failure> {
+) -> Result<(), Failure>
+    ensures { ChangesChosen S.Store ledger.old ledger.new result change.entry choice.now
+        questions.now }
+{
     match change {
         ChosenChange::Hold(change, name) => {
             change_holds(rt, ledger, change, name, choice, questions)
@@ -76,7 +87,9 @@ fn change_chosen<S: Alter>(
 
 impl Changing<'_, '_> {
     /// For what the ledger of an archive with a plan is opened.
-    fn purpose(&self, alloc: Global, present: &Plan) -> Result<Purpose, AllocError> {
+    fn purpose(&self, alloc: Global, present: &Plan) -> Result<Purpose, AllocError>
+        ensures { IfOk result (λ p. p ≡ purpose_of_change self.now present.now) }
+    {
         match self {
             Changing::ReplacePlan { plan, .. } => purpose_of(alloc, present, plan),
             Changing::Dispose(asked, _) if !asked.destroys => Ok(Purpose::Listing),
@@ -96,7 +109,9 @@ impl Changing<'_, '_> {
         rt: &HostRuntime,
         ledger: &mut StoreLedger<'_, S>,
         seals: &Seals,
-    ) -> Result<(), Failure> {
+    ) -> Result<(), Failure>
+        ensures { Makes S.Store ledger.old ledger.new result self.entry seals.now }
+    {
         match self {
             Changing::ReplacePlan {
                 plan,
@@ -123,7 +138,11 @@ fn seals_for_list<S: Alter>(
     rt: &HostRuntime,
     archive: &mut Store<S>,
     purpose: Purpose,
-) -> Result<Option<Seals>, Failure> {
+) -> Result<Option<Seals>, Failure>
+    ensures none { is_changed_for purpose ≡ true → IfOk result (λ o. o ≡ None) }
+    ensures same { is_changed_for purpose ≡ true → archive.new ≡ archive.old }
+    ensures looks { is_changed_for purpose ≡ false → Glances S.Store archive.old archive.new }
+{
     match purpose {
         Purpose::Listing => Ok(Some(Seals::of(rt, archive)?)),
         Purpose::Capturing | Purpose::Keeping | Purpose::Ending => Ok(None),
@@ -139,6 +158,10 @@ pub struct ChangeBy<'a, 't> {
 
 impl Work for ChangeBy<'_, '_> {
     type Answer = ();
+
+    ghost does = { λ S g it before done after. OnOk done
+        (Changes g (purpose_of_change it.change before.plan) it.author before
+        (λ old new seals. Makes g old new done it.change seals) after) };
 
     fn work<S: Alter>(
         self,
@@ -167,7 +190,9 @@ impl Work for ChangeBy<'_, '_> {
 }
 
 /// By which rules an officer's messages are filed, for a history; none where the rules are at fault.
-pub(crate) fn filing_of(rules: &Option<NamedRules>) -> Option<Filing<'_>> {
+pub(crate) fn filing_of(rules: &Option<NamedRules>) -> Option<Filing<'_>>
+    ensures { rules.now ≡ None → result ≡ None }
+{
     match rules {
         Some(rules) => Some(Filing {
             officer: rules.officer.as_bytes(),

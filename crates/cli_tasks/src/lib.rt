@@ -10,8 +10,10 @@
 //! - `reports`: why something was not done, for a person and as a status;
 //! - `program`: the command line, and what it asks for.
 //!
-//! It knows nothing of files, so it is proved beside what opens them. No contract speaks of a command line or a terminal:
-//! these calls are only proved to be safe, and tests of the program show what they do.
+//! It knows nothing of files, so it is proved beside what opens them. In `specs/`, `Commands` says what a command line that
+//! changes records, holds or the plan makes of its archive, `Changes` what a person changes, `Purposes` for what its ledger
+//! is opened, and `Works` what is done with an archive that is lent. Of the other commands, and of a terminal, no contract
+//! speaks: they are proved to be safe, and tests of the program show what they do.
 #![tactic(auto)]
 
 mod archives;

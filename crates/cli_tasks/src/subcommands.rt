@@ -1,5 +1,9 @@
 //! What each subcommand does.
 
+ghost use Rattle.std.specs.Prelude.{OnOk};
+ghost use Rattle.cli_tasks.specs.Commands.{ChangesBy, ChangesChosenBy, DisposesAsTyped, Does, DoesWith, ReplacesPlan};
+ghost use Rattle.cli_tasks.specs.Works.{IsDone};
+
 use crate::archives::{Archives, Work, lend, settled};
 use crate::beginnings::{accept_found, begin, require_reasons};
 use crate::changes::{ChangeBy, Changing, ChosenChange, DeliverOne, TakeNew};
@@ -288,7 +292,10 @@ fn change_records<'a, A: Archives>(
     choice: &Choice<'a>,
     chosen: ChosenChange<'a>,
     told: &Attribution<'a>,
-) -> Result<(), Failure> {
+) -> Result<(), Failure>
+    ensures { OnOk result (IsDone (A.is_at archives.now store.now) (λ before after.
+        ChangesChosenBy A.Kept.Store told.now before after chosen.entry choice.now)) }
+{
     let chosen = Changing::Chosen {
         change: chosen,
         choice,
@@ -298,6 +305,7 @@ fn change_records<'a, A: Archives>(
 }
 
 /// Does something with the records of a choice.
+#[tactic(auto, using(crate::proofs::DoneLemmas::nothing_said))]
 fn on_records<'a, A: Archives>(
     rt: &HostRuntime,
     archives: &A,
@@ -305,7 +313,10 @@ fn on_records<'a, A: Archives>(
     choice: Choice<'a>,
     task: &ChosenTask<'a>,
     told: &Attribution<'a>,
-) -> Result<(), Failure> {
+) -> Result<(), Failure>
+    ensures { OnOk result (DoesWith A.Kept.Store (A.is_at archives.now store.now) told.now
+        choice.entry task.now) }
+{
     match task {
         ChosenTask::List(listing) => {
             read_records(rt, archives, store, choice, &Reading::List(*listing))
@@ -338,7 +349,10 @@ fn dispose<A: Archives>(
     store: &str,
     asked: DisposalAsked<'_>,
     told: &Attribution<'_>,
-) -> Result<(), Failure> {
+) -> Result<(), Failure>
+    ensures { OnOk result (IsDone (A.is_at archives.now store.now) (λ before after.
+        DisposesAsTyped A.Kept.Store told.now before after asked.entry)) }
+{
     let asked = with_approved(rt, asked)?;
     let day = day_of_disposal(rt, &asked)?;
     let author = if asked.destroys {
@@ -370,7 +384,10 @@ fn change<'a, A: Archives>(
     store: &str,
     change: Changing<'a, '_>,
     told: &Attribution<'a>,
-) -> Result<(), Failure> {
+) -> Result<(), Failure>
+    ensures { OnOk result (IsDone (A.is_at archives.now store.now) (λ before after.
+        ChangesBy A.Kept.Store told.now before after change.entry)) }
+{
     let author = Author::of(rt, told)?;
     lend(rt, archives, store, ChangeBy { author, change })
 }
@@ -383,7 +400,10 @@ fn replace_plan<'a, A: Archives>(
     path: &'a str,
     is_agreed: bool,
     told: &Attribution<'a>,
-) -> Result<(), Failure> {
+) -> Result<(), Failure>
+    ensures { OnOk result (IsDone (A.is_at archives.now store.now) (λ before after.
+        ReplacesPlan A.Kept.Store told.now before after)) }
+{
     let new_plan = Changing::ReplacePlan {
         plan: read_plan(rt, path)?,
         path,
@@ -411,11 +431,15 @@ fn history<A: Archives>(
 }
 
 /// Does what a command line asks for.
+#[tactic(auto, using(crate::proofs::DoneLemmas::nothing_said))]
 pub fn execute<A: Archives>(
     rt: &HostRuntime,
     archives: &A,
     line: CommandLine<'_>,
-) -> Result<(), Failure> {
+) -> Result<(), Failure>
+    ensures { OnOk result (Does A.Kept.Store (A.is_at archives.now line.entry.store.now)
+        line.entry.attribution line.entry.command) }
+{
     let CommandLine {
         store,
         attribution,

@@ -6,7 +6,7 @@ use cli_files::{NoStore, create_archive, draft_for, give_place, open_archive, re
 use cli_tasks::{Archives, Closed, Work};
 use record_files::{Closing, close};
 use record_places::System;
-use sqlite::Unknown;
+use sqlite::{FileFrom, FileStore, Unknown};
 use std::alloc::Global;
 use std::fs;
 
@@ -57,6 +57,11 @@ fn closed_by(closing: Closing) -> Closed {
 pub struct FileArchives;
 
 impl Archives for FileArchives {
+    type Kept = FileStore<FileFrom<Unknown>>;
+
+    // No state of files is followed here: what is proved over any archives holds over these.
+    ghost is_at = { λ archives path store. Unit {0} };
+
     fn lend<W: Work>(
         &self,
         rt: &HostRuntime,

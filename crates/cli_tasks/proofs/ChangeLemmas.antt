@@ -1,0 +1,69 @@
+-- A change of an archive by an author, from what its calls say.
+use Rattle.std.specs.Prelude.{Option, None, Result, Ok, Err, OnOk, List, true, false, is_ok}
+use Rattle.std.specs.Option.{unwrap_or}
+use Rattle.std.proofs.Common.{◌≡◌, ◌∙◌, ap, subst}
+use Rattle.std.specs.declared.prelude.LibcRuntime.{LibcRuntime}
+use Rattle.jiff.specs.Words.{epoch_day}
+use Rattle.jiff_core.specs.declared.civil.date.Date.{Date}
+use Rattle.sqlite.specs.Store.{Ghosts}
+use Rattle.sqlite.specs.Held.{Held}
+use Rattle.record_archive.specs.Archive.{Archive}
+use Rattle.record_choice.specs.Disposals.{Certificate}
+use Rattle.record_ledger.specs.Ledgers.{KeptFor, store_of}
+use Rattle.record_ledger.specs.declared.ledger.Ledger.{Ledger}
+use Rattle.record_store.specs.declared.store.Store.{Store}
+use Rattle.cli_console.specs.declared.failure.Failure.{Failure}
+use Rattle.command_lines.specs.declared.archives.Disposal.{Disposal}
+use Rattle.cli_changes.specs.Destructions.{IsDisposalOf, IsOnlyRead, IsRead}
+use Rattle.cli_history.specs.Authors.{IsOccasionOf}
+use Rattle.cli_history.specs.Openings.{OpensFor}
+use Rattle.cli_history.specs.Reasons.{changes}
+use Rattle.cli_history.specs.Walks.{Glances}
+use Rattle.cli_history.specs.declared.author.Author.{Author}
+use Rattle.cli_history.specs.declared.opening.Purpose.{Purpose}
+use Rattle.cli_history.specs.declared.seals.Seals.{Seals}
+use Rattle.cli_tasks.specs.Changes.{Changes, Disposes, Makes}
+use Rattle.cli_tasks.specs.Purposes.{purpose_of}
+use Rattle.cli_tasks.specs.declared.changes.Changing.{Changing}
+
+-- the seals that a change goes by are those of the ledger, where none were read before
+used_known : (listed : Option Seals) (seals used : Seals) → used ≡ unwrap_or listed seals → listed ≡ None → used ≡ seals
+used_known listed seals used by none = by ∙ ap (λ o. unwrap_or o seals) none
+
+-- A CHANGE IS MADE: where it ends well, the archive is changed for the purpose of the change
+pub made_by : {S : Type 0} (g : Ghosts S) (change : Changing) (author : Author) (before opened : Store S) (purpose : Purpose)
+    (listed : Option Seals) (seals used : Seals) (old new : Ledger S LibcRuntime) (done : Result (Unit {0}) Failure) (after : Held S)
+    → purpose ≡ purpose_of change before.plan
+    → (changes purpose ≡ true → listed ≡ None) → (changes purpose ≡ true → opened ≡ before)
+    → (changes purpose ≡ false → Glances g before opened)
+    → OpensFor g purpose author opened seals old.kept → IsOccasionOf author None old.occasion
+    → used ≡ unwrap_or listed seals → Makes g old new done change used → after ≡ (store_of new.kept).conn
+    → OnOk done (Changes g (purpose_of change before.plan) author before (λ old new seals. Makes g old new done change seals) after)
+made_by g change author before opened purpose listed seals used old new (Err failure) after is none same looked opens occasion by made left = tt
+made_by g change author before opened purpose listed seals used old new (Ok x) after is none same looked opens occasion by made left =
+    subst (λ p. Changes g p author before (λ old new seals. Makes g old new (Ok x) change seals) after) is (record {
+      opened = opened;
+      same = same;
+      looked = looked;
+      seals = seals;
+      old = old;
+      new = new;
+      opens = opens;
+      occasion = occasion;
+      used = used;
+      known = λ changed. used_known listed seals used by (none changed);
+      made = made;
+      left = left;
+    })
+
+-- WHAT IS DUE IS DISPOSED OF, by the seals of the certificates
+pub disposes : {S K : Type 0} (g : Ghosts S) (old new : Ledger S K) (result : Result (Unit {0}) Failure) (asked : Disposal) (day : Date)
+    (seals used : Seals) → used ≡ seals → (IsRead g new → IsRead g old) → (asked.destroys ≡ false → IsOnlyRead g old new)
+    → (asked.destroys ≡ true → (cs : List Certificate) × (IsRead g new → (a : Archive) → KeptFor g old.kept a
+    → IsDisposalOf used asked (KeptFor g new.kept) (epoch_day day) (is_ok result) cs a)) → Disposes g old new result asked day seals
+disposes g old new result asked day seals used same falls listed destroyed = record {
+  falls = falls;
+  listed = listed;
+  destroyed = λ yes. subst (λ s. (cs : List Certificate) × (IsRead g new → (a : Archive) → KeptFor g old.kept a
+      → IsDisposalOf s asked (KeptFor g new.kept) (epoch_day day) (is_ok result) cs a)) same (destroyed yes);
+}

@@ -1,0 +1,105 @@
+-- What a work has made of an archive, in the words of a command.
+use Rattle.std.specs.Prelude.{Result, Ok, Err, OnOk, IfOk, IfSome, Option}
+use Rattle.std.specs.Borrow.{Bor}
+use Rattle.std.proofs.Common.{◌≡◌, ℕ, List, Bool, subst}
+use Rattle.jiff_core.specs.declared.civil.date.Date.{Date}
+use Rattle.class_plan.specs.Plans.{Listing}
+use Rattle.sqlite.specs.Store.{Ghosts}
+use Rattle.sqlite.specs.Held.{Held}
+use Rattle.choice_words.specs.declared.choice.Choice.{Choice}
+use Rattle.record_store.specs.declared.store.Store.{Store}
+use Rattle.cli_choice.specs.declared.questions.Questions.{Questions}
+use Rattle.cli_console.specs.declared.failure.Failure.{Failure}
+use Rattle.command_lines.specs.declared.archives.Disposal.{Disposal}
+use Rattle.command_lines.specs.declared.archives.approvals.DisposalAsked.{DisposalAsked}
+use Rattle.command_lines.specs.declared.archives.histories.Attribution.{Attribution}
+use Rattle.cli_history.specs.declared.author.Author.{Author}
+use Rattle.cli_changes.specs.Approvals.{IsAsTyped}
+use Rattle.cli_tasks.specs.Changes.{Changes, Disposes, Makes}
+use Rattle.cli_tasks.specs.Commands.{AreAsked, ChangesBy, ChangesChosenBy, DisposesAsTyped, IsTold, ReplacesPlan}
+use Rattle.cli_tasks.specs.Purposes.{for_disposal, purpose_of}
+use Rattle.cli_tasks.specs.Works.{IsDone}
+use Rattle.cli_tasks.specs.declared.changes.ChosenChange.{ChosenChange}
+use Rattle.cli_tasks.specs.declared.changes.Changing.{Changing}
+use Rattle.cli_tasks.specs.declared.changes.Changing.TheVariants.{ReplacePlan, Chosen}
+
+-- where nothing is said of what ends well
+pub nothing_said : {X F : Type 0} (result : Result X F) → OnOk result (Unit {0})
+nothing_said (Ok x) = tt
+nothing_said (Err failure) = tt
+
+-- what was done with an answer was done with what it is, where it is taken
+pub settled_as : {S X : Type 0} (WasThere : Store S → Type 0) (Made : Store S → Result X Failure → Held S → Type 0)
+    (done result : Result X Failure) → IsDone WasThere (λ before after. Made before done after) → IfOk result (λ x. done ≡ Ok x)
+    → IfOk result (λ x. IsDone WasThere (λ before after. Made before (Ok x) after))
+settled_as WasThere Made done (Ok x) d is = record {
+  before = d.before;
+  after = d.after;
+  was_there = d.was_there;
+  made = subst (λ r. Made d.before r d.after) is d.made;
+}
+settled_as WasThere Made done (Err failure) d is = tt
+
+module _ {S : Type 0} (g : Ghosts S) (WasThere : Store S → Type 0) (told : Attribution) where
+  -- a change by an author whom the command line tells
+  pub changed_as : (author : Author) (change : Changing) (result : Result (Unit {0}) Failure) → IsTold told author
+      → IfOk result (λ x. IsDone WasThere (λ before after. Changes g (purpose_of change before.plan) author before
+      (λ old new seals. Makes g old new (Ok x) change seals) after))
+      → OnOk result (IsDone WasThere (λ before after. ChangesBy g told before after change))
+  changed_as author change (Ok x) is d = record {
+    before = d.before;
+    after = d.after;
+    was_there = d.was_there;
+    made = (author, is, d.made);
+  }
+  changed_as author change (Err failure) is d = tt
+
+  -- a change of the records of a choice, by what is asked of their messages
+  pub chosen_as : (chosen : ChosenChange) (choice : Bor Choice) (questions : Questions) (result : Result (Unit {0}) Failure)
+      → AreAsked choice.now questions
+      → OnOk result (IsDone WasThere (λ before after. ChangesBy g told before after (Chosen chosen choice questions)))
+      → OnOk result (IsDone WasThere (λ before after. ChangesChosenBy g told before after chosen choice.now))
+  chosen_as chosen choice questions (Ok x) asked d = record {
+    before = d.before;
+    after = d.after;
+    was_there = d.was_there;
+    made = (questions, asked, d.made);
+  }
+  chosen_as chosen choice questions (Err failure) asked d = tt
+
+  -- another plan
+  pub planned_as : (plan : Listing) (path : Bor (List ℕ)) (is_agreed : Bool) (result : Result (Unit {0}) Failure)
+      → OnOk result (IsDone WasThere (λ before after. ChangesBy g told before after (ReplacePlan plan path is_agreed)))
+      → OnOk result (IsDone WasThere (λ before after. ReplacesPlan g told before after))
+  planned_as plan path is_agreed (Ok x) d = record {
+    before = d.before;
+    after = d.after;
+    was_there = d.was_there;
+    made = (plan, d.made);
+  }
+  planned_as plan path is_agreed (Err failure) d = tt
+
+  -- a disposal as it is typed
+  pub disposed_as : (author : Author) (asked : DisposalAsked) (d : Disposal) (day : Date) (result : Result (Unit {0}) Failure)
+      → IsTold told author → IsAsTyped asked d → IfSome d.day (λ typed. day ≡ typed)
+      → IfOk result (λ x. IsDone WasThere (λ before after. Changes g (for_disposal d.destroys) author before
+      (λ old new seals. Disposes g old new (Ok x) d day seals) after))
+      → OnOk result (IsDone WasThere (λ before after. DisposesAsTyped g told before after asked))
+  disposed_as author asked d day (Ok x) is typed by done = record {
+    before = done.before;
+    after = done.after;
+    was_there = done.was_there;
+    made = (
+      d,
+      day,
+      typed,
+      subst (λ (o : Option Date). IfSome o (λ t. day ≡ t)) typed.day by,
+      (
+        author,
+        is,
+        subst (λ b. Changes g (for_disposal b) author done.before (λ old new seals. Disposes g old new (Ok x) d day seals) done.after)
+            typed.destroys done.made,
+      ),
+    );
+  }
+  disposed_as author asked d day (Err failure) is typed by done = tt

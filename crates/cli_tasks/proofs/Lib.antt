@@ -1,0 +1,3 @@
+pub mod DoneLemmas
+pub mod ChangeLemmas
+mod PurposeRows

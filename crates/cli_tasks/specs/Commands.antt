@@ -1,0 +1,98 @@
+-- What a command line makes of its archive, where it ends well.
+use Rattle.std.specs.Prelude.{◌≡◌, ℕ, List, Some, option_map, string_bytes, IfSome, Result, Ok}
+use Rattle.std.specs.declared.prelude.LibcRuntime.{LibcRuntime}
+use Rattle.jiff_core.specs.declared.civil.date.Date.{Date}
+use Rattle.class_plan.specs.Plans.{Listing}
+use Rattle.sqlite.specs.Store.{Ghosts}
+use Rattle.sqlite.specs.Held.{Held}
+use Rattle.choice_words.specs.declared.choice.Choice.{Choice}
+use Rattle.cli_choice.specs.Questions.{IsTestTyped, fields_typed}
+use Rattle.cli_choice.specs.declared.holds.Change.{Change}
+use Rattle.cli_choice.specs.declared.holds.Change.TheVariants as hold
+use Rattle.cli_choice.specs.declared.questions.Questions.{Questions}
+use Rattle.cli_console.specs.declared.failure.Failure.{Failure}
+use Rattle.command_lines.specs.declared.archives.Command.{Command}
+use Rattle.command_lines.specs.declared.archives.Command.TheVariants as command
+use Rattle.command_lines.specs.declared.archives.ChosenTask.{ChosenTask}
+use Rattle.command_lines.specs.declared.archives.ChosenTask.TheVariants as task
+use Rattle.command_lines.specs.declared.archives.Disposal.{Disposal}
+use Rattle.command_lines.specs.declared.archives.approvals.DisposalAsked.{DisposalAsked}
+use Rattle.command_lines.specs.declared.archives.histories.Attribution.{Attribution}
+use Rattle.cli_history.specs.declared.author.Author.{Author}
+use Rattle.cli_history.specs.declared.opening.Purpose.{Purpose}
+use Rattle.cli_history.specs.declared.opening.Purpose.TheVariants.{Ending}
+use Rattle.cli_history.specs.declared.seals.Seals.{Seals}
+use Rattle.record_ledger.specs.declared.ledger.Ledger.{Ledger}
+use Rattle.record_store.specs.declared.store.Store.{Store}
+use Rattle.cli_changes.specs.Approvals.{IsAsTyped}
+use Rattle.cli_tasks.specs.Changes.{Changes, ChangesChosen, ChangesHold, Disposes, EndsHold, Makes, Refiles, ReplacesBy}
+use Rattle.cli_tasks.specs.Purposes.{for_chosen, for_disposal, for_hold, for_plan, purpose_of}
+use Rattle.cli_tasks.specs.Works.{IsDone}
+use Rattle.cli_tasks.specs.declared.changes.ChosenChange.{ChosenChange}
+use Rattle.cli_tasks.specs.declared.changes.Changing.{Changing}
+
+-- THE AUTHOR is the one whom the command line names, if it names one, and has the reason that it tells
+pub record IsTold (told : Attribution) (author : Author) : Type 0 where
+  pub name : IfSome told.by (λ n. option_map string_bytes author.name ≡ Some n.now)
+  pub reason : author.reason.now ≡ told.reason.now
+
+-- the questions are those of the choice as it is typed
+pub record AreAsked (choice : Choice) (questions : Questions) : Type 0 where
+  pub test : IsTestTyped choice.test questions.test
+  pub fields : questions.fields ≡ fields_typed choice
+
+-- it ended well
+abbrev pub well : Result (Unit {0}) Failure
+well = Ok tt
+
+module _ {S : Type 0} (g : Ghosts S) (told : Attribution) (before : Store S) (after : Held S) where
+  -- IT IS CHANGED by an author whom the command line tells, for a purpose
+  abbrev pub ChangesAsTold : Purpose → ((old new : Ledger S LibcRuntime) → Seals → Type 0) → Type 0
+  ChangesAsTold purpose Made = (author : Author) × IsTold told author × Changes g purpose author before Made after
+
+  -- THE CHANGE IS MADE, for its purpose
+  abbrev pub ChangesBy : Changing → Type 0
+  ChangesBy change = ChangesAsTold (purpose_of change before.plan) (λ old new seals. Makes g old new well change seals)
+
+  -- THE RECORDS OF A CHOICE ARE CHANGED, by what is asked of their messages
+  abbrev pub ChangesChosenBy : ChosenChange → Choice → Type 0
+  ChangesChosenBy chosen choice = (questions : Questions) × AreAsked choice questions
+      × ChangesAsTold (for_chosen chosen) (λ old new seals. ChangesChosen g old new well chosen choice questions)
+
+  -- THE HOLD OF A NAME IS PLACED, OR ENDED, on the records of a choice
+  abbrev pub HoldsChosen : Change → (name : List ℕ) → Choice → Type 0
+  HoldsChosen change name choice = (questions : Questions) × AreAsked choice questions
+      × ChangesAsTold (for_hold change) (λ old new seals. ChangesHold g old new well change name choice questions)
+
+  -- THE RECORDS OF A CHOICE GET ANOTHER CLASS
+  abbrev pub RefilesChosen : (to : List ℕ) → Choice → Type 0
+  RefilesChosen to choice = (questions : Questions) × AreAsked choice questions
+      × ChangesAsTold Ending (λ old new seals. Refiles g old new well to choice questions)
+
+  -- WHAT IS DUE IS DISPOSED OF as it is typed, by the day that is typed, if one is; nothing is destroyed unless that is typed
+  abbrev pub DisposesAsTyped : DisposalAsked → Type 0
+  DisposesAsTyped asked = (d : Disposal) × (day : Date) × IsAsTyped asked d × IfSome asked.typed.day (λ typed. day ≡ typed)
+      × ChangesAsTold (for_disposal asked.typed.destroys) (λ old new seals. Disposes g old new well d day seals)
+
+  -- THE PLAN IS REPLACED by another one, for what that makes of keeping; that it is the one of the file at the path is not said here
+  abbrev pub ReplacesPlan : Type 0
+  ReplacesPlan = (plan : Listing) × ChangesAsTold (for_plan before.plan plan) (λ old new seals. ReplacesBy g old new well plan)
+
+-- ---- command lines
+
+module _ {S : Type 0} (g : Ghosts S) (WasThere : Store S → Type 0) (told : Attribution) where
+  -- what is done with the records of a choice that is typed; nothing is said here of those that are only read
+  abbrev pub DoesWith : Choice → ChosenTask → Type 0
+  DoesWith choice (task.Hold name) = IsDone WasThere (λ before after. HoldsChosen g told before after hold.Place name.now choice)
+  DoesWith choice (task.Release name) = IsDone WasThere (λ before after. HoldsChosen g told before after hold.End name.now choice)
+  DoesWith choice (task.Refile refiling) = IsDone WasThere (λ before after. RefilesChosen g told before after refiling.to.now choice)
+  DoesWith choice t = Unit {0}
+
+  -- WHAT A COMMAND LINE MAKES of the archive at its path, where it changes records, holds or the plan; nothing is said here of the others
+  abbrev pub Does : Command → Type 0
+  Does (command.Chosen choice chosen) = DoesWith choice chosen
+  Does (command.ReleaseAll name is_agreed) = IsDone WasThere (λ before after.
+      ChangesAsTold g told before after Ending (λ old new seals. EndsHold g old new well name.now))
+  Does (command.ReplacePlan path is_agreed) = IsDone WasThere (λ before after. ReplacesPlan g told before after)
+  Does (command.Dispose asked) = IsDone WasThere (λ before after. DisposesAsTyped g told before after asked)
+  Does c = Unit {0}

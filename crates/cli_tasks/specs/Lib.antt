@@ -1,0 +1,4 @@
+pub mod Works
+pub mod Purposes
+pub mod Changes
+pub mod Commands
