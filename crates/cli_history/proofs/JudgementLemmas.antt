@@ -4,6 +4,7 @@ use Rattle.std.proofs.Common.{cond, map, take, get_or, length, refl, ap, sym, su
 use Rattle.std.proofs.lemmas.List.{map-append}
 use Rattle.std.specs.Borrow.{Bor}
 use Rattle.std.specs.Prelude.{is_none, is_ok, is_some, OnOk, Result, Ok, Err}
+use Rattle.record_archive.specs.Archive.{Archive}
 use Rattle.record_tables.specs.Events.{Event as Row}
 use Rattle.record_reads.specs.Events.{event_of}
 use Rattle.record_reads.specs.declared.events.EventRow.{EventRow}
@@ -12,10 +13,12 @@ use Rattle.record_judge.specs.declared.judge.Judge.{Judge}
 use Rattle.record_noted.specs.Histories.{rows_of}
 use Rattle.cli_history.specs.Findings.{is_open_at, stage_after}
 use Rattle.cli_history.specs.Judgements.{IsJudged, IsWhole, Passes, TakesEvent, is_head, marked}
+use Rattle.cli_history.specs.Made.{IsMadeWhole}
 use Rattle.cli_history.specs.Marks.{met_after}
 use Rattle.cli_history.specs.Replays.{Tell}
 use Rattle.cli_history.specs.Seals.{later}
 use Rattle.cli_history.specs.declared.judging.Judgement.{Judgement}
+use Rattle.cli_history.specs.declared.stored.StoredSeals.{StoredSeals}
 use Rattle.cli_history.proofs.FindingLemmas.{stage_tells}
 use Rattle.cli_history.proofs.ReplayLemmas.{later_none, later_thrice, stage_more, tell_more}
 use Rattle.cli_history.proofs.WalkLemmas.{all_of_page, lines_of_rows, more_of_page, none_of_page}
@@ -84,6 +87,8 @@ pub judged_page : (j : Judgement) (rows : List Row) (page : List EventRow) (i : 
     → IsJudged j (rows ++ map event_of (take i page)) → IsJudged j (rows ++ map event_of page)
 judged_page j rows page i all judged = all_of_page (IsJudged j) event_of rows page i all judged
 
+pub ruleset page_laws = (judged_none, judged_more, judged_page, judged_same)
+
 -- ---- the verdict
 
 none_open : (b : Bool) → not b ≡ true → b ≡ false
@@ -95,14 +100,16 @@ is_met None met is some = absurd cc
 is_met (Some m) met is some = is
 
 -- the judgement of a whole history, of which nothing is unaccepted, and in which the mark is met that is looked for
-pub passes : (j : Judgement) (head : Option (Bor (List ℕ))) (ls : List (List ℕ)) → IsJudged j (rows_of ls) → j.head ≡ head
-    → is_none j.watch.fault ≡ true → not (is_open_at j.findings.stage) ≡ true → (is_none j.head || is_some j.met) ≡ true → Passes head ls
-passes j head ls judged same sound accepted met =
+pub passes : (j : Judgement) (head : Option (Bor (List ℕ))) (stored : StoredSeals) (a : Archive) (ls : List (List ℕ)) → IsJudged j (rows_of ls)
+    → j.head ≡ head → is_none j.watch.fault ≡ true → IsMadeWhole stored j.watch.judge.archive a → not (is_open_at j.findings.stage) ≡ true
+    → (is_none j.head || is_some j.met) ≡ true → Passes head stored a ls
+passes j head stored a ls judged same sound made accepted met =
     let whole = judged sound in
     let all : lines (rows_of ls) ≡ ls = lines_of_rows 1 [] ls in
     record {
       judge = j.watch.judge;
       judged = subst (Judges j.watch.judge) all whole.judged;
+      made = made;
       events = whole.events;
       tell = subst (λ (ks : List (List ℕ)). Tell ks whole.events) all whole.tell;
       accepted = sym (stage_tells whole.events) ∙ ap is_open_at (sym whole.stage) ∙ none_open (is_open_at j.findings.stage) accepted;

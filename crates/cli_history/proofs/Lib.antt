@@ -1,10 +1,14 @@
 pub mod FindingLemmas
 mod FindingRows
 mod Rows
+mod MadeRows
 pub mod TitleLemmas
 pub mod WalkLemmas
 pub mod EntryLemmas
+pub mod ComparisonLemmas
+pub mod MadeLemmas
 pub mod ReplayLemmas
 pub mod TellingLemmas
+pub mod CaptureLemmas
 pub mod JudgementLemmas
 pub mod OpeningLemmas

@@ -18,6 +18,7 @@ use Rattle.record_noted.specs.declared.store.NotedStore.{NotedStore}
 use Rattle.cli_history.specs.Acceptances.{Accepts, AcceptsNext, IsLineBy}
 use Rattle.cli_history.specs.Authors.{IsOccasionOf}
 use Rattle.cli_history.specs.Findings.{is_open_at, is_unaccepted, stage_of}
+use Rattle.cli_history.specs.Made.{IsMadeBy}
 use Rattle.cli_history.specs.Openings.{IsReady, IsSeen, IsSight, OpensFor, OpensNoted, StaysReady, is_refused}
 use Rattle.cli_history.specs.Reasons.{changes, decides, ends, lacks_reason}
 use Rattle.cli_history.specs.Replays.{AreSeals, Replays, required_after}
@@ -42,14 +43,17 @@ not_so true is = absurd cc
 pub is_sight : {S : Type 0} (g : Ghosts S) (purpose : Purpose) (author : Author) (old mid new : NotedStore S) (s : Sight)
     → is_some author.name ≡ true → true ≡ not (lacks_reason purpose s.replayed.requires_reasons author.reason.now) → Looks g old mid
     → (HasCleanDisk (state g mid.store.conn) → (a : Archive) → (ls : List (List ℕ)) → StandsWith g old a ls → Replays purpose s.replayed ls)
-    → (is_some s.changes ≡ false → Looks g mid new) → IsSight g purpose author old new s
-is_sight g purpose author old mid new s name reason looks replays none = record {
+    → (is_some s.changes ≡ false → Looks g mid new)
+    → (is_some s.changes ≡ false → HasCleanDisk (state g new.store.conn) → (a : Archive) → (ls : List (List ℕ)) → StandsWith g mid a ls
+    → IsMadeBy s.replayed.judge.archive a) → IsSight g purpose author old new s
+is_sight g purpose author old mid new s name reason looks replays none made = record {
   has_name = name;
   seen = λ same.
       let on = none same in
       record {
         looks = looks_on g old mid new looks on;
         replays = λ clean a ls stands. replays (on.falls clean) a ls stands;
+        made = λ clean a ls stands. made same clean a ls (looks.lines a ls stands);
         has_reason = not_so (lacks_reason purpose s.replayed.requires_reasons author.reason.now) reason;
       };
 }
@@ -118,6 +122,7 @@ opens_ready g purpose author store opened ready seals opens is same = record {
       let replays = seen.replays clean a ls first in
       record {
         stands = seen.looks.lines a ls first;
+        made = record { judge = ready.replayed.judge; judged = replays.judged; made = seen.made clean a ls first };
         events = replays.events;
         tell = replays.tell;
         accepted = told_by_stage ready.replayed.findings.stage replays.events false replays.stage passed.1;
@@ -138,6 +143,11 @@ accepts g author noted old new store number is done same clean a ls stands =
     let replays = seen.replays (notes.was_clean clean_then) a ls stands in
     let there = seen.looks.lines a ls stands in
     record {
+      made = record {
+        judge = old.replayed.judge;
+        judged = replays.judged;
+        made = seen.made (notes.was_clean clean_then) a ls stands;
+      };
       events = replays.events;
       tell = replays.tell;
       was_open = told_by_stage old.replayed.findings.stage replays.events true replays.stage done.was_open;

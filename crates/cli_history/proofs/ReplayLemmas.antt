@@ -104,6 +104,8 @@ pub page_whole : (purpose : Purpose) (r : Replayed) (ls : List (List ℕ)) (page
     → Replays purpose r (ls ++ map (λ (x : EventRow). x.line.items) page)
 page_whole purpose r ls page i all does = all_of_page (Replays purpose r) (λ (x : EventRow). x.line.items) ls page i all does
 
+pub ruleset page_laws = (page_none, page_more, page_whole)
+
 -- ---- the rows of a walk
 
 abbrev pub ReplaysRows : Purpose → Replayed → List Row → Type 0

@@ -15,7 +15,7 @@ use Rattle.cli_history.specs.declared.seals.Seals.{Seals}
 use Rattle.cli_history.proofs.ReplayLemmas.{later_none, later_thrice}
 use Rattle.cli_history.proofs.WalkLemmas.{all_of_page, more_of_page, none_of_page}
 
-tell_more : (rows : List Row) (told : List (Option Event)) (r : Row) (o : Option Event) → TellEach rows told → TellsRow r o
+pub tell_more : (rows : List Row) (told : List (Option Event)) (r : Row) (o : Option Event) → TellEach rows told → TellsRow r o
     → TellEach (rows ++ r ∷ []) (told ++ o ∷ [])
 tell_more [] [] r o tell is = (is, tt)
 tell_more (q ∷ rows) (p ∷ told) r o tell is = (tell.0, tell_more rows told r o tell.1 is)
@@ -127,3 +127,5 @@ told_page old new rows page i d low so_far takes =
 pub told_whole : (s : Seals) (rows : List Row) (page : List EventRow) (i : ℕ) → length page ≤ i → AreTold s (rows ++ map event_of (take i page))
     → AreTold s (rows ++ map event_of page)
 told_whole s rows page i all so_far = all_of_page (AreTold s) event_of rows page i all so_far
+
+pub ruleset page_laws = (told_none, told_page, told_whole)

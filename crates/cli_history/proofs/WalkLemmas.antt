@@ -222,7 +222,7 @@ pub record Walked (P : List Row → Type 0) (rows : List Row) (from : Option ℕ
 pub walked_none : (P : List Row → Type 0) (rows : List Row) → P [] → Walked P rows (Some 1) 0
 walked_none P rows holds = record { front = []; split = refl; holds = holds; bound = (omega arith, omega arith) }
 
-later_bound : (index m : ℕ) (after : Option ℕ) → index < m → IfSome after (λ n. (m < n) × (n < 4294967296))
+pub later_bound : (index m : ℕ) (after : Option ℕ) → index < m → IfSome after (λ n. (m < n) × (n < 4294967296))
     → IfSome after (λ n. (index + 1 < n) × (n < 4294967296))
 later_bound index m (Some n) at later = (omega (arith, at, later.0), later.1)
 later_bound index m None at later = tt

@@ -12,6 +12,7 @@ use Rattle.record_noted.specs.declared.store.NotedStore.{NotedStore}
 use Rattle.record_store.specs.declared.store.Store.{Store}
 use Rattle.cli_history.specs.Authors.{noted_name}
 use Rattle.cli_history.specs.Findings.{is_open_at, is_unaccepted}
+use Rattle.cli_history.specs.Made.{IsMadeOf}
 use Rattle.cli_history.specs.Replays.{Tell}
 use Rattle.cli_history.specs.declared.author.Author.{Author}
 use Rattle.cli_history.specs.declared.restating.Ready.{Ready}
@@ -43,9 +44,10 @@ pub record AcceptsNext {S : Type 0} (g : Ghosts S) (author : Author) (old new : 
   pub was_open : is_open_at old.replayed.findings.stage ≡ true
   pub notes : NotesNext g author FindingsAccepted old.noted new.noted number
 
--- THE HISTORY OF THESE LINES IS ACCEPTED: something that they tell was found was not accepted, and behind them one more line, by
--- the author, says that it is; the store has this history then, beside the same archive
+-- THE HISTORY OF THESE LINES IS ACCEPTED: the archive is what they make, something that they tell was found was not accepted, and
+-- behind them one more line, by the author, says that it is; the store has this history then, beside the same archive
 pub record Accepts {S : Type 0} (g : Ghosts S) (author : Author) (store : Store S) (a : Archive) (ls : List (List ℕ)) (number : ℕ) : Type 0 where
+  pub made : IsMadeOf ls a
   pub events : List Event
   pub tell : Tell ls events
   pub was_open : is_unaccepted events ≡ true

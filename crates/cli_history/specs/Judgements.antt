@@ -2,6 +2,7 @@
 use Rattle.std.specs.Prelude.{◌≡◌, ℕ, Bool, true, false, if◌then◌else◌, List, [], ◌∷◌, map, Option, Some, None, is_none, is_some}
 use Rattle.std.specs.Borrow.{Bor}
 use Rattle.std.specs.Str.{bytes_eq}
+use Rattle.record_archive.specs.Archive.{Archive}
 use Rattle.record_tables.specs.Events.{Event as Row}
 use Rattle.record_reads.specs.declared.events.EventRow.{EventRow}
 use Rattle.record_history.specs.Events.{Event}
@@ -9,10 +10,12 @@ use Rattle.record_judge.specs.Judging.{Judges}
 use Rattle.record_judge.specs.declared.judge.Judge.{Judge}
 use Rattle.record_noted.specs.Histories.{rows_of}
 use Rattle.cli_history.specs.Findings.{is_unaccepted, stage_after, stage_of}
+use Rattle.cli_history.specs.Made.{IsMadeWhole}
 use Rattle.cli_history.specs.Marks.{is_sought, met_after}
 use Rattle.cli_history.specs.Replays.{Tell, told_by}
 use Rattle.cli_history.specs.Seals.{later}
 use Rattle.cli_history.specs.declared.judging.Judgement.{Judgement}
+use Rattle.cli_history.specs.declared.stored.StoredSeals.{StoredSeals}
 
 -- a mark is the one that is looked for, if one is
 abbrev pub is_head : Option (Bor (List ℕ)) → List ℕ → Bool
@@ -45,11 +48,13 @@ pub record TakesEvent (row : EventRow) (old new : Judgement) : Type 0 where
   pub watch : new.watch ≡ old.watch
   pub head : new.head ≡ old.head
 
--- THE HISTORY OF THESE LINES PASSES: each tells an event that was lawful when it came, nothing that was found is unaccepted, and
--- one of them has the mark that is looked for, if one is
-pub record Passes (head : Option (Bor (List ℕ))) (ls : List (List ℕ)) : Type 0 where
+-- THE HISTORY OF THESE LINES PASSES beside an archive: each line tells an event that was lawful when it came, the archive is what
+-- they make, each message by its seal, nothing that was found is unaccepted, and one of them has the mark that is looked for, if
+-- one is
+pub record Passes (head : Option (Bor (List ℕ))) (stored : StoredSeals) (a : Archive) (ls : List (List ℕ)) : Type 0 where
   pub judge : Judge
   pub judged : Judges judge ls
+  pub made : IsMadeWhole stored judge.archive a
   pub events : List Event
   pub tell : Tell ls events
   pub accepted : is_unaccepted events ≡ false

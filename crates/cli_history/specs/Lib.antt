@@ -1,6 +1,7 @@
 pub mod Chosen
 pub mod Seals
 pub mod Stored
+pub mod Made
 pub mod Compared
 pub mod Marks
 pub mod Reasons
@@ -11,6 +12,7 @@ pub mod Titles
 pub mod Walks
 pub mod Replays
 pub mod Tellings
+pub mod Captures
 pub mod Openings
 pub mod Acceptances
 pub mod Judgements

@@ -14,9 +14,10 @@ use Rattle.record_noted.specs.declared.store.NotedStore.{NotedStore}
 use Rattle.record_noted.specs.declared.opening.Opened.{Opened}
 use Rattle.record_noted.specs.declared.opening.Opened.TheVariants.{Noted, Plain}
 use Rattle.cli_history.specs.Findings.{is_open_at, is_unaccepted}
+use Rattle.cli_history.specs.Made.{IsMadeBy, IsMadeOf}
 use Rattle.cli_history.specs.Reasons.{changes, ends, lacks_reason}
 use Rattle.cli_history.specs.Replays.{AreSeals, Replays, Tell, required_after}
-use Rattle.cli_history.specs.Walks.{Looks}
+use Rattle.cli_history.specs.Walks.{ForArchive, Looks}
 use Rattle.cli_history.specs.declared.author.Author.{Author}
 use Rattle.cli_history.specs.declared.opening.Purpose.{Purpose}
 use Rattle.cli_history.specs.declared.replaying.Replayed.{Replayed}
@@ -24,11 +25,12 @@ use Rattle.cli_history.specs.declared.restating.Ready.{Ready}
 use Rattle.cli_history.specs.declared.restating.Sight.{Sight}
 use Rattle.cli_history.specs.declared.seals.Seals.{Seals}
 
--- A HISTORY WAS DONE AGAIN FOR A PURPOSE, and the store only looked at: the lines that it had are those that were done again, and
--- no reason is lacking
+-- A HISTORY WAS DONE AGAIN FOR A PURPOSE, and the store only looked at: the lines that it had are those that were done again, the
+-- archive is what they make, and no reason is lacking
 pub record IsSeen {S : Type 0} (g : Ghosts S) (purpose : Purpose) (author : Author) (old new : NotedStore S) (r : Replayed) : Type 0 where
   pub looks : Looks g old new
-  pub replays : HasCleanDisk (state g new.store.conn) → (a : Archive) → (ls : List (List ℕ)) → StandsWith g old a ls → Replays purpose r ls
+  pub replays : ForArchive g old new (λ a ls. Replays purpose r ls)
+  pub made : ForArchive g old new (λ a ls. IsMadeBy r.judge.archive a)
   pub has_reason : lacks_reason purpose r.requires_reasons author.reason.now ≡ false
 
 -- what is seen of a history before a change: it is known who makes the change; and where no other program has changed the
@@ -54,11 +56,12 @@ pub record IsReady {S : Type 0} (g : Ghosts S) (purpose : Purpose) (author : Aut
   pub goes : is_refused purpose ready ≡ false
   pub seen : ready.is_restated ≡ false → IsSeen g purpose author old ready.noted ready.replayed
 
--- THE HISTORY OF THESE LINES LETS RECORDS END: the store stands for the archive beside them, nothing that they tell was found is
--- unaccepted, no reason is lacking, and the seals are those that they tell
+-- THE HISTORY OF THESE LINES LETS RECORDS END: the store stands for the archive beside them, which is what they make, nothing that
+-- they tell was found is unaccepted, no reason is lacking, and the seals are those that they tell
 pub record LetsEnd {S : Type 0} (g : Ghosts S) (author : Author) (noted : NotedStore S) (seals : Seals) (a : Archive)
     (ls : List (List ℕ)) : Type 0 where
   pub stands : StandsWith g noted a ls
+  pub made : IsMadeOf ls a
   pub events : List Event
   pub tell : Tell ls events
   pub accepted : is_unaccepted events ≡ false

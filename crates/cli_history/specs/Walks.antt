@@ -3,6 +3,7 @@ use Rattle.std.specs.Prelude.{◌≡◌, ◌+◌, ◌-◌, ◌<◌, ◌++◌, na
 use Rattle.std.specs.Prelude.{Option, Some, None, option_and_then, IfSome}
 use Rattle.std.specs.declared.alloc.Global.{Global}
 use Rattle.sqlite.specs.Store.{Ghosts}
+use Rattle.sqlite.specs.State.{HasCleanDisk}
 use Rattle.sqlite.specs.Held.{state}
 use Rattle.record_tables.specs.Events.{Event as Row, StoresEvents}
 use Rattle.record_reads.specs.Events.{event_of, last_of}
@@ -13,7 +14,7 @@ use Rattle.record_choice.specs.Walks.{records_after}
 use Rattle.record_choice.specs.declared.entry.RecordEntry.{RecordEntry}
 use Rattle.record_store.specs.Stores.{Falls, StandsFor, StaysStill}
 use Rattle.record_store.specs.declared.store.Store.{Store}
-use Rattle.record_noted.specs.Histories.{KeepsLines, rows_of}
+use Rattle.record_noted.specs.Histories.{KeepsLines, StandsWith, rows_of}
 use Rattle.record_noted.specs.declared.store.NotedStore.{NotedStore}
 
 -- the number after that of a row, if one is left
@@ -75,3 +76,7 @@ pub record KeepsLinesIn {S : Type 0} (g : Ghosts S) (store : Store S) (ls : List
 pub record HasLines {S : Type 0} (g : Ghosts S) (store : Store S) (ls : List (List ℕ)) : Type 0 where
   pub few : length ls < 4294967295
   pub rows : IsTrue (state g store.conn).is_open → StoresEvents (state g store.conn).now (rows_of ls)
+
+-- FOR THE ARCHIVE for which the store stood before a call, beside these lines, this holds, where the disk is clean after it
+abbrev pub ForArchive : {S : Type 0} → Ghosts S → (old new : NotedStore S) → (Archive → List (List ℕ) → Type 0) → Type 0
+ForArchive g old new Holds = HasCleanDisk (state g new.store.conn) → (a : Archive) → (ls : List (List ℕ)) → StandsWith g old a ls → Holds a ls

@@ -1,20 +1,29 @@
 //! What a history makes of an archive, beside what the store has.
 
-ghost use Rattle.std.specs.Prelude.{◌≡◌, ◌↔◌, ◌==◌, ◌&&◌, false, IsNone, IsTrue, OnOk, Some, length, option_map};
-ghost use Rattle.std.specs.List.{list_all, list_any};
+ghost use Rattle.std.specs.Prelude.{◌≡◌, ◌↔◌, ◌==◌, ◌&&◌, ◌++◌, ◌∷◌, ℕ, [], List, false, true, IfOk, IsNone, IsTrue, OnOk};
+ghost use Rattle.std.specs.Prelude.{Some, if◌then◌else◌, is_some, length, map, option_and_then, option_map, slice_get};
+ghost use Rattle.std.specs.BTreeMap.{get};
+ghost use Rattle.std.specs.List.{AllByRecursion, list_all, list_any};
+ghost use Rattle.std.specs.Ordering.{nat_cmp};
 ghost use Rattle.std.specs.Str.{bytes_eq};
-ghost use Rattle.cli_history.specs.Compared.{Compares, IsAsMade, IsAsTold, has_holds, has_seal_of, is_alike, is_message_made, message_made, record_told, row_had, row_told};
-ghost use Rattle.cli_history.specs.Walks.{Looks};
+ghost use Rattle.record_choice.specs.Entries as plain;
+ghost use Rattle.record_choice.specs.Entries.{entry_of, entry_view};
+ghost use Rattle.cli_history.specs.Compared.{Begins, Compares, HasMet, IsAsMade, IsAsTold, IsThere, KeepsSeals, has_holds, has_seal_of};
+ghost use Rattle.cli_history.specs.Compared.{is_alike, is_message_made, is_same as is_same_as_made, message_made, names_in, record_told};
+ghost use Rattle.cli_history.specs.Compared.{row_had, row_told};
+ghost use Rattle.cli_history.specs.Made.{IsMadeAt, last_numbered, names_of};
+ghost use Rattle.cli_history.specs.Walks.{ForArchive, Looks};
+ghost use Rattle.cli_history.specs.declared.comparison.Comparison.{Comparison};
 
 use crate::chosen::is_about;
 use crate::differences::{Change, Changes};
 use crate::pages::{Entries, Events, event_of};
+use crate::plans::is_same_plan;
 use crate::stored::StoredSeals;
 use choice_words::TypedNumbers;
 use class_plan::{Plan, day_number};
 use cli_console::{Failure, tell, tell_words};
-use cli_texts::plan_text;
-use record_judge::{SealedArchive, SealedMessage, SealedRecord};
+use record_judge::{NamedHold, SealedArchive, SealedMessage, SealedRecord};
 use record_noted::NotedStore;
 use record_store::{EventRow, RecordEntry};
 use sqlite::Alter;
@@ -69,39 +78,107 @@ pub struct Comparison<'a> {
     changes: Changes,
 }
 
-/// The place of each record by its number.
+/// Notes the place of a number.
+fn note_place(
+    places: &mut BTreeMap<u32, usize>,
+    number: u32,
+    place: usize,
+) -> Result<(), AllocError>
+    ensures { OnOk result ((n : ℕ) → get nat_cmp places.new n ≡
+        (if n == number then Some place else get nat_cmp places.old n)) }
+{
+    places.insert(number, place)?;
+    Ok(())
+}
+
+/// The place of each record by its number. Of several records of a number the last one counts.
 fn places_of_records(
     alloc: Global,
     records: &[SealedRecord],
-) -> Result<BTreeMap<u32, usize>, AllocError> {
+) -> Result<BTreeMap<u32, usize>, AllocError>
+    ensures { IfOk result (λ places. (n : ℕ) →
+        option_and_then (slice_get records.now) (get nat_cmp places n)
+        ≡ last_numbered (λ r. r.number) records.now n) }
+{
     let mut places = BTreeMap::new(alloc);
-    for (place, record) in records.iter().enumerate() {
-        places.insert(record.number, place)?;
+    for place in 0..records.len() {
+        note_place(&mut places, records[place].number, place)?;
     }
     Ok(places)
 }
 
-/// The place of each message by its number.
+/// The place of each message by its number. Of several messages of a number the last one counts.
 fn places_of_messages(
     alloc: Global,
-    made: &SealedArchive,
-) -> Result<BTreeMap<u32, usize>, AllocError> {
+    messages: &[SealedMessage],
+) -> Result<BTreeMap<u32, usize>, AllocError>
+    ensures { IfOk result (λ places. (n : ℕ) →
+        option_and_then (slice_get messages.now) (get nat_cmp places n)
+        ≡ last_numbered (λ m. m.number) messages.now n) }
+{
     let mut places = BTreeMap::new(alloc);
-    for (place, message) in made.messages().iter().enumerate() {
-        places.insert(message.number, place)?;
+    for place in 0..messages.len() {
+        note_place(&mut places, messages[place].number, place)?;
     }
     Ok(places)
+}
+
+/// Takes out the names of the holds on a record.
+fn take_names<'a>(
+    alloc: Global,
+    held: &mut BTreeMap<u32, Vec<&'a [u8]>>,
+    number: u32,
+) -> Vec<&'a [u8]>
+    ensures names { result.items ≡ names_in (get nat_cmp held.old number) }
+    ensures others { (n : ℕ) → (n == number) ≡ false
+        → get nat_cmp held.new n ≡ get nat_cmp held.old n }
+{
+    match held.remove(&number) {
+        Some(names) => names,
+        None => Vec::new(alloc),
+    }
+}
+
+/// Keeps names as those of the holds on a record.
+fn keep_names<'a>(
+    held: &mut BTreeMap<u32, Vec<&'a [u8]>>,
+    number: u32,
+    names: Vec<&'a [u8]>,
+) -> Result<(), AllocError>
+    ensures { OnOk result ((n : ℕ) → get nat_cmp held.new n ≡
+        (if n == number then Some names.entry else get nat_cmp held.old n)) }
+{
+    held.insert(number, names)?;
+    Ok(())
+}
+
+/// Adds the name of a hold to those on its record.
+fn add_name<'a>(
+    alloc: Global,
+    held: &mut BTreeMap<u32, Vec<&'a [u8]>>,
+    hold: &'a NamedHold,
+) -> Result<(), AllocError>
+    ensures { OnOk result ((n : ℕ) → map (λ name. name.now) (names_in (get nat_cmp held.new n)) ≡
+        (if n == hold.now.number
+        then map (λ name. name.now) (names_in (get nat_cmp held.old n)) ++ hold.now.name.items ∷ []
+        else map (λ name. name.now) (names_in (get nat_cmp held.old n)))) }
+{
+    let mut names = take_names(alloc, held, hold.number);
+    names.push(hold.name.as_slice())?;
+    keep_names(held, hold.number, names)
 }
 
 /// The names of the holds on each record.
 fn holds_of<'a>(
     alloc: Global,
-    made: &'a SealedArchive,
-) -> Result<BTreeMap<u32, Vec<&'a [u8]>>, AllocError> {
+    holds: &'a [NamedHold],
+) -> Result<BTreeMap<u32, Vec<&'a [u8]>>, AllocError>
+    ensures { IfOk result (λ held. (n : ℕ) →
+        map (λ name. name.now) (names_in (get nat_cmp held n)) ≡ names_of holds.now n) }
+{
     let mut held = BTreeMap::new(alloc);
-    for hold in made.holds() {
-        let names = held.entry(hold.number)?.or_insert(Vec::new(alloc));
-        names.push(hold.name.as_slice())?;
+    for hold in holds {
+        add_name(alloc, &mut held, hold)?;
     }
     Ok(held)
 }
@@ -222,7 +299,9 @@ impl<'a> Comparison<'a> {
         made: &'a SealedArchive,
         plan: &Plan,
         depth: Depth,
-    ) -> Result<Comparison<'a>, AllocError> {
+    ) -> Result<Comparison<'a>, AllocError>
+        ensures { IfOk result (Begins made.now plan.now depth) }
+    {
         let is_planned = is_same_plan(alloc, made.plan(), plan)?;
         let mut changes = Changes::none(alloc);
         if !is_planned {
@@ -236,8 +315,8 @@ impl<'a> Comparison<'a> {
             },
             is_planned,
             records: places_of_records(alloc, made.records())?,
-            messages: places_of_messages(alloc, made)?,
-            held: holds_of(alloc, made)?,
+            messages: places_of_messages(alloc, made.messages())?,
+            held: holds_of(alloc, made.holds())?,
             found: Vec::new(alloc),
             more: 0,
             changes,
@@ -322,6 +401,9 @@ impl<'a> Comparison<'a> {
     ) -> Result<(), Failure>
         ensures looks { Looks S.Store noted.old noted.new }
         ensures rest { self.new ≡ record self.old { stored = self.new.stored } }
+        ensures depth { is_some self.new.stored ≡ is_some self.old.stored }
+        ensures seals { OnOk result (ForArchive S.Store noted.old noted.new (λ a ls.
+            IsThere a (entry_view entry.now) → KeepsSeals a self.old.stored self.new.stored)) }
     {
         let Some(stored) = &mut self.stored else {
             return Ok(());
@@ -329,9 +411,10 @@ impl<'a> Comparison<'a> {
         if entry.destroyed || stored.has(entry.message) {
             return Ok(());
         }
-        let body = noted
-            .message(entry.number)
-            .map_err(|fault| Failure::of_store(rt.alloc(), "the store", fault))?;
+        let body = match noted.message(entry.number) {
+            Ok(body) => body,
+            Err(fault) => return Err(Failure::of_store(rt.alloc(), "the store", fault)),
+        };
         Ok(stored.note(rt.alloc(), entry.message, body.as_slice())?)
     }
 
@@ -354,6 +437,8 @@ impl<'a> Comparison<'a> {
     ) -> Result<(), Failure>
         ensures looks { Looks S.Store noted.old noted.new }
         ensures compares { OnOk result (Compares entry.now self.old self.new) }
+        ensures seals { OnOk result (ForArchive S.Store noted.old noted.new (λ a ls.
+            IsThere a (entry_view entry.now) → KeepsSeals a self.old.stored self.new.stored)) }
     {
         let difference = self.difference_of(entry);
         if let Some(difference) = difference {
@@ -376,7 +461,11 @@ impl<'a> Comparison<'a> {
         noted: &mut NotedStore<S>,
         page: &[RecordEntry],
     ) -> Result<(), Failure>
-        ensures { Looks S.Store noted.old noted.new }
+        ensures looks { Looks S.Store noted.old noted.new }
+        ensures met { OnOk result (ForArchive S.Store noted.old noted.new (λ a ls.
+            AllByRecursion (IsThere a) (map entry_view page.now)
+            → (first : Comparison) → (met : List plain.RecordEntry) → HasMet a first self.old met
+            → HasMet a first self.new (met ++ map entry_view page.now))) }
     {
         for entry in page {
             self.compare_record(rt, noted, entry)?;
@@ -384,24 +473,63 @@ impl<'a> Comparison<'a> {
         Ok(())
     }
 
-    /// Notes the records that the store has no more.
-    fn note_gone(&mut self, alloc: Global) -> Result<(), AllocError> {
-        let mut gone = Vec::new(alloc);
-        for number in self.records.keys() {
-            gone.push(*number)?;
-        }
-        for number in &gone {
-            self.note(*number, Difference::Gone)?;
-            self.changes.add(Change::Gone(*number))?;
+    /// Compares all records of the store.
+    fn compare_all<S: Alter>(
+        &mut self,
+        rt: &HostRuntime,
+        noted: &mut NotedStore<S>,
+    ) -> Result<(), Failure>
+        ensures looks { Looks S.Store noted.old noted.new }
+        ensures met { OnOk result (ForArchive S.Store noted.old noted.new (λ a ls.
+            HasMet a self.old self.new (map (entry_of a) a.records))) }
+    {
+        let mut entries = Entries::all();
+        for _ in 0..u64::MAX {
+            let Some(page) = entries.next_page(rt, noted)? else {
+                return Ok(());
+            };
+            self.compare_page(rt, noted, page.as_slice())?;
         }
         Ok(())
     }
 
-    /// Whether nothing differs.
-    pub fn is_same(&self) -> bool
-        ensures { result ≡ is_alike self.now }
+    /// The numbers of the records that were not met.
+    fn numbers_left(&self, alloc: Global) -> Result<Vec<u32>, AllocError> {
+        let mut numbers = Vec::new(alloc);
+        for number in self.records.keys() {
+            numbers.push(*number)?;
+        }
+        Ok(numbers)
+    }
+
+    /// Notes that the store has a record no more.
+    fn note_gone(&mut self, number: u32) -> Result<(), AllocError>
+        ensures rest { self.new ≡ record self.old
+            { found = self.new.found; more = self.new.more; changes = self.new.changes } }
+        ensures noted { OnOk result (is_alike self.new ≡ false) }
     {
-        self.is_planned && self.found.is_empty()
+        self.note(number, Difference::Gone)?;
+        self.changes.add(Change::Gone(number))
+    }
+
+    /// Notes the records that the store has no more.
+    fn note_all_gone(&mut self, alloc: Global) -> Result<(), AllocError>
+        ensures rest { self.new ≡ record self.old
+            { found = self.new.found; more = self.new.more; changes = self.new.changes } }
+        ensures noted { OnOk result (is_alike self.new ≡ true → is_alike self.old ≡ true) }
+    {
+        let gone = self.numbers_left(alloc)?;
+        for number in &gone {
+            self.note_gone(*number)?;
+        }
+        Ok(())
+    }
+
+    /// Whether nothing differs: the plan, no record, and no record of the history is left.
+    pub fn is_same(&self) -> bool
+        ensures { result ≡ is_same_as_made self.now }
+    {
+        self.is_planned && self.found.is_empty() && self.records.is_empty()
     }
 
     /// What was done that the history does not tell. Messages are left aside.
@@ -411,13 +539,6 @@ impl<'a> Comparison<'a> {
         let Comparison { changes, .. } = self;
         changes
     }
-}
-
-/// Whether two plans are the same.
-fn is_same_plan(alloc: Global, one: &Plan, other: &Plan) -> Result<bool, AllocError> {
-    let one = plan_text(alloc, one)?;
-    let other = plan_text(alloc, other)?;
-    Ok(one.as_str() == other.as_str())
 }
 
 /// The last event of a page that is about a record, or the one from before.
@@ -500,23 +621,20 @@ pub fn tell_differences<S: Alter>(
     Ok(())
 }
 
-/// Compares what a history makes of an archive with what the store has.
+/// Compares what a history makes of an archive with what the store has. Where nothing differs then, the store has the archive
+/// that the history makes, and nothing else. A failure is that of the store.
 pub fn compare<'a, S: Alter>(
     rt: &HostRuntime,
     noted: &mut NotedStore<S>,
     made: &'a SealedArchive,
     depth: Depth,
 ) -> Result<Comparison<'a>, Failure>
-    ensures { Looks S.Store noted.old noted.new }
+    ensures looks { Looks S.Store noted.old noted.new }
+    ensures same { IfOk result (λ c. is_same_as_made c ≡ true
+        → ForArchive S.Store noted.old noted.new (λ a ls. IsMadeAt depth made.now a)) }
 {
     let mut comparison = Comparison::new(rt.alloc(), made, noted.plan(), depth)?;
-    let mut entries = Entries::all();
-    for _ in 0..u64::MAX {
-        let Some(page) = entries.next_page(rt, noted)? else {
-            break;
-        };
-        comparison.compare_page(rt, noted, page.as_slice())?;
-    }
-    comparison.note_gone(rt.alloc())?;
+    comparison.compare_all(rt, noted)?;
+    comparison.note_all_gone(rt.alloc())?;
     Ok(comparison)
 }

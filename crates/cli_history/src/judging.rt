@@ -1,17 +1,15 @@
 //! `check`: whether a history is whole, and explains its archive.
 
-ghost use Rattle.std.specs.Prelude.{◌≡◌, ◌++◌, ◌∷◌, ◌&&◌, ◌||◌, ℕ, [], List, map, not, true, IfOk, OnOk, is_none, is_some, is_ok};
+ghost use Rattle.std.specs.Prelude.{◌≡◌, ◌++◌, ◌∷◌, ◌&&◌, ◌||◌, [], List, map, not, true, IfOk, OnOk, is_none, is_some, is_ok};
 ghost use Rattle.std.specs.Str.{bytes_eq};
-ghost use Rattle.sqlite.specs.State.{HasCleanDisk};
-ghost use Rattle.sqlite.specs.Held.{state};
 ghost use Rattle.record_tables.specs.Events.{Event as Row};
 ghost use Rattle.record_reads.specs.Events.{event_of as row_of};
-ghost use Rattle.record_archive.specs.Archive.{Archive};
-ghost use Rattle.record_noted.specs.Histories.{StandsWith, rows_of};
+ghost use Rattle.record_noted.specs.Histories.{rows_of};
 ghost use Rattle.cli_history.specs.Findings.{is_open_at};
 ghost use Rattle.cli_history.specs.Judgements.{IsJudged, Passes, TakesEvent};
+ghost use Rattle.cli_history.specs.Made.{IsMadeWhole};
 ghost use Rattle.cli_history.specs.Marks.{is_sought as is_mark_sought, met_after};
-ghost use Rattle.cli_history.specs.Walks.{Looks};
+ghost use Rattle.cli_history.specs.Walks.{ForArchive, Looks};
 
 use crate::comparison::{Depth, compare, tell_differences};
 use crate::findings::Findings;
@@ -173,7 +171,7 @@ impl<'h> Judgement<'h> {
     }
 
     /// Judges the events of a page, and keeps the mark of the last.
-    #[tactic(auto, using(crate::proofs::JudgementLemmas::judged_none, crate::proofs::JudgementLemmas::judged_more, crate::proofs::JudgementLemmas::judged_page, crate::proofs::JudgementLemmas::judged_same))]
+    #[tactic(auto, using(crate::proofs::JudgementLemmas::page_laws))]
     fn judge_page(&mut self, rt: &HostRuntime, page: &[EventRow]) -> Result<(), Failure>
         ensures judged { (rows : List Row) → IsJudged self.old rows
             → OnOk result (IsJudged self.new (rows ++ map row_of page.now)) }
@@ -246,9 +244,8 @@ fn judge_events<'h, S: Alter>(
     head: Option<&'h str>,
 ) -> Result<Judgement<'h>, Failure>
     ensures looks { Looks S.Store noted.old noted.new }
-    ensures judged { IfOk result (λ j. HasCleanDisk (state S.Store noted.new.store.conn)
-        → (a : Archive) → (ls : List (List ℕ)) → StandsWith S.Store noted.old a ls
-        → IsJudged j (rows_of ls)) }
+    ensures judged { IfOk result (λ j.
+        ForArchive S.Store noted.old noted.new (λ a ls. IsJudged j (rows_of ls))) }
     ensures head { IfOk result (λ j. j.head ≡ head.entry) }
 {
     let mut judgement = Judgement::new(rt.alloc(), head)?;
@@ -272,6 +269,8 @@ fn is_explained<S: Alter>(
 ) -> Result<bool, Failure>
     ensures looks { Looks S.Store noted.old noted.new }
     ensures sound { IfOk result (λ b. b ≡ true → is_none watch.now.fault ≡ true) }
+    ensures made { IfOk result (λ b. b ≡ true → ForArchive S.Store noted.old noted.new
+        (λ a ls. IsMadeWhole stored watch.now.judge.archive a)) }
 {
     if !watch.is_sound() {
         return Ok(false);
@@ -300,7 +299,8 @@ fn verdict(is_same: bool, is_accepted: bool, is_met: bool) -> Result<(), Failure
 /// that was noted elsewhere, where one is looked for. `BadData` where any of that is not so, and where something that was
 /// found is not accepted, which is told.
 ///
-/// The caller gives the seals of the messages that it has read; the others are read here.
+/// The caller gives the seals of the messages that it has read; the others are read here. Where those are the seals of the
+/// archive's messages, each message of a live record is the one whose seal the history tells.
 pub fn judge_history<S: Alter>(
     rt: &HostRuntime,
     noted: &mut NotedStore<S>,
@@ -308,9 +308,8 @@ pub fn judge_history<S: Alter>(
     stored: StoredSeals,
 ) -> Result<(), Failure>
     ensures looks { Looks S.Store noted.old noted.new }
-    ensures passes { OnOk result (HasCleanDisk (state S.Store noted.new.store.conn)
-        → (a : Archive) → (ls : List (List ℕ)) → StandsWith S.Store noted.old a ls
-        → Passes head.entry ls) }
+    ensures passes { OnOk result
+        (ForArchive S.Store noted.old noted.new (λ a ls. Passes head.entry stored a ls)) }
 {
     let judgement = judge_events(rt, noted, head)?;
     let is_same = is_explained(rt, noted, &judgement.watch, stored)?;

@@ -17,7 +17,7 @@
 //! - `copies`: a history that another store takes over; `damaged`: the same where it is not whole; `extracts`: the events of
 //!   records that are exported;
 //! - `judging` and `comparison`: whether a history is whole, has a mark that was noted elsewhere, and explains its archive;
-//!   `flaws`: what stands against an event.
+//!   `plans`: whether two plans are the same; `flaws`: what stands against an event.
 //!
 //! What it writes, no contract speaks of: tests of the program show it.
 #![tactic(auto)]
@@ -42,6 +42,7 @@ mod missing;
 mod notes;
 mod opening;
 mod pages;
+mod plans;
 mod printing;
 mod reasons;
 mod refiled;

@@ -3,15 +3,14 @@
 ghost use Rattle.std.specs.Prelude.{◌≡◌, ◌-◌, ◌<◌, ℕ, None, Some, List, drop, length, map, take, IfOk};
 ghost use Rattle.sqlite.specs.State.{HasCleanDisk};
 ghost use Rattle.sqlite.specs.Held.{state};
-ghost use Rattle.record_archive.specs.Archive.{Archive};
 ghost use Rattle.record_choice.specs.Entries.{entry_view};
 ghost use Rattle.record_choice.specs.Walks.{above, last_of};
 ghost use Rattle.record_history.specs.Spelled.{IsSpelledDeed};
 ghost use Rattle.record_history.specs.Views.{deed_view, event_view};
-ghost use Rattle.record_noted.specs.Histories.{StandsWith, rows_of};
+ghost use Rattle.record_noted.specs.Histories.{rows_of};
 ghost use Rattle.record_reads.specs.Events.{event_of as row_of};
 ghost use Rattle.cli_history.specs.Replays.{told_by};
-ghost use Rattle.cli_history.specs.Walks.{Glances, HasLines, IsNextEntries, IsNextPage, Looks, number_behind};
+ghost use Rattle.cli_history.specs.Walks.{ForArchive, Glances, HasLines, IsNextEntries, IsNextPage, Looks, number_behind};
 
 use cli_console::{Failure, Status};
 use record_history::{Event, LineFault, read_line, read_line_again};
@@ -70,9 +69,8 @@ impl Events {
         noted: &mut NotedStore<S>,
     ) -> Result<Option<Vec<EventRow>>, Failure>
         ensures looks { Looks S.Store noted.old noted.new }
-        ensures page { HasCleanDisk (state S.Store noted.new.store.conn) → (a : Archive)
-            → (ls : List (List ℕ)) → StandsWith S.Store noted.old a ls
-            → IfOk result (IsNextPage (rows_of ls) self.old.from self.new.from) }
+        ensures page { ForArchive S.Store noted.old noted.new (λ a ls.
+            IfOk result (IsNextPage (rows_of ls) self.old.from self.new.from)) }
     {
         let Some(from) = self.from else {
             return Ok(None);
@@ -145,9 +143,8 @@ impl Entries {
         noted: &mut NotedStore<S>,
     ) -> Result<Option<Vec<RecordEntry>>, Failure>
         ensures looks { Looks S.Store noted.old noted.new }
-        ensures page { HasCleanDisk (state S.Store noted.new.store.conn) → (a : Archive)
-            → (ls : List (List ℕ)) → StandsWith S.Store noted.old a ls
-            → IfOk result (IsNextEntries a self.old.from self.new.from) }
+        ensures page { ForArchive S.Store noted.old noted.new (λ a ls.
+            IfOk result (IsNextEntries a self.old.from self.new.from)) }
     {
         let Some(from) = self.from else {
             return Ok(None);

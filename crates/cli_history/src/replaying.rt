@@ -1,16 +1,12 @@
 //! A history that is done again, before its archive is changed.
 
 ghost use Rattle.std.specs.Prelude.{◌≡◌, ◌++◌, ◌∷◌, [], ℕ, None, List, map, IfOk, IfSome, OnOk, is_some};
-ghost use Rattle.sqlite.specs.State.{HasCleanDisk};
-ghost use Rattle.sqlite.specs.Held.{state};
-ghost use Rattle.record_archive.specs.Archive.{Archive};
 ghost use Rattle.record_history.specs.Views.{deed_view};
-ghost use Rattle.record_noted.specs.Histories.{StandsWith};
 ghost use Rattle.cli_console.specs.Failures.{IsToldAs};
 ghost use Rattle.cli_history.specs.Reasons.{are_required, ends};
 ghost use Rattle.cli_history.specs.Replays.{Replays};
 ghost use Rattle.cli_history.specs.Seals.{KeepsSeal, known};
-ghost use Rattle.cli_history.specs.Walks.{Looks};
+ghost use Rattle.cli_history.specs.Walks.{ForArchive, Looks};
 ghost use Rattle.cli_history.specs.declared.opening.Purpose.{Purpose};
 
 use crate::findings::Findings;
@@ -129,7 +125,7 @@ impl Replayed {
     }
 
     /// Does the events of a page again.
-    #[tactic(auto, using(crate::proofs::ReplayLemmas::page_none, crate::proofs::ReplayLemmas::page_more, crate::proofs::ReplayLemmas::page_whole))]
+    #[tactic(auto, using(crate::proofs::ReplayLemmas::page_laws))]
     fn take_page(&mut self, alloc: Global, page: &[EventRow]) -> Result<(), Failure>
         ensures { (purpose : Purpose) → (ls : List (List ℕ)) → Replays purpose self.old ls
             → OnOk result (Replays purpose self.new (ls ++ map (λ r. r.line.items) page.now)) }
@@ -148,9 +144,8 @@ impl Replayed {
         purpose: Purpose,
     ) -> Result<Replayed, Failure>
         ensures looks { Looks S.Store noted.old noted.new }
-        ensures replays { IfOk result (λ r. HasCleanDisk (state S.Store noted.new.store.conn)
-            → (a : Archive) → (ls : List (List ℕ)) → StandsWith S.Store noted.old a ls
-            → Replays purpose r ls) }
+        ensures replays { IfOk result (λ r.
+            ForArchive S.Store noted.old noted.new (λ a ls. Replays purpose r ls)) }
     {
         let mut replayed = Replayed::new(rt.alloc(), purpose)?;
         let mut events = Events::all();

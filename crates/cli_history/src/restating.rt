@@ -2,9 +2,10 @@
 
 ghost use Rattle.std.specs.Prelude.{◌≡◌, false, IfErr, IfOk, is_ok, is_some, not};
 ghost use Rattle.cli_console.specs.Failures.{IsToldAs};
+ghost use Rattle.cli_history.specs.Made.{IsMadeBy};
 ghost use Rattle.cli_history.specs.Openings.{IsReady, IsSight, StaysReady, is_refused as is_refused_by};
 ghost use Rattle.cli_history.specs.Reasons.{lacks_reason as is_reason_lacking};
-ghost use Rattle.cli_history.specs.Walks.{Looks};
+ghost use Rattle.cli_history.specs.Walks.{ForArchive, Looks};
 
 use crate::author::Author;
 use crate::beginning::{Known, findings_in};
@@ -49,13 +50,16 @@ fn judge_reason(
     Ok(())
 }
 
-/// What another program has done, where the store has anything else than a history makes, by the rows. What differs is told.
+/// What another program has done, where the store has anything else than a history makes, by the rows; none where the store has
+/// just that. What differs is told.
 fn changes_apart<S: Alter>(
     rt: &HostRuntime,
     noted: &mut NotedStore<S>,
     made: &SealedArchive,
 ) -> Result<Option<Changes>, Failure>
-    ensures { IfOk result (λ c. is_some c ≡ false → Looks S.Store noted.old noted.new) }
+    ensures looks { IfOk result (λ c. is_some c ≡ false → Looks S.Store noted.old noted.new) }
+    ensures made { IfOk result (λ c. is_some c ≡ false
+        → ForArchive S.Store noted.old noted.new (λ a ls. IsMadeBy made.now a)) }
 {
     let comparison = compare(rt, noted, made, Depth::Rows)?;
     if comparison.is_same() {

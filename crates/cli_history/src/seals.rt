@@ -241,7 +241,7 @@ impl Seals {
     }
 
     /// Notes what the events of a page tell: all of them, or those whose deeds begin so.
-    #[tactic(auto, using(crate::proofs::TellingLemmas::told_none, crate::proofs::TellingLemmas::told_page, crate::proofs::TellingLemmas::told_whole))]
+    #[tactic(auto, using(crate::proofs::TellingLemmas::page_laws))]
     fn take_page(
         &mut self,
         alloc: Global,

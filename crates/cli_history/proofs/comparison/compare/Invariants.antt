@@ -1,5 +1,0 @@
-use Rattle.cli_history.specs.Walks.{Looks}
-use Rattle.cli_history.proofs.comparison.compare.Given as goal
-
-abbrev pub invariant-loop : goal.invariant-loop
-invariant-loop g l = Looks g.S.Store l.fn.noted l.noted
