@@ -1,3 +1,4 @@
+pub mod Ended
 pub mod Exported
 pub mod Grouped
 pub mod Pieces

@@ -4,6 +4,7 @@ ghost use Rattle.std.specs.Prelude.{◌≡◌, [], IfOk, MatchOption};
 ghost use Rattle.record_archive.specs.Archive.{Archive};
 ghost use Rattle.record_choice.specs.Reads.{OnlyReads};
 ghost use Rattle.cli_console.specs.Finds.{found_in};
+ghost use Rattle.cli_readings.specs.Ends.{IsEnded};
 ghost use Rattle.cli_readings.specs.Exports.{ExportsFound};
 
 use crate::conditions::conditions_of;
@@ -40,6 +41,8 @@ fn export_records<'s, 'a, R: Repository<Fault = StoreFault>, D: Destination + Dr
         → MatchOption ended.1 (found_in choice.now questions.now a ≡ [])
         (λ out. ExportsFound D.made seals destination a (found_in choice.now questions.now a)
         out)) }
+    ensures ended { IfOk result (λ ended. R.clean archive.new → (a : Archive)
+        → R.stands archive.old a → IsEnded choice.now questions.now a ended.0) }
 {
     let mut search = Search::new(rt, archive, choice, questions)?;
     let Some(first) = search.next_found(rt, archive)? else {

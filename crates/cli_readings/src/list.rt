@@ -4,7 +4,8 @@ ghost use Rattle.std.specs.Prelude.{◌≡◌, ◌∷◌, ◌++◌, [], ℕ, Lis
 ghost use Rattle.record_archive.specs.Archive.{Archive};
 ghost use Rattle.record_choice.specs.Reads.{OnlyReads};
 ghost use Rattle.cli_console.specs.Headers.{AreTextsOf};
-ghost use Rattle.cli_console.specs.Finds.{IsBounded, TakesThese, found_ahead, found_in};
+ghost use Rattle.cli_console.specs.Finds.{IsAtEnd, IsBounded, TakesThese, found_ahead, found_in};
+ghost use Rattle.cli_readings.specs.Ends.{IsEnded};
 ghost use Rattle.cli_readings.specs.Lists.{HasText, IsHeaderOf, IsRowOf, IsTextOf, Lists, PushesRow, WritesList, between, end_of, head_of, more_listed, none_listed};
 ghost use Rattle.cli_console.specs.Sinks.{Writes};
 
@@ -316,6 +317,8 @@ fn add_found<R: Repository<Fault = StoreFault>, K: Sink + Drop>(
     ensures listed { OnOk result (R.clean archive.new → (a : Archive) → R.stands archive.old a
         → TakesThese (λ old b es new. Lists K.written b old es new) list.old a
         (found_ahead search.old a) list.new) }
+    ensures ended { OnOk result (R.clean archive.new → (a : Archive) → R.stands archive.old a
+        → IsAtEnd search.old a search.new) }
 {
     if list.listing.headers {
         search.read_with_headers(rt, archive, list)
@@ -340,6 +343,8 @@ fn list_to<'s, 'a, R: Repository<Fault = StoreFault>, K: Sink + Drop>(
         → R.stands archive.old a
         → TakesThese (λ before b es after. WritesList K.written b listing before es after) sink a
         (found_in choice.now questions.now a) ended.1) }
+    ensures ended { IfOk result (λ ended. R.clean archive.new → (a : Archive)
+        → R.stands archive.old a → IsEnded choice.now questions.now a ended.0) }
 {
     let mut search = Search::new(rt, archive, choice, questions)?;
     let mut list = ListText::new(rt, listing, sink);
