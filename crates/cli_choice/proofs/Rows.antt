@@ -9,8 +9,6 @@ use Rattle.cli_choice.specs.declared.holds.Change.TheVariants.{Place, End}
 use Rattle.cli_choice.specs.Typed.{spans_typed, is_among, singles}
 use Rattle.cli_choice.specs.Holds.{is_meant}
 use Rattle.cli_choice.specs.Disposals.{numbers_meant}
-use Rattle.cli_choice.specs.declared.twice.Sealed.{Sealed}
-use Rattle.cli_choice.specs.Twice.{is_twice}
 
 -- 3 5-9 7
 abbrev typed : List TypedNumbers
@@ -55,11 +53,3 @@ rows =
 
 changes_are : map (λ r. is_meant r.0 (codes "audit") typed r.1) rows ≡ map (λ r. r.2) rows
 changes_are = refl
-
-abbrev sealed : ℕ → ℕ → Sealed
-sealed n m = record { number = n; message = m }
-
--- two captures; one capture in two classes; both; and one alone
-twice_are : map is_twice ((sealed 1 1 ∷ sealed 5 5 ∷ []) ∷ (sealed 2 2 ∷ sealed 3 2 ∷ [])
-    ∷ (sealed 2 2 ∷ sealed 3 2 ∷ sealed 7 7 ∷ []) ∷ (sealed 4 4 ∷ []) ∷ []) ≡ true ∷ false ∷ true ∷ false ∷ []
-twice_are = refl

@@ -3,4 +3,3 @@ pub mod Questions
 pub mod Holds
 pub mod Disposals
 pub mod Headers
-pub mod Twice

@@ -12,12 +12,10 @@ mod disposals;
 mod holds;
 mod questions;
 mod search;
-mod twice;
 mod typed;
 
 pub use disposals::{Meant, meant_of};
 pub use holds::{Change, is_meant};
 pub use questions::{Answer, Questions, QuestionsFault};
 pub use search::{Beside, FoundPage, search_page};
-pub use twice::{Group, Groups, SealKey, Sealed};
 pub use typed::{bounds_of, choice_of, is_single, not_found, numbers_of, set_of};

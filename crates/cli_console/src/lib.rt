@@ -26,6 +26,6 @@ pub use failure::{Failure, Status, refusal_words};
 pub use output::{agrees, put_numbers, tell, tell_words, write_data, write_text};
 pub use reader::Reader;
 pub use readings::read_chosen;
-pub use search::{Found, Search};
+pub use search::Search;
 pub use sink::{Sink, StandardOutput};
 pub use walk::{Walk, message_of};

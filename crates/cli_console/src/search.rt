@@ -14,13 +14,12 @@ ghost use Rattle.cli_console.specs.declared.failure.Status.TheVariants.{TryAgain
 
 use crate::failure::{Failure, Status};
 use crate::output::{put_numbers, tell};
-use crate::walk::{PAGE, walk_failure};
+use crate::walk::walk_failure;
 use choice_words::{Choice, TypedNumbers, add_number};
 use class_plan::Plan;
 use cli_choice::{
     Beside, FoundPage, Questions, bounds_of, choice_of, is_single, not_found, search_page,
 };
-use cli_texts::Headers;
 use record_choice::{RecordEntry, Repository};
 use record_store::StoreFault;
 use std::alloc::{AllocError, Global};
@@ -29,14 +28,6 @@ use tool_texts::{Shown, put};
 
 /// How many records a search looks at in a step where the headers of their messages are kept.
 pub(crate) const HEADERS_PAGE: usize = 250;
-
-/// Records that are found, in the order of their numbers.
-#[derive(Drop)]
-pub struct Found {
-    pub entries: Vec<RecordEntry>,
-    /// What the header of the message of each says, in the same order; none where no message was read.
-    pub headers: Vec<Headers>,
-}
 
 /// A search for the records of a choice, by number.
 #[derive(Drop)]
@@ -187,49 +178,6 @@ impl<'s, 'a> Search<'s, 'a> {
             found: Vec::new(alloc),
             unread: Vec::new(alloc),
         })
-    }
-
-    /// The next records that are found, which may be none; `None` at the end. A failure is that of the store, or no memory.
-    pub fn next_page<R: Repository<Fault = StoreFault>>(
-        &mut self,
-        rt: &HostRuntime,
-        archive: &mut R,
-    ) -> Result<Option<Vec<RecordEntry>>, Failure>
-        ensures reads { OnlyReads R.clean R.stands archive.old archive.new }
-        ensures page { IfOk result (λ o. R.clean archive.new → (a : Archive)
-            → R.stands archive.old a → IsSearchTurn (question_of self.old.questions.now)
-            (choice_view self.old.choice) a self.old.last self.old.from (page_view o)
-            self.new.from) }
-    {
-        match self.step(rt, archive, Beside::Nothing, PAGE)? {
-            Some(page) => Ok(Some(page.found)),
-            None => Ok(None),
-        }
-    }
-
-    /// The same, and what the headers of their messages say, where something is asked of these.
-    pub fn next_with_headers<R: Repository<Fault = StoreFault>>(
-        &mut self,
-        rt: &HostRuntime,
-        archive: &mut R,
-    ) -> Result<Option<Found>, Failure>
-        ensures reads { OnlyReads R.clean R.stands archive.old archive.new }
-        ensures page { IfOk result (λ o. R.clean archive.new → (a : Archive)
-            → R.stands archive.old a → IsSearchTurn (question_of self.old.questions.now)
-            (choice_view self.old.choice) a self.old.last self.old.from
-            (page_view (option_map (λ f. f.entries) o)) self.new.from) }
-        ensures headers { IfOk result (λ o. R.clean archive.new → (a : Archive)
-            → R.stands archive.old a → IfSome o (λ f. map texts_view f.headers.items ≡
-            (if asks_nothing self.old.questions.now then []
-            else texts_found a Beside.Headers (map entry_view f.entries.items)))) }
-    {
-        match self.step(rt, archive, Beside::Headers, HEADERS_PAGE)? {
-            Some(page) => Ok(Some(Found {
-                entries: page.found,
-                headers: page.headers,
-            })),
-            None => Ok(None),
-        }
     }
 
     /// The next step of the search, which looks at so many records: those of them that are found, which may be none; `None` at
