@@ -18,3 +18,4 @@ pub mod ReplacementLaws
 pub mod LookingLaws
 pub mod DueListLaws
 mod ChangeRows
+mod ImportRows
