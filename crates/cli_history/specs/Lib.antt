@@ -14,3 +14,4 @@ pub mod Tellings
 pub mod Openings
 pub mod Acceptances
 pub mod Judgements
+pub mod Volumes
