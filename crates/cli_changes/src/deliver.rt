@@ -10,12 +10,10 @@ ghost use Rattle.cli_changes.specs.Deliveries.{
   is_captured,
 };
 ghost use Rattle.cli_changes.specs.Endings.{desk_status as desk_status_of, fault_of, IsFailureOf};
-ghost use Rattle.cli_changes.specs.Moments.{IsMomentIn};
-ghost use Rattle.cli_changes.specs.Series.{KeepsAll};
 ghost use Rattle.record_ledger.specs.Ledgers.{keeper_of};
 
 use crate::fault_words::{Cause, fault_words, given_up_words};
-use crate::moments::{Timing, date_of_clock};
+use crate::moments::{Timing, date_of_clock, moment_in};
 use crate::rules::FilingRules;
 use crate::time_limit::{TimeLimit, too_slow_words};
 use cli_console::{Failure, Status, is_by, tell, write_text};
@@ -280,21 +278,6 @@ fn deliver_at<A: Records>(
     }
 }
 
-/// The moment of a delivery to a store.
-fn moment_at<S: Alter>(
-    rt: &HostRuntime,
-    archive: &mut StoreLedger<'_, S>,
-    timing: Timing,
-) -> Result<u64, Failure>
-    ensures reads { KeepsAll (keeper_of S.Store) archive.old archive.new }
-    ensures moment { IfOk result
-        (IsMomentIn (keeper_of S.Store) timing archive.old archive.new) }
-{
-    let mut timing = timing;
-    timing.look(rt, archive)?;
-    timing.moment(rt)
-}
-
 /// Delivers a message to a store by rules, and gives the store back. Where the clock is before the days of the store it
 /// may be done later, `TryAgain`, unless the moment is named.
 pub fn deliver_to<'a, S: Alter>(
@@ -309,7 +292,7 @@ pub fn deliver_to<'a, S: Alter>(
         d.outcome result.0) }
 {
     let mut archive = archive;
-    match moment_at(rt, &mut archive, timing) {
+    match moment_in(rt, &mut archive, timing) {
         Ok(moment) => deliver_at(rt, archive, filing, moment, message),
         Err(failure) => (archive, Err(failure)),
     }
