@@ -87,7 +87,7 @@ yes_or_no is_so = if is_so then codes "yes" else codes "no"
 -- THE NUMBER OF A RECORD: its own, as 17, after that of its volume where it has one, as 3/17
 abbrev pub number_field : (volume : Option ℕ) → ℕ → List ℕ
 number_field None n = decimal n
-number_field (Some v) n = decimal v ++ codes "/" ++ decimal n
+number_field (Some v) n = decimal v ++ (codes "/" ++ decimal n)
 
 -- its number, its class, the day of its capture, its due date, its holds, and whether it is destroyed
 abbrev pub record_fields : Row → List (List ℕ)
