@@ -1,12 +1,12 @@
 -- How the history of a volume begins that has one before it.
-use Rattle.std.specs.Prelude.{◌≡◌, ℕ, nat_lt, if◌then◌else◌, List, ◌++◌, length, take, drop, codes, Option, Some, None}
+use Rattle.std.specs.Prelude.{◌≡◌, ℕ, List, ◌++◌, length, min, take, drop, if◌then◌else◌, codes, Option, Some, None}
 use Rattle.std.specs.Str.{bytes_eq}
 use Rattle.cli_history.specs.declared.notes.Beginning.{Beginning}
 use Rattle.cli_history.specs.declared.notes.Beginning.TheVariants.{Nowhere, After, Alone}
 
 -- the first 56 digits of a mark
 abbrev pub front_of : List ℕ → List ℕ
-front_of mark = if nat_lt 56 (length mark) then take 56 mark else mark
+front_of mark = take (min (length mark) 56) mark
 
 -- THE NOTES OF THE FIRST EVENT: how the mark begins of the volume before, as it was then
 abbrev pub notes_naming : List ℕ → List ℕ

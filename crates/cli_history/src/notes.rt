@@ -43,11 +43,7 @@ const DIGITS: usize = 56;
 fn digits_noted(mark: &[u8]) -> &[u8]
     ensures { result.now ≡ front_of mark.now }
 {
-    if mark.len() > DIGITS {
-        &mark[..DIGITS]
-    } else {
-        mark
-    }
+    &mark[..mark.len().min(DIGITS)]
 }
 
 /// The notes of the first event of a volume: how the mark begins of the volume before, as it was when this one began. The only
