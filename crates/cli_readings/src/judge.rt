@@ -284,11 +284,12 @@ fn text_of(
 ) -> Result<Shown, AllocError>
     ensures { IfOk result (λ text. text ≡ contents_text classes figures.now messages.now) }
 {
+    let next = u64::from(figures.last) + 1;
     let mut text = Shown::new(alloc);
     put_count(&mut text, "classes ", classes)?;
     let totals = Totals::of(figures, messages);
     put_totals(&mut text, &totals)?;
-    put_count(&mut text, "next number ", u64::from(figures.last) + 1)?;
+    put_count(&mut text, "next number ", next)?;
     Ok(text)
 }
 
