@@ -11,7 +11,7 @@ use Rattle.cli_readings.specs.declared.volume_lists.VolumeList.{VolumeList}
 
 module _ {K : Type 0} (written : K → List ℕ → Type 0) where
   -- the list as it is once the records of a volume are to come
-  pub for_volume : ℕ → VolumeList K → VolumeList K
+  abbrev pub for_volume : ℕ → VolumeList K → VolumeList K
   for_volume v x = record x { list = record x.list { listing = in_volume v x.list.listing } }
 
   -- what stands before the records, and the records
