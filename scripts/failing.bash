@@ -9,6 +9,7 @@
 #     ./test failing mail       mail through a Postfix of its own, and what waits in its queue; it takes the rights of root. Where there is
 #                          no Postfix, this alone installs it, from the system's packages
 #     ./test failing report     a report with hostile names, read by a browser where one is installed
+#     ./test failing volumes    archives of volumes that are killed, or find a full disk, at each call of the system; takes some minutes
 #     ./test failing memory     each allocation of sessions, of a delivery and of an intake, refused in turn; that takes a C compiler
 # shellcheck disable=SC2034 # variables are for what is sourced
 set -uo pipefail
@@ -22,8 +23,8 @@ self="test failing"
 cd -- "$root" || exit 125
 [[ ${1-} != --help ]] || print_help
 case $#${1-} in
-    0 | 1streams | 1files | 1intake | 1mail | 1report | 1memory) ;;
-    *) usage "./test failing [streams | files | intake | mail | report | memory]" ;;
+    0 | 1streams | 1files | 1intake | 1mail | 1report | 1volumes | 1memory) ;;
+    *) usage "./test failing [streams | files | intake | mail | report | volumes | memory]" ;;
 esac
 work=$(mktemp -d) || give_up "no folder could be made for the files of the tests"
 trap 'clear_up' EXIT
@@ -38,5 +39,9 @@ done
 [[ ${1-intake} != intake ]] || intakes
 [[ ${1-mail} != mail ]] || mail_through_postfix "${1:+install}"
 [[ ${1-report} != report ]] || reports
+if [[ ${1-volumes} == volumes ]]; then
+    count "archives of volumes, at each call of the system" scripts/volumes.bash
+    group volumes
+fi
 [[ ${1-memory} != memory ]] || memory
 finish

@@ -1,5 +1,5 @@
 -- The lines of what is due and may be destroyed.
-use Rattle.std.specs.Prelude.{ℕ, ℤ, Bool, if◌then◌else◌, List, [], ◌∷◌, ◌++◌, flat_map, codes}
+use Rattle.std.specs.Prelude.{ℕ, ℤ, Bool, if◌then◌else◌, List, [], ◌∷◌, ◌++◌, flat_map, codes, None}
 use Rattle.cli_texts.specs.Lines.{captured}
 use Rattle.cli_texts.specs.Words.{number, words}
 use Rattle.cli_console.specs.Sinks.{Writes}
@@ -20,7 +20,7 @@ altered_note is_altered = if is_altered then words (codes "; its message is not 
 
 -- A RECORD THAT IS DUE: its line says where its message is not the one that was captured
 abbrev pub due_line : Line → (is_altered : Bool) → List ℕ
-due_line l is_altered = captured l ++ altered_note is_altered ++ 10 ∷ []
+due_line l is_altered = captured None l ++ altered_note is_altered ++ 10 ∷ []
 
 -- the lines of records, of which some were altered
 abbrev pub due_lines : (altered : List ℕ) → List Line → List ℕ

@@ -10,7 +10,6 @@ use Rattle.record_archive.specs.Archive.{Archive, Record}
 use Rattle.record_archive.specs.Calls.{Keeper}
 use Rattle.record_choice.specs.Entries.{RecordEntry, entry_view}
 use Rattle.record_choice.specs.declared.entry.RecordEntry as own
-use Rattle.cli_changes.specs.Series.{IsSoOf}
 use Rattle.cli_changes.specs.declared.moments.MomentFault.{MomentFault}
 use Rattle.cli_changes.specs.declared.moments.Timing.{Timing}
 use Rattle.cli_changes.specs.declared.moments.MomentFault.TheVariants.{NotCome, PastLast, Behind}
@@ -67,9 +66,12 @@ IsLookedFor Now before a last = last ≡ before
 IsLookedFor (At named) before a last = last ≡ before
 
 -- THE MOMENT OF A CAPTURE in an archive, by the clock and by its last day
+abbrev pub IsMomentBy : {R : Type 0} → (Clean : R → Type 0) → (Stands : R → Archive → Type 0) → Timing → (old new : R) → ℕ → Type 0
+IsMomentBy Clean Stands timing old new moment = (last : Option ℕ) × IsMomentNow timing.asked last moment
+    × (Clean new → (a : Archive) → Stands old a → IsLookedFor timing.asked timing.last a last)
+
 abbrev pub IsMomentIn : {A : Type 0} → Keeper A Archive → Timing → (old new : A) → ℕ → Type 0
-IsMomentIn keeper timing old new moment = (last : Option ℕ) × IsMomentNow timing.asked last moment
-    × IsSoOf keeper old new (λ a. IsLookedFor timing.asked timing.last a last)
+IsMomentIn keeper timing old new moment = IsMomentBy keeper.clean keeper.stands timing old new moment
 
 -- the later day of two, if there is one before
 abbrev pub later_of : Option ℕ → ℕ → ℕ

@@ -65,7 +65,7 @@ fn put_altered(text: &mut Shown, is_altered: bool) -> Result<(), AllocError>
 pub fn due_line(alloc: Global, line: &Line, is_altered: bool) -> Result<Shown, AllocError>
     ensures { IfOk result (λ text. text ≡ due_line_of line.now is_altered) }
 {
-    let mut text = captured_words(alloc, line)?;
+    let mut text = captured_words(alloc, None, line)?;
     put_altered(&mut text, is_altered)?;
     text.end_line()?;
     Ok(text)

@@ -10,12 +10,10 @@ ghost use Rattle.cli_changes.specs.Deliveries.{
   is_captured,
 };
 ghost use Rattle.cli_changes.specs.Endings.{desk_status as desk_status_of, fault_of, IsFailureOf};
-ghost use Rattle.cli_changes.specs.Moments.{IsMomentIn};
-ghost use Rattle.cli_changes.specs.Series.{KeepsAll};
 ghost use Rattle.record_ledger.specs.Ledgers.{keeper_of};
 
 use crate::fault_words::{Cause, fault_words, given_up_words};
-use crate::moments::{Timing, date_of_clock};
+use crate::moments::{Timing, date_of_clock, moment_in};
 use crate::rules::FilingRules;
 use crate::time_limit::{TimeLimit, too_slow_words};
 use cli_console::{Failure, Status, is_by, tell, write_text};
@@ -66,11 +64,17 @@ pub fn desk_failure(alloc: Global, name: &str, fault: DeskFault) -> Failure
     }
 }
 
-/// The record lines of a capture, each after a text; or that the message was discarded.
-fn record_lines(alloc: Global, before: &Shown, capture: &Capture) -> Result<Shown, AllocError> {
+/// The record lines of a capture, each after a text; or that the message was discarded. They name the volume that the records
+/// are in, in an archive of volumes.
+fn record_lines(
+    alloc: Global,
+    before: &Shown,
+    volume: Option<u32>,
+    capture: &Capture,
+) -> Result<Shown, AllocError> {
     let mut text = Shown::new(alloc);
     for line in capture.lines.as_slice() {
-        put!(text; text(before) text(&captured_line(alloc, line)?))?;
+        put!(text; text(before) text(&captured_line(alloc, volume, line)?))?;
     }
     if capture.lines.is_empty() {
         put!(text; text(before) "discarded")?;
@@ -80,20 +84,25 @@ fn record_lines(alloc: Global, before: &Shown, capture: &Capture) -> Result<Show
 }
 
 /// What is told of a record that is due as it is captured.
-fn due_words(alloc: Global, before: &Shown, line: &Line) -> Result<Shown, AllocError> {
+fn due_words(
+    alloc: Global,
+    before: &Shown,
+    volume: Option<u32>,
+    line: &Line,
+) -> Result<Shown, AllocError> {
     let mut text = Shown::new(alloc);
-    put!(text; text(before) text(&captured_words(alloc, line)?) " is due already")?;
+    put!(text; text(before) text(&captured_words(alloc, volume, line)?) " is due already")?;
     Ok(text)
 }
 
 /// Tells of the records of a capture that are due by the day of the clock.
-fn tell_due(rt: &HostRuntime, before: &Shown, capture: &Capture) {
+fn tell_due(rt: &HostRuntime, before: &Shown, volume: Option<u32>, capture: &Capture) {
     let Some(today) = date_of_clock(rt) else {
         return;
     };
     for line in capture.lines.as_slice() {
         if is_by(line.due, today) {
-            if let Ok(words) = due_words(rt.alloc(), before, line) {
+            if let Ok(words) = due_words(rt.alloc(), before, volume, line) {
                 tell(rt, &words);
             }
         }
@@ -146,14 +155,15 @@ pub fn tell_fault(rt: &HostRuntime, before: &Shown, capture: &Capture, cause: Op
 pub fn report_capture(
     rt: &HostRuntime,
     before: &Shown,
+    volume: Option<u32>,
     capture: &Capture,
     undecoded: &[Shown],
     cause: Option<&Cause>,
 ) {
-    if let Ok(text) = record_lines(rt.alloc(), before, capture) {
+    if let Ok(text) = record_lines(rt.alloc(), before, volume, capture) {
         let _ = write_text(rt, &text);
     }
-    tell_due(rt, before, capture);
+    tell_due(rt, before, volume, capture);
     tell_lines(rt, before, undecoded);
     tell_fault(rt, before, capture, cause);
 }
@@ -268,21 +278,6 @@ fn deliver_at<A: Records>(
     }
 }
 
-/// The moment of a delivery to a store.
-fn moment_at<S: Alter>(
-    rt: &HostRuntime,
-    archive: &mut StoreLedger<'_, S>,
-    timing: Timing,
-) -> Result<u64, Failure>
-    ensures reads { KeepsAll (keeper_of S.Store) archive.old archive.new }
-    ensures moment { IfOk result
-        (IsMomentIn (keeper_of S.Store) timing archive.old archive.new) }
-{
-    let mut timing = timing;
-    timing.look(rt, archive)?;
-    timing.moment(rt)
-}
-
 /// Delivers a message to a store by rules, and gives the store back. Where the clock is before the days of the store it
 /// may be done later, `TryAgain`, unless the moment is named.
 pub fn deliver_to<'a, S: Alter>(
@@ -297,7 +292,7 @@ pub fn deliver_to<'a, S: Alter>(
         d.outcome result.0) }
 {
     let mut archive = archive;
-    match moment_at(rt, &mut archive, timing) {
+    match moment_in(rt, &mut archive, timing) {
         Ok(moment) => deliver_at(rt, archive, filing, moment, message),
         Err(failure) => (archive, Err(failure)),
     }
@@ -305,9 +300,10 @@ pub fn deliver_to<'a, S: Alter>(
 
 /// Writes the records of a delivery to standard output, and tells of its undecoded words and of a fault. It is a success where the
 /// message was captured or discarded, and only there; where it was given up, also since it took longer than `limit` seconds,
-/// that is a failure, `TryAgain`.
+/// that is a failure, `TryAgain`. The volume is the one that the message was delivered to, in an archive of volumes.
 pub fn report_delivery(
     rt: &HostRuntime,
+    volume: Option<u32>,
     delivered: &Delivered,
     limit: u64,
     undecoded: &[Shown],
@@ -317,7 +313,14 @@ pub fn report_delivery(
     let cause = delivered.cause.as_ref();
     match &delivered.outcome {
         Delivery::Captured(capture) => {
-            report_capture(rt, &Shown::new(rt.alloc()), capture, undecoded, cause);
+            report_capture(
+                rt,
+                &Shown::new(rt.alloc()),
+                volume,
+                capture,
+                undecoded,
+                cause,
+            );
             Ok(())
         }
         Delivery::GivenUp(fault) => Err(Failure::shown(

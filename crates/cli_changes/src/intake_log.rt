@@ -94,7 +94,7 @@ impl<'a> IntakeLog<'a> {
         if self.telling.is_quiet {
             tell_fault(self.rt, &before, capture, cause);
         } else {
-            report_capture(self.rt, &before, capture, undecoded, cause);
+            report_capture(self.rt, &before, None, capture, undecoded, cause);
         }
     }
 

@@ -69,7 +69,7 @@ pub use holds::change_holds;
 pub use import::{MailImport, import_mail};
 pub use intake::{Intake, take_new};
 pub use keeping::keeps_less;
-pub use moments::{MomentFault, Timing, judge_moment};
+pub use moments::{MomentFault, Timing, judge_moment, moment_in};
 pub use no_mail::refuse_no_mail;
 pub use plan::{replace_plan, write_plan};
 pub use plan_file::read_plan;

@@ -8,6 +8,7 @@ ghost use Rattle.cli_changes.specs.Moments.{
   IsLast,
   IsLookedFor,
   IsMoment,
+  IsMomentBy,
   IsMomentNow,
   IsRefused,
   day_of_moment,
@@ -292,4 +293,20 @@ impl Timing {
         self.last = Some(last);
         Ok(moment)
     }
+}
+
+/// The moment of a capture that is made now in an archive, by the clock and by its last day. `TryAgain` where the clock is wrong,
+/// also where it is before the days of the archive.
+pub fn moment_in<R: Repository<Fault = StoreFault>>(
+    rt: &HostRuntime,
+    archive: &mut R,
+    timing: Timing,
+) -> Result<u64, Failure>
+    ensures reads { OnlyReads R.clean R.stands archive.old archive.new }
+    ensures moment { IfOk result
+        (IsMomentBy R.clean R.stands timing archive.old archive.new) }
+{
+    let mut timing = timing;
+    timing.look(rt, archive)?;
+    timing.moment(rt)
 }

@@ -28,6 +28,7 @@ use sqlite::Alter;
 /// A record as it is listed.
 fn row_of(entry: &RecordEntry) -> Row<'_> {
     Row {
+        volume: None,
         number: entry.number,
         path: entry.path.as_slice(),
         day: entry.day,

@@ -1,9 +1,12 @@
 -- Rows of what is said of searches and readers.
-use Rattle.std.proofs.Common.{◌≡◌, ◌∷◌, [], false, Some, None, refl, arith}
+use Rattle.std.proofs.Common.{◌≡◌, ◌∷◌, [], true, false, Some, None, Ok, Err, refl, arith}
 use Rattle.record_choice.specs.Choices.{Choice, every_record}
 use Rattle.record_choice.specs.Entries.{RecordEntry}
+use Rattle.cli_console.specs.Failures.{GoesOn, lets_go_on, refused_after}
 use Rattle.cli_console.specs.Turns.{IsFurther}
 use Rattle.cli_console.specs.Finds.{IsAsked, IsFirst}
+use Rattle.cli_console.specs.declared.failure.Failure.TheVariants.{Closed, Reported}
+use Rattle.cli_console.specs.declared.failure.Status.TheVariants.{BadData, TryAgain}
 use Rattle.cli_console.proofs.Ahead.{asked_for}
 
 -- a walk goes on above where it stood, or not at all
@@ -32,3 +35,19 @@ first_of_two e f = (omega arith, refl)
 
 first_of_none : IsFirst [] None []
 first_of_none = refl
+
+-- bad data that was reported lets the next store be done, and no other failure does
+bad_data_goes_on : lets_go_on (Reported BadData) ≡ true
+bad_data_goes_on = refl
+
+later_is_the_end : lets_go_on (Reported TryAgain) ≡ false
+later_is_the_end = refl
+
+end_stays : GoesOn (Err Closed) (Err Closed)
+end_stays = refl
+
+refused_before : refused_after true (Ok tt) ≡ true
+refused_before = refl
+
+refused_now : refused_after false (Err (Reported BadData)) ≡ true
+refused_now = refl

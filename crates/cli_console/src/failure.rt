@@ -1,7 +1,7 @@
 //! Why something is not done, and the status that says so.
 
 ghost use Rattle.std.specs.Prelude.{◌≡◌};
-ghost use Rattle.cli_console.specs.Failures.{status_number, IsToldAs, IsOfStore, IsKept};
+ghost use Rattle.cli_console.specs.Failures.{status_number, IsInVolume, IsToldAs, IsOfStore, IsKept};
 
 use record_store::{Cause, StoreFault};
 use std::alloc::{AllocError, AllocFailed, Global};
@@ -101,6 +101,13 @@ fn refusal_at(alloc: Global, thing: &str, number: u8) -> Result<Shown, AllocErro
     Ok(text)
 }
 
+/// What is said of a volume, after its number.
+fn text_of_volume(alloc: Global, volume: u32, said: &Shown) -> Result<Shown, AllocError> {
+    let mut text = Shown::new(alloc);
+    put!(text; "volume " value(&volume) ": " text(said))?;
+    Ok(text)
+}
+
 impl Failure {
     /// A failure that is reported by a text that was just made, if there was memory for it.
     pub fn shown(status: Status, text: Result<Shown, AllocError>) -> Failure
@@ -167,6 +174,23 @@ impl Failure {
             StoreFault::Refused(refusal) => {
                 Failure::numbered(alloc, Status::BadData, name, refusal.number())
             }
+        }
+    }
+
+    /// The same failure, told with the number of a volume before its words, in an archive of volumes.
+    pub fn in_volume(self, alloc: Global, volume: Option<u32>) -> Failure
+        ensures { IsInVolume volume self result }
+    {
+        let Some(volume) = volume else {
+            return self;
+        };
+        match self {
+            Failure::Told(status, text) => {
+                Failure::shown(status, text_of_volume(alloc, volume, &text))
+            }
+            Failure::Closed => Failure::Closed,
+            Failure::NoMemory => Failure::NoMemory,
+            Failure::Reported(status) => Failure::Reported(status),
         }
     }
 

@@ -1,6 +1,6 @@
 //! What the subcommands of `mailfile-store` share: how they report, and how they go over an archive.
 //!
-//! - `failure`: why something is not done, and the status that says so;
+//! - `failure`: why something is not done, and the status that says so; `joined`: what it comes to in several stores;
 //! - `output`: what is written for people and programs; `sink`: where lists are written;
 //! - `clock`: the time and the day; `counts`: counts that end at the greatest number;
 //! - `walk`: the records of an archive, a page at a time; `search`: those that a command line asks for;
@@ -13,6 +13,7 @@
 mod clock;
 mod counts;
 mod failure;
+mod joined;
 mod output;
 mod reader;
 mod readings;
@@ -23,7 +24,10 @@ mod walk;
 pub use clock::{day_or_today, is_by, judge_day, now, today};
 pub use counts::counted;
 pub use failure::{Failure, Status, refusal_words};
-pub use output::{agrees, put_numbers, tell, tell_words, write_data, write_text};
+pub use joined::Joined;
+pub use output::{
+    agrees, put_numbers, tell, tell_in, tell_words, tell_words_in, told_now, write_data, write_text,
+};
 pub use reader::Reader;
 pub use readings::read_chosen;
 pub use search::Search;

@@ -46,9 +46,40 @@ pub fn tell(rt: &HostRuntime, text: &Shown) {
     let _ = eprintln!(rt; "mailfile-store: {text}");
 }
 
+/// Writes a text on standard error: in an archive of volumes after the number of the volume that it is about.
+pub fn tell_in(rt: &HostRuntime, volume: Option<u32>, text: &Shown) {
+    match volume {
+        Some(volume) => {
+            let _ = eprintln!(rt; "mailfile-store: volume {volume}: {text}");
+        }
+        None => tell(rt, text),
+    }
+}
+
 /// Writes words of the program on standard error, after its name.
 pub fn tell_words(rt: &HostRuntime, words: &'static str) {
     let _ = eprintln!(rt; "mailfile-store: {words}");
+}
+
+/// Writes words of the program on standard error: in an archive of volumes after the number of the volume that they are about.
+pub fn tell_words_in(rt: &HostRuntime, volume: Option<u32>, words: &'static str) {
+    match volume {
+        Some(volume) => {
+            let _ = eprintln!(rt; "mailfile-store: volume {volume}: {words}");
+        }
+        None => tell_words(rt, words),
+    }
+}
+
+/// What was done. A failure that is yet to be told is told now, and is one that was reported then.
+pub fn told_now(rt: &HostRuntime, done: Result<(), Failure>) -> Result<(), Failure> {
+    match done {
+        Err(Failure::Told(status, text)) => {
+            tell(rt, &text);
+            Err(Failure::Reported(status))
+        }
+        other => other,
+    }
 }
 
 /// Whether a person says yes to a question. No where standard input is no terminal, without asking.

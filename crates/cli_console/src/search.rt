@@ -13,7 +13,7 @@ ghost use Rattle.cli_console.specs.Turns.{IsSearchTurn, page_view, records_of};
 ghost use Rattle.cli_console.specs.declared.failure.Status.TheVariants.{TryAgain};
 
 use crate::failure::{Failure, Status};
-use crate::output::{put_numbers, tell};
+use crate::output::{put_numbers, tell, tell_in};
 use crate::walk::walk_failure;
 use choice_words::{Choice, TypedNumbers, add_number};
 use class_plan::Plan;
@@ -234,9 +234,10 @@ impl<'s, 'a> Search<'s, 'a> {
     }
 
     /// Tells which records may have been found, had all their fields been read.
-    fn tell_unread(&self, rt: &HostRuntime) -> Result<(), AllocError> {
+    fn tell_unread(&self, rt: &HostRuntime, volume: Option<u32>) -> Result<(), AllocError> {
         if !self.unread.is_empty() {
-            tell(rt, &unread_line(rt.alloc(), self.unread.as_slice())?);
+            let line = unread_line(rt.alloc(), self.unread.as_slice())?;
+            tell_in(rt, volume, &line);
         }
         Ok(())
     }
@@ -251,7 +252,20 @@ impl<'s, 'a> Search<'s, 'a> {
         ensures reads { OnlyReads R.clean R.stands archive.old archive.new }
         ensures found { IsEndOf (missing_of self.entry) result }
     {
-        self.tell_unread(rt)?;
+        self.end_in(rt, archive, None)
+    }
+
+    /// The same in a volume, which is named where something is told of its records.
+    pub fn end_in<R: Repository<Fault = StoreFault>>(
+        self,
+        rt: &HostRuntime,
+        archive: &mut R,
+        volume: Option<u32>,
+    ) -> Result<(), Failure>
+        ensures reads { OnlyReads R.clean R.stands archive.old archive.new }
+        ensures found { IsEndOf (missing_of self.entry) result }
+    {
+        self.tell_unread(rt, volume)?;
         let missing = not_found(
             rt.alloc(),
             self.typed.numbers.as_slice(),

@@ -26,11 +26,11 @@ use Rattle.cli_history.proofs.WalkLemmas.{all_of_page, lines_of_rows, more_of_pa
 abbrev lines : List Row → List (List ℕ)
 lines rows = map (λ (r : Row). r.line) rows
 
-met_later : (b : Bool) (n : ℕ) (before : Option ℕ) → met_after b n before ≡ later (cond b (Some n) None) before
+pub met_later : (b : Bool) (n : ℕ) (before : Option ℕ) → met_after b n before ≡ later (cond b (Some n) None) before
 met_later true n before = refl
 met_later false n before = refl
 
-marked_more : (p : List ℕ → Bool) (rows : List Row) (r : Row)
+pub marked_more : (p : List ℕ → Bool) (rows : List Row) (r : Row)
     → marked p (rows ++ r ∷ []) ≡ later (cond (p r.mark) (Some r.number) None) (marked p rows)
 marked_more p [] r = later_none (cond (p r.mark) (Some r.number) None)
 marked_more p (q ∷ rows) r =

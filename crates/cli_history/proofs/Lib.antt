@@ -2,6 +2,7 @@ pub mod FindingLemmas
 mod FindingRows
 mod Rows
 mod MadeRows
+mod VolumeRows
 pub mod TitleLemmas
 pub mod WalkLemmas
 pub mod EntryLemmas
@@ -11,4 +12,5 @@ pub mod ReplayLemmas
 pub mod TellingLemmas
 pub mod CaptureLemmas
 pub mod JudgementLemmas
+pub mod MarkLemmas
 pub mod OpeningLemmas

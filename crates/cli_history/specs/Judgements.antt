@@ -1,6 +1,7 @@
 -- What `check` knows of a history.
-use Rattle.std.specs.Prelude.{◌≡◌, ℕ, Bool, true, false, if◌then◌else◌, List, [], ◌∷◌, map, Option, Some, None, is_none, is_some}
+use Rattle.std.specs.Prelude.{◌≡◌, ℕ, nat_eq, Bool, true, false, if◌then◌else◌, List, [], ◌∷◌, map, Option, Some, None, is_none, is_some}
 use Rattle.std.specs.Borrow.{Bor}
+use Rattle.std.specs.List.{starts_with}
 use Rattle.std.specs.Str.{bytes_eq}
 use Rattle.record_archive.specs.Archive.{Archive}
 use Rattle.record_tables.specs.Events.{Event as Row}
@@ -25,6 +26,14 @@ is_head head mark = is_sought (λ (m : Bor (List ℕ)). bytes_eq m.now mark) hea
 abbrev pub marked : (List ℕ → Bool) → List Row → Option ℕ
 marked p [] = None
 marked p (r ∷ rows) = later (marked p rows) (if p r.mark then Some r.number else None)
+
+-- a mark begins so
+abbrev pub begins_so : (front mark : List ℕ) → Bool
+begins_so front mark = starts_with nat_eq mark front
+
+-- THE EVENT WHOSE MARK BEGINS SO: the last one of these rows, if one does
+abbrev pub IsMet : (front : List ℕ) → Option ℕ → List Row → Type 0
+IsMet front met rows = met ≡ marked (begins_so front) rows
 
 -- THE HISTORY OF THESE ROWS IS WHOLE so far: each was lawful when it came, and what was found and the mark that is met are what
 -- they say

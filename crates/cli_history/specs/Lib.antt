@@ -16,3 +16,4 @@ pub mod Captures
 pub mod Openings
 pub mod Acceptances
 pub mod Judgements
+pub mod Volumes

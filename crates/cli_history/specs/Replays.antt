@@ -32,6 +32,12 @@ sealed_in first (e ∷ es) message = later (sealed_in (first + 1) es message) (s
 abbrev pub AreSeals : Seals → List Event → Type 0
 AreSeals seals events = (message : ℕ) → known seals message ≡ sealed_in 1 events message
 
+-- THE HISTORY OF THESE LINES REQUIRES REASONS, or does not, by the events that they tell
+pub record RequiresReasons (lines : List (List ℕ)) (is_so : Bool) : Type 0 where
+  pub events : List Event
+  pub tell : Tell lines events
+  pub required : is_so ≡ required_after false events
+
 -- THE HISTORY OF THESE LINES WAS DONE AGAIN: each line tells an event, which was lawful when it came; what was found, whether
 -- reasons are required, and the seals, which are kept where the purpose can end the keeping of records, are what these say
 pub record Replays (purpose : Purpose) (r : Replayed) (lines : List (List ℕ)) : Type 0 where

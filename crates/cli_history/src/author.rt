@@ -18,6 +18,8 @@ use std::env::{VarError, var};
 pub struct Author<'a> {
     name: Option<String>,
     reason: &'a str,
+    /// The number of the volume that is changed, in an archive of volumes.
+    volume: Option<u32>,
 }
 
 /// Whether a name can stand for a person. That of programs that keep no history can not.
@@ -58,10 +60,12 @@ impl<'a> Author<'a> {
             Some(name) => Ok(Author {
                 name: Some(String::from_str(rt.alloc(), name)?),
                 reason,
+                volume: None,
             }),
             None => Ok(Author {
                 name: name_of_user(name_in(rt, "LOGNAME")?, name_in(rt, "USER")?),
                 reason,
+                volume: None,
             }),
         }
     }
@@ -73,17 +77,42 @@ impl<'a> Author<'a> {
             (λ n. option_map string_bytes a.name ≡ Some n.now)) }
         ensures reason { IfOk result (λ a. a.reason.now ≡ told.now.reason.now) }
     {
-        let Author { name, reason } = Author::of(rt, told)?;
+        let Author {
+            name,
+            reason,
+            volume,
+        } = Author::of(rt, told)?;
         match name {
             Some(name) => Ok(Author {
                 name: Some(name),
                 reason,
+                volume,
             }),
             None => Ok(Author {
                 name: Some(String::from_str(rt.alloc(), "mailfile-store")?),
                 reason,
+                volume,
             }),
         }
+    }
+
+    /// The same, who changes a volume, in an archive of volumes.
+    pub fn in_volume(self, volume: Option<u32>) -> Author<'a>
+        ensures { result ≡ record self.entry { volume = volume } }
+    {
+        let Author { name, reason, .. } = self;
+        Author {
+            name,
+            reason,
+            volume,
+        }
+    }
+
+    /// The volume that is changed, in an archive of volumes.
+    pub fn volume(&self) -> Option<u32>
+        ensures { result ≡ self.now.volume }
+    {
+        self.volume
     }
 
     /// The name, where it is known.

@@ -227,11 +227,12 @@ pub fn findings_in<S: Alter>(
 /// For what reason a history begins where none is told.
 const BEGINNING: &str = "the beginning";
 
-/// The lines that a history begins with. `Usage` where it is not known who begins it.
+/// The lines that a history begins with, the first one with these notes. `Usage` where it is not known who begins it.
 fn first_lines<'a, S: Alter>(
     rt: &'a HostRuntime,
     archive: &mut Store<S>,
     author: &'a Author<'_>,
+    notes: &'a [u8],
 ) -> Result<Vec<Vec<u8>>, Failure> {
     let who = author.named(rt)?.as_bytes();
     let reason = if author.reason().is_empty() {
@@ -239,26 +240,29 @@ fn first_lines<'a, S: Alter>(
     } else {
         author.reason()
     };
+    let mut heading = occasion_by(rt, who, reason, None)?;
+    heading.notes = notes;
     let occasion = occasion_by(rt, who, reason, None)?;
     findings_in(
         rt,
         archive,
-        &occasion,
+        &heading,
         &occasion,
         1,
         &Known::none(rt.alloc()),
     )
 }
 
-/// Begins the history of a store that has none with what is found there, and answers how many events that are. `Usage`
-/// where it is not known who begins it, `BadData` where a hold has a name that is none. The store is handed back.
+/// Begins the history of a store that has none with what is found there, the first event with notes, and answers how many events
+/// that are. `Usage` where it is not known who begins it, `BadData` where a hold has a name that is none. The store is handed back.
 pub fn begin_history<S: Alter>(
     rt: &HostRuntime,
     archive: Store<S>,
     author: &Author<'_>,
+    notes: &[u8],
 ) -> (Store<S>, Result<u64, Failure>) {
     let mut archive = archive;
-    let lines = match first_lines(rt, &mut archive, author) {
+    let lines = match first_lines(rt, &mut archive, author, notes) {
         Ok(lines) => lines,
         Err(failure) => return (archive, Err(failure)),
     };

@@ -391,7 +391,7 @@ pub fn write_certificates<S: Alter>(
     let mut printing = Printing {
         typed,
         messages,
-        watch: Watch::new(rt.alloc())?,
+        watch: Watch::new(rt.alloc(), None)?,
         titles: Titles::none(rt.alloc()),
         missing: Missing::of(rt.alloc(), typed)?,
         told: BTreeSet::new(rt.alloc()),

@@ -22,7 +22,7 @@ use crate::plans::is_same_plan;
 use crate::stored::StoredSeals;
 use choice_words::TypedNumbers;
 use class_plan::{Plan, day_number};
-use cli_console::{Failure, tell, tell_words};
+use cli_console::{Failure, tell_in, tell_words_in};
 use record_judge::{NamedHold, SealedArchive, SealedMessage, SealedRecord};
 use record_noted::NotedStore;
 use record_store::{EventRow, RecordEntry};
@@ -599,24 +599,23 @@ fn difference_line(
 pub fn tell_differences<S: Alter>(
     rt: &HostRuntime,
     noted: &mut NotedStore<S>,
+    volume: Option<u32>,
     comparison: &Comparison<'_>,
 ) -> Result<(), Failure>
     ensures { Looks S.Store noted.old noted.new }
 {
     if !comparison.is_planned {
-        tell_words(rt, "the plan is not that of the history");
+        tell_words_in(rt, volume, "the plan is not that of the history");
     }
     for (number, difference) in &comparison.found {
         let since = last_event_about(rt, noted, *number)?;
-        tell(
-            rt,
-            &difference_line(rt.alloc(), *number, *difference, since)?,
-        );
+        let line = difference_line(rt.alloc(), *number, *difference, since)?;
+        tell_in(rt, volume, &line);
     }
     if comparison.more > 0 {
         let mut line = Shown::new(rt.alloc());
         put!(line; "and " value(&comparison.more) " more")?;
-        tell(rt, &line);
+        tell_in(rt, volume, &line);
     }
     Ok(())
 }

@@ -45,7 +45,7 @@ impl Lines {
     /// another failure is that of the store.
     pub fn of<S: Alter>(rt: &HostRuntime, noted: &mut NotedStore<S>) -> Result<Lines, Failure> {
         let mut lines = Lines::new(rt.alloc());
-        let mut watch = Watch::new(rt.alloc())?;
+        let mut watch = Watch::new(rt.alloc(), None)?;
         let mut events = Events::all();
         for _ in 0..u64::MAX {
             let Some(page) = events.next_page(rt, noted)? else {

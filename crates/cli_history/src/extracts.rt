@@ -82,7 +82,7 @@ impl<'s> Extract<'s> {
         match archive.event_layout() {
             EventLayout::Present => Ok(Some(Extract {
                 subjects,
-                watch: Watch::new(alloc)?,
+                watch: Watch::new(alloc, None)?,
                 from: Some(1),
                 before: Vec::new(alloc),
                 is_any_unread: false,

@@ -10,7 +10,7 @@ ghost use Rattle.cli_history.specs.Findings.{bearing as bearing_in, is_blocked a
 use crate::differences::GOES_ON;
 use crate::opening::Purpose;
 use crate::seals::after_blank;
-use cli_console::{Failure, Status, tell};
+use cli_console::{Failure, Status};
 use record_history::{Deed, Event};
 use std::alloc::{AllocError, Global};
 use std::str;
@@ -342,10 +342,9 @@ impl Findings {
         self.groups.lines()
     }
 
-    /// Tells that something is not accepted, with the numbers of its events.
-    pub fn tell(&self, rt: &HostRuntime) -> Result<(), AllocError> {
-        tell(rt, &self.groups.unaccepted_words()?);
-        Ok(())
+    /// That something is not accepted, with the numbers of its events.
+    pub fn unaccepted_words(&self) -> Result<Shown, AllocError> {
+        self.groups.unaccepted_words()
     }
 
     /// The failure of what may not be done until findings are accepted: `BadData`, with the numbers of their events.

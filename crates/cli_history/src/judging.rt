@@ -80,11 +80,15 @@ fn say_altered(rt: &HostRuntime, number: u32, event: &Event<'_>) -> Result<(), F
 }
 
 impl<'h> Judgement<'h> {
-    fn new(alloc: Global, head: Option<&'h str>) -> Result<Judgement<'h>, AllocError>
+    fn new(
+        alloc: Global,
+        volume: Option<u32>,
+        head: Option<&'h str>,
+    ) -> Result<Judgement<'h>, AllocError>
         ensures judged { IfOk result (λ j. IsJudged j []) }
         ensures head { IfOk result (λ j. j.head ≡ head.entry) }
     {
-        let watch = Watch::new(alloc)?;
+        let watch = Watch::new(alloc, volume)?;
         Ok(Judgement {
             watch,
             findings: Findings::none(alloc),
@@ -129,7 +133,7 @@ impl<'h> Judgement<'h> {
     {
         if moment < self.moment {
             let words = "its moment is before that of the event before it; the clock went back";
-            tell(rt, &at_event(rt.alloc(), number, words)?);
+            self.watch.tell(rt, &at_event(rt.alloc(), number, words)?);
         }
         self.moment = moment;
         Ok(())
@@ -232,7 +236,7 @@ impl<'h> Judgement<'h> {
         if !self.findings.is_unaccepted() {
             return Ok(true);
         }
-        self.findings.tell(rt)?;
+        self.watch.tell(rt, &self.findings.unaccepted_words()?);
         Ok(false)
     }
 }
@@ -241,6 +245,7 @@ impl<'h> Judgement<'h> {
 fn judge_events<'h, S: Alter>(
     rt: &HostRuntime,
     noted: &mut NotedStore<S>,
+    volume: Option<u32>,
     head: Option<&'h str>,
 ) -> Result<Judgement<'h>, Failure>
     ensures looks { Looks S.Store noted.old noted.new }
@@ -248,7 +253,7 @@ fn judge_events<'h, S: Alter>(
         ForArchive S.Store noted.old noted.new (λ a ls. IsJudged j (rows_of ls))) }
     ensures head { IfOk result (λ j. j.head ≡ head.entry) }
 {
-    let mut judgement = Judgement::new(rt.alloc(), head)?;
+    let mut judgement = Judgement::new(rt.alloc(), volume, head)?;
     let mut events = Events::all();
     for _ in 0..u64::MAX {
         let Some(page) = events.next_page(rt, noted)? else {
@@ -264,6 +269,7 @@ fn judge_events<'h, S: Alter>(
 fn is_explained<S: Alter>(
     rt: &HostRuntime,
     noted: &mut NotedStore<S>,
+    volume: Option<u32>,
     watch: &Watch,
     stored: StoredSeals,
 ) -> Result<bool, Failure>
@@ -276,7 +282,7 @@ fn is_explained<S: Alter>(
         return Ok(false);
     }
     let comparison = compare(rt, noted, watch.archive(), Depth::Messages(stored))?;
-    tell_differences(rt, noted, &comparison)?;
+    tell_differences(rt, noted, volume, &comparison)?;
     Ok(comparison.is_same())
 }
 
@@ -300,10 +306,12 @@ fn verdict(is_same: bool, is_accepted: bool, is_met: bool) -> Result<(), Failure
 /// found is not accepted, which is told.
 ///
 /// The caller gives the seals of the messages that it has read; the others are read here. Where those are the seals of the
-/// archive's messages, each message of a live record is the one whose seal the history tells.
+/// archive's messages, each message of a live record is the one whose seal the history tells. What is told names the volume of
+/// the store, in an archive of volumes.
 pub fn judge_history<S: Alter>(
     rt: &HostRuntime,
     noted: &mut NotedStore<S>,
+    volume: Option<u32>,
     head: Option<&str>,
     stored: StoredSeals,
 ) -> Result<(), Failure>
@@ -311,8 +319,8 @@ pub fn judge_history<S: Alter>(
     ensures passes { OnOk result
         (ForArchive S.Store noted.old noted.new (λ a ls. Passes head.entry stored a ls)) }
 {
-    let judgement = judge_events(rt, noted, head)?;
-    let is_same = is_explained(rt, noted, &judgement.watch, stored)?;
+    let judgement = judge_events(rt, noted, volume, head)?;
+    let is_same = is_explained(rt, noted, volume, &judgement.watch, stored)?;
     judgement.say_found(rt)?;
     write_text(rt, &judgement.totals(rt.alloc())?)?;
     judgement.say_met(rt)?;

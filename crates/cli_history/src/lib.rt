@@ -17,7 +17,8 @@
 //! - `copies`: a history that another store takes over; `damaged`: the same where it is not whole; `extracts`: the events of
 //!   records that are exported;
 //! - `judging` and `comparison`: whether a history is whole, has a mark that was noted elsewhere, and explains its archive;
-//!   `plans`: whether two plans are the same; `flaws`: what stands against an event.
+//!   `plans`: whether two plans are the same; `flaws`: what stands against an event; `marks`: which event has a mark that
+//!   begins so.
 //!
 //! What it writes, no contract speaks of: tests of the program show it.
 #![tactic(auto)]
@@ -38,6 +39,7 @@ mod fields;
 mod findings;
 mod flaws;
 mod judging;
+mod marks;
 mod missing;
 mod notes;
 mod opening;
@@ -64,10 +66,12 @@ pub use damaged::Whole;
 pub use extracts::{Extract, Subjects};
 pub use findings::findings_are_told;
 pub use judging::judge_history;
-pub use notes::{is_altered, notes_of};
+pub use marks::event_with_mark;
+pub use notes::{Beginning, beginning_in, is_altered, notes_after, notes_of};
 pub use opening::{Purpose, StoreLedger, open_history, open_ledger, open_noted, open_with_seals};
+pub use plans::is_same_plan;
 pub use printing::write_history;
-pub use reasons::{accept_findings, note_reasons};
+pub use reasons::{accept_findings, are_reasons_required, note_reasons};
 pub use refiled::last_refiling;
 pub use seals::{Fidelity, Seals, altered_words};
 pub use stored::StoredSeals;

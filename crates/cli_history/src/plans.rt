@@ -89,7 +89,7 @@ fn are_same_classes(ones: &[Class<'_>], others: &[Class<'_>]) -> bool
 }
 
 /// Whether two plans have the same schedule of the root and the same classes. The only refusal is no memory.
-pub(crate) fn is_same_plan(alloc: Global, one: &Plan, other: &Plan) -> Result<bool, AllocError>
+pub fn is_same_plan(alloc: Global, one: &Plan, other: &Plan) -> Result<bool, AllocError>
     ensures { IfOk result (λ b. IsTrue b ↔ (one.now ≡ other.now)) }
 {
     let classes = one.classes(alloc)?;

@@ -75,7 +75,7 @@ impl<'q, 'a> Printing<'q, 'a> {
     fn of(alloc: Global, asked: &'q HistoryAsked<'a>) -> Result<Printing<'q, 'a>, AllocError> {
         Ok(Printing {
             asked,
-            watch: Watch::new(alloc)?,
+            watch: Watch::new(alloc, None)?,
             count: 0,
             is_any_unread: false,
             missing: Missing::of(alloc, asked.numbers.as_slice())?,

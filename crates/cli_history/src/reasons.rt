@@ -8,12 +8,15 @@ ghost use Rattle.record_noted.specs.Histories.{KeepsLines, StandsWith};
 ghost use Rattle.cli_console.specs.Failures.{IsToldAs};
 ghost use Rattle.cli_history.specs.Findings.{is_open_at};
 ghost use Rattle.cli_history.specs.Acceptances.{Accepts, AcceptsNext, NotesNext};
+ghost use Rattle.cli_history.specs.Replays.{RequiresReasons};
+ghost use Rattle.cli_history.specs.Walks.{Looks};
 ghost use Rattle.record_history.specs.Spelled.{IsSpelledDeed};
 ghost use Rattle.record_history.specs.Views.{deed_view};
 
 use crate::author::Author;
 use crate::beginning::line_now;
 use crate::opening::{Purpose, occasion_of};
+use crate::replaying::Replayed;
 use crate::restating::{Ready, prepared};
 use cli_console::{Failure, Status};
 use command_lines::archives::Reasons;
@@ -60,6 +63,21 @@ fn is_so(reasons: Reasons, are_required: bool) -> bool {
         Reasons::Required => are_required,
         Reasons::Optional => !are_required,
     }
+}
+
+/// Whether a history requires reasons of those who decide which records are kept, and how long, by all of its events. `BadData`
+/// where something stands against an event; another failure is that of the store.
+pub fn are_reasons_required<S: Alter>(
+    rt: &HostRuntime,
+    noted: &mut NotedStore<S>,
+) -> Result<bool, Failure>
+    ensures looks { Looks S.Store noted.old noted.new }
+    ensures required { IfOk result (λ is_so. HasCleanDisk (state S.Store noted.new.store.conn)
+        → (a : Archive) → (ls : List (List ℕ)) → StandsWith S.Store noted.old a ls
+        → RequiresReasons ls is_so) }
+{
+    let replayed = Replayed::of(rt, noted, Purpose::Capturing)?;
+    Ok(replayed.requires_reasons())
 }
 
 /// Notes whether reasons are required, unless it is so already.

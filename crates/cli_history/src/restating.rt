@@ -14,7 +14,7 @@ use crate::differences::{Changes, plain_reason};
 use crate::findings::UNKNOWN;
 use crate::opening::{Purpose, occasion_by, open_noted};
 use crate::replaying::Replayed;
-use cli_console::{Failure, Status, tell, tell_words};
+use cli_console::{Failure, Status, tell_in, tell_words_in};
 use record_judge::SealedArchive;
 use record_noted::NotedStore;
 use record_store::Store;
@@ -55,6 +55,7 @@ fn judge_reason(
 fn changes_apart<S: Alter>(
     rt: &HostRuntime,
     noted: &mut NotedStore<S>,
+    volume: Option<u32>,
     made: &SealedArchive,
 ) -> Result<Option<Changes>, Failure>
     ensures looks { IfOk result (λ c. is_some c ≡ false → Looks S.Store noted.old noted.new) }
@@ -65,11 +66,12 @@ fn changes_apart<S: Alter>(
     if comparison.is_same() {
         return Ok(None);
     }
-    tell_words(
+    tell_words_in(
         rt,
+        volume,
         "another program has changed the archive without its history; what is there is noted as found",
     );
-    tell_differences(rt, noted, &comparison)?;
+    tell_differences(rt, noted, volume, &comparison)?;
     Ok(Some(comparison.into_changes()))
 }
 
@@ -93,7 +95,7 @@ fn look_at<S: Alter>(
     author.named(rt)?;
     let replayed = Replayed::of(rt, noted, purpose)?;
     judge_reason(rt.alloc(), &replayed, author, purpose)?;
-    let changes = changes_apart(rt, noted, replayed.archive())?;
+    let changes = changes_apart(rt, noted, author.volume(), replayed.archive())?;
     Ok(Sight { replayed, changes })
 }
 
@@ -133,11 +135,16 @@ fn give_reasons(
 }
 
 /// Tells the reasons for which there are no lines: what was done was more than the events have room for.
-fn tell_left(rt: &HostRuntime, reasons: &[String], lines: &[Vec<u8>]) -> Result<(), AllocError> {
+fn tell_left(
+    rt: &HostRuntime,
+    volume: Option<u32>,
+    reasons: &[String],
+    lines: &[Vec<u8>],
+) -> Result<(), AllocError> {
     for reason in reasons.iter().skip(lines.len()) {
         let mut words = Shown::new(rt.alloc());
         words.value(reason)?;
-        tell(rt, &words);
+        tell_in(rt, volume, &words);
     }
     Ok(())
 }
@@ -156,7 +163,7 @@ fn lines_apart<S: Alter>(
     let reason = plain_reason(rt.alloc(), who)?;
     let mut lines = lines_found(rt, archive, first, made, reason.as_str())?;
     give_reasons(&mut lines, reason.as_str(), reasons.as_slice())?;
-    tell_left(rt, reasons.as_slice(), lines.as_slice())?;
+    tell_left(rt, author.volume(), reasons.as_slice(), lines.as_slice())?;
     Ok(lines)
 }
 

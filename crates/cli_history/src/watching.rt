@@ -4,7 +4,7 @@ ghost use Rattle.std.specs.Prelude.{◌≡◌, ◌++◌, ◌∷◌, ℕ, [], Lis
 ghost use Rattle.record_judge.specs.Judging.{Judges};
 
 use crate::flaws::words_at;
-use cli_console::{Failure, Status, tell};
+use cli_console::{Failure, Status, tell_in};
 use record_judge::{Judge, SealedArchive};
 use record_store::EventRow;
 use std::alloc::{AllocError, Global};
@@ -13,6 +13,8 @@ use tool_texts::{Shown, put};
 /// A judge who looks at each event of a history as it is read, from the first one on.
 #[derive(Drop)]
 pub struct Watch {
+    /// The number of the volume whose history it is, in an archive of volumes.
+    volume: Option<u32>,
     judge: Judge,
     /// The number of the first event that something stands against.
     fault: Option<u32>,
@@ -27,14 +29,20 @@ fn uncertain(alloc: Global, number: u32) -> Result<Shown, AllocError> {
 
 impl Watch {
     /// A judge who has seen nothing.
-    pub fn new(alloc: Global) -> Result<Watch, AllocError>
+    pub fn new(alloc: Global, volume: Option<u32>) -> Result<Watch, AllocError>
         ensures judges { IfOk result (λ w. Judges w.judge []) }
         ensures fault { IfOk result (λ w. w.fault ≡ None) }
     {
         Ok(Watch {
+            volume,
             judge: Judge::new(alloc)?,
             fault: None,
         })
+    }
+
+    /// Tells something of the history, with the number of its volume where it has one.
+    pub fn tell(&self, rt: &HostRuntime, words: &Shown) {
+        tell_in(rt, self.volume, words);
     }
 
     /// Judges the next event, unless something stands against one before it: then nothing is known of those that follow. The
@@ -56,7 +64,7 @@ impl Watch {
         };
         let words = words_at(rt.alloc(), row.number, flaw, self.judge.count())?;
         self.fault = Some(row.number);
-        tell(rt, &words);
+        self.tell(rt, &words);
         Ok(false)
     }
 

@@ -3,3 +3,4 @@ pub mod Exported
 pub mod Grouped
 pub mod Pieces
 mod Rows
+pub mod VolumeListLaws

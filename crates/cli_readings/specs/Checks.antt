@@ -11,13 +11,14 @@ use Rattle.record_choice.specs.declared.entry.RecordEntry.{RecordEntry}
 use Rattle.record_history.specs.Replay.{seal}
 use Rattle.cli_console.specs.Days.{is_by}
 use Rattle.cli_history.specs.Stored.{stored}
-use Rattle.cli_history.specs.declared.stored.StoredSeals.{StoredSeals}
 use Rattle.cli_texts.specs.Words.{number, words}
 use Rattle.cli_console.specs.Counts.{counted, greatest, one_more}
 use Rattle.cli_console.specs.Sinks.{Writes}
+use Rattle.cli_readings.specs.declared.judge.Contents.{Contents}
 use Rattle.cli_readings.specs.declared.judge.Counting.{Counting}
 use Rattle.cli_readings.specs.declared.judge.Figures.{Figures}
 use Rattle.cli_readings.specs.declared.judge.Messages.{Messages}
+use Rattle.cli_readings.specs.declared.judge.Totals.{Totals}
 
 -- all records of an archive, as they are listed
 abbrev pub every_entry : Archive → List Entry
@@ -101,21 +102,45 @@ pub record AreNone (is_noted : Bool) (m : Messages) : Type 0 where
 abbrev pub count_line : (name : List ℕ) → ℕ → List ℕ
 count_line name count = words name ++ number count ++ 10 ∷ []
 
+abbrev pub totals_of : Figures → Messages → Totals
+totals_of f m =
+    record { records = f.records; live = f.live; held = f.held; due = f.due; messages = m.count; octets = m.octets }
+
+-- THE TOTALS of what is held, in lines
+abbrev pub totals_text : Totals → List ℕ
+totals_text t =
+    count_line (codes "records ") t.records ++ count_line (codes "live ") t.live ++ count_line (codes "held ") t.held
+    ++ count_line (codes "due today ") t.due ++ count_line (codes "messages ") t.messages ++ count_line (codes "octets ") t.octets
+
 -- WHAT AN ARCHIVE HOLDS, in lines
 abbrev pub contents_text : (classes : ℕ) → Figures → Messages → List ℕ
 contents_text classes f m =
-    count_line (codes "classes ") classes ++ count_line (codes "records ") f.records ++ count_line (codes "live ") f.live
-    ++ count_line (codes "held ") f.held ++ count_line (codes "due today ") f.due ++ count_line (codes "messages ") m.count
-    ++ count_line (codes "octets ") m.octets ++ count_line (codes "next number ") (f.last + 1)
+    count_line (codes "classes ") classes ++ totals_text (totals_of f m) ++ count_line (codes "next number ") (f.last + 1)
 
--- what an archive with these records holds is written, and nothing else; and these are the seals of their messages
-pub record TellsContents {K : Type 0} (written : K → List ℕ → Type 0) (day : Date) (is_noted : Bool) (seals : StoredSeals) (before : K)
+-- WHAT SO MANY VOLUMES HOLD TOGETHER, in lines
+abbrev pub volumes_text : (volumes : ℕ) → Totals → List ℕ
+volumes_text volumes t = count_line (codes "volumes ") volumes ++ totals_text t
+
+-- WHAT TWO STORES HOLD TOGETHER, up to the greatest count
+abbrev pub together : Totals → Totals → Totals
+together x y = record {
+  records = min (x.records + y.records) greatest;
+  live = min (x.live + y.live) greatest;
+  held = min (x.held + y.held) greatest;
+  due = min (x.due + y.due) greatest;
+  messages = min (x.messages + y.messages) greatest;
+  octets = min (x.octets + y.octets) greatest;
+}
+
+-- what an archive with these records holds is written, and nothing else; and these are the totals, and the seals of their messages
+pub record TellsContents {K : Type 0} (written : K → List ℕ → Type 0) (day : Date) (is_noted : Bool) (contents : Contents) (before : K)
     (a : Archive) (es : List RecordEntry) (after : K) : Type 0 where
   pub none : Messages
   pub are_none : AreNone is_noted none
   pub messages : Messages
   pub counted : CountsMessages a none es messages
-  pub seals_are : seals ≡ messages.seals
+  pub seals_are : contents.seals ≡ messages.seals
+  pub totals_are : contents.totals ≡ totals_of (figures_of day es) messages
   pub writes : Writes written before after (contents_text (length a.plan.rows) (figures_of day es) messages)
 
 -- ---- as it is counted

@@ -93,7 +93,7 @@ pub record IsListed (e : RecordEntry) (fields : List (List ℕ)) (letter : Optio
   pub shown : Record
   pub shown_is : IsRecordOf e shown
   pub line : Row
-  pub line_is : IsRowOf e line
+  pub line_is : IsRowOf None e line
   pub parts_are : parts
       ≡ part.listed shown letter ∷ part.subject e.number e.message ∷ part.row (record_fields line ++ fields) ∷ []
 

@@ -109,7 +109,7 @@ message_fields a s e = if has_file a s e then file_fields e.message (octets_of a
 -- a row of the manifest is that of a record: its fields, and behind these those of its message
 pub record IsInManifest (a : Archive) (s : Seals) (e : RecordEntry) (fields : List (List ℕ)) : Type 0 where
   pub line : Row
-  pub line_is : IsRowOf e line
+  pub line_is : IsRowOf None e line
   pub are : fields ≡ record_fields line ++ message_fields a s e
 
 -- what an index has of the message of a record: where it goes to a file, the number of this file, and what its header says

@@ -9,3 +9,4 @@ pub mod Parts
 pub mod Reports
 pub mod Shows
 pub mod Twice
+pub mod VolumeLists

@@ -1,6 +1,6 @@
 -- What a list has of the records that are found.
 use Rattle.std.specs.Prelude.{◌≡◌, ℕ, Bool, true, false, ◌+◌, ◌==◌, if◌then◌else◌, min}
-use Rattle.std.specs.Prelude.{List, [], ◌∷◌, ◌++◌, length, codes, decimal}
+use Rattle.std.specs.Prelude.{List, [], ◌∷◌, ◌++◌, length, codes, decimal, Option}
 use Rattle.std.proofs.Common.{refl, sym, ap, ◌∙◌, subst, arith, ◌≤◌, zero-add}
 use Rattle.std.proofs.lemmas.Bool.{ne_eqb}
 use Rattle.std.proofs.lemmas.List.{append_assoc, append-nil}
@@ -9,7 +9,7 @@ use Rattle.cli_texts.specs.declared.headers.ListedHeaders.TheVariants.{Unasked, 
 use Rattle.cli_texts.specs.declared.records.Row.{Row}
 use Rattle.cli_texts.specs.Headers.{texts_in}
 use Rattle.cli_texts.specs.Lines.{listed, texts_words}
-use Rattle.cli_texts.specs.Rows.{csv_line, listed_fields}
+use Rattle.cli_texts.specs.Rows.{csv_line, listed_fields, number_field}
 use Rattle.command_lines.specs.declared.archives.Format.{Format}
 use Rattle.command_lines.specs.declared.archives.Format.TheVariants.{Lines, Csv, Json, Numbers, Count}
 use Rattle.command_lines.specs.declared.archives.Listing.{Listing}
@@ -22,8 +22,9 @@ use Rattle.cli_readings.specs.declared.list.ListText.{ListText}
 
 -- ---- a record
 
--- a record as it is listed
-pub record IsRowOf (e : RecordEntry) (r : Row) : Type 0 where
+-- a record as it is listed: one of a volume, in an archive of volumes
+pub record IsRowOf (volume : Option ℕ) (e : RecordEntry) (r : Row) : Type 0 where
+  pub volume_is : r.volume ≡ volume
   pub number : r.number ≡ e.number
   pub path : r.path.now ≡ e.path.items
   pub day : r.day ≡ e.day
@@ -48,13 +49,13 @@ abbrev pub IsTextOf : Format → (is_first : Bool) → Row → ListedHeaders →
 IsTextOf Lines is_first r h text = text ≡ listed r ++ texts_words (texts_in h) ++ 10 ∷ []
 IsTextOf Csv is_first r h text = text ≡ csv_line (listed_fields r h)
 IsTextOf Json is_first r h text = (object : List ℕ) × (text ≡ between is_first ++ object)
-IsTextOf Numbers is_first r h text = text ≡ decimal r.number ++ 10 ∷ []
+IsTextOf Numbers is_first r h text = text ≡ number_field r.volume r.number ++ 10 ∷ []
 IsTextOf Count is_first r h text = text ≡ []
 
 -- THE TEXT OF A RECORD in a list
 pub record IsListedAs (a : Archive) (l : Listing) (is_first : Bool) (e : RecordEntry) (text : List ℕ) : Type 0 where
   pub row : Row
-  pub row_is : IsRowOf e row
+  pub row_is : IsRowOf l.volume e row
   pub headers : ListedHeaders
   pub headers_are : IsHeaderOf a l.headers e headers
   pub text_is : IsTextOf l.format is_first row headers text

@@ -173,7 +173,7 @@ fn list_record<D: Destination + Drop>(
 {
     out.list(&record_of(entry), letter)?;
     out.follow(entry)?;
-    out.write_row(&row_of(entry), message)?;
+    out.write_row(&row_of(None, entry), message)?;
     Ok(())
 }
 

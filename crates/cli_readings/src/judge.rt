@@ -4,12 +4,13 @@ ghost use Rattle.std.specs.Prelude.{◌≡◌, ◌∷◌, ◌++◌, [], ℕ, Non
 ghost use Rattle.record_archive.specs.Archive.{Archive};
 ghost use Rattle.record_choice.specs.Reads.{OnlyReads};
 ghost use Rattle.cli_console.specs.Finds.{TakesThese};
-ghost use Rattle.cli_readings.specs.Checks.{AreNone, CountsMessages, CountsUnless, Counts, NotesSeal, TellsContents, contents_text, count_line, every_entry, is_kept, is_live_and_due, is_passed, more_counted, no_figures, none_counted, with_records};
+ghost use Rattle.cli_readings.specs.Checks.{AreNone, CountsMessages, CountsUnless, Counts, NotesSeal, TellsContents, contents_text, count_line, every_entry, is_kept, is_live_and_due, is_passed, more_counted, no_figures, none_counted, together, totals_of, totals_text, volumes_text, with_records};
 ghost use Rattle.cli_console.specs.Sinks.{Writes};
 
 use class_plan::Date;
 use cli_console::{
     Failure, Reader, Sink, StandardOutput, counted, is_by, message_of, read_chosen, today,
+    write_text,
 };
 use cli_history::StoredSeals;
 use cli_texts::Headers;
@@ -193,6 +194,87 @@ fn put_count(text: &mut Shown, name: &'static str, count: u64) -> Result<(), All
     text.end_line()
 }
 
+/// What stores hold.
+#[derive(Clone, Copy)]
+pub struct Totals {
+    records: u64,
+    live: u64,
+    held: u64,
+    due: u64,
+    messages: u64,
+    octets: u64,
+}
+
+impl Totals {
+    /// Nothing.
+    pub fn none() -> Totals
+        ensures { result ≡ record {
+          records = 0;
+          live = 0;
+          held = 0;
+          due = 0;
+          messages = 0;
+          octets = 0;
+        } }
+    {
+        Totals {
+            records: 0,
+            live: 0,
+            held: 0,
+            due: 0,
+            messages: 0,
+            octets: 0,
+        }
+    }
+
+    /// What a store holds with these records and messages.
+    fn of(figures: &Figures, messages: &Messages) -> Totals
+        ensures { result ≡ totals_of figures.now messages.now }
+    {
+        Totals {
+            records: figures.records,
+            live: figures.live,
+            held: figures.held,
+            due: figures.due,
+            messages: messages.count,
+            octets: messages.octets,
+        }
+    }
+
+    /// Adds what another store holds, up to the greatest count.
+    pub fn add(&mut self, other: Totals)
+        ensures { self.new ≡ together self.old other }
+    {
+        self.records = self.records.saturating_add(other.records);
+        self.live = self.live.saturating_add(other.live);
+        self.held = self.held.saturating_add(other.held);
+        self.due = self.due.saturating_add(other.due);
+        self.messages = self.messages.saturating_add(other.messages);
+        self.octets = self.octets.saturating_add(other.octets);
+    }
+}
+
+/// Adds what stores hold, a line for each count.
+fn put_totals(text: &mut Shown, totals: &Totals) -> Result<(), AllocError>
+    ensures { OnOk result (text.new ≡ text.old ++ totals_text totals.now) }
+{
+    put_count(text, "records ", totals.records)?;
+    put_count(text, "live ", totals.live)?;
+    put_count(text, "held ", totals.held)?;
+    put_count(text, "due today ", totals.due)?;
+    put_count(text, "messages ", totals.messages)?;
+    put_count(text, "octets ", totals.octets)?;
+    Ok(())
+}
+
+/// What was read of a whole store.
+#[derive(Drop)]
+pub struct Contents {
+    pub totals: Totals,
+    /// The seals of its messages, where they are noted.
+    pub seals: StoredSeals,
+}
+
 /// What an archive with so many classes holds.
 fn text_of(
     alloc: Global,
@@ -202,27 +284,24 @@ fn text_of(
 ) -> Result<Shown, AllocError>
     ensures { IfOk result (λ text. text ≡ contents_text classes figures.now messages.now) }
 {
+    let next = u64::from(figures.last) + 1;
     let mut text = Shown::new(alloc);
     put_count(&mut text, "classes ", classes)?;
-    put_count(&mut text, "records ", figures.records)?;
-    put_count(&mut text, "live ", figures.live)?;
-    put_count(&mut text, "held ", figures.held)?;
-    put_count(&mut text, "due today ", figures.due)?;
-    put_count(&mut text, "messages ", messages.count)?;
-    put_count(&mut text, "octets ", messages.octets)?;
-    put_count(&mut text, "next number ", u64::from(figures.last) + 1)?;
+    let totals = Totals::of(figures, messages);
+    put_totals(&mut text, &totals)?;
+    put_count(&mut text, "next number ", next)?;
     Ok(text)
 }
 
-/// Reads a whole archive, and writes to a sink what it holds: of its records those that are due by a day too. Answers the seals of
-/// its messages, where they are noted, and the sink.
+/// Reads a whole archive, and writes to a sink what it holds: of its records those that are due by a day too. Answers the totals, the
+/// seals of its messages, where they are noted, and the sink.
 fn contents_to<R: Repository<Fault = StoreFault>, K: Sink + Drop>(
     rt: &HostRuntime,
     archive: &mut R,
     day: Date,
     is_noted: bool,
     sink: K,
-) -> Result<(StoredSeals, K), Failure>
+) -> Result<(Contents, K), Failure>
     ensures reads { OnlyReads R.clean R.stands archive.old archive.new }
     ensures told { IfOk result (λ ended. R.clean archive.new → (a : Archive)
         → R.stands archive.old a
@@ -245,19 +324,39 @@ fn contents_to<R: Repository<Fault = StoreFault>, K: Sink + Drop>(
         &counting.messages,
     )?;
     sink.write(text.as_str().as_bytes())?;
-    let Counting { messages, .. } = counting;
+    let Counting {
+        figures,
+        messages,
+        ..
+    } = counting;
+    let totals = Totals::of(&figures, &messages);
     let Messages { seals, .. } = messages;
-    Ok((seals, sink))
+    Ok((Contents { totals, seals }, sink))
 }
 
-/// Reads a whole store, and writes to standard output what it holds. Answers the seals of its messages where it keeps a
-/// history, and else none.
+/// Reads a whole store, and writes to standard output what it holds. Answers the totals, and the seals of its messages where it keeps
+/// a history.
 pub fn write_contents<S: Alter>(
     rt: &HostRuntime,
     archive: &mut Store<S>,
-) -> Result<StoredSeals, Failure> {
+) -> Result<Contents, Failure> {
     let is_noted = matches!(archive.event_layout(), EventLayout::Present);
     let output = StandardOutput::new(rt);
-    let (seals, _) = contents_to(rt, archive, today(rt)?, is_noted, output)?;
-    Ok(seals)
+    let (contents, _) = contents_to(rt, archive, today(rt)?, is_noted, output)?;
+    Ok(contents)
+}
+
+/// What so many volumes hold together.
+fn text_of_volumes(alloc: Global, volumes: u32, totals: &Totals) -> Result<Shown, AllocError>
+    ensures { IfOk result (λ text. text ≡ volumes_text volumes totals.now) }
+{
+    let mut text = Shown::new(alloc);
+    put_count(&mut text, "volumes ", u64::from(volumes))?;
+    put_totals(&mut text, totals)?;
+    Ok(text)
+}
+
+/// Writes to standard output what so many volumes hold together.
+pub fn write_totals(rt: &HostRuntime, volumes: u32, totals: &Totals) -> Result<(), Failure> {
+    write_text(rt, &text_of_volumes(rt.alloc(), volumes, totals)?)
 }

@@ -6,7 +6,8 @@
 //! - `twice`: what `list --twice` lists; `groups`: records by the seals of their messages;
 //! - `altered`: records whose messages are not the ones that were captured;
 //! - `folder`: the files of an export;
-//! - `sums`: what a copy is compared by.
+//! - `sums`: what a copy is compared by;
+//! - `volume_lists`: what `list` lists of an archive of volumes.
 //!
 //! Each works on a store that is lent to it. What a list, a check, a report and an export hand over, contracts say; that it
 //! comes to a terminal or a file, tests of the program show.
@@ -27,15 +28,17 @@ mod report;
 mod show;
 mod sums;
 mod twice;
+mod volume_lists;
 mod why;
 
 pub use altered::Altered;
 pub use choice::judge_choice;
 pub use export::export_to;
-pub use judge::write_contents;
+pub use judge::{Contents, Totals, write_contents, write_totals};
 pub use list::write_list;
 pub use report::write_report;
 pub use show::{message_of_record, write_message};
 pub use sums::{Judged, Summary, judged_summary, summary_of};
 pub use twice::write_twice;
+pub use volume_lists::VolumeList;
 pub use why::{Captured, read_captured, write_why};

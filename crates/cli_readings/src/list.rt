@@ -13,7 +13,7 @@ use cli_choice::Questions;
 use cli_console::{Failure, Reader, Search, Sink, StandardOutput, message_of};
 use cli_texts::{
     Headers, LIST_HEADER, LIST_HEADER_WITH_TEXTS, ListedHeaders, Row, headers_of, json_object,
-    listed_line, listed_row,
+    listed_line, listed_row, number_text,
 };
 use command_lines::archives::{Choice, Format, Listing};
 use record_choice::Repository;
@@ -24,11 +24,12 @@ use std::alloc::{AllocError, Global};
 /// After how many octets a list is written.
 const PIECE: usize = 65_536;
 
-/// A record as it is listed.
-pub fn row_of(entry: &RecordEntry) -> Row<'_>
-    ensures { IsRowOf entry.now result }
+/// A record as it is listed: one of a volume, in an archive of volumes.
+pub fn row_of(volume: Option<u32>, entry: &RecordEntry) -> Row<'_>
+    ensures { IsRowOf volume entry.now result }
 {
     Row {
+        volume,
         number: entry.number,
         path: entry.path.as_slice(),
         day: entry.day,
@@ -97,15 +98,16 @@ fn row_text(
         Format::Csv => listed_row(alloc, row, headers),
         Format::Json => json_row(alloc, row, headers, is_first),
         Format::Numbers => {
-            let number = row.number;
-            Ok(format!(in alloc; "{number}\n")?.into_bytes())
+            let mut line = number_text(alloc, row.volume, row.number)?.into_bytes();
+            line.push(b'\n')?;
+            Ok(line)
         }
         Format::Count => Ok(Vec::new(alloc)),
     }
 }
 
 /// What a list has before its records.
-fn text_before(listing: Listing) -> &'static str
+pub(crate) fn text_before(listing: Listing) -> &'static str
     ensures { result.now ≡ head_of listing.format listing.headers }
 {
     match listing.format {
@@ -178,7 +180,7 @@ impl<'a, K: Sink + Drop> ListText<'a, K> {
             → IsHeaderOf a self.old.listing.headers entry.now headers.entry
             → PushesRow K.written a is_first self.old entry.now self.new) }
     {
-        let row = row_of(entry);
+        let row = row_of(self.listing.volume, entry);
         let text = row_text(
             self.rt.alloc(),
             &row,
@@ -306,7 +308,7 @@ impl<K: Sink + Drop> Reader for ListText<'_, K> {
 }
 
 /// Adds the records that are found to a list.
-fn add_found<R: Repository<Fault = StoreFault>, K: Sink + Drop>(
+pub(crate) fn add_found<R: Repository<Fault = StoreFault>, K: Sink + Drop>(
     rt: &HostRuntime,
     archive: &mut R,
     search: &mut Search<'_, '_>,

@@ -233,7 +233,7 @@ fn answer_by_rules(
 
 /// Writes a record as it is listed, and the event by which it got its class, if it was refiled.
 fn write_record(rt: &HostRuntime, captured: &Captured) -> Result<(), Failure> {
-    let row = row_of(&captured.entry);
+    let row = row_of(None, &captured.entry);
     write_text(rt, &listed_line(rt.alloc(), &row, ListedHeaders::Unasked)?)?;
     let Some(line) = &captured.refiling else {
         return Ok(());

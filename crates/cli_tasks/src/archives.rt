@@ -45,7 +45,7 @@ pub trait Work: Drop {
 
 /// Where archives are kept, each at a path. Programs have files there; what is done with an archive knows nothing of them,
 /// and is proved beside them.
-pub trait Archives {
+pub trait Archives: Drop {
     /// Where the database of an archive is.
     type Kept: Alter;
 

@@ -36,7 +36,7 @@ impl Work for BeginHistory<'_> {
                 (noted.into_store().into_connection(), Err(failure))
             }
             Opened::Plain(archive) => {
-                let (archive, begun) = begin_history(rt, archive, &self.0);
+                let (archive, begun) = begin_history(rt, archive, &self.0, b"");
                 (archive.into_connection(), begun)
             }
         }

@@ -233,6 +233,7 @@ impl Work for DeliverOne<'_> {
         let ledger = match open_ledger(rt, archive, &author, filing, Purpose::Capturing) {
             Ok(ledger) => ledger,
             Err((archive, failure)) => {
+                let failure = failure.in_volume(rt.alloc(), author.volume());
                 return (archive.into_connection(), Ok(Err(failure.kept())));
             }
         };

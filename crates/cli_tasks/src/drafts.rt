@@ -70,7 +70,7 @@ pub fn settle<A: Archives, T: Drop>(
 }
 
 /// Begins the history of a draft.
-fn begin_history<A: Archives>(
+pub fn begin_history<A: Archives>(
     rt: &HostRuntime,
     archives: &A,
     draft: &str,

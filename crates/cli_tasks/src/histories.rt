@@ -3,7 +3,7 @@
 use crate::archives::Work;
 use cli_console::{Failure, Status, write_text};
 use cli_history::{judge_history, open_history, open_noted, write_certificates, write_history};
-use cli_readings::write_contents;
+use cli_readings::{Contents, write_contents};
 use command_lines::archives::{HistoryAsked, TypedNumbers};
 use record_noted::{NotedStore, Opened};
 use record_store::Store;
@@ -70,7 +70,7 @@ fn open_for<S: Alter>(
 }
 
 /// Says that a store has no history.
-fn say_none(rt: &HostRuntime) -> Result<(), Failure> {
+pub(crate) fn say_none(rt: &HostRuntime) -> Result<(), Failure> {
     let mut line = Shown::new(rt.alloc());
     line.words("no history")?;
     line.end_line()?;
@@ -93,14 +93,14 @@ impl Work for CheckAll<'_> {
         archive: Store<S>,
     ) -> (Connection<S>, Result<(), Failure>) {
         let mut archive = archive;
-        let stored = match write_contents(rt, &mut archive) {
-            Ok(stored) => stored,
+        let Contents { seals, .. } = match write_contents(rt, &mut archive) {
+            Ok(contents) => contents,
             Err(failure) => return (archive.into_connection(), Err(failure)),
         };
         match open_for(rt, archive, self.head) {
             Ok(Opened::Noted(noted)) => {
                 let mut noted = noted;
-                let done = judge_history(rt, &mut noted, self.head, stored);
+                let done = judge_history(rt, &mut noted, None, self.head, seals);
                 (noted.into_store().into_connection(), done)
             }
             Ok(Opened::Plain(archive)) => {

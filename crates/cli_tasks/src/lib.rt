@@ -6,6 +6,8 @@
 //!   begun and read;
 //! - `titles`: those of classes;
 //! - `drafts`: new archives, which get their places once they are found whole;
+//! - `volumes`: what is done over an archive of volumes; `volume_row`: these, one after another; `volume_lists` and `volume_checks`: two
+//!   subcommands over them; `rolling`: archives of volumes, and volumes, that begin;
 //! - `copy`: a new archive with all that another one has;
 //! - `reports`: why something was not done, for a person and as a status;
 //! - `program`: the command line, and what it asks for.
@@ -25,8 +27,13 @@ mod histories;
 mod imports;
 mod program;
 mod reports;
+mod rolling;
 mod subcommands;
 mod titles;
+mod volume_checks;
+mod volume_lists;
+mod volume_row;
+mod volumes;
 
 pub use archives::{Archives, Closed, Work};
 pub use program::serve;

@@ -11,7 +11,9 @@ use crate::copy::{Paths, copy_to};
 use crate::drafts::make;
 use crate::histories::{CheckAll, ReadHistory};
 use crate::imports::import;
+use crate::rolling::{Capturing, create_volumes, place_for_capture};
 use crate::titles::give_titles;
+use crate::volumes::{execute_over, is_over_volumes};
 use class_plan::Date;
 use cli_changes::{
     FilingRules, Intake, Timing, check_rules, day_of_disposal, logged, read_message, read_plan,
@@ -33,7 +35,7 @@ use sqlite::{Alter, Connection};
 
 /// Writes the plan.
 #[derive(Drop)]
-struct WritePlan;
+pub(crate) struct WritePlan;
 
 impl Work for WritePlan {
     type Answer = ();
@@ -50,7 +52,7 @@ impl Work for WritePlan {
 
 /// What is read of a whole archive.
 #[derive(Drop)]
-enum Survey {
+pub(crate) enum Survey {
     /// The cases, perhaps as JSON.
     Holds { is_json: bool },
     /// The records whose messages were captured twice.
@@ -164,7 +166,7 @@ impl Work for ReadRecord<'_> {
 
 /// Judges rules by the plan of a store.
 #[derive(Drop)]
-struct CheckRules<'a>(RulesChecked<'a>);
+pub(crate) struct CheckRules<'a>(pub RulesChecked<'a>);
 
 impl Work for CheckRules<'_> {
     type Answer = ();
@@ -180,7 +182,8 @@ impl Work for CheckRules<'_> {
 }
 
 /// Captures the message on standard input. What looks like no message is refused, unless it is to be captured as it is. A store
-/// that cannot be had, or that may not keep the message, is a reason to try again, so that a mail server keeps it.
+/// that cannot be had, or that may not keep the message, is a reason to try again, so that a mail server keeps it. In an archive of
+/// volumes it goes into the last one, or into a next one where that is over its size.
 fn deliver<'a, A: Archives>(
     rt: &HostRuntime,
     archives: &A,
@@ -198,17 +201,21 @@ fn deliver<'a, A: Archives>(
     let undecoded = undecoded_in(rt.alloc(), &message);
     let rules = FilingRules::read_for_delivery(rt, filing)?;
     rules.tell_unused(rt);
+    let place = place_for_capture(rt, archives, store, told, timing)
+        .map_err(|failure| failure.kept())?;
+    let Capturing { path, volume } = place;
+    let path = path.as_str();
     let work = DeliverOne {
-        author,
+        author: author.in_volume(volume),
         rules,
         timing,
         message,
     };
     let (done, closed) = archives
-        .lend(rt, store, work)
+        .lend(rt, path, work)
         .map_err(|failure| failure.kept())?;
-    let delivery = settled(rt, store, done, closed)??;
-    report_delivery(rt, &delivery, filing.limit, undecoded.as_slice())
+    let delivery = settled(rt, path, done, closed)??;
+    report_delivery(rt, volume, &delivery, filing.limit, undecoded.as_slice())
 }
 
 /// Captures the new messages of a Maildir.
@@ -364,17 +371,22 @@ fn dispose<A: Archives>(
     lend(rt, archives, store, ChangeBy { author, change })
 }
 
-/// Makes a store with the plan of a file, and begins its history.
+/// Makes a store with the plan of a file, in one file or in volumes of a size, and begins its history.
 fn create<A: Archives>(
     rt: &HostRuntime,
     archives: &A,
     store: &str,
     plan: &str,
+    size: Option<u64>,
     told: &Attribution<'_>,
 ) -> Result<(), Failure> {
     let author = Author::of(rt, told)?;
     author.named(rt)?;
-    make(rt, archives, store, read_plan(rt, plan)?, author)
+    let plan = read_plan(rt, plan)?;
+    match size {
+        Some(size) => create_volumes(rt, archives, store, size, plan, author),
+        None => make(rt, archives, store, plan, author),
+    }
 }
 
 /// Changes an archive.
@@ -446,8 +458,11 @@ pub fn execute<A: Archives>(
         command,
     } = line;
     let told = &attribution;
+    if is_over_volumes(rt, store, &command)? {
+        return execute_over(rt, archives, store, command);
+    }
     match command {
-        Command::Create { plan } => create(rt, archives, store, plan, told),
+        Command::Create { plan, size } => create(rt, archives, store, plan, size, told),
         Command::WritePlan => lend(rt, archives, store, WritePlan),
         Command::ReplacePlan { plan, is_agreed } => {
             replace_plan(rt, archives, store, plan, is_agreed, told)

@@ -1,8 +1,9 @@
 -- Examples of the definitions.
 use Rattle.std.proofs.Common.{◌≡◌, ◌∷◌, ◌++◌, [], codes, refl, true, false, Some, None}
+use Rattle.std.specs.Fmt.{digits}
 use Rattle.csv.specs.declared.writer.QuoteStyle.TheVariants.{Always, Necessary}
 use Rattle.cli_texts.specs.Lines.{title_words}
-use Rattle.cli_texts.specs.Rows.{captured_fields, cell, due_field, header_fields, is_formula, spaced, style_for, yes_or_no}
+use Rattle.cli_texts.specs.Rows.{captured_fields, cell, due_field, header_fields, is_formula, number_field, spaced, style_for, yes_or_no}
 
 no_title : title_words None ≡ []
 no_title = refl
@@ -39,6 +40,14 @@ never = refl
 
 nothing_captured : captured_fields None ≡ header_fields None
 nothing_captured = refl
+
+alone : number_field None 17 ≡ codes "17"
+unfolding digits
+alone = refl
+
+in_a_volume : number_field (Some 3) 17 ≡ codes "3/17"
+unfolding digits
+in_a_volume = refl
 
 gone : yes_or_no true ≡ codes "yes"
 gone = refl

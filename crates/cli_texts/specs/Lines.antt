@@ -18,17 +18,23 @@ abbrev pub due_words : Option Date → List ℕ
 due_words None = words (codes "never")
 due_words (Some date) = words (date_text date)
 
+-- THE NUMBER OF A RECORD: its own, as 17, after that of its volume where it has one, as 3/17
+abbrev pub record_number : (volume : Option ℕ) → ℕ → List ℕ
+record_number None n = number n
+record_number (Some v) n = number v ++ words (codes "/") ++ number n
+
 -- A RECORD OF A CAPTURE, as `record 1 class finance due 2030-11-14`
-unfoldable pub captured : Line → List ℕ
-captured l =
-    words (codes "record ") ++ number l.number ++ words (codes " class ") ++ name l.path.items ++ words (codes " due ") ++ due_words l.due
+unfoldable pub captured : (volume : Option ℕ) → Line → List ℕ
+captured volume l =
+    words (codes "record ") ++ record_number volume l.number ++ words (codes " class ") ++ name l.path.items ++ words (codes " due ")
+    ++ due_words l.due
 
 -- ---- a listed record
 
 -- its number, its class and the day of its capture
 unfoldable pub listed_front : Row → List ℕ
 listed_front r =
-    words (codes "record ") ++ number r.number ++ words (codes " class ") ++ name r.path.now ++ words (codes " day ")
+    words (codes "record ") ++ record_number r.volume r.number ++ words (codes " class ") ++ name r.path.now ++ words (codes " day ")
     ++ words (date_text r.day)
 
 -- that it is destroyed, or when it is due

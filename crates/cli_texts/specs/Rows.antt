@@ -84,10 +84,16 @@ spaced (n ∷ ns) = shown_octets n ++ flat_map (λ m. 32 ∷ shown_octets m) ns
 abbrev pub yes_or_no : Bool → List ℕ
 yes_or_no is_so = if is_so then codes "yes" else codes "no"
 
+-- THE NUMBER OF A RECORD: its own, as 17, after that of its volume where it has one, as 3/17
+abbrev pub number_field : (volume : Option ℕ) → ℕ → List ℕ
+number_field None n = decimal n
+number_field (Some v) n = decimal v ++ (codes "/" ++ decimal n)
+
 -- its number, its class, the day of its capture, its due date, its holds, and whether it is destroyed
 abbrev pub record_fields : Row → List (List ℕ)
 record_fields r =
-    decimal r.number ∷ r.path.now ∷ date_text r.day ∷ due_of r ∷ spaced (map (λ h. h.items) r.holds.now) ∷ yes_or_no r.destroyed ∷ []
+    number_field r.volume r.number ∷ r.path.now ∷ date_text r.day ∷ due_of r ∷ spaced (map (λ h. h.items) r.holds.now)
+    ∷ yes_or_no r.destroyed ∷ []
 
 -- the sender, the subject and the date of its message's header, whole; empty where they are not known
 abbrev pub header_fields : Option Headers → List (List ℕ)

@@ -7,6 +7,7 @@ mod certificates;
 mod escapes;
 mod events;
 mod headers;
+mod numbers;
 mod plans;
 mod records;
 mod rows;
@@ -22,6 +23,7 @@ pub use events::{
     Field, ListedEvent, Named, ToldCertificate, event_object, history_line, told_certificate,
 };
 pub use headers::{Headers, ListedHeaders, headers_of, undecoded_lines};
+pub use numbers::{number_text, put_number};
 pub use plans::{due_by, plan_of_text, plan_text};
 pub use records::{Row, captured_line, captured_words, json_object, listed_line};
 pub use rows::{

@@ -6,6 +6,7 @@ ghost use Rattle.cli_texts.specs.Lines.{due_words, captured, listed_front, liste
 
 use crate::escapes::shown;
 use crate::headers::{Headers, ListedHeaders};
+use crate::numbers::put_number;
 use class_plan::Date;
 use record_archive::Line;
 use serde_json::{Map, Value, json};
@@ -15,6 +16,8 @@ use tool_texts::{Shown, put};
 /// A record as it is listed.
 #[derive(Clone, Copy)]
 pub struct Row<'a> {
+    /// The number of its volume, in an archive of volumes.
+    pub volume: Option<u32>,
     pub number: u32,
     pub path: &'a [u8],
     /// The day of its capture.
@@ -36,22 +39,25 @@ pub(crate) fn put_due(text: &mut Shown, due: Option<Date>) -> Result<(), AllocEr
     }
 }
 
-/// A record of a capture in words, as a session answers it: `record 1 class finance due 2030-11-14`.
+/// A record of a capture in words, as a session answers it: `record 1 class finance due 2030-11-14`; in a volume
+/// `record 3/1 class finance due 2030-11-14`.
 #[tactic(auto, unfolding(crate::specs::Lines::captured))]
-pub fn captured_words(alloc: Global, line: &Line) -> Result<Shown, AllocError>
-    ensures { IfOk result (λ t. t ≡ captured line.now) }
+pub fn captured_words(alloc: Global, volume: Option<u32>, line: &Line) -> Result<Shown, AllocError>
+    ensures { IfOk result (λ t. t ≡ captured volume line.now) }
 {
     let mut text = Shown::new(alloc);
-    put!(text; "record " value(&line.number) " class " named(line.path.as_slice()) " due ")?;
+    text.words("record ")?;
+    put_number(&mut text, volume, line.number)?;
+    put!(text; " class " named(line.path.as_slice()) " due ")?;
     put_due(&mut text, line.due)?;
     Ok(text)
 }
 
 /// The line of a record of a capture: its words, and the end of the line.
-pub fn captured_line(alloc: Global, line: &Line) -> Result<Shown, AllocError>
-    ensures { IfOk result (λ t. t ≡ captured line.now ++ 10 ∷ []) }
+pub fn captured_line(alloc: Global, volume: Option<u32>, line: &Line) -> Result<Shown, AllocError>
+    ensures { IfOk result (λ t. t ≡ captured volume line.now ++ 10 ∷ []) }
 {
-    let mut text = captured_words(alloc, line)?;
+    let mut text = captured_words(alloc, volume, line)?;
     text.end_line()?;
     Ok(text)
 }
@@ -85,7 +91,9 @@ fn put_texts(line: &mut Shown, texts: Option<&Headers>) -> Result<(), AllocError
 fn put_front(line: &mut Shown, row: &Row<'_>) -> Result<(), AllocError>
     ensures { OnOk result (line.new ≡ line.old ++ listed_front row.now) }
 {
-    put!(line; "record " value(&row.number) " class " named(row.path) " day " value(&row.day))
+    line.words("record ")?;
+    put_number(line, row.volume, row.number)?;
+    put!(line; " class " named(row.path) " day " value(&row.day))
 }
 
 /// Adds when a record is due, or that it is destroyed.
@@ -121,9 +129,10 @@ fn record_text(alloc: Global, row: &Row<'_>) -> Result<Shown, AllocError>
     Ok(line)
 }
 
-/// The line of a listed record: `record 1 class finance day 2023-11-14 due 2030-11-14`, then ` hold NAME` for each hold. One
-/// that is destroyed has ` destroyed` in place of its due date. What is listed of its message's header comes last, as
-/// ` sender "Ann" subject "a bill" date ""`: each text in quotation marks, and cut to 80 columns.
+/// The line of a listed record: `record 1 class finance day 2023-11-14 due 2030-11-14`, then ` hold NAME` for each hold. In a
+/// volume the number is as `3/1`. One that is destroyed has ` destroyed` in place of its due date. What is listed of its
+/// message's header comes last, as ` sender "Ann" subject "a bill" date ""`: each text in quotation marks, and cut to 80
+/// columns.
 pub fn listed_line(
     alloc: Global,
     row: &Row<'_>,
@@ -191,6 +200,19 @@ fn add_headers(
     add_text(alloc, object, "date", headers.map(|it| it.date.as_str()))
 }
 
+/// Adds the number of a volume to a JSON object, where there is one.
+fn add_volume(
+    alloc: Global,
+    object: &mut Map<String, Value>,
+    volume: Option<u32>,
+) -> Result<(), AllocError> {
+    if let Some(volume) = volume {
+        let number = json!(in alloc; volume)?;
+        object.insert(String::from_str(alloc, "volume")?, number)?;
+    }
+    Ok(())
+}
+
 /// A JSON text in ASCII: each other character, which can only stand in a string, by its code units of UTF-16 (RFC 8259,
 /// section 7). So a terminal takes none of it for a command.
 pub(crate) fn in_ascii(alloc: Global, json: &str) -> Result<String, AllocError> {
@@ -208,8 +230,9 @@ pub(crate) fn in_ascii(alloc: Global, json: &str) -> Result<String, AllocError> 
     Ok(ascii)
 }
 
-/// A record as a JSON object, in ASCII. Where what its message's header says is asked for, the object has it as `sender`,
-/// `subject` and `date`: as texts, or null where the message is destroyed.
+/// A record as a JSON object, in ASCII. In a volume it has the number of the volume as `volume`. Where what its message's
+/// header says is asked for, the object has it as `sender`, `subject` and `date`: as texts, or null where the message is
+/// destroyed.
 pub fn json_object(
     alloc: Global,
     row: &Row<'_>,
@@ -229,6 +252,7 @@ pub fn json_object(
         "destroyed": row.destroyed
     })?;
     if let Value::Object(members) = &mut object {
+        add_volume(alloc, members, row.volume)?;
         if !matches!(&headers, ListedHeaders::Unasked) {
             add_headers(alloc, members, headers.texts())?;
         }

@@ -6,12 +6,13 @@ ghost use Rattle.csv.specs.Records.{fields_of};
 ghost use Rattle.csv.specs.Writing.{default_writer, row_text, with_style};
 ghost use Rattle.csv.specs.declared.writer.QuoteStyle.TheVariants.{NonNumeric};
 ghost use Rattle.jiff.specs.Words.{date_text};
-ghost use Rattle.cli_texts.specs.Rows.{begins_with_control as begins_with_control_in, begins_with_sign as begins_with_sign_in, captured_fields, cell, csv_line, due_field, due_of, has_semicolon as has_semicolon_in, header_fields, headers_of as headers_of_message, is_formula as is_formula_in, listed_fields, message_fields, record_fields, shown_octets, spaced, style_for, last_fields, yes_or_no as yes_or_no_for};
+ghost use Rattle.cli_texts.specs.Rows.{begins_with_control as begins_with_control_in, begins_with_sign as begins_with_sign_in, captured_fields, cell, csv_line, due_field, due_of, has_semicolon as has_semicolon_in, header_fields, headers_of as headers_of_message, is_formula as is_formula_in, listed_fields, message_fields, number_field, record_fields, shown_octets, spaced, style_for, last_fields, yes_or_no as yes_or_no_for};
 ghost use Rattle.cli_texts.specs.Headers.{texts_in};
 ghost use Rattle.cli_texts.specs.Words.{words};
 
 use crate::escapes::shown;
 use crate::headers::{Headers, ListedHeaders};
+use crate::numbers::number_text;
 use crate::records::Row;
 use class_plan::Date;
 use csv::{ByteRecord, QuoteStyle, WriterBuilder};
@@ -250,14 +251,14 @@ fn yes_or_no(alloc: Global, is_so: bool) -> Result<String, AllocError>
 /// The cells that each row of a record begins with, but that of its class: its number, the day of its capture, its due date, its
 /// holds, and whether it is destroyed.
 fn first_cells(alloc: Global, row: &Row<'_>) -> Result<[String; 5], AllocError>
-    ensures { IfOk result (λ c. map string_bytes c ≡ decimal row.now.number
+    ensures { IfOk result (λ c. map string_bytes c ≡ number_field row.now.volume row.now.number
         ∷ date_text row.now.day ∷ due_of row.now
         ∷ spaced (map (λ h. h.items) row.now.holds.now)
         ∷ yes_or_no_for row.now.destroyed ∷ []) }
 {
-    let (number, day) = (row.number, row.day);
+    let day = row.day;
     Ok([
-        format!(in alloc; "{number}")?,
+        number_text(alloc, row.volume, row.number)?,
         format!(in alloc; "{day}")?,
         listed_due(alloc, row)?,
         hold_names(alloc, row.holds)?,

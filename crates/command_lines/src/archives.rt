@@ -13,6 +13,7 @@ mod imports;
 mod question_words;
 mod questions;
 mod refilings;
+mod sizes;
 mod words;
 
 use crate::reading::{NoCommand, has_flag, read_words, required, value_of};
@@ -33,6 +34,7 @@ use jiff::civil::Date;
 use questions::{choice_asked, conditions_asked, day_asked, numbers_asked, record_asked};
 pub use refilings::Refiling;
 use refilings::refile_asked;
+use sizes::size_asked;
 use std::alloc::{AllocError, Global};
 
 /// What `mailfile-store` is asked to do, with the store in the file at a path.
@@ -47,9 +49,11 @@ pub struct CommandLine<'a> {
 /// A subcommand with its values.
 #[derive(Drop)]
 pub enum Command<'a> {
-    /// Makes a new store with the plan in the file at a path.
+    /// Makes a new store with the plan in the file at a path: in one file, or in a folder of volumes.
     Create {
         plan: &'a str,
+        /// The size of its volumes, in octets; none for a store in one file.
+        size: Option<u64>,
     },
     /// Writes the plan as text.
     WritePlan,
@@ -205,6 +209,8 @@ pub struct Listing {
     pub format: Format,
     /// Whether it has the sender, the subject and the date of the message's header.
     pub headers: bool,
+    /// The number of the volume that the records are in, in an archive of volumes; none on a command line.
+    pub volume: Option<u32>,
 }
 
 /// The order of an export's index.
@@ -289,7 +295,11 @@ fn listing_asked(alloc: Global, asked: &ArgMatches<'_>) -> Result<Listing, NoCom
         let reason = "--headers cannot be used with --numbers or --count";
         return Err(NoCommand::Wrong(String::from_str(alloc, reason)?));
     }
-    Ok(Listing { format, headers })
+    Ok(Listing {
+        format,
+        headers,
+        volume: None,
+    })
 }
 
 /// The records that are listed: those of a choice, or those whose messages stand twice, beside which nothing is chosen.
@@ -425,6 +435,7 @@ fn change_asked<'a>(
     Ok(Some(match name {
         "create" => Command::Create {
             plan: required(asked, words::PLAN_FILE)?,
+            size: size_asked(alloc, asked)?,
         },
         "plan" => plan_asked(alloc, asked)?,
         "deliver" => Command::Deliver {

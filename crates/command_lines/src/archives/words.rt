@@ -28,11 +28,21 @@ pub const PLAN_FILE: Word = Word {
     ..OPTION
 };
 
+/// The size of the volumes of a new store.
+pub const ROLL: Word = Word {
+    name: "roll",
+    value: "SIZE",
+    help: Some(
+        "Makes a folder of volumes instead, each a file of about this size, as 32M; the next one begins where the last is over it",
+    ),
+    ..OPTION
+};
+
 const CREATE: Subcommand = Subcommand {
     name: "create",
     about: "Makes a new store with a plan, in a file that only its owner may read and write",
     example: "Example: mailfile-store create --store records.db --plan plan.toml",
-    words: &[STORE, PLAN_FILE, BY, REASON],
+    words: &[STORE, PLAN_FILE, ROLL, BY, REASON],
     has_shared: false,
 };
 

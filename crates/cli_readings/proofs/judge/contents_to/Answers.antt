@@ -1,7 +1,7 @@
 use Rattle.std.proofs.Common.{◌∙◌, ap, length, refl, subst}
 use Rattle.class_plan.specs.Plans.{Listing}
 use Rattle.record_archive.specs.Archive.{Archive}
-use Rattle.cli_readings.specs.Checks.{all_figures, contents_text, with_records}
+use Rattle.cli_readings.specs.Checks.{all_figures, contents_text, totals_of, with_records}
 use Rattle.cli_console.specs.Sinks.{Writes}
 use Rattle.cli_readings.proofs.judge.contents_to.Goals as goal
 
@@ -24,6 +24,7 @@ returns-clause-told g c = λ clean (a : Archive) s.
         messages = messages;
         counted = took.2.messages;
         seals_are = refl;
+        totals_are = c.of-totals.ensures ∙ ap (λ f. totals_of f messages) figures;
         writes = subst (λ t. Writes g.K.Sink.written c.args.sink c.write.new.self t) text c.in_ok-write.ensures;
       },
     )

@@ -1,7 +1,7 @@
 use Rattle.std.proofs.Common.{ℕ, subst}
 use Rattle.std.proofs.lemmas.Result.{IfOk-weaker}
 use Rattle.cli_changes.specs.Moments.{IsMomentNow}
-use Rattle.cli_changes.proofs.deliver.moment_at.Goals as goal
+use Rattle.cli_changes.proofs.moments.moment_in.Goals as goal
 
 pub returns-clause-moment : goal.returns-clause-moment
 returns-clause-moment g c =

@@ -1,0 +1,460 @@
+//! Archives of volumes that begin, and volumes that do.
+
+use crate::archives::{Archives, Work, lend, not_made};
+use crate::drafts::{begin, begin_history, read_back};
+use class_plan::Plan;
+use cli_changes::{Timing, moment_in};
+use cli_console::{Failure, Status};
+use cli_history::{
+    Author, Lines, Titles, are_reasons_required, begin_history as history_begun, note_reasons,
+    note_titles, notes_after, open_history, open_noted,
+};
+use cli_volumes::{
+    FolderLock, NoVolumes, Seen, VolumeFolder, clear_draft, create_folder, has_volumes,
+    lock_folder, note_begun, octets_of, path_of, place_volume, remove_folder, row_in,
+    volume_for_capture,
+};
+use command_lines::archives::{Attribution, Reasons};
+use record_noted::{NotedStore, Opened};
+use record_store::Store;
+use sqlite::{Alter, Connection};
+use std::alloc::AllocError;
+
+/// The failure of volumes that cannot be had.
+pub fn no_volumes(rt: &HostRuntime, folder: &str, cause: NoVolumes) -> Failure {
+    let status = match &cause {
+        NoVolumes::NoArchive
+        | NoVolumes::Unfinished
+        | NoVolumes::Missing(_)
+        | NoVolumes::System(_) => Status::NoInput,
+        NoVolumes::Damaged => Status::BadData,
+        NoVolumes::There => Status::CannotMake,
+        NoVolumes::Busy => Status::TryAgain,
+        NoVolumes::NoMemory => return Failure::NoMemory,
+    };
+    Failure::at(rt.alloc(), status, folder, &cause)
+}
+
+/// Reads the plan of an archive.
+#[derive(Drop)]
+struct ReadPlan;
+
+impl Work for ReadPlan {
+    type Answer = Plan;
+
+    fn work<S: Alter>(
+        self,
+        _rt: &HostRuntime,
+        archive: Store<S>,
+    ) -> (Connection<S>, Result<Plan, Failure>) {
+        let plan = archive.plan().copy().map_err(Failure::from);
+        (archive.into_connection(), plan)
+    }
+}
+
+/// The plan of the archive at a path.
+pub fn plan_at<A: Archives>(rt: &HostRuntime, archives: &A, path: &str) -> Result<Plan, Failure> {
+    lend(rt, archives, path, ReadPlan)
+}
+
+/// How a history ends.
+#[derive(Drop)]
+struct Ending {
+    /// The mark of its last event.
+    mark: Vec<u8>,
+    /// Whether reasons are required.
+    requires_reasons: bool,
+}
+
+/// What the history of a volume takes over from that of the one before it.
+#[derive(Drop)]
+struct InheritedHistory {
+    ending: Ending,
+    /// What classes are called.
+    titles: Titles,
+}
+
+/// What a volume takes over from the one before it.
+#[derive(Drop)]
+struct Inherited {
+    plan: Plan,
+    /// None where the one before has no history.
+    history: Option<InheritedHistory>,
+}
+
+/// How a history ends.
+fn ending_in<S: Alter>(rt: &HostRuntime, noted: &mut NotedStore<S>) -> Result<Ending, Failure> {
+    let requires_reasons = are_reasons_required(rt, noted)?;
+    Ok(Ending {
+        mark: Vec::from_slice(rt.alloc(), noted.mark())?,
+        requires_reasons,
+    })
+}
+
+/// How the history of a store ends, where it has one. The store is handed back.
+fn ending_of<S: Alter>(
+    rt: &HostRuntime,
+    archive: Store<S>,
+) -> (Store<S>, Result<Option<Ending>, Failure>) {
+    match open_history(rt, archive) {
+        Ok(Opened::Noted(noted)) => {
+            let mut noted = noted;
+            let ending = ending_in(rt, &mut noted);
+            (noted.into_store(), ending.map(Some))
+        }
+        Ok(Opened::Plain(archive)) => (archive, Ok(None)),
+        Err((archive, failure)) => (archive, Err(failure)),
+    }
+}
+
+/// What is taken over from a store whose history ends so, if it has one. `TryAgain` where the clock is wrong, by its days too.
+fn inherited<S: Alter>(
+    rt: &HostRuntime,
+    archive: &mut Store<S>,
+    ending: Option<Ending>,
+    timing: Timing,
+) -> Result<Inherited, Failure> {
+    moment_in(rt, archive, timing)?;
+    Ok(Inherited {
+        plan: archive.plan().copy()?,
+        history: match ending {
+            Some(ending) => Some(InheritedHistory {
+                ending,
+                titles: Titles::of(rt, archive)?,
+            }),
+            None => None,
+        },
+    })
+}
+
+/// Reads what the next volume takes over from the last one, where a message may be captured now. In the next volume there is no
+/// record yet by whose day the clock could be judged.
+#[derive(Drop)]
+struct ReadLast {
+    timing: Timing,
+}
+
+impl Work for ReadLast {
+    type Answer = Inherited;
+
+    fn work<S: Alter>(
+        self,
+        rt: &HostRuntime,
+        archive: Store<S>,
+    ) -> (Connection<S>, Result<Inherited, Failure>) {
+        let (archive, ending) = ending_of(rt, archive);
+        let mut archive = archive;
+        let read = ending.and_then(|ending| inherited(rt, &mut archive, ending, self.timing));
+        (archive.into_connection(), read)
+    }
+}
+
+/// Has a history tell what classes are called. The store is handed back.
+fn take_titles<S: Alter>(
+    rt: &HostRuntime,
+    archive: Store<S>,
+    titles: &Titles,
+    author: &Author<'_>,
+) -> (Store<S>, Result<(), Failure>) {
+    let listed = match titles.listed() {
+        Ok(listed) => listed,
+        Err(AllocError) => return (archive, Err(Failure::NoMemory)),
+    };
+    if listed.is_empty() {
+        return (archive, Ok(()));
+    }
+    match open_noted(rt, archive) {
+        Ok(noted) => {
+            let (archive, noted) = note_titles(rt, noted, author, listed.as_slice());
+            (archive, noted.map(|_| ()))
+        }
+        Err((archive, failure)) => (archive, Err(failure)),
+    }
+}
+
+/// Has a history require reasons. The store is handed back.
+fn take_reasons<S: Alter>(
+    rt: &HostRuntime,
+    archive: Store<S>,
+    author: &Author<'_>,
+) -> (Store<S>, Result<(), Failure>) {
+    match open_noted(rt, archive) {
+        Ok(noted) => {
+            let (archive, noted) = note_reasons(rt, noted, author, Reasons::Required);
+            (archive, noted.map(|_| ()))
+        }
+        Err((archive, failure)) => (archive, Err(failure)),
+    }
+}
+
+/// Has a history tell what it takes over, behind its first event. The store is handed back.
+fn take_over<S: Alter>(
+    rt: &HostRuntime,
+    archive: Store<S>,
+    before: &InheritedHistory,
+    author: &Author<'_>,
+) -> (Store<S>, Result<(), Failure>) {
+    let (archive, told) = take_titles(rt, archive, &before.titles, author);
+    match told {
+        Ok(()) if before.ending.requires_reasons => take_reasons(rt, archive, author),
+        other => (archive, other),
+    }
+}
+
+/// Begins the history of a volume after that of the one before it.
+#[derive(Drop)]
+struct BeginAfter<'b, 'a> {
+    before: &'b InheritedHistory,
+    author: Author<'a>,
+}
+
+impl Work for BeginAfter<'_, '_> {
+    type Answer = ();
+
+    fn work<S: Alter>(
+        self,
+        rt: &HostRuntime,
+        archive: Store<S>,
+    ) -> (Connection<S>, Result<(), Failure>) {
+        let BeginAfter { before, author } = self;
+        let notes = match notes_after(rt.alloc(), before.ending.mark.as_slice()) {
+            Ok(notes) => notes,
+            Err(AllocError) => return (archive.into_connection(), Err(Failure::NoMemory)),
+        };
+        let (archive, begun) = history_begun(rt, archive, &author, notes.as_slice());
+        match begun {
+            Ok(_) => {
+                let (archive, told) = take_over(rt, archive, before, &author);
+                (archive.into_connection(), told)
+            }
+            Err(failure) => (archive.into_connection(), Err(failure)),
+        }
+    }
+}
+
+/// Begins the history of a draft after that of the volume before it, where that has one.
+fn go_on_from<A: Archives>(
+    rt: &HostRuntime,
+    archives: &A,
+    draft: &str,
+    before: &Inherited,
+    author: Author<'_>,
+) -> Result<(), Failure> {
+    let Some(history) = &before.history else {
+        return Ok(());
+    };
+    let work = BeginAfter {
+        before: history,
+        author,
+    };
+    let (begun, _closed) = archives.lend(rt, draft, work).map_err(not_made)?;
+    begun
+}
+
+/// Reads the whole history of an archive, where it has one. `BadData` where something stands against an event.
+#[derive(Drop)]
+struct ReadHistory;
+
+impl Work for ReadHistory {
+    type Answer = ();
+
+    fn work<S: Alter>(
+        self,
+        rt: &HostRuntime,
+        archive: Store<S>,
+    ) -> (Connection<S>, Result<(), Failure>) {
+        match open_history(rt, archive) {
+            Ok(Opened::Noted(noted)) => {
+                let mut noted = noted;
+                let read = Lines::of(rt, &mut noted).map(|_| ());
+                (noted.into_store().into_connection(), read)
+            }
+            Ok(Opened::Plain(archive)) => (archive.into_connection(), Ok(())),
+            Err((archive, failure)) => (archive.into_connection(), Err(failure)),
+        }
+    }
+}
+
+/// Gives the draft of a volume its name, once it is read back as a whole, with its history. That begins with its plan, and goes on
+/// from the volume before, where there is one.
+fn finish_volume<A: Archives>(
+    rt: &HostRuntime,
+    archives: &A,
+    folder: &str,
+    draft: &str,
+    path: &str,
+    before: Option<&Inherited>,
+    author: Author<'_>,
+) -> Result<(), Failure> {
+    match before {
+        Some(before) => go_on_from(rt, archives, draft, before, author)?,
+        None => begin_history(rt, archives, draft, author)?,
+    }
+    let (read, _closed) = archives.lend(rt, draft, ReadHistory).map_err(not_made)?;
+    read?;
+    read_back(rt, archives, draft)?;
+    place_volume(rt, folder, draft, path).map_err(|cause| no_volumes(rt, folder, cause))
+}
+
+/// Makes a volume with a plan, in which nothing is captured. The caller has the lock of the folder. Where that fails, nothing of
+/// it is left.
+fn make_volume<A: Archives>(
+    rt: &HostRuntime,
+    archives: &A,
+    folder: &str,
+    volume: u32,
+    plan: Plan,
+    before: Option<&Inherited>,
+    author: Author<'_>,
+) -> Result<(), Failure> {
+    clear_draft(rt, folder, volume).map_err(|cause| no_volumes(rt, folder, cause))?;
+    let path = path_of(rt.alloc(), folder, volume)?;
+    let draft = begin(rt, archives, path.as_str(), plan)?;
+    let path = path.as_str();
+    let made = finish_volume(rt, archives, folder, draft.as_str(), path, before, author);
+    if made.is_err() {
+        archives.remove(rt, draft.as_str());
+    }
+    made
+}
+
+/// Ends what began a folder: notes its first volume, or, where there is none, removes the folder.
+fn settle_folder(rt: &HostRuntime, folder: &str, made: Result<(), Failure>) -> Result<(), Failure> {
+    if made.is_err() {
+        remove_folder(rt, folder)?;
+        return made;
+    }
+    note_begun(rt, folder, 1).map_err(|cause| no_volumes(rt, folder, cause))
+}
+
+/// Makes an archive of volumes of a size, in octets, with a plan, in a folder at a path where nothing is: else `CannotMake`. Where it
+/// fails, the folder is removed.
+pub fn create_volumes<A: Archives>(
+    rt: &HostRuntime,
+    archives: &A,
+    folder: &str,
+    size: u64,
+    plan: Plan,
+    author: Author<'_>,
+) -> Result<(), Failure> {
+    create_folder(rt, folder, size).map_err(|cause| no_volumes(rt, folder, cause))?;
+    let _lock = lock_folder(rt, folder).map_err(|cause| no_volumes(rt, folder, cause))?;
+    let made = make_volume(rt, archives, folder, 1, plan, None, author);
+    settle_folder(rt, folder, made)
+}
+
+/// A folder with an archive of volumes, to which a next volume may be added.
+#[derive(Drop)]
+struct Folder<'a, A> {
+    rt: &'a HostRuntime,
+    archives: &'a A,
+    path: &'a str,
+    /// Who captures, and so begins a volume.
+    told: &'a Attribution<'a>,
+    /// When it is captured.
+    timing: Timing,
+    lock: Option<FolderLock>,
+}
+
+impl<A: Archives> Folder<'_, A> {
+    /// What is looked at.
+    fn seen(&self) -> Result<Seen, NoVolumes> {
+        let row = row_in(self.rt, self.path)?;
+        Ok(Seen {
+            last: row.last,
+            octets: octets_of(self.rt, self.path, row.last)?,
+            begun: row.sheet.begun,
+            size: row.sheet.size,
+        })
+    }
+
+    /// The failure of volumes that cannot be had.
+    fn failure(&self, cause: NoVolumes) -> Failure {
+        no_volumes(self.rt, self.path, cause)
+    }
+}
+
+impl<A: Archives> VolumeFolder for Folder<'_, A> {
+    type Fault = Failure;
+
+    ghost made = { λ _ _. Unit {0} };
+
+    fn look(&mut self) -> Result<Seen, Failure> {
+        self.seen().map_err(|cause| self.failure(cause))
+    }
+
+    fn lock(&mut self) -> Result<(), Failure> {
+        match lock_folder(self.rt, self.path) {
+            Ok(lock) => {
+                self.lock = Some(lock);
+                Ok(())
+            }
+            Err(cause) => Err(self.failure(cause)),
+        }
+    }
+
+    fn begin(&mut self, volume: u32) -> Result<(), Failure> {
+        let rt = self.rt;
+        let last = path_of(rt.alloc(), self.path, volume.saturating_sub(1))?;
+        let timing = self.timing;
+        let before = lend(rt, self.archives, last.as_str(), ReadLast { timing })?;
+        let plan = before.plan.copy()?;
+        let author = Author::or_program(rt, self.told)?;
+        make_volume(
+            rt,
+            self.archives,
+            self.path,
+            volume,
+            plan,
+            Some(&before),
+            author,
+        )
+    }
+
+    fn note(&mut self, volume: u32) -> Result<(), Failure> {
+        note_begun(self.rt, self.path, volume).map_err(|cause| self.failure(cause))
+    }
+
+    fn unlock(&mut self) {
+        self.lock = None;
+    }
+}
+
+/// The store in which a message is captured.
+#[derive(Drop)]
+pub struct Capturing {
+    /// Its path.
+    pub path: String,
+    /// Which volume it is, in an archive of volumes.
+    pub volume: Option<u32>,
+}
+
+/// Where the next message is captured: in the store at a path, or, where an archive of volumes is there, in its last volume. A next
+/// one is begun where the last is over its size. `TryAgain` where the clock is wrong then, or another program begins it.
+pub fn place_for_capture<A: Archives>(
+    rt: &HostRuntime,
+    archives: &A,
+    store: &str,
+    told: &Attribution<'_>,
+    timing: Timing,
+) -> Result<Capturing, Failure> {
+    if !has_volumes(rt, store)? {
+        return Ok(Capturing {
+            path: String::from_str(rt.alloc(), store)?,
+            volume: None,
+        });
+    }
+    let mut folder = Folder {
+        rt,
+        archives,
+        path: store,
+        told,
+        timing,
+        lock: None,
+    };
+    let volume = volume_for_capture(&mut folder)?;
+    Ok(Capturing {
+        path: path_of(rt.alloc(), store, volume)?,
+        volume: Some(volume),
+    })
+}

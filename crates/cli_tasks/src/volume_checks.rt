@@ -1,0 +1,402 @@
+//! `check` over an archive of volumes: each of them, and that it goes on from the one before.
+
+use crate::archives::{Archives, Work};
+use crate::histories::say_none;
+use crate::volume_row::{Volumes, volume_line};
+use class_plan::Plan;
+use cli_console::{Failure, Joined, Status, tell, told_now, write_text};
+use cli_history::{
+    Beginning, StoredSeals, beginning_in, event_with_mark, is_same_plan, judge_history,
+    open_history,
+};
+use cli_readings::{Contents, Totals, write_contents, write_totals};
+use record_noted::{NotedStore, Opened};
+use record_store::Store;
+use sqlite::{Alter, Connection};
+use std::alloc::{AllocError, Global};
+use tool_texts::{Shown, put};
+
+/// How a volume begins.
+#[derive(Drop)]
+struct Front {
+    /// Whether it has another plan than the archive.
+    is_behind: bool,
+    beginning: Beginning,
+}
+
+impl Front {
+    /// That of a volume that could not be read, of which nothing is said.
+    fn unread() -> Front {
+        Front {
+            is_behind: false,
+            beginning: Beginning::Nowhere,
+        }
+    }
+
+    /// That of a store, by the plan of the archive.
+    fn of<S: Alter>(
+        rt: &HostRuntime,
+        archive: &mut Store<S>,
+        plan: &Plan,
+    ) -> Result<Front, Failure> {
+        Ok(Front {
+            is_behind: !is_same_plan(rt.alloc(), archive.plan(), plan)?,
+            beginning: beginning_in(rt, archive)?,
+        })
+    }
+
+    /// How the mark begins after which the history began, where that names one.
+    fn mark(&self) -> Option<&[u8]> {
+        match &self.beginning {
+            Beginning::After(mark) => Some(mark.as_slice()),
+            Beginning::Nowhere | Beginning::Alone => None,
+        }
+    }
+}
+
+/// Reads how a volume begins.
+#[derive(Drop)]
+struct ReadFront<'p> {
+    plan: &'p Plan,
+}
+
+impl Work for ReadFront<'_> {
+    type Answer = Front;
+
+    fn work<S: Alter>(
+        self,
+        rt: &HostRuntime,
+        archive: Store<S>,
+    ) -> (Connection<S>, Result<Front, Failure>) {
+        let mut archive = archive;
+        let front = Front::of(rt, &mut archive, self.plan);
+        (archive.into_connection(), front)
+    }
+}
+
+/// The marks that are looked for in a volume.
+#[derive(Clone, Copy)]
+struct Marks<'m> {
+    /// One that was noted elsewhere.
+    head: Option<&'m [u8]>,
+    /// How that begins after which the next volume began, where that names one.
+    next: Option<&'m [u8]>,
+}
+
+/// What was found of the marks that are looked for.
+#[derive(Clone, Copy)]
+struct Met {
+    /// The event that has the one which was noted elsewhere, if one has it.
+    head: Option<u32>,
+    /// Whether the one after which the next volume began is missing.
+    lacks_next: bool,
+}
+
+/// The event of a history that has a mark, where one is looked for.
+fn event_of<S: Alter>(
+    rt: &HostRuntime,
+    noted: &mut NotedStore<S>,
+    mark: Option<&[u8]>,
+) -> Result<Option<u32>, Failure> {
+    match mark {
+        Some(mark) => event_with_mark(rt, noted, mark),
+        None => Ok(None),
+    }
+}
+
+impl Marks<'_> {
+    /// What is found of them in a history.
+    fn look_in<S: Alter>(
+        self,
+        rt: &HostRuntime,
+        noted: &mut NotedStore<S>,
+    ) -> Result<Met, Failure> {
+        let head = event_of(rt, noted, self.head)?;
+        let next = event_of(rt, noted, self.next)?;
+        Ok(Met {
+            head,
+            lacks_next: self.next.is_some() && next.is_none(),
+        })
+    }
+
+    /// What is found of them where there is no history.
+    fn nowhere(self) -> Met {
+        Met {
+            head: None,
+            lacks_next: self.next.is_some(),
+        }
+    }
+}
+
+/// What was found of a volume.
+#[derive(Drop)]
+struct Checked {
+    totals: Totals,
+    /// What was found of the marks, where its history was read.
+    met: Result<Met, Failure>,
+    /// Whether its history is whole, and explains it.
+    history: Result<(), Failure>,
+}
+
+/// Judges a volume and its history, and looks for marks there.
+#[derive(Drop)]
+struct CheckVolume<'m> {
+    volume: u32,
+    marks: Marks<'m>,
+}
+
+impl CheckVolume<'_> {
+    /// The same failure, which names the volume where it is told.
+    fn named(&self, rt: &HostRuntime, failure: Failure) -> Failure {
+        failure.in_volume(rt.alloc(), Some(self.volume))
+    }
+
+    /// Judges a history, and looks for the marks there.
+    fn judge_noted<S: Alter>(
+        &self,
+        rt: &HostRuntime,
+        noted: &mut NotedStore<S>,
+        seals: StoredSeals,
+    ) -> (Result<Met, Failure>, Result<(), Failure>) {
+        let met = self.marks.look_in(rt, noted);
+        let judged = judge_history(rt, noted, Some(self.volume), None, seals);
+        (
+            met.map_err(|failure| self.named(rt, failure)),
+            judged.map_err(|failure| self.named(rt, failure)),
+        )
+    }
+
+    /// Judges the history, where there is one.
+    fn judge<S: Alter>(
+        &self,
+        rt: &HostRuntime,
+        archive: Store<S>,
+        seals: StoredSeals,
+    ) -> (Connection<S>, Result<Met, Failure>, Result<(), Failure>) {
+        match open_history(rt, archive) {
+            Ok(Opened::Noted(noted)) => {
+                let mut noted = noted;
+                let (met, judged) = self.judge_noted(rt, &mut noted, seals);
+                (noted.into_store().into_connection(), met, judged)
+            }
+            Ok(Opened::Plain(archive)) => {
+                let said = say_none(rt);
+                (archive.into_connection(), Ok(self.marks.nowhere()), said)
+            }
+            Err((archive, failure)) => {
+                let failure = self.named(rt, failure);
+                (archive.into_connection(), Err(failure), Ok(()))
+            }
+        }
+    }
+}
+
+impl Work for CheckVolume<'_> {
+    type Answer = Checked;
+
+    fn work<S: Alter>(
+        self,
+        rt: &HostRuntime,
+        archive: Store<S>,
+    ) -> (Connection<S>, Result<Checked, Failure>) {
+        let mut archive = archive;
+        let Contents { totals, seals } = match write_contents(rt, &mut archive) {
+            Ok(contents) => contents,
+            Err(failure) => return (archive.into_connection(), Err(failure)),
+        };
+        let (connection, met, history) = self.judge(rt, archive, seals);
+        let checked = Checked {
+            totals,
+            met,
+            history,
+        };
+        (connection, Ok(checked))
+    }
+}
+
+/// That a volume has not the plan of the archive.
+fn behind_words(alloc: Global, volume: u32) -> Result<Shown, AllocError> {
+    let mut words = Shown::new(alloc);
+    put!(words; "volume " value(&volume)
+        ": its plan is not that of the archive, which is the plan of the last volume; plan --set gives it that one")?;
+    Ok(words)
+}
+
+/// That the history of a volume does not go on from the one before.
+fn alone_words(alloc: Global, volume: u32) -> Result<Shown, AllocError> {
+    let mut words = Shown::new(alloc);
+    put!(words; "volume " value(&volume)
+        ": its history does not name the mark of the volume before, so it may be that of another archive")?;
+    Ok(words)
+}
+
+/// That no event of a volume has the mark after which the next one began.
+fn broken_words(alloc: Global, volume: u32) -> Result<Shown, AllocError> {
+    let mut words = Shown::new(alloc);
+    put!(words; "the next volume began after a mark that no event of volume " value(&volume)
+        " has: it is another volume, or its history was changed")?;
+    Ok(words)
+}
+
+/// That a mark is that of an event of a volume.
+fn met_line(alloc: Global, mark: &str, event: u32, volume: u32) -> Result<Shown, AllocError> {
+    let mut line = Shown::new(alloc);
+    put!(line; "mark " value(&mark) " is that of event " value(&event) " of volume " value(&volume))?;
+    line.end_line()?;
+    Ok(line)
+}
+
+/// That no event of any volume has a mark.
+fn unmet_words(alloc: Global, mark: &str) -> Result<Shown, AllocError> {
+    let mut words = Shown::new(alloc);
+    put!(words; value(&mark) ": no event of the histories of the volumes has this mark")?;
+    Ok(words)
+}
+
+/// What is found of the volumes so far.
+#[derive(Drop)]
+struct Checking<'h> {
+    /// The plan of the archive.
+    plan: Plan,
+    /// A mark that was noted elsewhere.
+    head: Option<&'h str>,
+    /// Whether it was met.
+    is_met: bool,
+    totals: Totals,
+    joined: Joined,
+}
+
+impl Checking<'_> {
+    /// Adds what was found of a volume. What is bad there is told, and the others are checked all the same.
+    fn add(&mut self, rt: &HostRuntime, found: Result<(), Failure>) -> Result<(), Failure> {
+        self.joined.add(told_now(rt, found))
+    }
+
+    /// Tells something bad.
+    fn refuse(
+        &mut self,
+        rt: &HostRuntime,
+        words: Result<Shown, AllocError>,
+    ) -> Result<(), Failure> {
+        self.add(rt, Err(Failure::shown(Status::BadData, words)))
+    }
+
+    /// Reads how a volume begins. Where that cannot be read, it is told.
+    fn front<A: Archives>(
+        &mut self,
+        rt: &HostRuntime,
+        archives: &A,
+        volumes: Volumes<'_>,
+        volume: u32,
+    ) -> Result<Front, Failure> {
+        let work = ReadFront { plan: &self.plan };
+        match volumes.lend(rt, archives, volume, work) {
+            Ok(front) => Ok(front),
+            Err(failure) => {
+                self.add(rt, Err(failure))?;
+                Ok(Front::unread())
+            }
+        }
+    }
+
+    /// Says which event of a volume has the mark that is looked for, where one has it, and tells where that is missing after which the
+    /// next volume began.
+    fn take_met(&mut self, rt: &HostRuntime, volume: u32, met: Met) -> Result<(), Failure> {
+        if let (Some(mark), Some(event)) = (self.head, met.head) {
+            self.is_met = true;
+            write_text(rt, &met_line(rt.alloc(), mark, event, volume)?)?;
+        }
+        if met.lacks_next {
+            return self.refuse(rt, broken_words(rt.alloc(), volume));
+        }
+        Ok(())
+    }
+
+    /// Adds what was found of a volume.
+    fn take(&mut self, rt: &HostRuntime, volume: u32, checked: Checked) -> Result<(), Failure> {
+        let Checked {
+            totals,
+            met,
+            history,
+        } = checked;
+        self.totals.add(totals);
+        self.add(rt, history)?;
+        match met {
+            Ok(met) => self.take_met(rt, volume, met),
+            Err(failure) => self.add(rt, Err(failure)),
+        }
+    }
+
+    /// Checks a volume that begins so, before one whose history names this mark.
+    fn check_volume<A: Archives>(
+        &mut self,
+        rt: &HostRuntime,
+        archives: &A,
+        volumes: Volumes<'_>,
+        volume: u32,
+        front: &Front,
+        next: Option<&[u8]>,
+    ) -> Result<(), Failure> {
+        write_text(rt, &volume_line(rt.alloc(), volume)?)?;
+        if front.is_behind {
+            self.refuse(rt, behind_words(rt.alloc(), volume))?;
+        }
+        if volume > 1 && matches!(&front.beginning, Beginning::Alone) {
+            self.refuse(rt, alone_words(rt.alloc(), volume))?;
+        }
+        let marks = Marks {
+            head: self.head.map(|mark| mark.as_bytes()),
+            next,
+        };
+        match volumes.lend(rt, archives, volume, CheckVolume { volume, marks }) {
+            Ok(checked) => self.take(rt, volume, checked),
+            Err(failure) => self.add(rt, Err(failure)),
+        }
+    }
+
+    /// Writes what all volumes hold. `BadData` where something was found, and where no history has the mark, which is told.
+    fn end(self, rt: &HostRuntime, volumes: Volumes<'_>) -> Result<(), Failure> {
+        let Checking {
+            head,
+            is_met,
+            totals,
+            joined,
+            ..
+        } = self;
+        write_totals(rt, volumes.last, &totals)?;
+        let mut joined = joined;
+        match head {
+            Some(mark) if !is_met => {
+                tell(rt, &unmet_words(rt.alloc(), mark)?);
+                joined.refuse();
+            }
+            _ => {}
+        }
+        joined.end()
+    }
+}
+
+/// Checks all volumes, one after another, and that each has the plan of the archive and goes on from the one before. A mark that was
+/// noted elsewhere may be looked for in all of them.
+pub fn check<A: Archives>(
+    rt: &HostRuntime,
+    archives: &A,
+    volumes: Volumes<'_>,
+    head: Option<&str>,
+) -> Result<(), Failure> {
+    let mut checking = Checking {
+        plan: volumes.plan(rt, archives)?,
+        head,
+        is_met: false,
+        totals: Totals::none(),
+        joined: Joined::new(),
+    };
+    let mut front = checking.front(rt, archives, volumes, 1)?;
+    for volume in 1..volumes.last {
+        let next = checking.front(rt, archives, volumes, volume + 1)?;
+        checking.check_volume(rt, archives, volumes, volume, &front, next.mark())?;
+        front = next;
+    }
+    checking.check_volume(rt, archives, volumes, volumes.last, &front, None)?;
+    checking.end(rt, volumes)
+}

@@ -1,0 +1,66 @@
+//! The volumes of an archive that a command is done over, one after another.
+
+use crate::archives::{Archives, Work, settled};
+use crate::rolling::{no_volumes, plan_at};
+use class_plan::Plan;
+use cli_console::Failure;
+use cli_volumes::{path_of, row_in};
+use std::alloc::{AllocError, Global};
+use tool_texts::{Shown, put};
+
+/// The volumes of an archive in a folder.
+#[derive(Clone, Copy)]
+pub struct Volumes<'a> {
+    pub folder: &'a str,
+    /// The number of the last one. The first one is 1, and none is missing between.
+    pub last: u32,
+}
+
+impl<'a> Volumes<'a> {
+    /// The volumes of a folder. `NoInput` where one is missing, and `BadData` where the file `volumes` is damaged.
+    pub fn of(rt: &HostRuntime, folder: &'a str) -> Result<Volumes<'a>, Failure> {
+        let row = row_in(rt, folder).map_err(|cause| no_volumes(rt, folder, cause))?;
+        Ok(Volumes {
+            folder,
+            last: row.last,
+        })
+    }
+
+    /// Does something with the volume of a number. What it comes to names the volume where it is a failure that is told.
+    pub fn lend<A: Archives, W: Work>(
+        &self,
+        rt: &HostRuntime,
+        archives: &A,
+        volume: u32,
+        work: W,
+    ) -> Result<W::Answer, Failure> {
+        let path = path_of(rt.alloc(), self.folder, volume)?;
+        let (done, closed) = archives.lend(rt, path.as_str(), work)?;
+        let done = done.map_err(|failure| failure.in_volume(rt.alloc(), Some(volume)));
+        settled(rt, path.as_str(), done, closed)
+    }
+
+    /// Does something with the last volume, whose plan and titles are those of the archive.
+    pub fn lend_last<A: Archives, W: Work>(
+        &self,
+        rt: &HostRuntime,
+        archives: &A,
+        work: W,
+    ) -> Result<W::Answer, Failure> {
+        self.lend(rt, archives, self.last, work)
+    }
+
+    /// The plan of the archive, which is that of its last volume.
+    pub fn plan<A: Archives>(&self, rt: &HostRuntime, archives: &A) -> Result<Plan, Failure> {
+        let path = path_of(rt.alloc(), self.folder, self.last)?;
+        plan_at(rt, archives, path.as_str())
+    }
+}
+
+/// The line before what is said of a volume.
+pub fn volume_line(alloc: Global, volume: u32) -> Result<Shown, AllocError> {
+    let mut line = Shown::new(alloc);
+    put!(line; "volume " value(&volume))?;
+    line.end_line()?;
+    Ok(line)
+}

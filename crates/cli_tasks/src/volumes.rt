@@ -1,0 +1,80 @@
+//! What each subcommand does over an archive of volumes.
+
+ghost use Rattle.std.specs.Prelude.{OnOk};
+ghost use Rattle.command_lines.specs.declared.archives.histories.Attribution.{Attribution};
+ghost use Rattle.cli_tasks.specs.Commands.{Does};
+
+use crate::archives::Archives;
+use crate::subcommands::{CheckRules, Survey, WritePlan};
+use crate::volume_checks::check;
+use crate::volume_lists::list;
+use crate::volume_row::Volumes;
+use cli_console::{Failure, Status};
+use cli_volumes::has_volumes;
+use command_lines::archives::{ChosenTask, Command};
+use std::alloc::AllocError;
+
+/// The failure of what is not done over an archive of volumes.
+fn not_over(rt: &HostRuntime, folder: &str) -> Failure {
+    Failure::at(
+        rt.alloc(),
+        Status::Usage,
+        folder,
+        &"an archive of volumes, over which this is not done; name one of them, as 0001.db in it",
+    )
+}
+
+/// Whether a command on the store at a path is one on the volumes of a folder, which `execute_over` does. A message is delivered into
+/// one of them as into any store, and `create` makes them.
+pub fn is_over_volumes(
+    rt: &HostRuntime,
+    store: &str,
+    command: &Command<'_>,
+) -> Result<bool, AllocError> {
+    match command {
+        Command::Create { .. } | Command::Deliver { .. } => Ok(false),
+        _ => has_volumes(rt, store),
+    }
+}
+
+/// Does what a command asks for over the archive of volumes in a folder. `Usage` where it is one that is done in one volume, as all
+/// are that change one.
+#[tactic(auto, using(crate::proofs::DoneLemmas::nothing_said))]
+pub fn execute_over<A: Archives>(
+    rt: &HostRuntime,
+    archives: &A,
+    folder: &str,
+    command: Command<'_>,
+) -> Result<(), Failure>
+    ensures { (told : Attribution) → OnOk result (Does A.Kept.Store
+        (A.is_at archives.now folder.now) told command.entry) }
+{
+    let volumes = Volumes::of(rt, folder)?;
+    match command {
+        Command::WritePlan => volumes.lend_last(rt, archives, WritePlan),
+        Command::WriteTitles { is_json } => {
+            volumes.lend_last(rt, archives, Survey::Titles { is_json })
+        }
+        Command::CheckRules(asked) => volumes.lend_last(rt, archives, CheckRules(asked)),
+        Command::Check { head } => check(rt, archives, volumes, head),
+        Command::Chosen(choice, ChosenTask::List(listing)) => {
+            list(rt, archives, volumes, &choice, listing)
+        }
+        Command::Chosen(_, _)
+        | Command::Create { .. }
+        | Command::ReplacePlan { .. }
+        | Command::Deliver { .. }
+        | Command::Intake { .. }
+        | Command::Import(_)
+        | Command::Show { .. }
+        | Command::Copy { .. }
+        | Command::Why(_)
+        | Command::Dispose(_)
+        | Command::ReleaseAll { .. }
+        | Command::Holds { .. }
+        | Command::Twice(_)
+        | Command::SetTitles { .. }
+        | Command::History(_)
+        | Command::Certificates { .. } => Err(not_over(rt, folder)),
+    }
+}

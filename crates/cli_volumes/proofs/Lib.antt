@@ -1,0 +1,2 @@
+pub mod CallLaws
+mod FindingRows

@@ -1,0 +1,95 @@
+//! Why there is no archive of volumes, in words.
+
+use record_volumes::RowFault;
+use std::alloc::AllocError;
+use std::{fmt, io};
+
+/// Why the volumes of a folder cannot be had.
+#[derive(Drop)]
+pub enum NoVolumes {
+    /// The folder has no file `volumes`, and so is no archive.
+    NoArchive,
+    /// The file `volumes` is damaged.
+    Damaged,
+    /// No volume was begun: a run of `create` that did not end has left the folder.
+    Unfinished,
+    /// These volumes are missing, upwards.
+    Missing(Vec<u32>),
+    /// Another program makes a volume.
+    Busy,
+    /// There is something already where a new folder or volume is to be made.
+    There,
+    /// The system refuses.
+    System(io::Error),
+    /// No memory.
+    NoMemory,
+}
+
+impl From<io::Error> for NoVolumes {
+    fn from(error: io::Error) -> NoVolumes {
+        match error.kind() {
+            io::ErrorKind::OutOfMemory => NoVolumes::NoMemory,
+            io::ErrorKind::AlreadyExists => NoVolumes::There,
+            io::ErrorKind::WouldBlock => NoVolumes::Busy,
+            _ => NoVolumes::System(error),
+        }
+    }
+}
+
+impl From<AllocError> for NoVolumes {
+    fn from(_error: AllocError) -> NoVolumes {
+        NoVolumes::NoMemory
+    }
+}
+
+impl From<RowFault> for NoVolumes {
+    fn from(fault: RowFault) -> NoVolumes {
+        match fault {
+            RowFault::Missing(volumes) => NoVolumes::Missing(volumes),
+            RowFault::NoMemory => NoVolumes::NoMemory,
+        }
+    }
+}
+
+/// How many missing volumes are named.
+const NAMED: usize = 8;
+
+/// Writes which volumes are missing.
+fn write_missing<W: fmt::Write>(f: &mut fmt::Formatter<W>, volumes: &[u32]) -> fmt::Result {
+    f.write_str("missing:")?;
+    for volume in volumes.iter().take(NAMED) {
+        write!(f, " {volume:04}.db")?;
+    }
+    if volumes.len() > NAMED {
+        let more = volumes.len() - NAMED;
+        write!(f, " and {more} more")?;
+    }
+    f.write_str("; put it back, or a link to where it is")
+}
+
+impl NoVolumes {
+    /// The words of a cause that has no more to say.
+    fn words(&self) -> &'static str {
+        match self {
+            NoVolumes::NoArchive => "a folder; a store is a file, as records.db in it",
+            NoVolumes::Damaged => "the file volumes of the folder is damaged; restore it",
+            NoVolumes::Unfinished => {
+                "no volume in it: create was cut off; remove the folder, and begin again"
+            }
+            NoVolumes::Busy => "another program makes a volume of this archive",
+            NoVolumes::There => "there is something already",
+            NoVolumes::NoMemory => "out of memory",
+            NoVolumes::Missing(_) | NoVolumes::System(_) => "refused",
+        }
+    }
+}
+
+impl fmt::Display for NoVolumes {
+    fn fmt<W: fmt::Write>(&self, f: &mut fmt::Formatter<W>) -> fmt::Result {
+        match self {
+            NoVolumes::System(error) => write!(f, "{error}"),
+            NoVolumes::Missing(volumes) => write_missing(f, volumes.as_slice()),
+            cause => f.write_str(cause.words()),
+        }
+    }
+}

@@ -1,0 +1,28 @@
+//! An archive of volumes in a folder: which volumes it has, into which a message goes, and how the next one is begun.
+//!
+//! - `names`: the names of volumes;
+//! - `sheet`: the file `volumes`, which has the size of a volume and how many were begun;
+//! - `rolling`: the volume into which a message goes, over any folder (`VolumeFolder`), whose calls are counted;
+//! - `row`: the row of the volumes in a folder, and their lock;
+//! - `making`: folders, and volumes that get their names;
+//! - `fault`: why there is no archive of volumes, in words.
+//!
+//! No store is opened here. In `specs/`, `Names` says which names are those of volumes, `Sheets` how the file `volumes` is spelled, and
+//! `Finding` by which calls a volume is found for a message.
+#![tactic(auto)]
+
+mod fault;
+mod making;
+mod names;
+mod rolling;
+mod row;
+mod sheet;
+#[cfg(test)]
+mod tests;
+
+pub use fault::NoVolumes;
+pub use making::{clear_draft, create_folder, note_begun, place_volume, remove_folder};
+pub use names::{path_of, volume_name, volume_of};
+pub use rolling::{Seen, Step, VolumeFolder, volume_for_capture};
+pub use row::{FolderLock, Row, has_volumes, lock_folder, octets_of, row_in};
+pub use sheet::{Sheet, read_sheet, sheet_text};

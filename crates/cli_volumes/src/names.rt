@@ -1,0 +1,59 @@
+//! The names of volumes: `0001.db`, `0002.db` and so on.
+
+ghost use Rattle.std.specs.Prelude.{◌≡◌, ◌++◌, IfOk, OnOk, decimal, string_bytes};
+ghost use Rattle.cli_volumes.specs.Names.{name_of, volume_named};
+
+use record_volumes::LAST_VOLUME;
+use session_words::read_digits;
+use std::alloc::{AllocError, Global};
+
+/// What the name of a volume ends with.
+const ENDING: &[u8] = b".db";
+
+/// How many digits come before that.
+const DIGITS: usize = 4;
+
+/// The number of the volume in a file of a name: four digits, not all of them 0, and `.db`. None for any other name.
+pub fn volume_of(name: &[u8]) -> Option<u32>
+    ensures { result ≡ volume_named name.now }
+{
+    if name.len() != DIGITS + ENDING.len() || &name[DIGITS..] != ENDING {
+        return None;
+    }
+    match read_digits(&name[..DIGITS], u64::from(LAST_VOLUME)) {
+        None | Some(0) => None,
+        Some(volume) => Some(volume as u32),
+    }
+}
+
+/// Adds a number.
+pub(crate) fn push_number(text: &mut String, number: u64) -> Result<(), AllocError>
+    ensures { OnOk result (string_bytes text.new ≡ string_bytes text.old ++ decimal number) }
+{
+    write!(text, "{number}")
+}
+
+/// The name of the file of a volume.
+pub fn volume_name(alloc: Global, volume: u32) -> Result<String, AllocError>
+    ensures { IfOk result (λ name. string_bytes name ≡ name_of volume) }
+{
+    let mut name = String::new(alloc);
+    push_number(&mut name, u64::from(volume / 1000 % 10))?;
+    push_number(&mut name, u64::from(volume / 100 % 10))?;
+    push_number(&mut name, u64::from(volume / 10 % 10))?;
+    push_number(&mut name, u64::from(volume % 10))?;
+    name.push_str(".db")?;
+    Ok(name)
+}
+
+/// The path of a file in a folder. One slash at the end of the folder's path is none of it.
+pub(crate) fn path_in(alloc: Global, folder: &str, name: &str) -> Result<String, AllocError> {
+    let folder = folder.strip_suffix('/').unwrap_or(folder);
+    format!(in alloc; "{folder}/{name}")
+}
+
+/// The path of a volume in a folder.
+pub fn path_of(alloc: Global, folder: &str, volume: u32) -> Result<String, AllocError> {
+    let name = volume_name(alloc, volume)?;
+    path_in(alloc, folder, name.as_str())
+}

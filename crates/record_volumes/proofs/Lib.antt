@@ -1,0 +1,2 @@
+pub mod RollingLaws
+mod VolumesRows

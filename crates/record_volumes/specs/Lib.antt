@@ -1,0 +1,3 @@
+pub mod Rolling
+pub mod Rows
+pub mod Volumes

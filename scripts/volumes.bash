@@ -1,0 +1,204 @@
+#!/usr/bin/env bash
+# shellcheck disable=SC2317,SC2015 # count calls its checks by their names, and `|| shows_run` only reports
+# Tests what ./mailfile-store does with an archive of volumes where no transcript can say it: where it is killed, or a call of the system
+# fails, at each moment while a volume is begun or a folder is made; where several programs begin volumes at once; on a disk that is full;
+# and by a wrong clock. ./test sources this file after store.bash; run by itself, it plays these tests.
+
+: "${root:=$(dirname -- "$(dirname -- "$(readlink -f -- "$0")")")}" "${work:=$(mktemp -d)}" "${self:=volumes}"
+
+# The calls of the system by which something changes, before each of which the program is killed.
+readonly CHANGING=openat,write,pwrite64,ftruncate,fallocate,fsync,fdatasync,rename,renameat,renameat2,link,linkat,unlink,unlinkat,mkdir,rmdir,flock,fchmod
+
+# Those of which each fails in turn.
+readonly FAILING=write,pwrite64,ftruncate,fsync,fdatasync,rename,renameat,renameat2,link,linkat,unlink,unlinkat,mkdir
+
+# Makes a message of so many octets, which are no part of another one.
+message_of() {
+    printf 'Subject: scans\n\n'
+    head -c "$1" /dev/zero | tr '\0' x | fold -w 70
+}
+
+# Makes an archive of volumes of a megabyte in `full`, whose only volume is over its size, beside the rules, the mail and the plan.
+make_full_archive() {
+    archive_after create/new "$here" && message_of 1200000 > "$here/large.eml" &&
+        run create --store "$here/full" --by ann --roll 1M --plan "$here/plan.toml" && ((status == 0)) && deliver_to full large.eml && ((status == 0)) || shows_run
+}
+
+# Captures a message in an archive of that folder.
+deliver_to() {
+    status=0
+    LOGNAME=tess "${keeper[@]}" deliver --store "$here/$1" --rules "$here/rules" --at 0 ann < "$here/$2" > "$work/said" 2> "$work/error" || status=$?
+}
+
+# Takes a new copy of the archive that is full.
+take_copy() {
+    rm -rf -- "${here:?}/kept" && cp -a -- "$here/full" "$here/kept"
+}
+
+# Runs a subcommand, and has the kernel do something at one of its calls of the system: kill it before the call, or let that fail. Leaves
+# the calls in `trace`, in which INJECTED stands if it came so far.
+run_with() {
+    status=0
+    {
+        LOGNAME=tess timeout 60 strace -f -o "$work/trace" -e trace="$1" -e inject="$1:$2" "$(program_of mailfile_store)" "${@:3}" \
+            < "$here/mail/bill.eml" > "$work/said" 2> "$work/error" || status=$?
+    } 2> "$work/killed"
+}
+
+# Whether that call was made.
+came_so_far() {
+    grep -q -e INJECTED -e 'killed by SIGKILL' "$work/trace"
+}
+
+# Whether an archive is whole, has so many records at least and one more at most, and no draft of a volume.
+is_whole() {
+    local counted
+    run_once_free check --store "$here/$1"
+    ((status == 0)) && [[ ! -s $work/error ]] || shows_run || return
+    run list --store "$here/$1" --count
+    counted=$(< "$work/said")
+    ((status == 0 && counted >= $2 && counted <= $2 + 1)) || shows_run
+}
+
+# After a delivery that did not end, the archive is whole, and the next one finds the second volume and leaves no draft.
+goes_on_after_a_roll() {
+    is_whole kept 1 || return
+    deliver_to kept mail/bill.eml
+    ((status == 0)) && [[ $(< "$work/said") =~ ^record\ 2/[12]\ class\ finance ]] || shows_run || return
+    [[ $(cd -- "$here/kept" && echo *) =~ ^0001.db(\ 0001.db-wal)?\ 0002.db(\ 0002.db-wal)?\ volumes\ volumes.lock$ &&
+        $(tail -n 1 -- "$here/kept/volumes") == 'begun 2' ]] || {
+        ls -- "$here/kept"
+        return 1
+    }
+    is_whole kept 2
+}
+
+# Ends a subcommand at each of its calls, with what was made before it and what has to be so after it.
+ends_at_each() {
+    local number calls=$1 how=$2 before=$3 after=$4 name=$5
+    for ((number = 1; number < 2000; number += step)); do
+        "$before" || return
+        run_with "$calls" "$how:when=$number" "${@:6}"
+        came_so_far || break
+        count "$name, at call $number" "$after"
+    done
+    count "$name, to the end" test "$number" -gt 5
+    echo "$name: calls up to $number"
+}
+
+rolls_end_early() {
+    local deliver=(deliver --store "$here/kept" --rules "$here/rules" --at 0 ann)
+    make_full_archive || return
+    ends_at_each "$CHANGING" signal=KILL take_copy goes_on_after_a_roll "a volume whose beginning is killed" "${deliver[@]}"
+    ends_at_each "$FAILING" error=EIO take_copy goes_on_after_a_roll "a volume on a disk that fails" "${deliver[@]}"
+    ends_at_each "$FAILING" error=ENOSPC take_copy goes_on_after_a_roll "a volume on a full disk" "${deliver[@]}"
+}
+
+remove_made() {
+    rm -rf -- "${here:?}/made"
+}
+
+# A folder that was not made to its end is not there, has no volume, or is whole.
+is_made_or_not() {
+    [[ ! -e $here/made ]] && return
+    run_once_free check --store "$here/made"
+    case $status in
+        0) [[ ! -s $work/error ]] ;;
+        66) grep -q -e 'create was cut off; remove the folder' -e 'a folder; a store is a file' "$work/error" ;;
+        *) false ;;
+    esac || shows_run
+}
+
+# A folder that could not be made is not there.
+is_made_or_gone() {
+    if ((status == 0)); then
+        is_made_or_not
+    else
+        [[ ! -e $here/made ]] || {
+            ls -a -- "$here/made"
+            shows_run
+        }
+    fi
+}
+
+folders_end_early() {
+    remove_made && ends_at_each "$CHANGING" signal=KILL remove_made is_made_or_not "a folder that is not made to its end" \
+        create --store "$here/made" --roll 1M --plan "$here/plan.toml"
+    ends_at_each "$FAILING" error=ENOSPC remove_made is_made_or_gone "a folder on a full disk" \
+        create --store "$here/made" --roll 1M --plan "$here/plan.toml"
+}
+
+# How many programs capture at once.
+readonly AT_ONCE=8
+
+# Captures a message, as a mail server does that tries again, and notes its record.
+deliver_at_last() {
+    local turn
+    for ((turn = 0; turn < 600; turn++)); do
+        LOGNAME=tess timeout 60 "$keeper_program" deliver --store "$here/kept" --rules "$here/rules" --at 0 ann < "$here/$1" > "$work/said.$2" \
+            2> "$work/error.$2" && break
+        sleep 0.05
+    done
+}
+
+# Programs that capture at once begin the volumes one after the other. Each message is there once.
+capture_at_once() {
+    local keeper_program number
+    keeper_program=$(program_of mailfile_store)
+    take_copy || return
+    for ((number = 1; number <= AT_ONCE; number++)); do
+        deliver_at_last "$1" "$number" &
+    done
+    wait
+    cat -- "$work"/said.* | sort > "$work/captured"
+    [[ $(wc -l < "$work/captured") -eq $AT_ONCE && $(sort -u "$work/captured" | wc -l) -eq $AT_ONCE &&
+        $(tail -n 1 -- "$here/kept/volumes") == "begun $2" ]] || {
+        cat -- "$work/captured" "$here/kept/volumes"
+        return 1
+    }
+    run check --store "$here/kept"
+    ((status == 0)) && [[ ! -s $work/error ]] && grep -q "^records $((AT_ONCE + 1))$" "$work/said" || shows_run
+}
+
+# By a clock that is behind the last day of the volume before, none is begun, but for a moment that is named.
+begins_none_by_a_wrong_clock() {
+    take_copy && cp -- "$here/mail/bill.eml" "$work/bill.eml" &&
+        LOGNAME=tess "${keeper[@]}" deliver --store "$here/later" --rules "$here/rules" ann < "$here/large.eml" > "$work/said" || return
+    status=0
+    CLOCK=1700000000 LD_PRELOAD=$work/clock.so LOGNAME=tess "${keeper[@]}" deliver --store "$here/later" --rules "$here/rules" ann \
+        < "$work/bill.eml" > "$work/said" 2> "$work/error" || status=$?
+    ((status == 75)) && grep -q 'the clock says 2023-11-14, but the store has a record of ' "$work/error" && [[ ! -e $here/later/0002.db ]] ||
+        shows_run || return
+    status=0
+    CLOCK=1700000000 LD_PRELOAD=$work/clock.so LOGNAME=tess "${keeper[@]}" deliver --store "$here/later" --rules "$here/rules" --at now ann \
+        < "$work/bill.eml" > "$work/said" 2> "$work/error" || status=$?
+    ((status == 0)) && [[ $(< "$work/said") == 'record 2/1 class finance due '* ]] || shows_run
+}
+
+volumes() {
+    local status here=$work/archive step=${1:-1}
+    if strace -o "$work/error" true > "$work/said" 2>&1; then
+        rolls_end_early
+        folders_end_early
+    fi
+    count "an archive whose volume is over its size" make_full_archive
+    count "programs that capture at once in a new volume" capture_at_once mail/bill.eml 2
+    count "programs that capture at once, each in a new volume" capture_at_once large.eml $((AT_ONCE + 1))
+    if command -v cc > "$work/said" && cc -O1 -shared -fPIC -o "$work/clock.so" scripts/clock.c; then
+        run create --store "$here/later" --by ann --roll 1M --plan "$here/plan.toml"
+        count "a clock that is behind the volume before" begins_none_by_a_wrong_clock
+    fi
+    group "archives of volumes that are killed, on disks that fail, and where programs come at once"
+}
+
+if [[ ${BASH_SOURCE[0]} == "$0" ]]; then
+    cd -- "$root" || exit 125
+    trap 'rm -rf -- "$work"' EXIT
+    for part in counts build transcripts store; do
+        # shellcheck source=/dev/null
+        . "scripts/$part.bash" || exit 125
+    done
+    ensure_program mailfile_store
+    volumes "$@"
+    finish
+fi
