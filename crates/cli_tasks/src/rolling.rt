@@ -108,7 +108,7 @@ fn ending_of<S: Alter>(
 }
 
 /// What is taken over from a store whose history ends so, if it has one. `TryAgain` where the clock is wrong, by its days too.
-fn inherited<S: Alter>(
+fn inherited_from<S: Alter>(
     rt: &HostRuntime,
     archive: &mut Store<S>,
     ending: Option<Ending>,
@@ -144,7 +144,7 @@ impl Work for ReadLast {
     ) -> (Connection<S>, Result<Inherited, Failure>) {
         let (archive, ending) = ending_of(rt, archive);
         let mut archive = archive;
-        let read = ending.and_then(|ending| inherited(rt, &mut archive, ending, self.timing));
+        let read = ending.and_then(|ending| inherited_from(rt, &mut archive, ending, self.timing));
         (archive.into_connection(), read)
     }
 }

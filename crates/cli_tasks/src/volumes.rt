@@ -2,7 +2,7 @@
 
 ghost use Rattle.std.specs.Prelude.{OnOk};
 ghost use Rattle.command_lines.specs.declared.archives.histories.Attribution.{Attribution};
-ghost use Rattle.cli_tasks.specs.Commands.{Does};
+ghost use Rattle.cli_tasks.specs.Commands.{Does, DoesWith};
 
 use crate::archives::Archives;
 use crate::subcommands::{CheckRules, Survey, WritePlan};
@@ -11,7 +11,7 @@ use crate::volume_lists::list;
 use crate::volume_row::Volumes;
 use cli_console::{Failure, Status};
 use cli_volumes::has_volumes;
-use command_lines::archives::{ChosenTask, Command};
+use command_lines::archives::{Choice, ChosenTask, Command};
 use std::alloc::AllocError;
 
 /// The failure of what is not done over an archive of volumes.
@@ -37,6 +37,29 @@ pub fn is_over_volumes(
     }
 }
 
+/// Does something with the records of a choice in the volumes of a folder. `Usage` for all but a list.
+#[tactic(auto, using(crate::proofs::DoneLemmas::nothing_said))]
+fn on_volumes<'a, A: Archives>(
+    rt: &HostRuntime,
+    archives: &A,
+    folder: &str,
+    volumes: Volumes<'_>,
+    choice: &Choice<'a>,
+    task: &ChosenTask<'a>,
+) -> Result<(), Failure>
+    ensures { (told : Attribution) → OnOk result (DoesWith A.Kept.Store
+        (A.is_at archives.now folder.now) told choice.now task.now) }
+{
+    match task {
+        ChosenTask::List(listing) => list(rt, archives, volumes, choice, *listing),
+        ChosenTask::Export(_)
+        | ChosenTask::Report { .. }
+        | ChosenTask::Hold(_)
+        | ChosenTask::Release(_)
+        | ChosenTask::Refile(_) => Err(not_over(rt, folder)),
+    }
+}
+
 /// Does what a command asks for over the archive of volumes in a folder. `Usage` where it is one that is done in one volume, as all
 /// are that change one.
 #[tactic(auto, using(crate::proofs::DoneLemmas::nothing_said))]
@@ -57,11 +80,10 @@ pub fn execute_over<A: Archives>(
         }
         Command::CheckRules(asked) => volumes.lend_last(rt, archives, CheckRules(asked)),
         Command::Check { head } => check(rt, archives, volumes, head),
-        Command::Chosen(choice, ChosenTask::List(listing)) => {
-            list(rt, archives, volumes, &choice, listing)
+        Command::Chosen(choice, task) => {
+            on_volumes(rt, archives, folder, volumes, &choice, &task)
         }
-        Command::Chosen(_, _)
-        | Command::Create { .. }
+        Command::Create { .. }
         | Command::ReplacePlan { .. }
         | Command::Deliver { .. }
         | Command::Intake { .. }
