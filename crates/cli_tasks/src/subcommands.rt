@@ -201,8 +201,9 @@ fn deliver<'a, A: Archives>(
     let undecoded = undecoded_in(rt.alloc(), &message);
     let rules = FilingRules::read_for_delivery(rt, filing)?;
     rules.tell_unused(rt);
-    let place = place_for_capture(rt, archives, store, told, timing)
-        .map_err(|failure| failure.kept())?;
+    let place = place_for_capture(rt, archives, store, told, timing).map_err(
+        |failure| failure.kept(),
+    )?;
     let Capturing { path, volume } = place;
     let path = path.as_str();
     let work = DeliverOne {
