@@ -1,5 +1,5 @@
 #!/usr/bin/env bash
-# shellcheck disable=SC2317,SC2015 # count calls its checks by their names, and `|| shows_run` only reports
+# shellcheck disable=SC2317,SC2015,SC2154 # count calls its checks by their names, `|| shows_run` only reports, and store.bash sets keeper
 # Tests what ./mailfile-store does with an archive of volumes where no transcript can say it: where it is killed, or a call of the system
 # fails, at each moment while a volume is begun or a folder is made; where several programs begin volumes at once; on a disk that is full;
 # and by a wrong clock. ./test sources this file after store.bash; run by itself, it plays these tests.
@@ -51,7 +51,7 @@ came_so_far() {
 }
 
 # Whether an archive is whole, has so many records at least and one more at most, and no draft of a volume.
-is_whole() {
+is_whole_archive() {
     local counted
     run_once_free check --store "$here/$1"
     ((status == 0)) && [[ ! -s $work/error ]] || shows_run || return
@@ -62,7 +62,7 @@ is_whole() {
 
 # After a delivery that did not end, the archive is whole, and the next one finds the second volume and leaves no draft.
 goes_on_after_a_roll() {
-    is_whole kept 1 || return
+    is_whole_archive kept 1 || return
     deliver_to kept mail/bill.eml
     ((status == 0)) && [[ $(< "$work/said") =~ ^record\ 2/[12]\ class\ finance ]] || shows_run || return
     [[ $(cd -- "$here/kept" && echo *) =~ ^0001.db(\ 0001.db-wal)?\ 0002.db(\ 0002.db-wal)?\ volumes\ volumes.lock$ &&
@@ -70,7 +70,7 @@ goes_on_after_a_roll() {
         ls -- "$here/kept"
         return 1
     }
-    is_whole kept 2
+    is_whole_archive kept 2
 }
 
 # Ends a subcommand at each of its calls, with what was made before it and what has to be so after it.
