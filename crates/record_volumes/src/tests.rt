@@ -14,9 +14,9 @@ fn gaps(rt: &HostRuntime, begun: u32, found: &[u32]) -> Vec<u32> {
 #[test]
 fn a_missing_volume_is_told(rt: HostRuntime) {
     assert!(rt; gaps(&rt, 3, &[1, 2, 3]).is_empty());
-    assert_eq!(rt; gaps(&rt, 2, &[5, 1, 3]).as_slice(), &[2, 4]);
+    assert_eq!(rt; gaps(&rt, 2, &[5, 1, 3]).as_slice(), [2, 4].as_slice());
     // the last one is gone, which was begun
-    assert_eq!(rt; gaps(&rt, 3, &[2, 1]).as_slice(), &[3]);
+    assert_eq!(rt; gaps(&rt, 3, &[2, 1]).as_slice(), [3].as_slice());
 }
 
 #[test]
