@@ -1,3 +1,5 @@
 pub mod Choices
 pub mod Numbers
 pub mod Ranges
+pub mod Typed
+pub mod Volumes

@@ -1,18 +1,27 @@
 //! The words of a command line by which records are chosen.
 //!
 //! - `numbers`: the numbers of records that a word is;
+//! - `volumes`: the same in an archive of volumes, with the number of the volume;
 //! - `ranges`: numbers as few words;
-//! - `choice`: all that is typed of a choice.
+//! - `choice`: what is typed of a choice in one archive;
+//! - `typed`: what is typed of a choice before it is known whether the archive has volumes.
 //!
-//! In `specs/`, `Numbers` says which words are numbers, `Ranges` which numbers words stand for, and `Choices` when nothing is typed.
+//! In `specs/`, `Numbers` and `Volumes` say which words are numbers, `Ranges` which numbers words stand for, `Choices` when nothing is
+//! typed, and `Typed` what is typed of one volume.
 #![tactic(auto)]
 
 mod choice;
 mod numbers;
 mod ranges;
+mod typed;
+mod volumes;
 
 pub use choice::Choice;
 pub use numbers::{
     TypedNumbers, read_numbers, read_record_number, reads_as_numbers, reversed_range,
 };
 pub use ranges::add_number;
+pub use typed::TypedChoice;
+pub use volumes::{
+    VolumeNumber, VolumeNumbers, read_volume_number, read_volume_numbers, reversed_volume_range,
+};

@@ -3,3 +3,4 @@ pub mod Questions
 pub mod Holds
 pub mod Disposals
 pub mod Headers
+pub mod TypedVolumes

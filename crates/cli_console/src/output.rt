@@ -1,22 +1,38 @@
 //! What is written for people and programs. A text for people is a [`Shown`] one, or words of the program.
 
 ghost use Rattle.std.specs.Prelude.{◌≡◌, ◌++◌, OnOk};
-ghost use Rattle.cli_console.specs.Numbers.{typed_words};
+ghost use Rattle.cli_console.specs.Numbers.{numbers_typed, typed_words};
 
 use crate::failure::{Failure, Status};
 use choice_words::TypedNumbers;
+use cli_texts::put_number;
 use std::alloc::{AllocError, Global};
 use std::io::{Error, ErrorKind, IsTerminal, Write};
 use tool_texts::{Shown, put};
+
+/// Adds numbers of records as they are typed; those of a volume after its number, as `3/5-9`.
+pub fn put_typed(
+    text: &mut Shown,
+    volume: Option<u32>,
+    numbers: TypedNumbers,
+) -> Result<(), AllocError>
+    ensures { OnOk result (text.new ≡ text.old ++ numbers_typed volume numbers) }
+{
+    match numbers {
+        TypedNumbers::One(number) => put_number(text, volume, number),
+        TypedNumbers::Range { first, last } => {
+            put_number(text, volume, first)?;
+            put!(text; "-" value(&last))
+        }
+    }
+}
 
 /// Adds numbers of records as they are typed, after a blank.
 pub fn put_numbers(text: &mut Shown, numbers: TypedNumbers) -> Result<(), AllocError>
     ensures { OnOk result (text.new ≡ text.old ++ typed_words numbers) }
 {
-    match numbers {
-        TypedNumbers::One(number) => put!(text; " " value(&number)),
-        TypedNumbers::Range { first, last } => put!(text; " " value(&first) "-" value(&last)),
-    }
+    text.words(" ")?;
+    put_typed(text, None, numbers)
 }
 
 /// The failure of a write to standard output.

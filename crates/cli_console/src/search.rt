@@ -13,13 +13,14 @@ ghost use Rattle.cli_console.specs.Turns.{IsSearchTurn, page_view, records_of};
 ghost use Rattle.cli_console.specs.declared.failure.Status.TheVariants.{TryAgain};
 
 use crate::failure::{Failure, Status};
-use crate::output::{put_numbers, tell, tell_in};
+use crate::output::{put_typed, tell};
 use crate::walk::walk_failure;
 use choice_words::{Choice, TypedNumbers, add_number};
 use class_plan::Plan;
 use cli_choice::{
     Beside, FoundPage, Questions, bounds_of, choice_of, is_single, not_found, search_page,
 };
+use cli_texts::{number_text, put_number};
 use record_choice::{RecordEntry, Repository};
 use record_store::StoreFault;
 use std::alloc::{AllocError, Global};
@@ -66,16 +67,24 @@ fn judge_class(alloc: Global, class: Option<&str>, plan: &Plan) -> Result<(), Fa
 }
 
 /// That records were not found, though they may be some of those that are looked for. Their numbers can be typed as they
-/// stand there.
-fn unread_line(alloc: Global, unread: &[TypedNumbers]) -> Result<Shown, AllocError> {
+/// stand there, in an archive of volumes too.
+fn unread_line(
+    alloc: Global,
+    volume: Option<u32>,
+    unread: &[TypedNumbers],
+) -> Result<Shown, AllocError> {
     let mut line = Shown::new(alloc);
     match unread {
-        [TypedNumbers::One(number)] =>
-            put!(line; "record " value(number) ": not found, but a field of it")?,
+        [TypedNumbers::One(number)] => {
+            line.words("record ")?;
+            put_number(&mut line, volume, *number)?;
+            line.words(": not found, but a field of it")?;
+        }
         _ => {
             line.words("records")?;
             for numbers in unread {
-                put_numbers(&mut line, *numbers)?;
+                line.words(" ")?;
+                put_typed(&mut line, volume, *numbers)?;
             }
             line.words(": not found, but a field of each")?;
         }
@@ -84,20 +93,22 @@ fn unread_line(alloc: Global, unread: &[TypedNumbers]) -> Result<Shown, AllocErr
     Ok(line)
 }
 
-/// Why the record of a number that is typed by itself was not found.
+/// Why the record of a number that is typed by itself was not found, in a volume after its number.
 fn miss_line<R: Repository<Fault = StoreFault>>(
     alloc: Global,
     archive: &mut R,
+    volume: Option<u32>,
     number: u32,
 ) -> Result<Shown, Failure>
     ensures reads { OnlyReads R.clean R.stands archive.old archive.new }
     ensures fails { IfErr result (IsToldAs TryAgain) }
 {
-    let word = format!(in alloc; "{number}")?;
+    let word = number_text(alloc, volume, number)?;
     match archive.entry(number) {
         Ok(_) => {
             let mut line = Shown::new(alloc);
-            put!(line; value(&number) ": the record does not meet the conditions")?;
+            put_number(&mut line, volume, number)?;
+            line.words(": the record does not meet the conditions")?;
             Ok(line)
         }
         Err(fault) => match Failure::of_store(alloc, word.as_str(), fault) {
@@ -236,8 +247,8 @@ impl<'s, 'a> Search<'s, 'a> {
     /// Tells which records may have been found, had all their fields been read.
     fn tell_unread(&self, rt: &HostRuntime, volume: Option<u32>) -> Result<(), AllocError> {
         if !self.unread.is_empty() {
-            let line = unread_line(rt.alloc(), self.unread.as_slice())?;
-            tell_in(rt, volume, &line);
+            let line = unread_line(rt.alloc(), volume, self.unread.as_slice())?;
+            tell(rt, &line);
         }
         Ok(())
     }
@@ -272,7 +283,7 @@ impl<'s, 'a> Search<'s, 'a> {
             self.found.as_slice(),
         )?;
         for number in &missing {
-            tell(rt, &miss_line(rt.alloc(), archive, *number)?);
+            tell(rt, &miss_line(rt.alloc(), archive, volume, *number)?);
         }
         if missing.is_empty() {
             Ok(())

@@ -86,7 +86,8 @@ fn octets_of<R: Repository<Fault = StoreFault>>(
     let octets = archive
         .message(entry.number)
         .map_err(|fault| Failure::of_store(alloc, typed.word, fault))?;
-    judge_octets(alloc, seals, entry, octets.as_slice())?;
+    let judged = judge_octets(alloc, seals, entry, octets.as_slice());
+    judged.map_err(|failure| failure.in_volume(alloc, typed.volume))?;
     Ok(octets)
 }
 

@@ -4,6 +4,7 @@ ghost use Rattle.std.specs.Prelude.{◌≡◌, IfOk, OnOk};
 ghost use Rattle.record_archive.specs.Archive.{Archive};
 ghost use Rattle.record_choice.specs.Reads.{OnlyReads};
 ghost use Rattle.cli_console.specs.Finds.{TakesThese, found_in};
+ghost use Rattle.cli_readings.specs.Ends.{IsEnded};
 ghost use Rattle.cli_readings.specs.VolumeLists.{AddsVolume, Begins, Ends, IsNew, head_unless};
 
 use crate::list::{ListText, add_found, text_before};
@@ -49,27 +50,28 @@ impl<'a, K: Sink + Drop> VolumeList<'a, K> {
         Ok(())
     }
 
-    /// Adds the records of a volume that meet a choice, and whose messages have what is asked of them. `BadData` where the class is
-    /// none of the plan of the volume, and where a number that is typed by itself is not found.
-    pub fn add_volume<R: Repository<Fault = StoreFault>>(
+    /// Adds the records of a volume that meet a choice, and whose messages have what is asked of them. Answers the search, which is at
+    /// its end. `BadData` where the class is none of the plan of the volume.
+    pub fn add_volume<'s, 'c, R: Repository<Fault = StoreFault>>(
         &mut self,
         rt: &HostRuntime,
         archive: &mut R,
         volume: u32,
-        choice: &Choice<'_>,
-        questions: &Questions,
-    ) -> Result<(), Failure>
+        choice: &'s Choice<'c>,
+        questions: &'s Questions,
+    ) -> Result<Search<'s, 'c>, Failure>
         ensures reads { OnlyReads R.clean R.stands archive.old archive.new }
         ensures added { OnOk result (R.clean archive.new → (a : Archive) → R.stands archive.old a
             → TakesThese (λ old b es new. AddsVolume K.written b volume old es new) self.old a
             (found_in choice.now questions.now a) self.new) }
+        ensures ended { IfOk result (λ search. R.clean archive.new → (a : Archive)
+            → R.stands archive.old a → IsEnded choice.now questions.now a search) }
     {
         let mut search = Search::new(rt, archive, choice, questions)?;
         self.list.listing.volume = Some(volume);
         self.begin()?;
         add_found(rt, archive, &mut search, &mut self.list)?;
-        search.end_in(rt, archive, Some(volume))?;
-        Ok(())
+        Ok(search)
     }
 
     /// Writes what is not written yet, and what stands after the records. Answers the sink.

@@ -28,6 +28,8 @@ const FULL: u8 = 96;
 /// A record as it was captured, with the plan of today.
 #[derive(Drop)]
 pub struct Captured {
+    /// The number of its volume, in an archive of volumes.
+    volume: Option<u32>,
     entry: RecordEntry,
     /// None where it is destroyed.
     message: Option<Vec<u8>>,
@@ -122,6 +124,7 @@ pub fn read_captured<S: Alter>(
     };
     let refiling = last_refiling(rt, archive, entry.number)?;
     Ok(Captured {
+        volume: record.volume,
         entry,
         message,
         plan,
@@ -233,7 +236,7 @@ fn answer_by_rules(
 
 /// Writes a record as it is listed, and the event by which it got its class, if it was refiled.
 fn write_record(rt: &HostRuntime, captured: &Captured) -> Result<(), Failure> {
-    let row = row_of(None, &captured.entry);
+    let row = row_of(captured.volume, &captured.entry);
     write_text(rt, &listed_line(rt.alloc(), &row, ListedHeaders::Unasked)?)?;
     let Some(line) = &captured.refiling else {
         return Ok(());

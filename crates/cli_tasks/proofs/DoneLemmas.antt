@@ -1,22 +1,26 @@
 -- What a work has made of an archive, in the words of a command.
-use Rattle.std.specs.Prelude.{Result, Ok, Err, OnOk, IfOk, IfSome, Option}
+use Rattle.std.specs.Prelude.{Result, Ok, Err, OnOk, IfOk, IfSome, Option, None}
 use Rattle.std.specs.Borrow.{Bor}
 use Rattle.std.proofs.Common.{◌≡◌, ℕ, List, Bool, subst}
 use Rattle.jiff_core.specs.declared.civil.date.Date.{Date}
 use Rattle.class_plan.specs.Plans.{Listing}
 use Rattle.sqlite.specs.Store.{Ghosts}
 use Rattle.sqlite.specs.Held.{Held}
+use Rattle.choice_words.specs.Typed.{first_of_volumes}
 use Rattle.choice_words.specs.declared.choice.Choice.{Choice}
+use Rattle.choice_words.specs.declared.typed.TypedChoice.{TypedChoice}
 use Rattle.record_store.specs.declared.store.Store.{Store}
 use Rattle.cli_choice.specs.declared.questions.Questions.{Questions}
 use Rattle.cli_console.specs.declared.failure.Failure.{Failure}
+use Rattle.command_lines.specs.declared.archives.ChosenTask.{ChosenTask}
+use Rattle.command_lines.specs.declared.archives.ChosenTask.TheVariants as task
 use Rattle.command_lines.specs.declared.archives.Disposal.{Disposal}
 use Rattle.command_lines.specs.declared.archives.approvals.DisposalAsked.{DisposalAsked}
 use Rattle.command_lines.specs.declared.archives.histories.Attribution.{Attribution}
 use Rattle.cli_history.specs.declared.author.Author.{Author}
 use Rattle.cli_changes.specs.Approvals.{IsAsTyped}
 use Rattle.cli_tasks.specs.Changes.{Changes, Disposes, Makes}
-use Rattle.cli_tasks.specs.Commands.{AreAsked, ChangesBy, ChangesChosenBy, DisposesAsTyped, IsTold, ReplacesPlan}
+use Rattle.cli_tasks.specs.Commands.{AreAsked, ChangesBy, ChangesChosenBy, DisposesAsTyped, DoesAsTyped, DoesWith, IsTold, ReplacesPlan}
 use Rattle.cli_tasks.specs.Purposes.{for_disposal, purpose_of}
 use Rattle.cli_tasks.specs.Works.{IsDone}
 use Rattle.cli_tasks.specs.declared.changes.ChosenChange.{ChosenChange}
@@ -66,6 +70,18 @@ module _ {S : Type 0} (g : Ghosts S) (WasThere : Store S → Type 0) (told : Att
     made = (questions, asked, d.made);
   }
   chosen_as chosen choice questions (Err failure) asked d = tt
+
+  -- what is done with a choice that is typed without a volume
+  pub typed_as : (typed : TypedChoice) (choice : Choice) (chosen : ChosenTask) (result : Result (Unit {0}) Failure)
+      → choice ≡ typed.alone → first_of_volumes typed ≡ None → OnOk result (DoesWith g WasThere told choice chosen)
+      → OnOk result (DoesAsTyped g WasThere told typed chosen)
+  typed_as typed choice chosen (Err failure) is none done = tt
+  typed_as typed choice (task.List listing) (Ok x) is none done = tt
+  typed_as typed choice (task.Export target) (Ok x) is none done = tt
+  typed_as typed choice (task.Report day) (Ok x) is none done = tt
+  typed_as typed choice (task.Hold name) (Ok x) is none done = (none, subst (λ c. DoesWith g WasThere told c (task.Hold name)) is done)
+  typed_as typed choice (task.Release name) (Ok x) is none done = (none, subst (λ c. DoesWith g WasThere told c (task.Release name)) is done)
+  typed_as typed choice (task.Refile refiling) (Ok x) is none done = (none, subst (λ c. DoesWith g WasThere told c (task.Refile refiling)) is done)
 
   -- another plan
   pub planned_as : (plan : Listing) (path : Bor (List ℕ)) (is_agreed : Bool) (result : Result (Unit {0}) Failure)

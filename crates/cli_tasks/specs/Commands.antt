@@ -1,11 +1,13 @@
 -- What a command line makes of its archive, where it ends well.
-use Rattle.std.specs.Prelude.{◌≡◌, ℕ, List, Some, option_map, string_bytes, IfSome, Result, Ok}
+use Rattle.std.specs.Prelude.{◌≡◌, ℕ, List, Some, None, option_map, string_bytes, IfSome, Result, Ok}
 use Rattle.std.specs.declared.prelude.LibcRuntime.{LibcRuntime}
 use Rattle.jiff_core.specs.declared.civil.date.Date.{Date}
 use Rattle.class_plan.specs.Plans.{Listing}
 use Rattle.sqlite.specs.Store.{Ghosts}
 use Rattle.sqlite.specs.Held.{Held}
+use Rattle.choice_words.specs.Typed.{first_of_volumes}
 use Rattle.choice_words.specs.declared.choice.Choice.{Choice}
+use Rattle.choice_words.specs.declared.typed.TypedChoice.{TypedChoice}
 use Rattle.cli_choice.specs.Questions.{IsTestTyped, fields_typed}
 use Rattle.cli_choice.specs.declared.holds.Change.{Change}
 use Rattle.cli_choice.specs.declared.holds.Change.TheVariants as hold
@@ -88,9 +90,16 @@ module _ {S : Type 0} (g : Ghosts S) (WasThere : Store S → Type 0) (told : Att
   DoesWith choice (task.Refile refiling) = IsDone WasThere (λ before after. RefilesChosen g told before after refiling.to.now choice)
   DoesWith choice t = Unit {0}
 
+  -- the same of a choice as it is typed: no number has a volume
+  abbrev pub DoesAsTyped : TypedChoice → ChosenTask → Type 0
+  DoesAsTyped typed (task.Hold name) = (first_of_volumes typed ≡ None) × DoesWith typed.alone (task.Hold name)
+  DoesAsTyped typed (task.Release name) = (first_of_volumes typed ≡ None) × DoesWith typed.alone (task.Release name)
+  DoesAsTyped typed (task.Refile refiling) = (first_of_volumes typed ≡ None) × DoesWith typed.alone (task.Refile refiling)
+  DoesAsTyped typed t = Unit {0}
+
   -- WHAT A COMMAND LINE MAKES of the archive at its path, where it changes records, holds or the plan; nothing is said here of the others
   abbrev pub Does : Command → Type 0
-  Does (command.Chosen choice chosen) = DoesWith choice chosen
+  Does (command.Chosen typed chosen) = DoesAsTyped typed chosen
   Does (command.ReleaseAll name is_agreed) = IsDone WasThere (λ before after.
       ChangesAsTold g told before after Ending (λ old new seals. EndsHold g old new well name.now))
   Does (command.ReplacePlan path is_agreed) = IsDone WasThere (λ before after. ReplacesPlan g told before after)

@@ -1,4 +1,5 @@
 pub mod Works
+pub mod Numbers
 pub mod Purposes
 pub mod Changes
 pub mod Commands

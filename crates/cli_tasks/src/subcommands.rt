@@ -1,7 +1,7 @@
 //! What each subcommand does.
 
 ghost use Rattle.std.specs.Prelude.{OnOk};
-ghost use Rattle.cli_tasks.specs.Commands.{ChangesBy, ChangesChosenBy, DisposesAsTyped, Does, DoesWith, ReplacesPlan};
+ghost use Rattle.cli_tasks.specs.Commands.{ChangesBy, ChangesChosenBy, DisposesAsTyped, Does, DoesAsTyped, DoesWith, ReplacesPlan};
 ghost use Rattle.cli_tasks.specs.Works.{IsDone};
 
 use crate::archives::{Archives, Work, lend, settled};
@@ -13,7 +13,9 @@ use crate::histories::{CheckAll, ReadHistory};
 use crate::imports::import;
 use crate::rolling::{Capturing, create_volumes, place_for_capture};
 use crate::titles::give_titles;
+use crate::volume_numbers::{choice_in_file, number_in_file};
 use crate::volumes::{execute_over, is_over_volumes};
+use choice_words::TypedChoice;
 use class_plan::Date;
 use cli_changes::{
     FilingRules, Intake, Timing, check_rules, day_of_disposal, logged, read_message, read_plan,
@@ -252,7 +254,7 @@ fn intake<'a, A: Archives>(
 }
 
 /// Writes the message of a record once the archive is closed, or the fields of its header.
-fn show<A: Archives>(
+pub(crate) fn show<A: Archives>(
     rt: &HostRuntime,
     archives: &A,
     store: &str,
@@ -264,7 +266,7 @@ fn show<A: Archives>(
 }
 
 /// Says why a record is in its class, once the archive is closed.
-fn why<A: Archives>(
+pub(crate) fn why<A: Archives>(
     rt: &HostRuntime,
     archives: &A,
     store: &str,
@@ -348,6 +350,22 @@ fn on_records<'a, A: Archives>(
             change_records(rt, archives, store, &choice, refile, told)
         }
     }
+}
+
+/// The same with a choice as it is typed, in a store that is one file.
+fn on_typed<'a, A: Archives>(
+    rt: &HostRuntime,
+    archives: &A,
+    store: &'a str,
+    typed: TypedChoice<'a>,
+    task: &ChosenTask<'a>,
+    told: &Attribution<'a>,
+) -> Result<(), Failure>
+    ensures { OnOk result (DoesAsTyped A.Kept.Store (A.is_at archives.now store.now) told.now
+        typed.entry task.now) }
+{
+    let choice = choice_in_file(rt, typed)?;
+    on_records(rt, archives, store, choice, task, told)
 }
 
 /// Lists what is due and may be destroyed, or destroys it.
@@ -477,7 +495,9 @@ pub fn execute<A: Archives>(
             telling,
         } => intake(rt, archives, store, maildir, &filing, telling, told),
         Command::Import(asked) => import(rt, archives, store, &asked, told),
-        Command::Show { record, fields } => show(rt, archives, store, record, fields),
+        Command::Show { record, fields } => {
+            show(rt, archives, store, number_in_file(rt, record)?, fields)
+        }
         Command::Copy { new, is_damaged } => copy_to(
             rt,
             archives,
@@ -486,7 +506,10 @@ pub fn execute<A: Archives>(
         ),
         Command::Check { head } => lend(rt, archives, store, CheckAll { head }),
         Command::CheckRules(asked) => lend(rt, archives, store, CheckRules(asked)),
-        Command::Why(asked) => why(rt, archives, store, &asked),
+        Command::Why(asked) => {
+            number_in_file(rt, asked.record)?;
+            why(rt, archives, store, &asked)
+        }
         Command::Dispose(asked) => dispose(rt, archives, store, asked, told),
         Command::ReleaseAll { name, is_agreed } => {
             let whole = Changing::ReleaseAll { name, is_agreed };
@@ -502,6 +525,6 @@ pub fn execute<A: Archives>(
         Command::Certificates { numbers } => {
             lend(rt, archives, store, ReadHistory::Certificates(numbers))
         }
-        Command::Chosen(choice, task) => { on_records(rt, archives, store, choice, &task, told) }
+        Command::Chosen(typed, task) => { on_typed(rt, archives, store, typed, &task, told) }
     }
 }

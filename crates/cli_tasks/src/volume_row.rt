@@ -2,9 +2,11 @@
 
 use crate::archives::{Archives, Work, settled};
 use crate::rolling::{no_volumes, plan_at};
+use crate::volume_numbers::volume_of_record;
 use class_plan::Plan;
 use cli_console::Failure;
 use cli_volumes::{path_of, row_in};
+use command_lines::archives::TypedNumber;
 use std::alloc::{AllocError, Global};
 use tool_texts::{Shown, put};
 
@@ -48,6 +50,16 @@ impl<'a> Volumes<'a> {
         work: W,
     ) -> Result<W::Answer, Failure> {
         self.lend(rt, archives, self.last, work)
+    }
+
+    /// The path of the volume of a record. `Usage` where its number is typed without one, and `BadData` where there is no such volume.
+    pub fn path_of_record(
+        &self,
+        rt: &HostRuntime,
+        record: TypedNumber<'_>,
+    ) -> Result<String, Failure> {
+        let volume = volume_of_record(rt, self.last, record)?;
+        Ok(path_of(rt.alloc(), self.folder, volume)?)
     }
 
     /// The plan of the archive, which is that of its last volume.

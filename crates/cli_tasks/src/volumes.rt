@@ -2,16 +2,17 @@
 
 ghost use Rattle.std.specs.Prelude.{OnOk};
 ghost use Rattle.command_lines.specs.declared.archives.histories.Attribution.{Attribution};
-ghost use Rattle.cli_tasks.specs.Commands.{Does, DoesWith};
+ghost use Rattle.cli_tasks.specs.Commands.{Does, DoesAsTyped};
 
 use crate::archives::Archives;
-use crate::subcommands::{CheckRules, Survey, WritePlan};
+use crate::subcommands::{CheckRules, Survey, WritePlan, show, why};
 use crate::volume_checks::check;
 use crate::volume_lists::list;
 use crate::volume_row::Volumes;
 use cli_console::{Failure, Status};
 use cli_volumes::has_volumes;
-use command_lines::archives::{Choice, ChosenTask, Command};
+use choice_words::TypedChoice;
+use command_lines::archives::{ChosenTask, Command};
 use std::alloc::AllocError;
 
 /// The failure of what is not done over an archive of volumes.
@@ -44,14 +45,14 @@ fn on_volumes<'a, A: Archives>(
     archives: &A,
     folder: &str,
     volumes: Volumes<'_>,
-    choice: &Choice<'a>,
+    typed: &TypedChoice<'a>,
     task: &ChosenTask<'a>,
 ) -> Result<(), Failure>
-    ensures { (told : Attribution) → OnOk result (DoesWith A.Kept.Store
-        (A.is_at archives.now folder.now) told choice.now task.now) }
+    ensures { (told : Attribution) → OnOk result (DoesAsTyped A.Kept.Store
+        (A.is_at archives.now folder.now) told typed.now task.now) }
 {
     match task {
-        ChosenTask::List(listing) => list(rt, archives, volumes, choice, *listing),
+        ChosenTask::List(listing) => list(rt, archives, volumes, typed, *listing),
         ChosenTask::Export(_)
         | ChosenTask::Report { .. }
         | ChosenTask::Hold(_)
@@ -80,17 +81,21 @@ pub fn execute_over<A: Archives>(
         }
         Command::CheckRules(asked) => volumes.lend_last(rt, archives, CheckRules(asked)),
         Command::Check { head } => check(rt, archives, volumes, head),
-        Command::Chosen(choice, task) => {
-            on_volumes(rt, archives, folder, volumes, &choice, &task)
+        Command::Show { record, fields } => {
+            let path = volumes.path_of_record(rt, record)?;
+            show(rt, archives, path.as_str(), record, fields)
         }
+        Command::Why(asked) => {
+            let path = volumes.path_of_record(rt, asked.record)?;
+            why(rt, archives, path.as_str(), &asked)
+        }
+        Command::Chosen(typed, task) => on_volumes(rt, archives, folder, volumes, &typed, &task),
         Command::Create { .. }
         | Command::ReplacePlan { .. }
         | Command::Deliver { .. }
         | Command::Intake { .. }
         | Command::Import(_)
-        | Command::Show { .. }
         | Command::Copy { .. }
-        | Command::Why(_)
         | Command::Dispose(_)
         | Command::ReleaseAll { .. }
         | Command::Holds { .. }

@@ -10,6 +10,7 @@ mod history_words;
 mod holds;
 mod import_words;
 mod imports;
+mod numbers;
 mod question_words;
 mod questions;
 mod refilings;
@@ -22,7 +23,7 @@ pub use approvals::DisposalAsked;
 use approvals::approved_asked;
 use captures::{filing_asked, intake_asked};
 use choice_words::reads_as_numbers;
-pub use choice_words::{Choice, TypedNumbers};
+pub use choice_words::{Choice, TypedChoice, TypedNumbers};
 use clap::ArgMatches;
 use disposals::damage_asked;
 pub use histories::{Attribution, DeedKind, HistoryAsked, HistoryTask, Reasons};
@@ -31,7 +32,8 @@ use holds::{NAME_FORGOTTEN, hold_asked, release_asked};
 use imports::import_asked;
 pub use imports::{Dating, Import};
 use jiff::civil::Date;
-use questions::{choice_asked, conditions_asked, day_asked, numbers_asked, record_asked};
+use numbers::{numbers_alone_asked, record_asked};
+use questions::{choice_asked, conditions_asked, day_asked};
 pub use refilings::Refiling;
 use refilings::refile_asked;
 use sizes::size_asked;
@@ -126,7 +128,7 @@ pub enum Command<'a> {
         titles: &'a str,
     },
     /// Does something with the records of a choice.
-    Chosen(Choice<'a>, ChosenTask<'a>),
+    Chosen(TypedChoice<'a>, ChosenTask<'a>),
 }
 
 /// What is done with the records of a choice.
@@ -237,6 +239,8 @@ pub struct Target<'a> {
 pub struct TypedNumber<'a> {
     /// As it is typed, which names the record where it is refused.
     pub word: &'a str,
+    /// The number of its volume, where it is typed with one.
+    pub volume: Option<u32>,
     pub number: u32,
 }
 
@@ -397,7 +401,7 @@ fn disposal_asked(alloc: Global, asked: &ArgMatches<'_>) -> Result<Disposal, NoC
         day: day_asked(alloc, asked, &words::DAY)?,
         destroys: has_flag(asked, words::YES),
         is_damaged: damage_asked(alloc, asked)?,
-        numbers: numbers_asked(alloc, asked)?,
+        numbers: numbers_alone_asked(alloc, asked)?,
     })
 }
 
@@ -467,7 +471,7 @@ fn reading_asked<'a>(
         "check" => check_asked(alloc, asked)?,
         "history" => Command::History(history_asked(alloc, asked)?),
         "certificates" => Command::Certificates {
-            numbers: numbers_asked(alloc, asked)?,
+            numbers: numbers_alone_asked(alloc, asked)?,
         },
         "holds" => Command::Holds {
             is_json: has_flag(asked, words::JSON),

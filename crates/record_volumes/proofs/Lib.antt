@@ -1,2 +1,3 @@
+pub mod JoiningLaws
 pub mod RollingLaws
 mod VolumesRows

@@ -1,6 +1,7 @@
 //! What a command line asks of a history, and what it tells for one.
 
-use super::questions::{day_asked, numbers_asked};
+use super::numbers::numbers_alone_asked;
+use super::questions::day_asked;
 use super::words::JSON;
 use super::{Command, history_words as words};
 use crate::reading::{NoCommand, has_flag, value_of};
@@ -198,7 +199,7 @@ fn kind_asked(alloc: Global, asked: &ArgMatches<'_>) -> Result<Option<DeedKind>,
 /// Which events are asked for.
 fn events_asked<'a>(alloc: Global, asked: &ArgMatches<'a>) -> Result<HistoryAsked<'a>, NoCommand> {
     Ok(HistoryAsked {
-        numbers: numbers_asked(alloc, asked)?,
+        numbers: numbers_alone_asked(alloc, asked)?,
         since: day_asked(alloc, asked, &words::EVENTS_SINCE)?,
         by: value_of(asked, words::BY),
         kind: kind_asked(alloc, asked)?,

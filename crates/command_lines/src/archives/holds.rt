@@ -1,9 +1,9 @@
 //! What a command line asks of holds.
 
-use super::questions::{conditions_asked, numbers_asked};
+use super::questions::typed_of;
 use super::{ChosenTask, Command, judge_place, words};
 use crate::reading::{NoCommand, has_flag, required};
-use choice_words::Choice;
+use choice_words::TypedChoice;
 use clap::ArgMatches;
 use session_words::is_name;
 use std::alloc::{AllocError, Global};
@@ -29,20 +29,13 @@ fn new_name_asked<'a>(alloc: Global, asked: &ArgMatches<'a>) -> Result<&'a str, 
     Ok(name)
 }
 
-/// What is typed of records, from the first one on.
-pub(super) fn typed_of<'a>(alloc: Global, asked: &ArgMatches<'a>) -> Result<Choice<'a>, NoCommand> {
-    let mut choice = conditions_asked(alloc, asked)?;
-    choice.numbers = numbers_asked(alloc, asked)?;
-    Ok(choice)
-}
-
 /// Which records the hold of a name is about. They must be named; if they are not, `missing` says how they are.
 fn held_asked<'a>(
     alloc: Global,
     asked: &ArgMatches<'a>,
     name: &str,
     missing: &str,
-) -> Result<Choice<'a>, NoCommand> {
+) -> Result<TypedChoice<'a>, NoCommand> {
     let choice = typed_of(alloc, asked)?;
     if choice.is_empty() {
         return Err(NoCommand::wrong(alloc, name, missing));

@@ -1,66 +1,13 @@
 //! What a command line asks of records: their numbers, and conditions that they meet.
 
-use super::{TypedNumber, question_words as words};
-use crate::reading::{NoCommand, day_of, has_flag, required, seen, value_of, values_of};
+use super::numbers::{Numbers, first_asked, numbers_asked};
+use super::question_words as words;
+use crate::reading::{NoCommand, day_of, has_flag, value_of};
 use crate::table::Word;
-use choice_words::{Choice, TypedNumbers, read_numbers, reversed_range};
+use choice_words::{Choice, TypedChoice, VolumeNumber};
 use clap::ArgMatches;
 use jiff::civil::Date;
-use session_words::read_number;
-use std::alloc::{AllocError, Global};
-
-/// The number of a record, as it is typed: one of 32 bits, in decimal digits without a leading zero.
-fn number_of(alloc: Global, word: &str, reason: &str) -> Result<u32, NoCommand> {
-    match read_number(word.as_bytes(), u64::from(u32::MAX)) {
-        Some(number) => Ok(number as u32),
-        None => Err(NoCommand::wrong(alloc, word, reason)),
-    }
-}
-
-/// The number of a record, which must be given.
-pub(super) fn record_asked<'a>(
-    alloc: Global,
-    asked: &ArgMatches<'a>,
-) -> Result<TypedNumber<'a>, NoCommand> {
-    let word = required(asked, words::NUMBER)?;
-    Ok(TypedNumber {
-        word,
-        number: number_of(
-            alloc,
-            word,
-            "not a number of a record, as 3; list prints the numbers",
-        )?,
-    })
-}
-
-/// Why a word is no numbers of records. Of a range that goes backwards it says how it is typed.
-fn no_numbers(alloc: Global, word: &str) -> Result<String, AllocError> {
-    match reversed_range(word.as_bytes()) {
-        Some(TypedNumbers::Range { first, last }) => {
-            format!(in alloc; "{word}: a range begins with its smaller number; type {first}-{last}")
-        }
-        _ => format!(in alloc;
-            "{}: neither a number of a record, as 3, nor a range of numbers, as 5-9",
-            seen(word)
-        ),
-    }
-}
-
-/// The numbers of records that are given, and the ranges of them.
-pub(super) fn numbers_asked(
-    alloc: Global,
-    asked: &ArgMatches<'_>,
-) -> Result<Vec<TypedNumbers>, NoCommand> {
-    let typed = values_of(asked, words::NUMBERS).unwrap_or(&[]);
-    let mut numbers = Vec::with_capacity(alloc, typed.len())?;
-    for word in typed {
-        let Some(read) = read_numbers(word.as_bytes()) else {
-            return Err(NoCommand::Wrong(no_numbers(alloc, *word)?));
-        };
-        numbers.push(read)?;
-    }
-    Ok(numbers)
-}
+use std::alloc::Global;
 
 /// A day, where it is given.
 pub(super) fn day_asked(
@@ -104,29 +51,14 @@ fn days_asked(
     Ok((since, until))
 }
 
-/// The number of the first record that is looked at.
-fn first_asked(alloc: Global, asked: &ArgMatches<'_>) -> Result<u32, NoCommand> {
-    match value_of(asked, words::FROM) {
-        Some(word) => number_of(
-            alloc,
-            word,
-            "not a number of a record, from which on --from looks; a sender is typed after --sender",
-        ),
-        None => Ok(1),
-    }
-}
-
 /// The text that is looked for, where it is given: without the white space at its ends, which no one sees who types it.
 fn text_asked<'a>(asked: &ArgMatches<'a>, word: Word) -> Option<&'a str> {
     let text = value_of(asked, word)?;
     Some(text.trim())
 }
 
-/// The conditions of a choice, without numbers.
-pub(super) fn conditions_asked<'a>(
-    alloc: Global,
-    asked: &ArgMatches<'a>,
-) -> Result<Choice<'a>, NoCommand> {
+/// The conditions that are given.
+fn conditions_of<'a>(alloc: Global, asked: &ArgMatches<'a>) -> Result<Choice<'a>, NoCommand> {
     let (since, until) = days_asked(alloc, asked)?;
     Ok(Choice {
         numbers: Vec::new(alloc),
@@ -145,13 +77,48 @@ pub(super) fn conditions_asked<'a>(
     })
 }
 
+/// The conditions of a choice, without numbers.
+pub(super) fn conditions_asked<'a>(
+    alloc: Global,
+    asked: &ArgMatches<'a>,
+) -> Result<TypedChoice<'a>, NoCommand> {
+    Ok(TypedChoice {
+        alone: conditions_of(alloc, asked)?,
+        of_volumes: Vec::new(alloc),
+        from: None,
+    })
+}
+
+/// Which records are chosen, from the first one on.
+pub(super) fn typed_of<'a>(
+    alloc: Global,
+    asked: &ArgMatches<'a>,
+) -> Result<TypedChoice<'a>, NoCommand> {
+    let conditions = conditions_of(alloc, asked)?;
+    let Numbers { alone, of_volumes } = numbers_asked(alloc, asked)?;
+    Ok(TypedChoice {
+        alone: Choice {
+            numbers: alone,
+            ..conditions
+        },
+        of_volumes,
+        from: None,
+    })
+}
+
 /// Which records are chosen, from the first that is looked at on.
 pub(super) fn choice_asked<'a>(
     alloc: Global,
     asked: &ArgMatches<'a>,
-) -> Result<Choice<'a>, NoCommand> {
-    let mut choice = conditions_asked(alloc, asked)?;
-    choice.numbers = numbers_asked(alloc, asked)?;
-    choice.from = first_asked(alloc, asked)?;
+) -> Result<TypedChoice<'a>, NoCommand> {
+    let mut choice = typed_of(alloc, asked)?;
+    let Some(first) = first_asked(alloc, asked)? else {
+        return Ok(choice);
+    };
+    let number = first.number;
+    match first.volume {
+        Some(volume) => choice.from = Some(VolumeNumber { volume, number }),
+        None => choice.alone.from = number,
+    }
     Ok(choice)
 }

@@ -1,6 +1,7 @@
 //! What a command line asks of a refiling.
 
-use super::holds::{refusal, typed_of};
+use super::holds::refusal;
+use super::questions::typed_of;
 use super::{ChosenTask, Command, class_words, history_words, words};
 use crate::reading::{NoCommand, has_flag, required};
 use clap::ArgMatches;

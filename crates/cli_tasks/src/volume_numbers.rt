@@ -1,0 +1,130 @@
+//! Numbers of records that are typed with a volume, or without: which of the two is right, the archive says.
+
+ghost use Rattle.std.specs.Prelude.{◌≡◌, ◌≤◌, ℕ, IfErr, IfOk, None, OnOk, Some};
+ghost use Rattle.choice_words.specs.Typed.{first_above, first_alone, first_of_volumes};
+ghost use Rattle.cli_console.specs.Failures.{IsToldAs};
+ghost use Rattle.cli_console.specs.declared.failure.Status.TheVariants.{BadData, Usage};
+ghost use Rattle.cli_tasks.specs.Numbers.{IsRefusedIn};
+
+use choice_words::{TypedChoice, VolumeNumbers};
+use cli_console::{Failure, Status, put_typed};
+use command_lines::archives::{Choice, TypedNumber, TypedNumbers};
+use std::alloc::{AllocError, Global};
+use tool_texts::{Shown, put};
+
+/// Whether numbers are all that a volume can have.
+fn are_all(numbers: TypedNumbers) -> bool {
+    match numbers {
+        TypedNumbers::One(_) => false,
+        TypedNumbers::Range { first, last } => first == 1 && last == u32::MAX,
+    }
+}
+
+/// Numbers with their volume, as they are typed.
+fn typed_in(alloc: Global, typed: VolumeNumbers) -> Result<Shown, AllocError> {
+    let mut text = Shown::new(alloc);
+    if are_all(typed.numbers) {
+        put!(text; value(&typed.volume) "/")?;
+    } else {
+        put_typed(&mut text, Some(typed.volume), typed.numbers)?;
+    }
+    Ok(text)
+}
+
+/// That a store in one file has no volumes, and what is typed instead.
+fn no_volumes_words(alloc: Global, typed: VolumeNumbers) -> Result<Shown, AllocError> {
+    let mut text = typed_in(alloc, typed)?;
+    text.words(": this store is one file, in which a record has no volume")?;
+    if !are_all(typed.numbers) {
+        text.words("; type ")?;
+        put_typed(&mut text, None, typed.numbers)?;
+    }
+    Ok(text)
+}
+
+/// That numbers have their volume in an archive of volumes.
+fn no_number_words(alloc: Global, typed: TypedNumbers) -> Result<Shown, AllocError> {
+    let mut text = Shown::new(alloc);
+    put_typed(&mut text, None, typed)?;
+    text.words(": in an archive of volumes a number has its volume, as 3/17")?;
+    Ok(text)
+}
+
+/// That an archive has no volume of a number.
+fn no_volume_words(alloc: Global, typed: VolumeNumbers, last: u32) -> Result<Shown, AllocError> {
+    let mut text = typed_in(alloc, typed)?;
+    put!(text; ": no volume " value(&typed.volume) " in the archive; its last one is " value(&last))?;
+    Ok(text)
+}
+
+/// A choice that is typed, in a store that is one file. `Usage` where a number is typed with a volume.
+pub fn choice_in_file<'a>(rt: &HostRuntime, typed: TypedChoice<'a>) -> Result<Choice<'a>, Failure>
+    ensures alone { IfOk result (λ c. c ≡ typed.entry.alone) }
+    ensures none { OnOk result (first_of_volumes typed.entry ≡ None) }
+    ensures refused { IfErr result (IsToldAs Usage) }
+{
+    match typed.first_of_volumes() {
+        Some(numbers) => Err(Failure::shown(Status::Usage, no_volumes_words(rt.alloc(), numbers))),
+        None => {
+            let TypedChoice { alone, .. } = typed;
+            Ok(alone)
+        }
+    }
+}
+
+/// The number of a record of a store that is one file. `Usage` where it is typed with a volume.
+pub fn number_in_file<'a>(
+    rt: &HostRuntime,
+    typed: TypedNumber<'a>,
+) -> Result<TypedNumber<'a>, Failure>
+    ensures same { IfOk result (λ t. t ≡ typed.entry) }
+    ensures none { OnOk result (typed.entry.volume ≡ None) }
+    ensures refused { IfErr result (IsToldAs Usage) }
+{
+    let Some(volume) = typed.volume else {
+        return Ok(typed);
+    };
+    let numbers = VolumeNumbers {
+        volume,
+        numbers: TypedNumbers::One(typed.number),
+    };
+    Err(Failure::shown(Status::Usage, no_volumes_words(rt.alloc(), numbers)))
+}
+
+/// Finds that each number of a choice that is typed has its volume, which is none after the last one of an archive. `Usage` where
+/// one has no volume, and `BadData` where there is no such volume.
+pub fn judge_numbers(rt: &HostRuntime, last: u32, typed: &TypedChoice<'_>) -> Result<(), Failure>
+    ensures none { OnOk result (first_alone typed.now ≡ None) }
+    ensures within { OnOk result (first_above last typed.now ≡ None) }
+    ensures refused { IfErr result (IsRefusedIn (first_alone typed.now)) }
+{
+    if let Some(numbers) = typed.first_alone() {
+        return Err(Failure::shown(Status::Usage, no_number_words(rt.alloc(), numbers)));
+    }
+    match typed.first_above(last) {
+        Some(numbers) => Err(Failure::shown(
+            Status::BadData,
+            no_volume_words(rt.alloc(), numbers, last),
+        )),
+        None => Ok(()),
+    }
+}
+
+/// The volume of a record, which is none after the last one of an archive. `Usage` where its number is typed without one, and
+/// `BadData` where there is no such volume.
+pub fn volume_of_record(rt: &HostRuntime, last: u32, typed: TypedNumber<'_>) -> Result<u32, Failure>
+    ensures typed { IfOk result (λ v. typed.entry.volume ≡ Some v) }
+    ensures within { IfOk result (λ v. v ≤ last) }
+    ensures without { typed.entry.volume ≡ None → IfErr result (IsToldAs Usage) }
+    ensures above { (v : ℕ) → typed.entry.volume ≡ Some v → IfErr result (IsToldAs BadData) }
+{
+    let numbers = TypedNumbers::One(typed.number);
+    let Some(volume) = typed.volume else {
+        return Err(Failure::shown(Status::Usage, no_number_words(rt.alloc(), numbers)));
+    };
+    if volume <= last {
+        return Ok(volume);
+    }
+    let numbers = VolumeNumbers { volume, numbers };
+    Err(Failure::shown(Status::BadData, no_volume_words(rt.alloc(), numbers, last)))
+}

@@ -1,0 +1,164 @@
+//! The numbers of records that a command line has, with the number of their volume or without.
+
+ghost use Rattle.std.specs.Prelude.{◌≡◌, IfOk};
+ghost use Rattle.command_lines.specs.Numbers.{AddsWord, AreTyped, number_typed};
+
+use super::{TypedNumber, question_words as words};
+use crate::reading::{NoCommand, required, seen, value_of, values_of};
+use choice_words::{
+    TypedNumbers, VolumeNumber, VolumeNumbers, read_numbers, read_volume_number,
+    read_volume_numbers, reversed_range, reversed_volume_range,
+};
+use clap::ArgMatches;
+use session_words::read_number;
+use std::alloc::{AllocError, Global};
+
+/// The number of a record that a word is, with that of its volume, if it has one: `17`, of 32 bits, in decimal digits without a
+/// leading zero, or `3/17`. None for any other word.
+fn volume_and_number(word: &[u8]) -> Option<(Option<u32>, u32)>
+    ensures { result ≡ number_typed word.now }
+{
+    if let Some(VolumeNumber { volume, number }) = read_volume_number(word) {
+        return Some((Some(volume), number));
+    }
+    match read_number(word, u64::from(u32::MAX)) {
+        Some(number) => Some((None, number as u32)),
+        None => None,
+    }
+}
+
+/// The number of a record, as it is typed. Any other word is refused for a reason.
+fn number_of<'a>(alloc: Global, word: &'a str, reason: &str) -> Result<TypedNumber<'a>, NoCommand> {
+    match volume_and_number(word.as_bytes()) {
+        Some((volume, number)) => Ok(TypedNumber {
+            word,
+            volume,
+            number,
+        }),
+        None => Err(NoCommand::wrong(alloc, word, reason)),
+    }
+}
+
+/// The number of a record, which must be given.
+pub(super) fn record_asked<'a>(
+    alloc: Global,
+    asked: &ArgMatches<'a>,
+) -> Result<TypedNumber<'a>, NoCommand> {
+    number_of(
+        alloc,
+        required(asked, words::NUMBER)?,
+        "not a number of a record, as 3; list prints the numbers",
+    )
+}
+
+/// The number of the first record that is looked at, where it is given.
+pub(super) fn first_asked<'a>(
+    alloc: Global,
+    asked: &ArgMatches<'a>,
+) -> Result<Option<TypedNumber<'a>>, NoCommand> {
+    let Some(word) = value_of(asked, words::FROM) else {
+        return Ok(None);
+    };
+    let reason =
+        "not a number of a record, from which on --from looks; a sender is typed after --sender";
+    Ok(Some(number_of(alloc, word, reason)?))
+}
+
+/// Why a word is no numbers of records. Of a range that goes backwards it says how it is typed.
+fn no_numbers(alloc: Global, word: &str) -> Result<String, AllocError> {
+    match reversed_range(word.as_bytes()) {
+        Some(TypedNumbers::Range { first, last }) => {
+            format!(in alloc; "{word}: a range begins with its smaller number; type {first}-{last}")
+        }
+        _ => format!(in alloc;
+            "{}: neither a number of a record, as 3, nor a range of numbers, as 5-9",
+            seen(word)
+        ),
+    }
+}
+
+/// The same of a word that may have the number of a volume before them.
+fn no_numbers_of_volumes(alloc: Global, word: &str) -> Result<String, AllocError> {
+    let Some(VolumeNumbers { volume, numbers }) = reversed_volume_range(word.as_bytes()) else {
+        return no_numbers(alloc, word);
+    };
+    match numbers {
+        TypedNumbers::Range { first, last } => format!(in alloc;
+            "{word}: a range begins with its smaller number; type {volume}/{first}-{last}"
+        ),
+        TypedNumbers::One(_) => no_numbers(alloc, word),
+    }
+}
+
+/// Numbers of records, as they are typed.
+#[derive(Drop)]
+pub struct Numbers {
+    /// Those without a volume.
+    pub alone: Vec<TypedNumbers>,
+    /// Those with one.
+    pub of_volumes: Vec<VolumeNumbers>,
+}
+
+impl Numbers {
+    /// Adds the numbers that a word is. Answers whether it is any.
+    fn add(&mut self, word: &[u8]) -> Result<bool, AllocError>
+        ensures { IfOk result (λ is_any. AddsWord word.now self.old self.new is_any) }
+    {
+        if let Some(numbers) = read_volume_numbers(word) {
+            self.of_volumes.push(numbers)?;
+            return Ok(true);
+        }
+        let Some(numbers) = read_numbers(word) else {
+            return Ok(false);
+        };
+        self.alone.push(numbers)?;
+        Ok(true)
+    }
+}
+
+/// The numbers that words are. A word that is none is refused.
+fn numbers_of(alloc: Global, typed: &[&str]) -> Result<Numbers, NoCommand>
+    ensures { IfOk result (AreTyped typed.now) }
+{
+    let mut numbers = Numbers {
+        alone: Vec::new(alloc),
+        of_volumes: Vec::new(alloc),
+    };
+    for word in typed {
+        if !numbers.add(word.as_bytes())? {
+            return Err(NoCommand::Wrong(no_numbers_of_volumes(alloc, *word)?));
+        }
+    }
+    Ok(numbers)
+}
+
+/// The numbers of records that are given, and the ranges of them, with a volume or without.
+pub(super) fn numbers_asked(alloc: Global, asked: &ArgMatches<'_>) -> Result<Numbers, NoCommand> {
+    numbers_of(alloc, values_of(asked, words::NUMBERS).unwrap_or(&[]))
+}
+
+/// Why a word is no numbers without a volume.
+fn not_alone(alloc: Global, word: &str) -> Result<String, AllocError> {
+    if read_volume_numbers(word.as_bytes()).is_none() {
+        return no_numbers(alloc, word);
+    }
+    format!(in alloc;
+        "{word}: a number with a volume, which is not taken here; name the volume by --store, as 0001.db in its folder, and type the number alone"
+    )
+}
+
+/// The numbers of records that are given, and the ranges of them, where a volume is not taken.
+pub(super) fn numbers_alone_asked(
+    alloc: Global,
+    asked: &ArgMatches<'_>,
+) -> Result<Vec<TypedNumbers>, NoCommand> {
+    let typed = values_of(asked, words::NUMBERS).unwrap_or(&[]);
+    let mut numbers = Vec::with_capacity(alloc, typed.len())?;
+    for word in typed {
+        let Some(read) = read_numbers(word.as_bytes()) else {
+            return Err(NoCommand::Wrong(not_alone(alloc, *word)?));
+        };
+        numbers.push(read)?;
+    }
+    Ok(numbers)
+}
