@@ -65,7 +65,7 @@ pub use approved::with_approved;
 pub use certificates::{Certificates, Printer, StandardOutput};
 pub use deliver::{Delivered, deliver_to, read_message, report_delivery, undecoded_in};
 pub use dispose::{day_of_disposal, dispose_by};
-pub use holds::change_holds;
+pub use holds::{HoldChange, HoldTally, change_holds, end_holds, hold_found, is_held_by};
 pub use import::{MailImport, import_mail};
 pub use intake::{Intake, take_new};
 pub use keeping::keeps_less;

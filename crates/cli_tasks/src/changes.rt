@@ -1,10 +1,17 @@
 //! What is changed in an archive, by whom and for what reason.
 
-ghost use Rattle.std.specs.Prelude.{◌≡◌, None, true, false, IfOk, OnOk};
+ghost use Rattle.std.specs.Prelude.{◌≡◌, None, true, false, IfOk, OnOk, Result};
+ghost use Rattle.std.specs.declared.prelude.LibcRuntime.{LibcRuntime};
+ghost use Rattle.class_plan.specs.Plans.{Listing};
+ghost use Rattle.sqlite.specs.Store.{Ghosts};
+ghost use Rattle.record_ledger.specs.declared.ledger.Ledger.{Ledger};
+ghost use Rattle.cli_console.specs.declared.failure.Failure.{Failure};
 ghost use Rattle.cli_history.specs.Reasons.{changes as is_changed_for};
 ghost use Rattle.cli_history.specs.Walks.{Glances};
+ghost use Rattle.cli_history.specs.declared.opening.Purpose.{Purpose};
+ghost use Rattle.cli_history.specs.declared.seals.Seals.{Seals};
 ghost use Rattle.cli_tasks.specs.Changes.{Changes, ChangesChosen, Makes};
-ghost use Rattle.cli_tasks.specs.Purposes.{for_plan, purpose_of as purpose_of_change};
+ghost use Rattle.cli_tasks.specs.Purposes.{for_hold, for_plan, purpose_of as purpose_of_change};
 
 use crate::archives::Work;
 use class_plan::{Date, Plan};
@@ -21,6 +28,32 @@ use record_history::Filing;
 use record_store::Store;
 use sqlite::{Alter, Connection};
 use std::alloc::{AllocError, Global};
+
+/// What is done with the ledger of an archive.
+pub trait LedgerWork: Drop {
+    /// What it comes to.
+    type Answer: Drop;
+
+    /// For what the ledger of an archive with a plan is opened.
+    ghost purpose_by: { Self → Listing → Purpose };
+
+    /// What it makes of a ledger, by what it comes to and the seals that were read.
+    ghost makes: { (S : Type 0) → Ghosts S → Self → (old new : Ledger S LibcRuntime)
+        → Result Self.Answer Failure → Seals → Type 0 };
+
+    /// For what the ledger of an archive with a plan is opened.
+    fn purpose(&self, alloc: Global, present: &Plan) -> Result<Purpose, AllocError>
+        ensures { IfOk result (λ p. p ≡ purpose_by self.now present.now) };
+
+    /// Does it.
+    fn perform<S: Alter>(
+        self,
+        rt: &HostRuntime,
+        ledger: &mut StoreLedger<'_, S>,
+        seals: &Seals,
+    ) -> Result<Self::Answer, Failure>
+        ensures { makes S S.Store self ledger.old ledger.new result seals.now };
+}
 
 /// What is changed of the records of a choice.
 #[derive(Clone, Copy)]
@@ -66,6 +99,16 @@ fn purpose_of(alloc: Global, present: &Plan, new: &Plan) -> Result<Purpose, Allo
     }
 }
 
+/// For what a ledger is opened in which a hold is placed, or ended.
+pub fn purpose_of_hold(change: Change) -> Purpose
+    ensures { result ≡ for_hold change }
+{
+    match change {
+        Change::Place => Purpose::Keeping,
+        Change::End => Purpose::Ending,
+    }
+}
+
 /// Changes the records of a choice.
 fn change_chosen<S: Alter>(
     rt: &HostRuntime,
@@ -85,33 +128,33 @@ fn change_chosen<S: Alter>(
     }
 }
 
-impl Changing<'_, '_> {
-    /// For what the ledger of an archive with a plan is opened.
-    fn purpose(&self, alloc: Global, present: &Plan) -> Result<Purpose, AllocError>
-        ensures { IfOk result (λ p. p ≡ purpose_of_change self.now present.now) }
-    {
+impl LedgerWork for Changing<'_, '_> {
+    type Answer = ();
+
+    ghost purpose_by = { purpose_of_change };
+
+    ghost makes = { λ S g it old new done seals. Makes g old new done it seals };
+
+    fn purpose(&self, alloc: Global, present: &Plan) -> Result<Purpose, AllocError> {
         match self {
             Changing::ReplacePlan { plan, .. } => purpose_of(alloc, present, plan),
             Changing::Dispose(asked, _) if !asked.destroys => Ok(Purpose::Listing),
             Changing::Chosen {
-                change: ChosenChange::Hold(Change::Place, _),
+                change: ChosenChange::Hold(change, _),
                 ..
-            } => Ok(Purpose::Keeping),
+            } => Ok(purpose_of_hold(*change)),
             Changing::Dispose(..) | Changing::Chosen { .. } | Changing::ReleaseAll { .. } => Ok(
                 Purpose::Ending,
             ),
         }
     }
 
-    /// Does it.
     fn perform<S: Alter>(
         self,
         rt: &HostRuntime,
         ledger: &mut StoreLedger<'_, S>,
         seals: &Seals,
-    ) -> Result<(), Failure>
-        ensures { Makes S.Store ledger.old ledger.new result self.entry seals.now }
-    {
+    ) -> Result<(), Failure> {
         match self {
             Changing::ReplacePlan {
                 plan,
@@ -149,25 +192,25 @@ fn seals_for_list<S: Alter>(
     }
 }
 
-/// A change of an archive, and who makes it.
+/// What is done with the ledger of an archive, and who does it.
 #[derive(Drop)]
-pub struct ChangeBy<'a, 't> {
+pub struct ChangeBy<'a, C> {
     pub author: Author<'a>,
-    pub change: Changing<'a, 't>,
+    pub change: C,
 }
 
-impl Work for ChangeBy<'_, '_> {
-    type Answer = ();
+impl<C: LedgerWork> Work for ChangeBy<'_, C> {
+    type Answer = C::Answer;
 
     ghost does = { λ S g it before done after. OnOk done
-        (Changes g (purpose_of_change it.change before.plan) it.author before
-        (λ old new seals. Makes g old new done it.change seals) after) };
+        (Changes g (C.purpose_by it.change before.plan) it.author before
+        (λ old new seals. C.makes S g it.change old new done seals) after) };
 
     fn work<S: Alter>(
         self,
         rt: &HostRuntime,
         archive: Store<S>,
-    ) -> (Connection<S>, Result<(), Failure>) {
+    ) -> (Connection<S>, Result<C::Answer, Failure>) {
         let ChangeBy { author, change } = self;
         let purpose = match change.purpose(rt.alloc(), archive.plan()) {
             Ok(purpose) => purpose,

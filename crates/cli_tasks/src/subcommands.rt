@@ -2,6 +2,7 @@
 
 ghost use Rattle.std.specs.Prelude.{OnOk};
 ghost use Rattle.cli_tasks.specs.Commands.{ChangesBy, ChangesChosenBy, DisposesAsTyped, Does, DoesAsTyped, DoesWith, ReplacesPlan};
+ghost use Rattle.cli_tasks.specs.Volumes.{DoesThere};
 ghost use Rattle.cli_tasks.specs.Works.{IsDone};
 
 use crate::archives::{Archives, Work, lend, settled};
@@ -461,25 +462,18 @@ fn history<A: Archives>(
     }
 }
 
-/// Does what a command line asks for.
+/// Does what a command line asks for with the archive of the store at its path.
 #[tactic(auto, using(crate::proofs::DoneLemmas::nothing_said))]
-pub fn execute<A: Archives>(
-    rt: &HostRuntime,
+fn execute_at<'a, A: Archives>(
+    rt: &'a HostRuntime,
     archives: &A,
-    line: CommandLine<'_>,
+    store: &'a str,
+    command: Command<'a>,
+    told: &Attribution<'a>,
 ) -> Result<(), Failure>
-    ensures { OnOk result (Does A.Kept.Store (A.is_at archives.now line.entry.store.now)
-        line.entry.attribution line.entry.command) }
+    ensures { OnOk result (Does A.Kept.Store (A.is_at archives.now store.now) told.now
+        command.entry) }
 {
-    let CommandLine {
-        store,
-        attribution,
-        command,
-    } = line;
-    let told = &attribution;
-    if is_over_volumes(rt, store, &command)? {
-        return execute_over(rt, archives, store, command);
-    }
     match command {
         Command::Create { plan, size } => create(rt, archives, store, plan, size, told),
         Command::WritePlan => lend(rt, archives, store, WritePlan),
@@ -527,4 +521,24 @@ pub fn execute<A: Archives>(
         }
         Command::Chosen(typed, task) => { on_typed(rt, archives, store, typed, &task, told) }
     }
+}
+
+/// Does what a command line asks for, with the archive at its path or over the volumes of the one in the folder there.
+pub fn execute<A: Archives>(
+    rt: &HostRuntime,
+    archives: &A,
+    line: CommandLine<'_>,
+) -> Result<(), Failure>
+    ensures { OnOk result (DoesThere A.Kept.Store (A.is_at archives.now) line.entry.store.now
+        line.entry.attribution line.entry.command) }
+{
+    let CommandLine {
+        store,
+        attribution,
+        command,
+    } = line;
+    if is_over_volumes(rt, store, &command)? {
+        return execute_over(rt, archives, store, command, &attribution);
+    }
+    execute_at(rt, archives, store, command, &attribution)
 }
