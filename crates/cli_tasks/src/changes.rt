@@ -16,8 +16,9 @@ ghost use Rattle.cli_tasks.specs.Purposes.{for_hold, for_plan, purpose_of as pur
 use crate::archives::Work;
 use class_plan::{Date, Plan};
 use cli_changes::{
-    Certificates, Delivered, FilingRules, Intake, NamedRules, Timing, change_holds, deliver_to,
-    dispose_by, keeps_less, refile_records, release_all, replace_plan, take_new,
+    Certificates, Delivered, FilingRules, Intake, NamedRules, Place, Round, Rounds, Timing,
+    change_holds, deliver_to, dispose_by, keeps_less, refile_records, release_all, replace_plan,
+    take_new,
 };
 use cli_choice::{Change, Questions};
 use cli_console::Failure;
@@ -285,22 +286,29 @@ impl Work for DeliverOne<'_> {
     }
 }
 
-/// Captures the new messages of a Maildir.
+/// Captures the new messages of a Maildir, in a volume until it is full.
 #[derive(Drop)]
 pub struct TakeNew<'a> {
     pub author: Author<'a>,
     pub job: Intake<'a>,
+    pub rounds: Rounds,
+    pub place: Place,
 }
 
-impl Work for TakeNew<'_> {
-    type Answer = ();
+impl<'a> Work for TakeNew<'a> {
+    type Answer = Round<'a>;
 
     fn work<S: Alter>(
         self,
         rt: &HostRuntime,
         archive: Store<S>,
-    ) -> (Connection<S>, Result<(), Failure>) {
-        let TakeNew { author, job } = self;
+    ) -> (Connection<S>, Result<Round<'a>, Failure>) {
+        let TakeNew {
+            author,
+            job,
+            rounds,
+            place,
+        } = self;
         let named = match job.rules().named(rt.alloc()) {
             Ok(named) => named,
             Err(AllocError) => return (archive.into_connection(), Err(Failure::NoMemory)),
@@ -308,9 +316,12 @@ impl Work for TakeNew<'_> {
         let filing = filing_of(&named);
         let ledger = match open_ledger(rt, archive, &author, filing, Purpose::Capturing) {
             Ok(ledger) => ledger,
-            Err((archive, failure)) => return (archive.into_connection(), Err(failure)),
+            Err((archive, failure)) => {
+                let failure = failure.in_volume(rt.alloc(), author.volume());
+                return (archive.into_connection(), Err(failure));
+            }
         };
-        let (ledger, done) = take_new(rt, ledger, job);
+        let (ledger, done) = take_new(rt, ledger, job, rounds, place);
         (ledger.into_store().into_connection(), done)
     }
 }

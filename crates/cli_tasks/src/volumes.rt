@@ -26,15 +26,15 @@ fn not_over(rt: &HostRuntime, folder: &str) -> Failure {
     )
 }
 
-/// Whether a command on the store at a path is one on the volumes of a folder, which `execute_over` does. A message is delivered into
-/// one of them as into any store, and `create` makes them.
+/// Whether a command on the store at a path is one on the volumes of a folder, which `execute_over` does. Messages are captured in
+/// them as in any store, and `create` makes them.
 pub fn is_over_volumes(
     rt: &HostRuntime,
     store: &str,
     command: &Command<'_>,
 ) -> Result<bool, AllocError> {
     match command {
-        Command::Create { .. } | Command::Deliver { .. } => Ok(false),
+        Command::Create { .. } | Command::Deliver { .. } | Command::Intake { .. } => Ok(false),
         _ => has_volumes(rt, store),
     }
 }
