@@ -4,4 +4,3 @@ mod Rows
 pub mod Texts
 pub mod TypedVolumeLaws
 mod VolumeRows
-mod FaultLemmas

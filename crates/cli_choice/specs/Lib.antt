@@ -4,4 +4,3 @@ pub mod Holds
 pub mod Disposals
 pub mod Headers
 pub mod TypedVolumes
-pub mod Faults

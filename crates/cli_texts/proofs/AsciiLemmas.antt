@@ -1,7 +1,6 @@
 -- Texts of JSON have printable characters of ASCII alone.
 use Rattle.std.proofs.Common.{◌≡◌, ◌∙◌, ap, refl, inl, inr, ℕ, zero, suc, ◌<◌, ◌/◌, ◌%◌, Bool, true, false, ◌&&◌}
-use Rattle.std.proofs.Common.{List, [], ◌∷◌, ◌++◌, flat_map, chars, string_bytes, arith, IfOk, Result, Ok, Err, String}
-use Rattle.std.specs.declared.alloc.AllocError.{AllocError}
+use Rattle.std.proofs.Common.{List, [], ◌∷◌, ◌++◌, flat_map, chars, arith}
 use Rattle.std.proofs.lemmas.Bool.{and_parts, cases_eq}
 use Rattle.std.proofs.lemmas.List.Folds.{list_all-append}
 use Rattle.std.proofs.lemmas.Nat.{mod_below}
@@ -33,7 +32,8 @@ six a b c d p q r s = both_true p (both_true q (both_true r (both_true s refl)))
 
 unit : (u : ℕ) → are_printable (unit_escape u) ≡ true
 unit u =
-    six (digit_char (u / 0x1000 % 16)) (digit_char (u / 0x100 % 16)) (digit_char (u / 0x10 % 16)) (digit_char (u % 16)) (digit (u / 0x1000)) (digit (u / 0x100)) (digit (u / 0x10)) (digit u)
+    six (digit_char (u / 0x1000 % 16)) (digit_char (u / 0x100 % 16)) (digit_char (u / 0x10 % 16)) (digit_char (u % 16)) (digit (u / 0x1000))
+    (digit (u / 0x100)) (digit (u / 0x10)) (digit u)
 
 units : (us : List ℕ) → are_printable (flat_map unit_escape us) ≡ true
 units [] = refl
@@ -52,10 +52,5 @@ characters : (cs : List ℕ) → are_printable (flat_map ascii_of cs) ≡ true
 characters [] = refl
 characters (c ∷ cs) = list_all-append is_printable (ascii_of c) (flat_map ascii_of cs) ∙ both_true (character c) (characters cs)
 
-pub ascii_printable : (text : List ℕ) → list_all is_printable (ascii_text text) ≡ true
-ascii_printable text = characters (chars text)
-
-pub printed_printable : (text : List ℕ) (printed : Result String AllocError) → IfOk printed (λ t. string_bytes t ≡ ascii_text text)
-    → IfOk printed (λ t. are_printable (string_bytes t) ≡ true)
-printed_printable text (Ok t) is = ap are_printable is ∙ ascii_printable text
-printed_printable text (Err failure) is = tt
+pub ascii_printable : (text octets : List ℕ) → octets ≡ ascii_text text → are_printable octets ≡ true
+ascii_printable text octets is = ap are_printable is ∙ characters (chars text)

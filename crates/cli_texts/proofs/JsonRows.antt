@@ -1,5 +1,7 @@
 -- Texts of JSON, worked.
 use Rattle.std.proofs.Common.{◌≡◌, ◌∷◌, [], Some, codes, refl, true}
+use Rattle.std.specs.Fmt.{digits}
+use Rattle.std.specs.Str.{chars}
 use Rattle.serde_json.specs.Data.{null, boolean, number, unsigned, object, no_members, member}
 use Rattle.serde_json.proofs.OnLiterals.{serde_json_on_literals}
 use Rattle.cli_texts.specs.Json.{ascii_of, json_text, object_of, volume_members}
@@ -29,7 +31,7 @@ later : object_of ((codes "line", null) ∷ (codes "line", boolean true) ∷ [])
 later = refl
 
 row : json_text (object_of ((codes "number", number (unsigned 7)) ∷ (codes "due", null) ∷ [])) ≡ codes "{\"due\":null,\"number\":7}"
-unfolding serde_json_on_literals
+unfolding chars digits serde_json_on_literals
 row = refl
 
 of_a_volume : object_of (volume_members (Some 3)) ≡ object (member (codes "volume") (number (unsigned 3)) no_members)

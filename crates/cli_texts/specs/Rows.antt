@@ -126,7 +126,3 @@ headers_of (exported.Written kept) = Some kept.headers.now
 -- THE LAST FIELDS OF A RECORD IN A MANIFEST, which come behind those of the record: what it has of the message
 abbrev pub last_fields : Exported → List (List ℕ)
 last_fields message = message_fields message ++ header_fields (headers_of message)
-
--- THE FIELDS OF A RECORD IN A MANIFEST
-abbrev pub manifest_fields : Row → Exported → List (List ℕ)
-manifest_fields r message = record_fields r ++ last_fields message

@@ -12,7 +12,7 @@ ghost use Rattle.cli_texts.specs.Headers.{sender_of, subject_of, date_of, texts_
 
 use mail_display::{DisplayText, UndecodedWord, date, sender, subject, undecoded_words};
 use std::alloc::{AllocError, Global};
-use tool_texts::{Shown, put};
+use tool_texts::Shown;
 use unicode_width::UnicodeWidthChar;
 
 /// How many columns a text of a header has at most in a line or on a page.
@@ -186,7 +186,9 @@ fn undecoded_line(alloc: Global, word: &UndecodedWord) -> Result<Shown, AllocErr
     ensures { IfOk result (λ line. line ≡ undecoded_words_of word.now) }
 {
     let mut line = Shown::new(alloc);
-    put!(line; named(word.field()) " has a word in " named(word.charset()))?;
+    line.named(word.field())?;
+    line.words(" has a word in ")?;
+    line.named(word.charset())?;
     put_cause(&mut line, word.charset())?;
     Ok(line)
 }

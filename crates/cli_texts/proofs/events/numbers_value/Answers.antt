@@ -9,5 +9,5 @@ loop-number-preserved c =
     pushed_value c.loop-number.numbers.items c.push.new.self.items c.from.result (number (unsigned c.loop-number.number)) _ _
     c.in_ok-push.ensures.items c.from.ensures
     (ap (λ (ns : List ℕ). map view c.loop-number.numbers.items ++ map (λ n. number (unsigned n)) ns)
-        (sym (number_next c.loop-number.number c.args.last c.loop-number-test.true))
+    (sym (number_next c.loop-number.number c.args.last c.loop-number-test.true))
     ∙ c.loop-number.invariant)
