@@ -9,9 +9,9 @@ use crate::subcommands::{CheckRules, Survey, WritePlan, show, why};
 use crate::volume_checks::check;
 use crate::volume_lists::list;
 use crate::volume_row::Volumes;
+use choice_words::TypedChoice;
 use cli_console::{Failure, Status};
 use cli_volumes::has_volumes;
-use choice_words::TypedChoice;
 use command_lines::archives::{ChosenTask, Command};
 use std::alloc::AllocError;
 
