@@ -27,7 +27,8 @@ pub fn no_volumes(rt: &HostRuntime, folder: &str, cause: NoVolumes) -> Failure {
         NoVolumes::NoArchive
         | NoVolumes::Unfinished
         | NoVolumes::Missing(_)
-        | NoVolumes::System(_) => Status::NoInput,
+        | NoVolumes::System(_)
+        | NoVolumes::File(..) => Status::NoInput,
         NoVolumes::Damaged => Status::BadData,
         NoVolumes::There => Status::CannotMake,
         NoVolumes::Busy => Status::TryAgain,

@@ -31,6 +31,11 @@ pub struct Row {
     pub last: u32,
 }
 
+/// Whether a path leads nowhere.
+fn is_nowhere(error: &io::Error) -> bool {
+    matches!(error.kind(), ErrorKind::NotFound | ErrorKind::NotADirectory)
+}
+
 /// The sheet of a folder.
 pub(crate) fn sheet_in(rt: &HostRuntime, folder: &str) -> Result<Sheet, NoVolumes> {
     let path = path_in(rt.alloc(), folder, SHEET)?;
@@ -44,8 +49,8 @@ pub(crate) fn sheet_in(rt: &HostRuntime, folder: &str) -> Result<Sheet, NoVolume
     read_sheet(rt.alloc(), octets.as_slice())?.ok_or(NoVolumes::Damaged)
 }
 
-/// The numbers of the volumes that a folder has. Other names are passed over.
-fn volumes_in(rt: &HostRuntime, folder: &str) -> io::Result<Vec<u32>> {
+/// The numbers of the volumes whose names a folder has. Other names are passed over.
+fn volumes_named(rt: &HostRuntime, folder: &str) -> io::Result<Vec<u32>> {
     let mut volumes = Vec::new(rt.alloc());
     for entry in fs::read_dir(rt, folder)? {
         match entry {
@@ -61,6 +66,27 @@ fn volumes_in(rt: &HostRuntime, folder: &str) -> io::Result<Vec<u32>> {
     Ok(volumes)
 }
 
+/// Whether a volume is there: a file of its name, or a link to one.
+fn is_there(rt: &HostRuntime, folder: &str, volume: u32) -> Result<bool, NoVolumes> {
+    let path = path_of(rt.alloc(), folder, volume)?;
+    match fs::metadata(rt, path.as_str()) {
+        Ok(found) => Ok(found.is_file()),
+        Err(error) if is_nowhere(&error) => Ok(false),
+        Err(error) => Err(NoVolumes::of_volume(rt.alloc(), volume, error)),
+    }
+}
+
+/// Those of some volumes that are there.
+fn volumes_there(rt: &HostRuntime, folder: &str, named: &[u32]) -> Result<Vec<u32>, NoVolumes> {
+    let mut volumes = Vec::new(rt.alloc());
+    for volume in named {
+        if is_there(rt, folder, *volume)? {
+            volumes.push(*volume)?;
+        }
+    }
+    Ok(volumes)
+}
+
 /// Whether an archive of volumes is at a path: a folder with the file `volumes`.
 pub fn has_volumes(rt: &HostRuntime, path: &str) -> Result<bool, AllocError> {
     let sheet = path_in(rt.alloc(), path, SHEET)?;
@@ -70,13 +96,16 @@ pub fn has_volumes(rt: &HostRuntime, path: &str) -> Result<bool, AllocError> {
     }
 }
 
-/// The row of the volumes in a folder: of one at least.
+/// The row of the volumes in a folder: of one at least. `Missing` where a volume of the row has no name in the folder, or where a name
+/// leads to no file.
 pub fn row_in(rt: &HostRuntime, folder: &str) -> Result<Row, NoVolumes>
     ensures { IfOk result (λ row. 1 ≤ row.last) }
 {
     let sheet = sheet_in(rt, folder)?;
-    let volumes = volumes_in(rt, folder)?;
-    match judge_row(rt.alloc(), sheet.begun, volumes.as_slice())? {
+    let named = volumes_named(rt, folder)?;
+    let last = judge_row(rt.alloc(), sheet.begun, named.as_slice())?;
+    let there = volumes_there(rt, folder, named.as_slice())?;
+    match judge_row(rt.alloc(), last, there.as_slice())? {
         0 => Err(NoVolumes::Unfinished),
         last => Ok(Row { sheet, last }),
     }
