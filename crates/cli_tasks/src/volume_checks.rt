@@ -2,7 +2,7 @@
 
 use crate::archives::{Archives, Work};
 use crate::histories::say_none;
-use crate::volume_row::{Volumes, volume_line};
+use crate::volume_row::{Volumes, failure_in, volume_line};
 use class_plan::Plan;
 use cli_console::{Failure, Joined, Status, tell, told_now, write_text};
 use cli_history::{
@@ -150,9 +150,9 @@ struct CheckVolume<'m> {
 }
 
 impl CheckVolume<'_> {
-    /// The same failure, which names the volume where it is told.
+    /// The same failure, which names the volume.
     fn named(&self, rt: &HostRuntime, failure: Failure) -> Failure {
-        failure.in_volume(rt.alloc(), Some(self.volume))
+        failure_in(rt, failure, self.volume)
     }
 
     /// Judges a history, and looks for the marks there.
@@ -236,6 +236,7 @@ fn alone_words(alloc: Global, volume: u32) -> Result<Shown, AllocError> {
 
 /// That no event of a volume has the mark after which the next one began.
 fn broken_words(alloc: Global, volume: u32) -> Result<Shown, AllocError> {
+    let next = volume.saturating_add(1);
     let mut words = Shown::new(alloc);
     put!(words; "volume " value(&next) " began after a mark that no event of volume " value(&volume)
         " has: one of them is another archive's, or an older copy, or its history was changed")?;

@@ -8,7 +8,7 @@ use std::{fmt, io};
 /// Why the volumes of a folder cannot be had.
 #[derive(Drop)]
 pub enum NoVolumes {
-    /// The folder has no file `volumes`, and so is no archive.
+    /// The folder has no file `volumes`.
     NoArchive,
     /// The file `volumes` is damaged.
     Damaged,
@@ -96,7 +96,7 @@ impl NoVolumes {
     /// The words of a cause that has no more to say.
     fn words(&self) -> &'static str {
         match self {
-            NoVolumes::NoArchive => "a folder; a store is a file, as records.db in it",
+            NoVolumes::NoArchive => "the file volumes of the folder is gone; restore it",
             NoVolumes::Damaged => "the file volumes of the folder is damaged; restore it",
             NoVolumes::Unfinished => {
                 "no volume in it: create was cut off; remove the folder, and begin again"
