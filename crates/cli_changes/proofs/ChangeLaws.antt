@@ -15,15 +15,16 @@ use Rattle.cli_choice.specs.Questions.{question_of}
 use Rattle.cli_choice.specs.Typed.{choice_typed}
 use Rattle.cli_console.specs.Finds.{HasSingles, found_in, numbers_of}
 use Rattle.cli_choice.specs.Holds.{is_meant}
-use Rattle.cli_changes.specs.Holdings.{IsHeld, HoldsWell, changed_numbers, changed_on, chosen_by, held_by, hold_command, is_any_of}
+use Rattle.cli_changes.specs.declared.holds.HoldTally.{HoldTally}
+use Rattle.cli_changes.specs.Holdings.{IsHeld, HoldsAs, HoldsWell, changed_numbers, changed_on, chosen_by, held_by, hold_command, is_any_of}
 use Rattle.cli_changes.specs.Holdings.{meant_numbers}
 use Rattle.cli_changes.specs.Moves.{moved_to, moving_numbers}
 use Rattle.cli_changes.specs.Refilings.{moves}
 use Rattle.cli_changes.specs.Series.{Command, IsTriedOn, StopsIn}
 use Rattle.record_choice.proofs.QuestionLaws.{kept_all}
-use Rattle.cli_changes.proofs.SeriesLaws.{IsEach, IsMadeOf, does, each_of, first_ascending, first_filtered, none_done, none_refused}
+use Rattle.cli_changes.proofs.SeriesLaws.{IsEach, does, each_of, first_ascending, first_filtered, none_refused}
 use Rattle.cli_changes.proofs.HoldLaws.{hold_is_each}
-use Rattle.cli_changes.proofs.FoundLaws.{changed_are, each_found, held_are, numbers_ascending, some_done, some_held}
+use Rattle.cli_changes.proofs.FoundLaws.{any_done, changed_are, each_found, held_are, numbers_ascending, some_held}
 use Rattle.cli_changes.proofs.RefileLaws.{moved_are, refile_is_each}
 
 -- nothing is changed
@@ -82,46 +83,67 @@ hold_are a is change name typed questions =
     changed_are change name typed.numbers.items a is (filter (is_found typed questions a) a.records)
     (each_found a is (is_found typed questions a))
 
-held_well : (S : Archive → Type 0) (a : Archive) → IsArchive a → (change : Change) (name : List ℕ) (typed : words.Choice)
-    (questions : Questions) (any refused : Bool)
-    → IsTriedOn S (hold_command change name) (meant_numbers change name typed.numbers.items (found_in typed questions a)) a any refused
-    → (any ≡ false → (b : Archive) → S b → IsHeld change name b) → IsHeld change name a
-held_well S a is Place name typed questions any refused tried seen = tt
-held_well S a is End name typed questions any refused tried seen = go any refl
+none_of : {X : Type 0} (xs : List X) → is_any_of xs ≡ false → xs ≡ []
+none_of [] none = refl
+none_of (x ∷ xs) none = absurd cc
+
+-- where a hold ends on a record that is found, a live one has it
+pub ended_held : (a : Archive) (name : List ℕ) (typed : words.Choice) (questions : Questions)
+    → is_any_of (changed_numbers End name (found_in typed questions a)) ≡ true → is_any_of (held_by name a) ≡ true
+ended_held a name typed questions some = some_held name a (is_found typed questions a) a.records some
+
+held_well : (a : Archive) → IsArchive a → (change : Change) (name : List ℕ) (typed : words.Choice) (questions : Questions) (any : Bool)
+    → any ≡ is_any_of (changed_numbers change name (found_in typed questions a))
+    → (any ≡ false → IsHeld change name (changed_on change name (changed_numbers change name (found_in typed questions a)) a))
+    → IsHeld change name a
+held_well a is Place name typed questions any told seen = tt
+held_well a is End name typed questions any told seen = go any refl
   where
     ns : List ℕ
-    ns = meant_numbers End name typed.numbers.items (found_in typed questions a)
-
-    made : IsMadeOf (hold_command End name) (changed_on End name) ns a
-    made = each_of (hold_command End name) (changed_on End name) (hold_is_each End name) ns a (hold_up a is End name typed questions)
-
-    told : any ≡ list_any (λ b. b) (map (does (hold_command End name) a) ns)
-    told = tried.any ∙ ap (list_any (λ b. b)) made.answers
+    ns = changed_numbers End name (found_in typed questions a)
 
     go : (b : Bool) → any ≡ b → IsHeld End name a
-    go true e =
-        some_held name a (is_found typed questions a) a.records
-        (subst (λ l. is_any_of l ≡ true) (hold_are a is End name typed questions)
-        (some_done (does (hold_command End name) a) ns (sym told ∙ e)))
+    go true e = ended_held a name typed questions (sym told ∙ e)
     go false e =
-        seen e a (subst S (made.archive
-        ∙ ap (λ l. changed_on End name l a) (none_done (does (hold_command End name) a) ns (sym told ∙ e))
-        ∙ (hold_is_each End name).none a) tried.stands)
+        subst (λ b. IsHeld End name b)
+        (ap (λ l. changed_on End name l a) (none_of ns (sym told ∙ e)) ∙ (hold_is_each End name).none a) (seen e)
+
+-- where it is so for the end of a hold, it is so for either change
+pub held_at_end : (change : Change) (name : List ℕ) (a : Archive) → (change ≡ End → IsHeld change name a) → IsHeld change name a
+held_at_end Place name a held = tt
+held_at_end End name a held = held refl
+
+-- WHAT A CHANGE OF A HOLD CAME TO, once all that are meant were tried
+pub hold_as : (S : Archive → Type 0) (a : Archive) → IsArchive a → (change : Change) (name : List ℕ) (typed : words.Choice)
+    (questions : Questions) (tally : HoldTally)
+    → IsTriedOn S (hold_command change name) (meant_numbers change name typed.numbers.items (found_in typed questions a)) a
+    tally.changed.is_any tally.changed.is_refused
+    → HasSingles typed.numbers.items (found_in typed questions a)
+    → HoldsAs tally change name typed.numbers.items (found_in typed questions a)
+hold_as S a is change name typed questions tally tried each =
+    let ns = meant_numbers change name typed.numbers.items (found_in typed questions a) in
+    let up = hold_up a is change name typed questions in
+    let are = hold_are a is change name typed questions in
+    record {
+      each_found = each;
+      any = tried.any
+          ∙ ap (list_any (λ b. b)) (each_of (hold_command change name) (changed_on change name) (hold_is_each change name) ns a up).answers
+          ∙ any_done (does (hold_command change name) a) ns
+          ∙ ap is_any_of are;
+      accepted = λ well. sym (all_done S (hold_command change name) (changed_on change name) (hold_is_each change name) ns a
+          tally.changed.is_any tally.changed.is_refused up well tried) ∙ are;
+    }
 
 -- A CHANGE OF A HOLD that ends well
-pub hold_well : (S : Archive → Type 0) (a : Archive) → IsArchive a → (change : Change) (name : List ℕ) (typed : words.Choice)
-    (questions : Questions) (any refused : Bool) → refused ≡ false
-    → IsTriedOn S (hold_command change name) (meant_numbers change name typed.numbers.items (found_in typed questions a)) a any refused
-    → (any ≡ false → (b : Archive) → S b → IsHeld change name b)
-    → HasSingles typed.numbers.items (found_in typed questions a)
+pub hold_well : (a : Archive) → IsArchive a → (change : Change) (name : List ℕ) (typed : words.Choice) (questions : Questions)
+    (tally : HoldTally) → tally.changed.is_refused ≡ false
+    → HoldsAs tally change name typed.numbers.items (found_in typed questions a)
+    → (tally.changed.is_any ≡ false → IsHeld change name (changed_on change name (changed_numbers change name (found_in typed questions a)) a))
     → HoldsWell change name typed.numbers.items (found_in typed questions a) a
-hold_well S a is change name typed questions any refused well tried seen each = record {
-  each_found = each;
-  accepted = sym (all_done S (hold_command change name) (changed_on change name) (hold_is_each change name)
-      (meant_numbers change name typed.numbers.items (found_in typed questions a)) a any refused
-      (hold_up a is change name typed questions) well tried)
-      ∙ hold_are a is change name typed questions;
-  held = held_well S a is change name typed questions any refused tried seen;
+hold_well a is change name typed questions tally well came seen = record {
+  each_found = came.each_found;
+  accepted = came.accepted well;
+  held = held_well a is change name typed questions tally.changed.is_any came.any seen;
 }
 
 -- what is changed of those that are meant, once all were tried

@@ -211,12 +211,12 @@ some_held name a q (r ∷ rs) some =
     go true false h e f k more = more (without (ap₂ (λ x y. x && y) e f) k)
     go true true false e f k more = more (without (ap₂ (λ x y. x && y) e f) k)
 
--- one was done, so there is one on which it is done
-pub some_done : (p : ℕ → Bool) (ns : List ℕ) → list_any (λ b. b) (map p ns) ≡ true → is_any_of (filter p ns) ≡ true
-some_done p [] h = absurd cc
-some_done p (n ∷ ns) h = go (p n) h (λ k. some_done p ns k)
+-- it was done on one exactly where there is one on which it is done
+pub any_done : (p : ℕ → Bool) (ns : List ℕ) → list_any (λ b. b) (map p ns) ≡ is_any_of (filter p ns)
+any_done p [] = refl
+any_done p (n ∷ ns) = go (p n) (any_done p ns)
   where
-    go : (b : Bool) → (b || list_any (λ c. c) (map p ns)) ≡ true → (list_any (λ c. c) (map p ns) ≡ true → is_any_of (filter p ns) ≡ true)
-        → is_any_of (cond b (n ∷ filter p ns) (filter p ns)) ≡ true
-    go true h more = refl
-    go false h more = more h
+    go : (b : Bool) → list_any (λ c. c) (map p ns) ≡ is_any_of (filter p ns)
+        → (b || list_any (λ c. c) (map p ns)) ≡ is_any_of (cond b (n ∷ filter p ns) (filter p ns))
+    go true more = refl
+    go false more = more

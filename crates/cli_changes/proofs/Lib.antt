@@ -11,6 +11,7 @@ pub mod HoldLaws
 pub mod DayLaws
 pub mod DeliveryLaws
 pub mod ImportLaws
+pub mod IntakeLaws
 pub mod FoundLaws
 pub mod RefileLaws
 pub mod ChangeLaws
@@ -19,3 +20,5 @@ pub mod LookingLaws
 pub mod DueListLaws
 mod ChangeRows
 mod ImportRows
+mod RoundRows
+mod SpaceRows

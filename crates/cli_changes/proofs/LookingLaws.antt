@@ -1,8 +1,7 @@
 -- Records that are looked at, one after another.
 use Rattle.std.specs.Prelude.{◌≡◌, ◌==◌, ℕ, Bool, true, false, not, ◌||◌, ◌&&◌, if◌then◌else◌, List, [], ◌∷◌, ◌++◌, map, filter, length}
-use Rattle.std.proofs.Common.{sym, ap, refl, ◌∙◌, arith, cond, true≢false}
+use Rattle.std.proofs.Common.{sym, ap, refl, ◌∙◌, cond, true≢false}
 use Rattle.std.specs.List.{list_any}
-use Rattle.std.proofs.lemmas.Bool.Decides.{nat_tests}
 use Rattle.std.proofs.lemmas.List.{append-nil}
 use Rattle.std.specs.Str.{bytes_eq}
 use Rattle.choice_words.specs.declared.numbers.TypedNumbers.{TypedNumbers}
@@ -47,10 +46,6 @@ some_of (n ∷ ns) h = refl
 -- there are records where there are their numbers
 pub some_listed : (ns : List ℕ) (es : List RecordEntry) → ns ≡ numbers_of es → (length ns == 0) ≡ false → is_any_of es ≡ true
 some_listed ns es are some = sym (numbered es) ∙ ap is_any_of (sym are) ∙ some_of ns some
-
-pub none_listed : (ns : List ℕ) → (length ns == 0) ≡ true → ns ≡ []
-none_listed [] h = refl
-none_listed (n ∷ ns) h = absurd (grind (arith, nat_tests, h))
 
 -- ---- what moves
 

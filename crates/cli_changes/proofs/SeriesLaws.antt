@@ -200,13 +200,3 @@ none_refused p (n ∷ ns) h = go (p n) refl h (λ k. none_refused p ns k)
         → cond (p n) (n ∷ filter p ns) (filter p ns) ≡ n ∷ ns
     go true e none more = ap (λ c. cond c (n ∷ filter p ns) (filter p ns)) e ∙ ap (λ l. n ∷ l) (more none)
     go false e none more = absurd cc
-
--- none was done
-pub none_done : (p : ℕ → Bool) (ns : List ℕ) → list_any (λ b. b) (map p ns) ≡ false → filter p ns ≡ []
-none_done p [] h = refl
-none_done p (n ∷ ns) h = go (p n) refl h (λ k. none_done p ns k)
-  where
-    go : (b : Bool) → p n ≡ b → (b || list_any (λ c. c) (map p ns)) ≡ false → (list_any (λ c. c) (map p ns) ≡ false → filter p ns ≡ [])
-        → cond (p n) (n ∷ filter p ns) (filter p ns) ≡ []
-    go false e none more = ap (λ c. cond c (n ∷ filter p ns) (filter p ns)) e ∙ more none
-    go true e none more = absurd cc

@@ -1,5 +1,5 @@
 -- On which records a hold is placed, or ended.
-use Rattle.std.specs.Prelude.{◌≡◌, ◌||◌, ◌&&◌, not, ℕ, Bool, true, false, List, ◌++◌, ◌∷◌, [], map, filter, Result, Some}
+use Rattle.std.specs.Prelude.{◌≡◌, ◌||◌, ◌&&◌, not, ℕ, ◌+◌, min, Bool, true, false, List, ◌++◌, ◌∷◌, [], map, filter, Result, Some}
 use Rattle.std.proofs.Common.{sym, ap, ap₂, refl, ◌∙◌}
 use Rattle.std.proofs.lemmas.List.{append_assoc, append-nil, map-append}
 use Rattle.std.proofs.lemmas.List.Elements.{filter-append}
@@ -15,8 +15,11 @@ use Rattle.record_choice.specs.Choices.{Choice, every_live_record, named}
 use Rattle.record_choice.specs.Disposals.{is_one_of}
 use Rattle.record_choice.specs.Entries.{RecordEntry, entry_view}
 use Rattle.record_choice.specs.declared.entry.RecordEntry as own
+use Rattle.cli_console.specs.Counts.{greatest}
 use Rattle.cli_console.specs.Finds.{HasSingles, entries_of, numbers_of}
+use Rattle.cli_changes.specs.declared.holds.HoldTally.{HoldTally}
 use Rattle.cli_changes.specs.declared.holds.Meant.{Meant}
+use Rattle.cli_changes.specs.Series.{changed_in_both}
 
 -- ---- what is changed
 
@@ -66,6 +69,28 @@ pub record HoldsWell (change : Change) (name : List ℕ) (typed : List TypedNumb
   pub each_found : HasSingles typed found
   pub accepted : meant_numbers change name typed found ≡ changed_numbers change name found
   pub held : IsHeld change name a
+
+-- ---- what it comes to
+
+-- WHAT A CHANGE CAME TO on the records that are found: whether it was done on one of them; each number that is typed by itself is found; and
+-- none was refused only where the archive refuses none
+pub record HoldsAs (tally : HoldTally) (change : Change) (name : List ℕ) (typed : List TypedNumbers) (found : List RecordEntry)
+    : Type 0 where
+  pub each_found : HasSingles typed found
+  pub any : tally.changed.is_any ≡ is_any_of (changed_numbers change name found)
+  pub accepted : tally.changed.is_refused ≡ false → meant_numbers change name typed found ≡ changed_numbers change name found
+
+-- nothing was tried
+abbrev pub none_tried : HoldTally
+none_tried = record { changed = record { is_any = false; is_refused = false }; passed = 0; destroyed = 0 }
+
+-- WHAT IT CAME TO in two stores, up to the greatest counts
+abbrev pub in_both : HoldTally → HoldTally → HoldTally
+in_both x y = record {
+  changed = changed_in_both x.changed y.changed;
+  passed = min (x.passed + y.passed) greatest;
+  destroyed = min (x.destroyed + y.destroyed) greatest;
+}
 
 -- ---- the numbers of those that are meant
 

@@ -1,23 +1,45 @@
 -- What an intake does at its desk with a message.
-use Rattle.std.specs.Prelude.{◌≡◌, ◌⊎◌, ℕ, List, Result, Err}
+use Rattle.std.specs.Prelude.{◌≡◌, ◌⊎◌, ℕ, List, length, string_bytes, Result, Ok, Err, IfSome}
 use Rattle.cli_console.specs.declared.failure.Failure.{Failure}
 use Rattle.desk_commands.specs.declared.fault.DeskFault.{DeskFault}
 use Rattle.filing_desk.specs.declared.deliveries.Delivery.{Delivery}
 use Rattle.mail_intake.specs.declared.mailroom.Refusal.{Refusal}
 use Rattle.mail_intake.specs.declared.mailroom.Refusal.TheVariants.{Ends}
 use Rattle.mail_intake.specs.declared.mailroom.Taken.{Taken}
+use Rattle.mail_intake.specs.declared.mailroom.Taken.TheVariants.{Captured}
 use Rattle.record_archive.specs.Archive.{Archive}
 use Rattle.record_archive.specs.Calls.{Keeper}
 use Rattle.cli_changes.specs.Deliveries.{IsDelivered, IsLeft}
 use Rattle.cli_changes.specs.Endings.{IsAnswer, taken_of}
 use Rattle.cli_changes.specs.Moments.{IsMomentNow}
+use Rattle.cli_changes.specs.Spaces.{with_message}
 use Rattle.cli_changes.specs.declared.intake_room.Room.{Room}
+use Rattle.cli_changes.specs.declared.space.Space.{Space}
+
+-- it captures where it did, and the round goes on as far as it did
+pub record IsAtPlace {A : Type 0} (before after : Room A) : Type 0 where
+  pub place : after.place ≡ before.place
+  pub next : after.next ≡ before.next
 
 -- nothing was done at the desk, nor to what it works by
 pub record IsQuiet {A : Type 0} (before after : Room A) : Type 0 where
   pub job : after.job ≡ before.job
   pub desk : after.desk ≡ before.desk
   pub timing : after.timing ≡ before.timing
+  pub place : IsAtPlace before after
+
+-- the space that a message leaves: it is counted where it is captured, and not where it is discarded or refused
+abbrev pub space_after : {F : Type 0} → Result Taken (Refusal F) → (octets : ℕ) → Space → Space
+space_after (Ok Captured) octets s = with_message octets s
+space_after _ octets s = s
+
+-- THE ROUND ENDS where the volume is full: nothing is delivered, and this is the message with which the next round begins; if a next
+-- one can begin
+pub record EndsRound {A : Type 0} (before : Room A) (name : List ℕ) (answer : Result Taken (Refusal Failure)) (after : Room A) : Type 0 where
+  pub failure : Failure
+  pub answered : answer ≡ Err (Ends failure)
+  pub desk : after.desk ≡ before.desk
+  pub next : IfSome after.next (λ next. string_bytes next ≡ name)
 
 module _ {A : Type 0} (keeper : Keeper A Archive) where
   -- the desk delivered these octets at a moment that the clock gives, for the officer of the intake
@@ -31,3 +53,9 @@ module _ {A : Type 0} (keeper : Keeper A Archive) where
       ((done : Result Delivery DeskFault) × (mid : Room A) × IsDeliveredNow before octets done mid
       × IsAnswer taken_of done answer × IsLeft keeper answer mid.desk after.desk)
       ⊎ ((failure : Failure) × (answer ≡ Err (Ends failure)) × (after.desk ≡ before.desk))
+
+  -- ELSE A MESSAGE IS HANDED OVER, and counted where it is captured
+  pub record TakesOne (before : Room A) (octets : List ℕ) (answer : Result Taken (Refusal Failure)) (after : Room A) : Type 0 where
+    pub handed_over : IsHandedOver before octets answer after
+    pub space : after.place.space ≡ space_after answer (length octets) before.place.space
+    pub next : after.next ≡ before.next

@@ -3,6 +3,8 @@ pub mod Imports
 pub mod Datings
 pub mod Desks
 pub mod Intakes
+pub mod Rounds
+pub mod Spaces
 pub mod Moments
 pub mod Keeping
 pub mod Endings

@@ -1,10 +1,11 @@
 -- Records that are changed one after another.
-use Rattle.std.specs.Prelude.{◌≡◌, ℕ, Bool, not, List, [], ◌∷◌, take, Result, Ok, Err, is_ok}
+use Rattle.std.specs.Prelude.{◌≡◌, ◌||◌, ℕ, Bool, not, List, [], ◌∷◌, take, Result, Ok, Err, is_ok}
 use Rattle.std.specs.List.{list_any}
 use Rattle.record_archive.specs.Archive.{Archive}
 use Rattle.record_archive.specs.Calls.{Keeper}
 use Rattle.record_choice.specs.Reads.{OnlyReads}
 use Rattle.record_archive.specs.declared.fault.ArchiveRefusal.{ArchiveRefusal}
+use Rattle.cli_changes.specs.declared.series.Changed.{Changed}
 
 -- a command of an archive on the record of a number
 abbrev pub Command : Type 0
@@ -39,6 +40,10 @@ pub record IsTriedOn (Stands : Archive → Type 0) (command : Command) (ns : Lis
 -- it was tried on the first of them, and on no other
 abbrev pub StopsIn : (Stands : Archive → Type 0) → Command → List ℕ → Archive → Type 0
 StopsIn Stands command ns a = (k : ℕ) × Stands (tried_on command (take k ns) a)
+
+-- what became of records of two stores
+abbrev pub changed_in_both : Changed → Changed → Changed
+changed_in_both x y = record { is_any = x.is_any || y.is_any; is_refused = x.is_refused || y.is_refused }
 
 -- ---- what a subcommand changes
 

@@ -264,7 +264,7 @@ fn deliver_at<A: Records>(
         → IsDeliveredTo A.keeper filing.now archive moment octets d.outcome result.0) }
 {
     let octets = copy_of(&message);
-    let mut desk = match filing.desk(rt, archive) {
+    let mut desk = match filing.desk(rt, archive, false) {
         Ok(desk) => desk,
         Err((archive, failure)) => return (archive, Err(failure)),
     };

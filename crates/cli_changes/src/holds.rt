@@ -11,6 +11,7 @@ ghost use Rattle.cli_console.specs.Finds.{IsAtEnd, IsBounded, found_ahead, found
 ghost use Rattle.cli_changes.specs.HoldLines.{change_words, changed_line as changed_line_of, said_words};
 ghost use Rattle.cli_changes.specs.Holdings.{
   AddsMeant,
+  HoldsAs,
   HoldsWell,
   IsHeld,
   changed_numbers,
@@ -18,12 +19,14 @@ ghost use Rattle.cli_changes.specs.Holdings.{
   chosen_by,
   hold_command,
   held_by,
+  in_both,
   is_any_of,
   meant_numbers,
   more_meant,
   more_seen,
   none_meant,
   none_seen,
+  none_tried,
 };
 ghost use Rattle.cli_changes.specs.Series.{ChangesAll, ChangesFirst, IsSoOf, KeepsAll, WasClean};
 
@@ -32,7 +35,7 @@ use choice_words::{TypedNumbers, reads_as_numbers};
 use cli_choice::{Change, Questions, is_meant};
 use cli_console::{Failure, Reader, Search, Status, counted, read_chosen, tell, write_text};
 use cli_history::StoreLedger;
-use cli_texts::Headers;
+use cli_texts::{Headers, put_number};
 use command_lines::archives::Choice;
 use record_archive::Records;
 use record_choice::{Holder, Repository};
@@ -69,28 +72,32 @@ fn put_change(line: &mut Shown, change: Change) -> Result<(), AllocError>
 
 /// The line of a hold that was placed on a record, or released.
 #[tactic(auto, unfolding(crate::specs::HoldLines::changed_line))]
-fn changed_line(alloc: Global, change: Change, name: &str, number: u32) -> Result<Shown, AllocError>
-    ensures { IfOk result (λ line. line ≡ changed_line_of change name.now number) }
+fn changed_line(alloc: Global, hold: &HoldChange<'_>, number: u32) -> Result<Shown, AllocError>
+    ensures { IfOk result (λ line. line
+        ≡ changed_line_of hold.now.volume hold.now.change hold.now.name.now number) }
 {
     let mut line = Shown::new(alloc);
-    put!(line; "record " value(&number))?;
-    put_change(&mut line, change)?;
-    line.named(name.as_bytes())?;
+    line.words("record ")?;
+    put_number(&mut line, hold.volume, number)?;
+    put_change(&mut line, hold.change)?;
+    line.named(hold.name.as_bytes())?;
     line.end_line()?;
     Ok(line)
 }
 
 /// Writes that a hold was placed on a record, or released. That is done, so whatever happens to the line is no failure.
-fn write_change(rt: &HostRuntime, change: Change, name: &str, number: u32) {
-    if let Ok(line) = changed_line(rt.alloc(), change, name, number) {
-        let _ = write_text(rt, &line);
+fn write_change(hold: &HoldChange<'_>, number: u32) {
+    if let Ok(line) = changed_line(hold.rt.alloc(), hold, number) {
+        let _ = write_text(hold.rt, &line);
     }
 }
 
 /// The change of the hold of a name on single records.
 #[derive(Clone, Copy)]
-pub(crate) struct HoldChange<'a> {
+pub struct HoldChange<'a> {
     pub rt: &'a HostRuntime,
+    /// The number of the volume of the records, in an archive of volumes.
+    pub volume: Option<u32>,
     pub change: Change,
     pub name: &'a str,
 }
@@ -104,10 +111,10 @@ impl<S: Alter> RecordChange<StoreLedger<'_, S>> for HoldChange<'_> {
     fn change_one(&self, archive: &mut StoreLedger<'_, S>, number: u32) -> Result<bool, Failure> {
         match change_one(archive, self.change, self.name.as_bytes(), number) {
             Ok(()) => {
-                write_change(self.rt, self.change, self.name, number);
+                write_change(self, number);
                 Ok(true)
             }
-            Err(fault) => refusal_told(self.rt, number, fault),
+            Err(fault) => refusal_told(self.rt, self.volume, number, fault),
         }
     }
 }
@@ -231,7 +238,7 @@ pub(crate) fn held_choice(alloc: Global, name: &str) -> Result<record_choice::Ch
 }
 
 /// Whether a live record has a hold of a name.
-fn is_held_by<R: Repository<Fault = StoreFault>>(
+pub fn is_held_by<R: Repository<Fault = StoreFault>>(
     rt: &HostRuntime,
     archive: &mut R,
     name: &str,
@@ -257,7 +264,7 @@ fn said_of(alloc: Global, name: &str, words: &'static str) -> Result<Shown, Allo
 
 /// The failure of the end of a hold that no record has. `Usage` where its name reads as numbers of records: then it was more
 /// likely forgotten.
-fn not_held(alloc: Global, name: &str) -> Failure {
+pub(crate) fn not_held(alloc: Global, name: &str) -> Failure {
     if reads_as_numbers(name.as_bytes()) {
         let words =
             "numbers of records, where the name of the hold belongs; type it before them, as audit 3 5-9";
@@ -269,26 +276,63 @@ fn not_held(alloc: Global, name: &str) -> Failure {
 
 /// Tells that no hold ended. `BadData` where a record is refused, which was told, and where no record of the archive has a hold
 /// of that name, or `Usage` where that name reads as numbers.
-pub(crate) fn end_of_none<S: Alter>(
+fn tell_none_ended(
     rt: &HostRuntime,
-    archive: &mut StoreLedger<'_, S>,
     name: &str,
+    is_held: bool,
     is_refused: bool,
 ) -> Result<(), Failure>
-    ensures reads { KeepsAll (keeper_of S.Store) archive.old archive.new }
-    ensures held { OnOk result (IsSoOf (keeper_of S.Store) archive.old archive.new
-        (λ a. is_any_of (held_by name.now a) ≡ true)) }
+    ensures held { OnOk result (is_held ≡ true) }
     ensures accepted { OnOk result (is_refused ≡ false) }
 {
-    let alloc = rt.alloc();
-    let is_held = is_held_by(rt, archive, name)?;
     if !is_held {
-        return Err(not_held(alloc, name));
+        return Err(not_held(rt.alloc(), name));
     }
     judge_refused(is_refused)?;
     let words = "none of these records has this hold; the subcommand holds lists the holds";
-    tell(rt, &said_of(alloc, name, words)?);
+    tell(rt, &said_of(rt.alloc(), name, words)?);
     Ok(())
+}
+
+/// What became of the records that were found on which the hold of a name was to change.
+#[derive(Clone, Copy)]
+pub struct HoldTally {
+    changed: Changed,
+    /// How many live records were passed over, which are as they are to be already.
+    passed: u64,
+    /// How many destroyed ones were passed over.
+    destroyed: u64,
+}
+
+impl HoldTally {
+    /// That of no record.
+    pub fn none() -> HoldTally
+        ensures { result ≡ none_tried }
+    {
+        HoldTally {
+            changed: Changed::none(),
+            passed: 0,
+            destroyed: 0,
+        }
+    }
+
+    /// That of these records, and of those of another store, up to the greatest counts.
+    pub fn joined(self, other: HoldTally) -> HoldTally
+        ensures { result ≡ in_both self other }
+    {
+        HoldTally {
+            changed: self.changed.joined(other.changed),
+            passed: self.passed.saturating_add(other.passed),
+            destroyed: self.destroyed.saturating_add(other.destroyed),
+        }
+    }
+
+    /// Whether the hold changed on one.
+    pub fn is_any(&self) -> bool
+        ensures { result ≡ self.now.changed.is_any }
+    {
+        self.changed.is_any
+    }
 }
 
 /// That a hold was placed on no record, and why: none was found, or it keeps those that were found already.
@@ -311,54 +355,110 @@ fn no_more_line(
 
 /// Ends what placed a hold on records: where it was placed on none, and none was refused, that is written. `BadData` where one was
 /// refused, which was told.
-fn end_placing(rt: &HostRuntime, meant: &Meant<'_>, changed: Changed) -> Result<(), Failure>
-    ensures { OnOk result (changed.is_refused ≡ false) }
+fn end_placing(rt: &HostRuntime, name: &str, tally: HoldTally) -> Result<(), Failure>
+    ensures { OnOk result (tally.changed.is_refused ≡ false) }
 {
-    judge_refused(changed.is_refused)?;
-    if changed.is_any {
+    judge_refused(tally.changed.is_refused)?;
+    if tally.changed.is_any {
         return Ok(());
     }
-    let line = no_more_line(rt.alloc(), meant.name, meant.passed, meant.destroyed)?;
+    let line = no_more_line(rt.alloc(), name, tally.passed, tally.destroyed)?;
     write_text(rt, &line)
 }
 
 /// Ends what ended a hold on records. `BadData` where one was refused, which was told; where it ended on none, also as for
-/// `end_of_none`.
-fn end_releasing<S: Alter>(
+/// `tell_none_ended`.
+fn end_releasing(
     rt: &HostRuntime,
-    archive: &mut StoreLedger<'_, S>,
     name: &str,
     changed: Changed,
+    is_held: bool,
 ) -> Result<(), Failure>
-    ensures reads { KeepsAll (keeper_of S.Store) archive.old archive.new }
-    ensures held { OnOk result (changed.is_any ≡ false
-        → IsSoOf (keeper_of S.Store) archive.old archive.new
-        (λ a. is_any_of (held_by name.now a) ≡ true)) }
+    ensures held { OnOk result (changed.is_any ≡ false → is_held ≡ true) }
     ensures accepted { OnOk result (changed.is_refused ≡ false) }
 {
     if !changed.is_any {
-        return end_of_none(rt, archive, name, changed.is_refused);
+        return tell_none_ended(rt, name, is_held, changed.is_refused);
     }
     judge_refused(changed.is_refused)
 }
 
-/// Ends a change of holds that was tried on all records that are meant.
-fn end_change<S: Alter>(
+/// Ends a change of the hold of a name that was tried on all records that are meant, in one store or in several. Where the hold was
+/// to end, and ended on none, it counts whether a live record has it.
+///
+/// `BadData` where a record was refused, which was told, and where no live record has the hold that was to end (`Usage` where its name
+/// reads as numbers of records). Where it changed on none, that is told.
+pub fn end_holds(
+    rt: &HostRuntime,
+    change: Change,
+    name: &str,
+    tally: HoldTally,
+    is_held: bool,
+) -> Result<(), Failure>
+    ensures held { OnOk result (change ≡ Change.End → tally.changed.is_any ≡ false
+        → is_held ≡ true) }
+    ensures accepted { OnOk result (tally.changed.is_refused ≡ false) }
+{
+    match change {
+        Change::Place => end_placing(rt, name, tally),
+        Change::End => end_releasing(rt, name, tally.changed, is_held),
+    }
+}
+
+/// Whether a live record has the hold that was to end, where it ended on none; else that one may have it.
+fn may_be_held<S: Alter>(
     archive: &mut StoreLedger<'_, S>,
     hold: &HoldChange<'_>,
-    meant: &Meant<'_>,
-    changed: Changed,
-) -> Result<(), Failure>
+    is_any: bool,
+) -> Result<bool, Failure>
     ensures reads { KeepsAll (keeper_of S.Store) archive.old archive.new }
-    ensures held { OnOk result (changed.is_any ≡ false
+    ensures held { IfOk result (λ b. b ≡ true → is_any ≡ false
         → IsSoOf (keeper_of S.Store) archive.old archive.new
         (λ a. IsHeld hold.now.change hold.now.name.now a)) }
-    ensures accepted { OnOk result (changed.is_refused ≡ false) }
 {
-    match hold.change {
-        Change::Place => end_placing(hold.rt, meant, changed),
-        Change::End => end_releasing(hold.rt, archive, hold.name, changed),
+    if is_any {
+        return Ok(true);
     }
+    match hold.change {
+        Change::Place => Ok(true),
+        Change::End => is_held_by(hold.rt, archive, hold.name),
+    }
+}
+
+/// Changes the hold of a name on the records of a store that are found. No record is changed before all are found. Those that are typed
+/// by themselves and are not found, or that the archive refuses, are told; the former are a failure. `BadData` where the class is none
+/// of the plan.
+///
+/// Where it succeeds, the hold is placed on each record that is found, is live and does not have it yet, or ended on each that is
+/// found and has it, and nothing else of the archive has changed. Where it fails, it is so for the first of them, in the order of
+/// their numbers, up to one of them, none or all, and nothing else has changed.
+pub fn hold_found<S: Alter>(
+    archive: &mut StoreLedger<'_, S>,
+    hold: &HoldChange<'_>,
+    choice: &Choice<'_>,
+    questions: &Questions,
+) -> Result<HoldTally, Failure>
+    ensures falls { WasClean (keeper_of S.Store) archive.old archive.new }
+    ensures done { IfOk result (λ tally. ChangesAll (keeper_of S.Store) archive.old archive.new
+        (changed_on hold.now.change hold.now.name.now)
+        (λ a. changed_numbers hold.now.change hold.now.name.now
+        (found_in choice.now questions.now a))
+        (λ a. HoldsAs tally hold.now.change hold.now.name.now choice.now.numbers.items
+        (found_in choice.now questions.now a))) }
+    ensures failed { OnErr result (ChangesFirst (keeper_of S.Store) archive.old archive.new
+        (changed_on hold.now.change hold.now.name.now)
+        (λ a. changed_numbers hold.now.change hold.now.name.now
+        (found_in choice.now questions.now a))) }
+{
+    let mut search = Search::new(hold.rt, archive, choice, questions)?;
+    let meant = meant_of(archive, &mut search, *hold, choice.numbers.as_slice())?;
+    let changed = change_each(hold, archive, meant.numbers.as_slice())?;
+    search.end_in(hold.rt, archive, hold.volume)?;
+    Ok(HoldTally {
+        changed,
+        passed: meant.passed,
+        destroyed: meant.destroyed,
+    })
 }
 
 /// Places the hold of a name on the records that are found, or ends it on them. No record is changed before all are found.
@@ -389,10 +489,13 @@ pub fn change_holds<S: Alter>(
         (changed_on change name.now)
         (λ a. changed_numbers change name.now (found_in choice.now questions.now a))) }
 {
-    let mut search = Search::new(rt, archive, choice, questions)?;
-    let hold = HoldChange { rt, change, name };
-    let meant = meant_of(archive, &mut search, hold, choice.numbers.as_slice())?;
-    let changed = change_each(&hold, archive, meant.numbers.as_slice())?;
-    search.end(rt, archive)?;
-    end_change(archive, &hold, &meant, changed)
+    let hold = HoldChange {
+        rt,
+        volume: None,
+        change,
+        name,
+    };
+    let tally = hold_found(archive, &hold, choice, questions)?;
+    let is_held = may_be_held(archive, &hold, tally.is_any())?;
+    end_holds(rt, change, name, tally, is_held)
 }

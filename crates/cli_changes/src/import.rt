@@ -213,7 +213,7 @@ fn import_into<A: Records>(
     let is_quiet = job.is_quiet;
     let sources = mem::replace(&mut job.sources, Vec::new(rt.alloc()));
     let plan = archive.plan().copy().ok();
-    let desk = match job.filing.desk(rt, archive) {
+    let desk = match job.filing.desk(rt, archive, false) {
         Ok(desk) => desk,
         Err((archive, failure)) => return (archive, Err(failure)),
     };

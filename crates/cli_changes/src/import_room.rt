@@ -136,7 +136,7 @@ impl<'a, A: Records> ImportRoom<'a, A> {
         };
         self.job
             .log
-            .report(name, capture, undecoded, cause.as_ref());
+            .report(name, None, capture, undecoded, cause.as_ref());
         self.taken = self.taken.saturating_add(1);
         self.job.log.show_progress(self.taken);
     }

@@ -2,13 +2,16 @@
 
 ghost use Rattle.std.specs.Prelude.{◌≡◌};
 ghost use Rattle.std.specs.IoError.{error_kind};
-ghost use Rattle.cli_changes.specs.Endings.{maildir_status, status_after as status_after_of, EndsWith, IsEndOf, IsFailureOf};
+ghost use Rattle.cli_changes.specs.Endings.{maildir_status, status_after as status_after_of, EndsWith, IsFailureOf};
+ghost use Rattle.cli_changes.specs.Rounds.{IsEndAfter};
 
 use crate::intake_log::IntakeLog;
 use crate::intake_memory::{forget, recall, renew};
 use crate::intake_room::Room;
 use crate::moments::{Timing, day_of_moment};
+use crate::rounds::{Round, Rounds, left_of, together};
 use crate::rules::FilingRules;
+use crate::space::Place;
 use crate::time_of_day::time_of_day;
 use cli_console::{Failure, Status, now};
 use cli_history::StoreLedger;
@@ -74,9 +77,15 @@ fn end_of(tally: &Tally, nameless: usize) -> Result<(), Failure>
     }
 }
 
-/// Tells what is left to tell at the end of an intake that began at a time of day, and answers how it ended.
-fn close(log: &IntakeLog<'_>, taking: Taking<Failure>, since: &Shown) -> Result<(), Failure>
-    ensures { IsEndOf taking.end (status_after_of taking.tally taking.nameless) result }
+/// Tells what is left to tell at the end of the last round of an intake that began at a time of day, by what became of the messages of
+/// the rounds before it, and answers how it ended.
+fn close(
+    log: &IntakeLog<'_>,
+    before: &Tally,
+    taking: Taking<Failure>,
+    since: &Shown,
+) -> Result<(), Failure>
+    ensures { IsEndAfter before.now taking result }
 {
     let Taking {
         tally,
@@ -85,8 +94,9 @@ fn close(log: &IntakeLog<'_>, taking: Taking<Failure>, since: &Shown) -> Result<
     } = taking;
     match end {
         End::Done => {
-            log.write_summary(&tally, nameless, since);
-            end_of(&tally, nameless)
+            let all = together(before, &tally);
+            log.write_summary(&all, nameless, since);
+            end_of(&all, nameless)
         }
         End::NotCaptured(failure) | End::NotMoved(failure) | End::NotSettled(failure) => {
             Err(failure)
@@ -94,77 +104,110 @@ fn close(log: &IntakeLog<'_>, taking: Taking<Failure>, since: &Shown) -> Result<
     }
 }
 
-/// Takes the new messages over, on the day of a moment, and remembers which ones stay.
+/// Takes the new messages over, in an intake that began at a moment, and remembers which ones stay. Where the volume is full before the
+/// last one, no more is told.
 fn take_over<A: Records>(
     rt: &HostRuntime,
     room: &mut Room<'_, A>,
-    moment: u64,
+    begun: u64,
 ) -> Result<(), Failure> {
-    let since = time_of_day(rt.alloc(), moment)?;
-    let day = day_of_moment(moment);
-    let recalled = recall(&room.job);
+    let since = time_of_day(rt.alloc(), begun)?;
+    let day = day_of_moment(begun);
+    let recalled = recall(&room.job, room.has_complained);
     let taking = take_in(room, &recalled.memory, day)?;
-    room.hear_nameless(taking.nameless, &recalled.memory, day);
+    if !room.is_full() {
+        room.hear_nameless(taking.nameless, &recalled.memory, day);
+    }
     let is_whole = matches!(&taking.end, End::Done);
-    renew(&room.job, &recalled, day, room.told.as_slice(), is_whole);
-    close(&room.job.log, taking, &since)
+    let has_complained = renew(&room.job, &recalled, day, room.told.as_slice(), is_whole);
+    if room.is_full() {
+        room.end_round(&taking.tally, has_complained);
+        return Ok(());
+    }
+    close(&room.job.log, &room.before, taking, &since)
 }
 
-/// The new messages of a Maildir, if they can be moved.
-fn movable_mail(rt: &HostRuntime, maildir: &str) -> Result<NewMail, Failure> {
-    let mail = new_mail(rt, maildir).map_err(|error| maildir_failure(rt, maildir, error))?;
-    if !mail.names.is_empty() {
+/// The new messages of a Maildir that are left for a round, if they can be moved.
+fn movable_mail(rt: &HostRuntime, maildir: &str, rounds: &Rounds) -> Result<NewMail, Failure> {
+    let NewMail { names, nameless } = new_mail(rt, maildir).map_err(|error| maildir_failure(
+        rt, maildir, error,
+    ))?;
+    let names = left_of(names, rounds);
+    if !names.is_empty() {
         try_move(rt, maildir).map_err(|error| maildir_failure(rt, maildir, error))?;
     }
-    Ok(mail)
+    Ok(NewMail { names, nameless })
 }
 
-/// The new messages of a Maildir, if they can be moved, and the moment at which they are looked for.
-fn mail_now(rt: &HostRuntime, maildir: &str) -> Result<(NewMail, u64), Failure> {
-    let mail = movable_mail(rt, maildir)?;
+/// The same, and the moment at which they are looked for.
+fn mail_now(rt: &HostRuntime, maildir: &str, rounds: &Rounds) -> Result<(NewMail, u64), Failure> {
+    let mail = movable_mail(rt, maildir, rounds)?;
     let moment = now(rt)?;
     Ok((mail, moment))
 }
 
-/// Takes the new messages over at a desk over an archive. Where there is none, no desk is made.
-fn take_timed<A: Records>(
+/// Takes messages over at a desk over an archive, in a round that begins at a moment.
+fn take_mail<'j, A: Records>(
     rt: &HostRuntime,
     archive: A,
-    job: Intake<'_>,
+    job: Intake<'j>,
+    rounds: Rounds,
     timing: Timing,
-) -> (A, Result<(), Failure>) {
-    let (mail, moment) = match mail_now(rt, job.maildir) {
-        Ok(found) => found,
-        Err(failure) => return (archive, Err(failure)),
-    };
-    if mail.names.is_empty() && mail.nameless == 0 {
-        forget(&job);
-        return (archive, Ok(()));
-    }
+    place: Place,
+    mail: NewMail,
+    moment: u64,
+) -> (A, Result<Round<'j>, Failure>) {
+    let is_told = rounds.begun.is_some();
+    let begun = rounds.begun.unwrap_or(moment);
     let plan = archive.plan().copy().ok();
-    let desk = match job.filing.desk(rt, archive) {
+    let desk = match job.filing.desk(rt, archive, is_told) {
         Ok(desk) => desk,
         Err((archive, failure)) => return (archive, Err(failure)),
     };
-    let mut room = Room::new(job, desk, plan, timing, mail);
-    let done = take_over(rt, &mut room, moment);
-    (room.into_archive(), done)
+    let mut room = Room::new(job, rounds, place, desk, plan, timing, mail);
+    let done = take_over(rt, &mut room, begun);
+    let (archive, round) = room.into_round(begun);
+    (archive, done.map(|()| round))
 }
 
-/// Captures the new messages of a Maildir, in the order of their names, and moves them to its folder `cur`. Where the
-/// clock is before the days of the store it may be done later, `TryAgain`, unless the moment is named.
-pub fn take_new<'a, S: Alter>(
+/// Takes the new messages over at a desk over an archive. Where there is none, no desk is made.
+fn take_timed<'j, A: Records>(
+    rt: &HostRuntime,
+    archive: A,
+    job: Intake<'j>,
+    rounds: Rounds,
+    timing: Timing,
+    place: Place,
+) -> (A, Result<Round<'j>, Failure>) {
+    let (mail, moment) = match mail_now(rt, job.maildir, &rounds) {
+        Ok(found) => found,
+        Err(failure) => return (archive, Err(failure)),
+    };
+    let has_begun = rounds.begun.is_some();
+    if !has_begun && mail.names.is_empty() && mail.nameless == 0 {
+        forget(&job);
+        return (archive, Ok(Round::Done));
+    }
+    take_mail(rt, archive, job, rounds, timing, place, mail, moment)
+}
+
+/// Captures the new messages of a Maildir, in the order of their names, and moves them to its folder `cur`; in a volume until it is full,
+/// so that what is left is for a round in the next one. Each message is looked at in one round. Where the clock is before the days of the
+/// store it may be done later, `TryAgain`, unless the moment is named.
+pub fn take_new<'a, 'j, S: Alter>(
     rt: &HostRuntime,
     archive: StoreLedger<'a, S>,
-    job: Intake<'_>,
-) -> (StoreLedger<'a, S>, Result<(), Failure>) {
+    job: Intake<'j>,
+    rounds: Rounds,
+    place: Place,
+) -> (StoreLedger<'a, S>, Result<Round<'j>, Failure>) {
     let mut archive = archive;
     let mut timing = job.timing;
     match timing
         .look(rt, &mut archive)
         .and_then(|()| timing.moment(rt))
     {
-        Ok(_) => take_timed(rt, archive, job, timing),
+        Ok(_) => take_timed(rt, archive, job, rounds, timing, place),
         Err(failure) => (archive, Err(failure)),
     }
 }
@@ -187,6 +230,21 @@ impl<'a> Intake<'a> {
     /// The rules by which messages are filed.
     pub fn rules(&self) -> &FilingRules<'a> {
         &self.filing
+    }
+
+    /// When messages are captured.
+    pub fn timing(&self) -> Timing {
+        self.timing
+    }
+
+    /// Whether there is a new message. The failure is that of the Maildir.
+    pub fn has_mail(&self) -> Result<bool, Failure> {
+        let mail = new_mail(self.rt, self.maildir).map_err(|error| maildir_failure(
+            self.rt,
+            self.maildir,
+            error,
+        ))?;
+        Ok(!mail.names.is_empty())
     }
 
     /// A Maildir, how its messages are filed, and what is said of them. `Usage` where their moment is named and has not come;

@@ -79,11 +79,12 @@ impl<'a> IntakeLog<'a> {
         Ok(text)
     }
 
-    /// Reports a capture, each line after the name of its message, as far as there is memory for that, with what is known of
-    /// the fault in which its run ended, if it did. A quiet intake tells of a fault alone.
+    /// Reports a capture, in a volume of an archive of volumes, each line after the name of its message, as far as there is memory for
+    /// that, with what is known of the fault in which its run ended, if it did. A quiet intake tells of a fault alone.
     pub fn report(
         &self,
         name: &str,
+        volume: Option<u32>,
         capture: &Capture,
         undecoded: &[Shown],
         cause: Option<&Cause>,
@@ -94,7 +95,7 @@ impl<'a> IntakeLog<'a> {
         if self.telling.is_quiet {
             tell_fault(self.rt, &before, capture, cause);
         } else {
-            report_capture(self.rt, &before, None, capture, undecoded, cause);
+            report_capture(self.rt, &before, volume, capture, undecoded, cause);
         }
     }
 

@@ -27,7 +27,7 @@ pub(crate) struct Recalled {
     pub memory: Memory,
     /// The octets of the file; none where there is no file, or one of too many octets.
     octets: Option<Vec<u8>>,
-    /// Whether it was told already that the file cannot be read.
+    /// Whether it was told already that the file cannot be read or written.
     has_failed: bool,
 }
 
@@ -55,8 +55,8 @@ fn octets_at(rt: &HostRuntime, path: &str) -> io::Result<Option<Vec<u8>>> {
     }
 }
 
-/// What is remembered in the file at a path.
-fn recall_at(rt: &HostRuntime, path: &str) -> io::Result<Recalled> {
+/// What is remembered in the file at a path, where it was told already, or not, that it cannot be read or written.
+fn recall_at(rt: &HostRuntime, path: &str, has_failed: bool) -> io::Result<Recalled> {
     let octets = octets_at(rt, path)?;
     let memory = match &octets {
         Some(octets) => Memory::read(rt.alloc(), octets.as_slice())?,
@@ -65,7 +65,7 @@ fn recall_at(rt: &HostRuntime, path: &str) -> io::Result<Recalled> {
     Ok(Recalled {
         memory: memory.unwrap_or(Memory::none(rt.alloc())),
         octets,
-        has_failed: false,
+        has_failed,
     })
 }
 
@@ -77,13 +77,19 @@ fn complain(job: &Intake<'_>, error: &io::Error) {
     }
 }
 
-/// What is remembered in a Maildir.
-pub(crate) fn recall(job: &Intake<'_>) -> Recalled {
+/// What is remembered in a Maildir, where it was told already, or not, that its file cannot be read or written.
+pub(crate) fn recall(job: &Intake<'_>, has_failed: bool) -> Recalled {
     let rt = job.rt;
-    match path_in(rt.alloc(), job.maildir, NAME).and_then(|path| recall_at(rt, path.as_str())) {
+    match path_in(rt.alloc(), job.maildir, NAME).and_then(|path| recall_at(
+        rt,
+        path.as_str(),
+        has_failed,
+    )) {
         Ok(recalled) => recalled,
         Err(error) => {
-            complain(job, &error);
+            if !has_failed {
+                complain(job, &error);
+            }
             Recalled {
                 memory: Memory::none(rt.alloc()),
                 octets: None,
@@ -202,14 +208,14 @@ pub(crate) fn forget(job: &Intake<'_>) {
 }
 
 /// Remembers on a day what was told of messages that stay, and forgets what was told before. An intake that did not come to
-/// its end forgets nothing of that day.
+/// its end forgets nothing of that day. Answers whether it was told by now that this cannot be remembered.
 pub(crate) fn renew(
     job: &Intake<'_>,
     recalled: &Recalled,
     day: u64,
     told: &[Told],
     is_whole: bool,
-) {
+) -> bool {
     let rt = job.rt;
     let done = match memory_after(rt.alloc(), &recalled.memory, day, told, is_whole) {
         Ok(memory) => keep(rt, job.maildir, recalled, &memory),
@@ -218,7 +224,8 @@ pub(crate) fn renew(
     match done {
         Err(error) if !recalled.has_failed => {
             complain(job, &error);
+            true
         }
-        _ => {}
+        _ => recalled.has_failed,
     }
 }

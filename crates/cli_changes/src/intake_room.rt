@@ -1,18 +1,29 @@
 //! The room in which an intake is made: a Maildir in files, a desk over an archive, and a log.
 
-ghost use Rattle.std.specs.Prelude.{◌≡◌, ℕ, List, IfErr, IfOk};
+ghost use Rattle.std.specs.Prelude.{◌≡◌, ℕ, List, false, true, string_bytes, IfErr, IfOk, IfSome};
 ghost use Rattle.desk_commands.specs.Limits.{greatest_message};
 ghost use Rattle.desk_commands.specs.Payloads.{IsOf};
 ghost use Rattle.mail_intake.specs.declared.mailroom.Refusal.TheVariants.{Stays};
 ghost use Rattle.cli_changes.specs.Deliveries.{IsDropped, IsLeft, IsLeftBy};
 ghost use Rattle.cli_changes.specs.Endings.{taken_of, IsAnswer, IsGivenUp, IsRefusal};
-ghost use Rattle.cli_changes.specs.Intakes.{IsDeliveredNow, IsHandedOver, IsQuiet};
+ghost use Rattle.cli_changes.specs.Intakes.{
+  EndsRound,
+  IsAtPlace,
+  IsDeliveredNow,
+  IsHandedOver,
+  IsQuiet,
+  TakesOne,
+  space_after,
+};
+ghost use Rattle.cli_changes.specs.Spaces.{is_full as is_full_space};
 
 use crate::deliver::{desk_status, undecoded_in};
 use crate::fault_words::{Cause, given_up_words};
 use crate::intake::{Intake, maildir_failure};
 use crate::intake_memory::told_of;
 use crate::moments::Timing;
+use crate::rounds::{Round, Rounds, together};
+use crate::space::Place;
 use crate::time_limit::{TimeLimit, too_slow_reason};
 use class_plan::Plan;
 use cli_console::{Failure, Status};
@@ -20,7 +31,7 @@ use cli_sources::maildir::{NewMail, is_in_cur, move_to_cur, new_path, settle};
 use cli_sources::payload_of_no_link;
 use desk_commands::{Capture, DeskFault, MAX_MESSAGE_OCTETS, Payload};
 use filing_desk::{Delivery, Desk, deliver};
-use mail_intake::{Listing, Mailroom, Memory, Reason, Refusal, Taken, Told};
+use mail_intake::{Listing, Mailroom, Memory, Reason, Refusal, Taken, Tally, Told};
 use record_archive::Records;
 use sieve_meaning::RunFault;
 use std::alloc::{AllocError, Global};
@@ -32,6 +43,12 @@ use tool_texts::{Shown, put};
 #[derive(Drop)]
 pub(crate) struct Room<'a, A> {
     pub job: Intake<'a>,
+    /// Where it captures.
+    place: Place,
+    /// The name of the message at which the round ended, once the volume was full.
+    next: Option<String>,
+    /// What became of the messages of the rounds before.
+    pub before: Tally,
     desk: Desk<A>,
     /// The plan of the archive; none where there is no memory for it.
     plan: Option<Plan>,
@@ -42,6 +59,8 @@ pub(crate) struct Room<'a, A> {
     taken: u64,
     /// Whether anything was said of a message.
     has_spoken: bool,
+    /// Whether it was told that it cannot be remembered what was told.
+    pub has_complained: bool,
     /// Which messages stay, and the words for it.
     pub told: Vec<Told>,
 }
@@ -131,31 +150,76 @@ fn taken_by(capture: &Capture) -> Taken
 }
 
 impl<'a, A: Records> Room<'a, A> {
-    /// A room for new messages, in which nothing was done.
+    /// A room for new messages, in which nothing was done but what was done in the rounds before.
     pub fn new(
         job: Intake<'a>,
+        rounds: Rounds,
+        place: Place,
         desk: Desk<A>,
         plan: Option<Plan>,
         timing: Timing,
         mail: NewMail,
     ) -> Room<'a, A> {
-        let told = Vec::new(job.rt.alloc());
+        let Rounds {
+            tally,
+            told,
+            has_spoken,
+            has_complained,
+            ..
+        } = rounds;
         Room {
             job,
+            place,
+            next: None,
+            before: tally,
             desk,
             plan,
             timing,
             mail,
-            taken: 0,
-            has_spoken: false,
+            taken: tally.taken as u64,
+            has_spoken,
+            has_complained,
             told,
         }
     }
 
-    /// Gives the archive back.
-    pub fn into_archive(self) -> A {
-        let Room { desk, .. } = self;
-        desk.into_store()
+    /// Whether the round ended since the volume is full.
+    pub fn is_full(&self) -> bool {
+        self.next.is_some()
+    }
+
+    /// Counts the messages of a round that ended since the volume is full.
+    pub fn end_round(&mut self, tally: &Tally, has_complained: bool) {
+        let all = together(&self.before, tally);
+        self.before = all;
+        self.has_complained = has_complained;
+    }
+
+    /// Gives the archive back, and says how the round ended, in an intake that began at a moment.
+    pub fn into_round(self, begun: u64) -> (A, Round<'a>) {
+        let Room {
+            job,
+            next,
+            before,
+            desk,
+            has_spoken,
+            has_complained,
+            told,
+            ..
+        } = self;
+        let archive = desk.into_store();
+        if next.is_none() {
+            return (archive, Round::Done);
+        }
+        let rounds = Rounds {
+            begun: Some(begun),
+            tally: before,
+            next,
+            told,
+            has_spoken,
+            has_complained,
+        };
+        (archive, Round::NextVolume(job, rounds))
     }
 
     /// Tells of scripts that are not used, before anything else is said.
@@ -175,6 +239,7 @@ impl<'a, A: Records> Room<'a, A> {
             → IsOf greatest_message message octets
             → IsDeliveredNow A.keeper self.old octets done self.new) }
         ensures undelivered { IfErr result (λ e. self.new.desk ≡ self.old.desk) }
+        ensures place { IsAtPlace self.old self.new }
     {
         let rt = self.job.rt;
         let officer = self.job.filing.officer.as_bytes();
@@ -206,9 +271,10 @@ impl<'a, A: Records> Room<'a, A> {
     {
         self.speak();
         let cause = capture.fault.and_then(|fault| self.cause_of(name, fault));
+        let volume = self.place.volume;
         self.job
             .log
-            .report(name, capture, undecoded, cause.as_ref());
+            .report(name, volume, capture, undecoded, cause.as_ref());
     }
 
     /// Why a message stays whose run ended in a fault.
@@ -223,6 +289,7 @@ impl<'a, A: Records> Room<'a, A> {
     fn refused(&mut self, reason: Reason) -> Refusal<Failure>
         ensures reason { result ≡ Stays reason }
         ensures dropped { IsDropped A.keeper self.old.desk self.new.desk }
+        ensures place { IsAtPlace self.old self.new }
     {
         self.desk.drop_flights();
         Refusal::Stays(reason)
@@ -232,6 +299,7 @@ impl<'a, A: Records> Room<'a, A> {
     fn refusal_of(&mut self, name: &str, fault: DeskFault) -> Refusal<Failure>
         ensures refusal { IsRefusal fault result }
         ensures left { IsLeftBy A.keeper result self.old.desk self.new.desk }
+        ensures place { IsAtPlace self.old self.new }
     {
         match desk_status(fault) {
             None => self.refused(Reason::NoMemory),
@@ -251,6 +319,7 @@ impl<'a, A: Records> Room<'a, A> {
     ) -> Result<Taken, Refusal<Failure>>
         ensures answer { IsAnswer taken_of done result }
         ensures left { IsLeft A.keeper result self.old.desk self.new.desk }
+        ensures place { IsAtPlace self.old self.new }
     {
         match done {
             Ok(Delivery::Captured(capture)) => {
@@ -271,7 +340,8 @@ impl<'a, A: Records> Room<'a, A> {
 
     /// Hands a message to the desk.
     fn hand_over(&mut self, name: &str, octets: Vec<u8>) -> Result<Taken, Refusal<Failure>>
-        ensures { IsHandedOver A.keeper self.old octets.items result self.new }
+        ensures handed_over { IsHandedOver A.keeper self.old octets.items result self.new }
+        ensures place { IsAtPlace self.old self.new }
     {
         let message = Payload::Whole(octets);
         let undecoded = undecoded_in(self.job.rt.alloc(), &message);
@@ -279,6 +349,73 @@ impl<'a, A: Records> Room<'a, A> {
             Ok(done) => self.answer_to(name, done, undecoded.as_slice()),
             Err(failure) => Err(Refusal::Ends(failure)),
         }
+    }
+
+    /// Makes the moves so far last over a power cut. The failure is that of the Maildir.
+    fn settle_moves(&self) -> Result<(), Failure> {
+        settle(self.job.rt, self.job.maildir).map_err(|error| maildir_failure(
+            self.job.rt,
+            self.job.maildir,
+            error,
+        ))
+    }
+
+    /// The name of a message with which the next round is to begin, once the moves so far last.
+    fn settled_before(&self, name: &str) -> Result<String, Failure>
+        ensures { IfOk result (λ next. string_bytes next ≡ name.now) }
+    {
+        self.settle_moves()?;
+        Ok(String::from_str(self.job.rt.alloc(), name)?)
+    }
+
+    /// Ends the round at the message of a name, with which the next one begins. What is answered is told only where that fails.
+    fn end_before(&mut self, name: &str) -> Failure
+        ensures desk { self.new.desk ≡ self.old.desk }
+        ensures next { IfSome self.new.next (λ next. string_bytes next ≡ name.now) }
+    {
+        match self.settled_before(name) {
+            Ok(next) => {
+                self.next = Some(next);
+                Failure::Reported(Status::TryAgain)
+            }
+            Err(failure) => {
+                self.next = None;
+                failure
+            }
+        }
+    }
+
+    /// Counts a message of so many octets where it was captured.
+    fn count(&mut self, octets: usize, answer: &Result<Taken, Refusal<Failure>>)
+        ensures desk { self.new.desk ≡ self.old.desk }
+        ensures space { self.new.place.space ≡
+            space_after answer.now octets self.old.place.space }
+        ensures next { self.new.next ≡ self.old.next }
+    {
+        match answer {
+            Ok(Taken::Captured) => self.place.space.count(octets),
+            Ok(Taken::Discarded) | Err(_) => {}
+        }
+    }
+
+    /// Hands a message to the desk while there is space in the volume. Else the round ends at it.
+    fn capture_while_space(
+        &mut self,
+        name: &str,
+        octets: Vec<u8>,
+    ) -> Result<Taken, Refusal<Failure>>
+        ensures full { is_full_space self.old.place.space ≡ true
+            → EndsRound self.old name.now result self.new }
+        ensures taken { is_full_space self.old.place.space ≡ false
+            → TakesOne A.keeper self.old octets.items result self.new }
+    {
+        if self.place.space.is_full() {
+            return Err(Refusal::Ends(self.end_before(name)));
+        }
+        let length = octets.len();
+        let answer = self.hand_over(name, octets);
+        self.count(length, &answer);
+        answer
     }
 
     /// Hears that messages stay whose names are no UTF-8. It is told how many, unless that was told on this day.
@@ -322,7 +459,7 @@ impl<'a, A: Records> Mailroom for Room<'a, A> {
     }
 
     fn capture(&mut self, name: &str, octets: Vec<u8>) -> Result<Taken, Refusal<Failure>> {
-        self.hand_over(name, octets)
+        self.capture_while_space(name, octets)
     }
 
     fn file_away(&mut self, name: &str) -> Result<(), Failure> {
@@ -351,10 +488,6 @@ impl<'a, A: Records> Mailroom for Room<'a, A> {
     }
 
     fn settle(&mut self) -> Result<(), Failure> {
-        settle(self.job.rt, self.job.maildir).map_err(|error| maildir_failure(
-            self.job.rt,
-            self.job.maildir,
-            error,
-        ))
+        self.settle_moves()
     }
 }

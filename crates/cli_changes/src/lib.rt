@@ -8,6 +8,7 @@
 //! - `moments`: when mail is captured; `time_limit`: how long the work on a message may take; `time_of_day`: that of a log;
 //! - `deliver` and `intake`: one message, and those of a Maildir; `intake_room`: the files, the desk and the log of an intake,
 //!   as the calls of `mail_intake`; `intake_log`: what is said of its messages; `intake_memory`: what was said on a day;
+//! - `rounds`: the rounds of an intake, one for each volume of an archive of volumes; `space`: what is left in a volume;
 //! - `import`: old mail; `import_room`: the files, the desk and the log of an import, as the calls of `mail_import`;
 //!   `import_log`: what is said of its messages; `no_mail`: what looks like no message;
 //! - `holds` and `whole_holds`: records that must not be destroyed, and the end of a hold on all of them; `keeping`: whether a
@@ -20,9 +21,9 @@
 //!   each; `altered`: those of them whose messages are not the ones that were captured.
 //!
 //! Each works on a store that is lent to it. What it writes, and what a Maildir or a terminal does, no contract speaks of:
-//! tests of the program show it. `specs/Moments` says when a clock is refused, `specs/Imports` how an import ends,
-//! `specs/Refilings` which records get another class, `specs/Series`, `specs/Holdings` and `specs/Moves` what a subcommand
-//! changes of the records that are found, and `specs/Replacements` what a new plan changes.
+//! tests of the program show it. `specs/Moments` says when a clock is refused, `specs/Spaces` when a volume is full,
+//! `specs/Imports` how an import ends, `specs/Refilings` which records get another class, `specs/Series`, `specs/Holdings` and
+//! `specs/Moves` what a subcommand changes of the records that are found, and `specs/Replacements` what a new plan changes.
 #![tactic(auto)]
 
 mod altered;
@@ -51,11 +52,13 @@ mod plan_changes;
 mod plan_file;
 mod refile;
 mod refilings;
+mod rounds;
 mod rule_checks;
 mod rules;
 mod rules_sum;
 mod runs;
 mod series;
+mod space;
 mod time_limit;
 mod time_of_day;
 mod titles;
@@ -65,7 +68,7 @@ pub use approved::with_approved;
 pub use certificates::{Certificates, Printer, StandardOutput};
 pub use deliver::{Delivered, deliver_to, read_message, report_delivery, undecoded_in};
 pub use dispose::{day_of_disposal, dispose_by};
-pub use holds::change_holds;
+pub use holds::{HoldChange, HoldTally, change_holds, end_holds, hold_found, is_held_by};
 pub use import::{MailImport, import_mail};
 pub use intake::{Intake, take_new};
 pub use keeping::keeps_less;
@@ -74,8 +77,10 @@ pub use no_mail::refuse_no_mail;
 pub use plan::{replace_plan, write_plan};
 pub use plan_file::read_plan;
 pub use refile::refile_records;
+pub use rounds::{Round, Rounds};
 pub use rule_checks::check_rules;
 pub use rules::{FilingRules, NamedRules};
+pub use space::{Place, Space};
 pub use time_of_day::logged;
 pub use titles::{read_titles, set_titles};
 pub use whole_holds::release_all;

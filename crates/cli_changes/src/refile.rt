@@ -176,7 +176,7 @@ impl Moves<'_> {
             }
             Fate::IsDestroyed => {
                 let refusal = ArchiveRefusal::Destroyed;
-                tell(self.rt, &refusal_line(alloc, entry.number, refusal)?);
+                tell(self.rt, &refusal_line(alloc, None, entry.number, refusal)?);
                 self.is_refused = true;
                 Ok(())
             }
@@ -306,7 +306,7 @@ impl<S: Alter> RecordChange<StoreLedger<'_, S>> for RefilingTo<'_> {
                 write_refiled(self.rt, number, self.to);
                 Ok(true)
             }
-            Err(fault) => refusal_told(self.rt, number, fault),
+            Err(fault) => refusal_told(self.rt, None, number, fault),
         }
     }
 }

@@ -70,7 +70,7 @@ fn try_rules<'a, A: Records>(
         Ok(filing) => filing,
         Err(failure) => return (archive, refused_by(rt, failure)),
     };
-    match filing.desk(rt, archive) {
+    match filing.desk(rt, archive, false) {
         Ok(desk) => (desk.into_store(), Ok(Verdict::Good)),
         Err((archive, failure)) => (archive, refused_by(rt, failure)),
     }

@@ -73,13 +73,14 @@ fn fault_text(
     Ok(text)
 }
 
-/// Reports a fault of rules in words. It is no failure where mail may go to `unfiled` then.
+/// Reports a fault of rules in words, unless it was told already. It is no failure where mail may go to `unfiled` then.
 fn excuse(
     rt: &HostRuntime,
     fault: &RulesFault,
     words: Result<Shown, AllocError>,
     on_fault: OnFault,
     has_times: bool,
+    is_told: bool,
 ) -> Result<(), Failure>
     ensures { IsExcused fault.now on_fault result }
 {
@@ -88,6 +89,9 @@ fn excuse(
     };
     if !fault.is_of_rules() || matches!(on_fault, OnFault::GiveUp) {
         return Err(Failure::Told(Status::TryAgain, words));
+    }
+    if is_told {
+        return Ok(());
     }
     match as_line(rt, has_times, &words) {
         Ok(line) => {
@@ -156,7 +160,7 @@ impl<'a> FilingRules<'a> {
             Ok(rules) => Some(rules),
             Err(fault) => {
                 let words = fault_text(rt, asked.rules, &fault, reader);
-                excuse(rt, &fault, words, on_fault, has_times)?;
+                excuse(rt, &fault, words, on_fault, has_times, false)?;
                 None
             }
         };
@@ -223,6 +227,7 @@ impl<'a> FilingRules<'a> {
         rt: &HostRuntime,
         desk: &mut Desk<A>,
         rules: &Rules,
+        is_told: bool,
     ) -> Result<(), Failure>
         ensures { AreSet A.keeper rules.now self.now.on_fault desk.old desk.new result }
     {
@@ -230,23 +235,34 @@ impl<'a> FilingRules<'a> {
             Ok(()) => Ok(()),
             Err(fault) => {
                 let words = fault.text(rt.alloc());
-                excuse(rt, &fault, words, self.on_fault, self.has_times)
+                excuse(rt, &fault, words, self.on_fault, self.has_times, is_told)
             }
         }
     }
 
     /// Sets the rules at a desk, if they can be had.
-    fn set<A: Records>(&self, rt: &HostRuntime, desk: &mut Desk<A>) -> Result<(), Failure>
+    fn set<A: Records>(
+        &self,
+        rt: &HostRuntime,
+        desk: &mut Desk<A>,
+        is_told: bool,
+    ) -> Result<(), Failure>
         ensures { IsSet A.keeper self.now.rules self.now.on_fault desk.old desk.new result }
     {
         match &self.rules {
-            Some(rules) => self.set_these(rt, desk, rules),
+            Some(rules) => self.set_these(rt, desk, rules, is_told),
             None => Ok(()),
         }
     }
 
-    /// A desk over an archive, with these rules. A failure hands the archive back.
-    pub fn desk<A: Records>(&self, rt: &HostRuntime, archive: A) -> Result<Desk<A>, (A, Failure)>
+    /// A desk over an archive, with these rules. A fault of theirs that is no failure is told, unless that was told already. A failure
+    /// hands the archive back.
+    pub fn desk<A: Records>(
+        &self,
+        rt: &HostRuntime,
+        archive: A,
+        is_told: bool,
+    ) -> Result<Desk<A>, (A, Failure)>
         ensures desk { IfOk result (IsDeskOf A.keeper self.now archive) }
         ensures given_back { IfErr result
             (λ e. IsGivenBack A.keeper self.now archive e.0 e.1) }
@@ -255,7 +271,7 @@ impl<'a> FilingRules<'a> {
             Ok(desk) => desk,
             Err(archive) => return Err((archive, Failure::NoMemory)),
         };
-        match self.set(rt, &mut desk) {
+        match self.set(rt, &mut desk, is_told) {
             Ok(()) => Ok(desk),
             Err(failure) => Err((desk.into_store(), failure)),
         }

@@ -4,9 +4,10 @@ ghost use Rattle.std.specs.Prelude.{◌≡◌, ◌||◌, false, not, IfOk, OnErr
 ghost use Rattle.record_archive.specs.Archive.{Archive};
 ghost use Rattle.record_archive.specs.Calls.{Keeper};
 ghost use Rattle.record_archive.specs.Faults.{is_trouble};
-ghost use Rattle.cli_changes.specs.Series.{Command, IsTried, IsTriedOn, StopsIn};
+ghost use Rattle.cli_changes.specs.Series.{Command, IsTried, IsTriedOn, StopsIn, changed_in_both};
 
 use cli_console::{Failure, Status, refusal_words, tell};
+use cli_texts::put_number;
 use record_store::{ArchiveRefusal, StoreFault};
 use std::alloc::{AllocError, Global};
 use tool_texts::{Shown, put};
@@ -32,7 +33,7 @@ pub(crate) trait RecordChange<A> {
 
 /// What became of records that were to be changed.
 #[derive(Clone, Copy)]
-pub(crate) struct Changed {
+pub struct Changed {
     /// Whether the archive did it on one.
     pub is_any: bool,
     /// Whether it refused one.
@@ -40,6 +41,26 @@ pub(crate) struct Changed {
 }
 
 impl Changed {
+    /// What became of no record.
+    pub fn none() -> Changed
+        ensures { result ≡ record { is_any = false; is_refused = false } }
+    {
+        Changed {
+            is_any: false,
+            is_refused: false,
+        }
+    }
+
+    /// What became of these records, and of those of another store.
+    pub fn joined(self, other: Changed) -> Changed
+        ensures { result ≡ changed_in_both self other }
+    {
+        Changed {
+            is_any: self.is_any || other.is_any,
+            is_refused: self.is_refused || other.is_refused,
+        }
+    }
+
     /// The same with one record more, on which the archive did it or refused it.
     fn and_one(self, is_done: bool) -> Changed
         ensures any { result.is_any ≡ (self.is_any || is_done) }
@@ -66,10 +87,7 @@ pub(crate) fn change_each<A, C: RecordChange<A>>(
         → C.keeper.stands archive.old a → StopsIn (C.keeper.stands archive.new)
         (C.command change.now) numbers.now a) }
 {
-    let mut changed = Changed {
-        is_any: false,
-        is_refused: false,
-    };
+    let mut changed = Changed::none();
     for number in numbers {
         let is_done = change.change_one(archive, *number)?;
         changed = changed.and_one(is_done);
@@ -77,21 +95,24 @@ pub(crate) fn change_each<A, C: RecordChange<A>>(
     Ok(changed)
 }
 
-/// That the archive refuses to change a record.
+/// That the archive refuses to change a record, which is that of a volume in an archive of volumes.
 pub(crate) fn refusal_line(
     alloc: Global,
+    volume: Option<u32>,
     number: u32,
     refusal: ArchiveRefusal,
 ) -> Result<Shown, AllocError> {
     let refusal = refusal.number();
     let mut line = Shown::new(alloc);
-    put!(line; value(&number) ": " value(&refusal) ": " words(refusal_words(refusal)))?;
+    put_number(&mut line, volume, number)?;
+    put!(line; ": " value(&refusal) ": " words(refusal_words(refusal)))?;
     Ok(line)
 }
 
 /// Tells that the archive refused to change a record, and answers that it was not done. Any other fault is a failure.
 pub(crate) fn refusal_told(
     rt: &HostRuntime,
+    volume: Option<u32>,
     number: u32,
     fault: StoreFault,
 ) -> Result<bool, Failure>
@@ -100,7 +121,7 @@ pub(crate) fn refusal_told(
 {
     match fault {
         StoreFault::Refused(refusal) => {
-            tell(rt, &refusal_line(rt.alloc(), number, refusal)?);
+            tell(rt, &refusal_line(rt.alloc(), volume, number, refusal)?);
             Ok(false)
         }
         trouble => {

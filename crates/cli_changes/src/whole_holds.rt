@@ -15,7 +15,7 @@ ghost use Rattle.cli_changes.specs.Holdings.{
 };
 ghost use Rattle.cli_changes.specs.Series.{ChangesAll, ChangesFirst, WasClean};
 
-use crate::holds::{HoldChange, end_of_none, held_choice};
+use crate::holds::{HoldChange, held_choice, not_held};
 use crate::series::{change_each, judge_refused};
 use cli_choice::Change;
 use cli_console::{Failure, Reader, Status, agrees, read_chosen, write_text};
@@ -108,7 +108,7 @@ pub fn release_all<S: Alter>(
     let held = list_held(rt, archive, name)?;
     let numbers = held.as_slice();
     if numbers.is_empty() {
-        return end_of_none(rt, archive, name, false);
+        return Err(not_held(rt.alloc(), name));
     }
     if !is_agreed && !agrees(rt, "release all of these records?") {
         return Err(Failure::told(
@@ -117,8 +117,12 @@ pub fn release_all<S: Alter>(
             "no record is released; --yes releases them",
         ));
     }
-    let change = Change::End;
-    let hold = HoldChange { rt, change, name };
+    let hold = HoldChange {
+        rt,
+        volume: None,
+        change: Change::End,
+        name,
+    };
     let changed = change_each(&hold, archive, numbers)?;
     judge_refused(changed.is_refused)
 }

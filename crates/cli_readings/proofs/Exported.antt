@@ -1,6 +1,6 @@
 -- An export that is made record after record is that of the records.
-use Rattle.std.proofs.Common.{◌≡◌, ℕ, ◌+◌, ◌&&◌, Bool, true, false, not, cond, min, nat_le, List, [], ◌∷◌, ◌++◌, length, map, filter}
-use Rattle.std.proofs.Common.{Option, Some, None, Ok, Err, Bor, refl, sym, ap, ap₂, ◌∙◌, subst, arith, decimal}
+use Rattle.std.proofs.Common.{◌≡◌, ℕ, ◌+◌, ◌&&◌, Bool, true, false, not, cond, min, nat_le, List, [], ◌∷◌, ◌++◌, length, map}
+use Rattle.std.proofs.Common.{filter, Option, Some, None, Ok, Err, Bor, refl, sym, ap, ap₂, ◌∙◌, subst, arith, decimal}
 use Rattle.std.specs.Prelude.{Result, option_map, flat_map}
 use Rattle.std.specs.List.{AllByRecursion, AllZip}
 use Rattle.std.proofs.lemmas.Grind.{flat_map-append}
@@ -161,10 +161,14 @@ module _ (a : Archive) (s : Seals) (e : RecordEntry) (octets : List ℕ) (w : Wr
     ap (λ (n : ℕ). Some (n, w.headers)) is.message,
   )
 
+-- the fields of a message that is another one
+abbrev sealed_of : Seals → RecordEntry → List (List ℕ)
+sealed_of s e = sealed_fields (option_map length_and_sum (known s e.message))
+
 -- it is another one
 module _ (a : Archive) (s : Seals) (e : RecordEntry) (octets : List ℕ) (has : HasMessage a e octets)
     (other : are_captured s e.message octets ≡ false) where
-  fields_of_other : message_fields a s e ≡ sealed_fields (option_map length_and_sum (known s e.message))
+  fields_of_other : message_fields a s e ≡ sealed_of s e
   fields_of_other =
       ap (λ b. cond b (file_fields e.message (octets_of a e)) (sealed_fields (told_of s e))) (files_it a s e octets false has other)
       ∙ ap (λ b. sealed_fields (cond b None (option_map length_and_sum (known s e.message)))) has.live
@@ -201,6 +205,16 @@ pub record IsExportFrom (a : Archive) (s : Seals) (last : Option ℕ) (es : List
   pub subjects : subjects_in parts ≡ map (λ (e : RecordEntry). (e.number, e.message)) es
   pub altered : altered_in parts ≡ map (λ (e : RecordEntry). e.number) (filter (is_altered a s) es)
 
+-- what one record adds to the manifest, to the index, and to those whose events are in the history
+pub record IsOnce (a : Archive) (s : Seals) (e : RecordEntry) (one : List Part) : Type 0 where
+  pub fields : List (List ℕ)
+  pub rows : rows_in one ≡ fields ∷ []
+  pub manifest : IsInManifest a s e fields
+  pub entry : page.Record × Option (ℕ × Headers)
+  pub listed : index_in one ≡ entry ∷ []
+  pub index : IsInIndex a s e entry
+  pub subjects : subjects_in one ≡ (e.number, e.message) ∷ []
+
 -- what is handed over of one record, and what it adds to each list
 pub record IsOne (a : Archive) (s : Seals) (last : Option ℕ) (e : RecordEntry) (next : Option ℕ) (one : List Part) : Type 0 where
   pub filed_by : List RecordEntry
@@ -210,37 +224,50 @@ pub record IsOne (a : Archive) (s : Seals) (last : Option ℕ) (e : RecordEntry)
   pub noted_by : List RecordEntry
   pub noted : (es : List RecordEntry) → filter (is_altered a s) (e ∷ es) ≡ noted_by ++ filter (is_altered a s) es
   pub altered : altered_in one ≡ map (λ (x : RecordEntry). x.number) noted_by
-  pub fields : List (List ℕ)
-  pub rows : rows_in one ≡ fields ∷ []
-  pub manifest : IsInManifest a s e fields
-  pub entry : page.Record × Option (ℕ × Headers)
-  pub listed : index_in one ≡ entry ∷ []
-  pub index : IsInIndex a s e entry
-  pub subjects : subjects_in one ≡ (e.number, e.message) ∷ []
+  pub once : IsOnce a s e one
 
-joined : {X : Type 0} (f : Part → List X) (g : RecordEntry → X) (parts one rest : List Part) (all by more : List RecordEntry) → parts ≡ one ++ rest
-    → flat_map f one ≡ map g by → flat_map f rest ≡ map g more → all ≡ by ++ more → flat_map f parts ≡ map g all
+-- what is listed of a record is what it adds, where its fields and its letter are those of its message
+listed_once : (a : Archive) (s : Seals) (e : RecordEntry) (fields : List (List ℕ)) (letter : Option (ℕ × Headers)) (lists one : List Part)
+    → (x : IsListed e fields letter lists) → message_fields a s e ≡ fields → IsLetterOf a e (has_file a s e) letter
+    → rows_in one ≡ (record_fields x.line ++ fields) ∷ [] → index_in one ≡ (x.shown, letter) ∷ []
+    → subjects_in one ≡ (e.number, e.message) ∷ [] → IsOnce a s e one
+listed_once a s e fields letter lists one x are of_it rows listed subjects = record {
+  fields = record_fields x.line ++ fields;
+  rows = rows;
+  manifest = record { line = x.line; line_is = x.line_is; are = ap (λ f. record_fields x.line ++ f) (sym are) };
+  entry = (x.shown, letter);
+  listed = listed;
+  index = record { shown = x.shown_is; letter = of_it };
+  subjects = subjects;
+}
+
+joined : {X : Type 0} (f : Part → List X) (g : RecordEntry → X) (parts one rest : List Part) (all by more : List RecordEntry)
+    → parts ≡ one ++ rest → flat_map f one ≡ map g by → flat_map f rest ≡ map g more → all ≡ by ++ more → flat_map f parts ≡ map g all
 joined f g parts one rest all by more is first next both =
     ap (flat_map f) is ∙ flat_map-append f one rest ∙ ap₂ ◌++◌ first next ∙ sym (map-append g by more) ∙ ap (map g) (sym both)
 
-zipped : {X : Type 0} (P : RecordEntry → X → Type 0) (f : Part → List X) (parts one rest : List Part) (e : RecordEntry) (es : List RecordEntry)
-    (x : X) → parts ≡ one ++ rest → flat_map f one ≡ x ∷ [] → P e x → AllZip P es (flat_map f rest) → AllZip P (e ∷ es) (flat_map f parts)
+zipped : {X : Type 0} (P : RecordEntry → X → Type 0) (f : Part → List X) (parts one rest : List Part) (e : RecordEntry)
+    (es : List RecordEntry) (x : X) → parts ≡ one ++ rest → flat_map f one ≡ x ∷ [] → P e x → AllZip P es (flat_map f rest)
+    → AllZip P (e ∷ es) (flat_map f parts)
 zipped P f parts one rest e es x is first here more =
-    subst (λ l. AllZip P (e ∷ es) l) (sym (ap (flat_map f) is ∙ flat_map-append f one rest ∙ ap (λ l. l ++ flat_map f rest) first)) (here, more)
+    subst (λ l. AllZip P (e ∷ es) l) (sym (ap (flat_map f) is ∙ flat_map-append f one rest ∙ ap (λ l. l ++ flat_map f rest) first))
+    (here, more)
 
 with_one : (a : Archive) (s : Seals) (last next : Option ℕ) (e : RecordEntry) (es : List RecordEntry) (parts one rest : List Part)
     → IsOne a s last e next one → IsExportFrom a s next es rest → parts ≡ one ++ rest → IsExportFrom a s last (e ∷ es) parts
-with_one a s last next e es parts one rest first more is = record {
-  files = joined file_of (file_for a) parts one rest (filed_from a s last (e ∷ es)) first.filed_by (filed_from a s next es) is first.files more.files
-      (first.filed es);
-  sums = joined sum_of (sum_for a) parts one rest (filed_from a s last (e ∷ es)) first.filed_by (filed_from a s next es) is first.sums more.sums
-      (first.filed es);
-  manifest = zipped (IsInManifest a s) row_of parts one rest e es first.fields is first.rows first.manifest more.manifest;
-  index = zipped (IsInIndex a s) listed_of parts one rest e es first.entry is first.listed first.index more.index;
-  subjects = joined subject_of (λ (x : RecordEntry). (x.number, x.message)) parts one rest (e ∷ es) (e ∷ []) es is first.subjects more.subjects refl;
-  altered = joined altered_of (λ (x : RecordEntry). x.number) parts one rest (filter (is_altered a s) (e ∷ es)) first.noted_by
-      (filter (is_altered a s) es) is first.altered more.altered (first.noted es);
-}
+with_one a s last next e es parts one rest first more is =
+    let all = filed_from a s last (e ∷ es) in
+    let later = filed_from a s next es in
+    let noted = filter (is_altered a s) es in record {
+      files = joined file_of (file_for a) parts one rest all first.filed_by later is first.files more.files (first.filed es);
+      sums = joined sum_of (sum_for a) parts one rest all first.filed_by later is first.sums more.sums (first.filed es);
+      manifest = zipped (IsInManifest a s) row_of parts one rest e es first.once.fields is first.once.rows first.once.manifest more.manifest;
+      index = zipped (IsInIndex a s) listed_of parts one rest e es first.once.entry is first.once.listed first.once.index more.index;
+      subjects = joined subject_of (λ (x : RecordEntry). (x.number, x.message)) parts one rest (e ∷ es) (e ∷ []) es is first.once.subjects
+          more.subjects refl;
+      altered = joined altered_of (λ (x : RecordEntry). x.number) parts one rest (filter (is_altered a s) (e ∷ es)) first.noted_by noted is
+          first.altered more.altered (first.noted es);
+    }
 
 -- ---- which records file messages, and which are noted
 
@@ -278,28 +305,35 @@ module _ (a : Archive) (s : Seals) (last : Option ℕ) (e : RecordEntry) (es : L
 
 one_gone : (a : Archive) (s : Seals) (last : Option ℕ) (e : RecordEntry) (one : List Part) → e.destroyed ≡ true
     → IsListed e (sealed_fields None) None one → IsOne a s last e last one
-one_gone a s last e one gone is = record {
-  filed_by = [];
-  filed = λ es. passed_over a s last e es gone;
-  files = ap files_in is.parts_are;
-  sums = ap sums_in is.parts_are;
-  noted_by = [];
-  noted = λ es. noted_it a s last e es false (not_altered a s e gone);
-  altered = ap altered_in is.parts_are;
-  fields = record_fields is.line ++ sealed_fields None;
-  rows = ap rows_in is.parts_are;
-  manifest = record {
-    line = is.line;
-    line_is = is.line_is;
-    are = ap (λ f. record_fields is.line ++ f) (sym (fields_of_gone a s e gone));
-  };
-  entry = (is.shown, None);
-  listed = ap index_in is.parts_are;
-  index = record { shown = is.shown_is; letter = letter_of_gone a s e gone };
-  subjects = ap subjects_in is.parts_are;
-}
+one_gone a s last e one gone x =
+    let is = x.parts_are in record {
+      filed_by = [];
+      filed = λ es. passed_over a s last e es gone;
+      files = ap files_in is;
+      sums = ap sums_in is;
+      noted_by = [];
+      noted = λ es. noted_it a s last e es false (not_altered a s e gone);
+      altered = ap altered_in is;
+      once = listed_once a s e (sealed_fields None) None one one x (fields_of_gone a s e gone) (letter_of_gone a s e gone) (ap rows_in is)
+          (ap index_in is) (ap subjects_in is);
+    }
 
 module _ (a : Archive) (s : Seals) (last : Option ℕ) (e : RecordEntry) (octets : List ℕ) (has : HasMessage a e octets) (one : List Part) where
+  -- what is listed of a record with a message that was written, or is another one
+  once_written : (w : Written) (lists : List Part) → are_captured s e.message octets ≡ true → IsOf e.message octets w
+      → (x : IsListed e (written_fields w) (Some (w.message, w.headers)) lists)
+      → rows_in one ≡ (record_fields x.line ++ written_fields w) ∷ []
+      → index_in one ≡ (x.shown, Some (w.message, w.headers)) ∷ [] → subjects_in one ≡ (e.number, e.message) ∷ [] → IsOnce a s e one
+  once_written w lists own told x =
+      listed_once a s e (written_fields w) (Some (w.message, w.headers)) lists one x (fields_of_file a s e octets w has own told)
+      (letter_of_file a s e octets w has own told)
+
+  once_altered : (lists : List Part) → are_captured s e.message octets ≡ false → (x : IsListed e (sealed_of s e) None lists)
+      → rows_in one ≡ (record_fields x.line ++ sealed_of s e) ∷ [] → index_in one ≡ (x.shown, None) ∷ []
+      → subjects_in one ≡ (e.number, e.message) ∷ [] → IsOnce a s e one
+  once_altered lists other x =
+      listed_once a s e (sealed_of s e) None lists one x (fields_of_other a s e octets has other) (letter_of_other a s e octets has other)
+
   again_written : (w : Written) → are_captured s e.message octets ≡ true → IsOf e.message octets w → is_again last e.message ≡ true
       → IsListedAs s e (Some (met.Written w)) one → IsOne a s last e last one
   again_written w own told again x =
@@ -311,17 +345,7 @@ module _ (a : Archive) (s : Seals) (last : Option ℕ) (e : RecordEntry) (octets
         noted_by = [];
         noted = λ es. noted_it a s last e es false (passes_it a s e octets true has own);
         altered = ap altered_in is;
-        fields = record_fields x.are.line ++ written_fields w;
-        rows = ap rows_in is;
-        manifest = record {
-          line = x.are.line;
-          line_is = x.are.line_is;
-          are = ap (λ f. record_fields x.are.line ++ f) (sym (fields_of_file a s e octets w has own told));
-        };
-        entry = (x.are.shown, Some (w.message, w.headers));
-        listed = ap index_in is;
-        index = record { shown = x.are.shown_is; letter = letter_of_file a s e octets w has own told };
-        subjects = ap subjects_in is;
+        once = once_written w x.lists own told x.are (ap rows_in is) (ap index_in is) (ap subjects_in is);
       }
 
   again_altered : are_captured s e.message octets ≡ false → (number : ℕ) → is_again last e.message ≡ true
@@ -335,22 +359,12 @@ module _ (a : Archive) (s : Seals) (last : Option ℕ) (e : RecordEntry) (octets
         noted_by = e ∷ [];
         noted = λ es. noted_it a s last e es true (passes_it a s e octets false has other);
         altered = ap altered_in is;
-        fields = record_fields x.are.line ++ sealed_fields (option_map length_and_sum (known s e.message));
-        rows = ap rows_in is;
-        manifest = record {
-          line = x.are.line;
-          line_is = x.are.line_is;
-          are = ap (λ f. record_fields x.are.line ++ f) (sym (fields_of_other a s e octets has other));
-        };
-        entry = (x.are.shown, None);
-        listed = ap index_in is;
-        index = record { shown = x.are.shown_is; letter = letter_of_other a s e octets has other };
-        subjects = ap subjects_in is;
+        once = once_altered x.lists other x.are (ap rows_in is) (ap index_in is) (ap subjects_in is);
       }
 
   new_written : (w : Written) (files rest : List Part) → are_captured s e.message octets ≡ true → IsOf e.message octets w
-      → is_again last e.message ≡ false → files ≡ file_parts e.message octets → IsListedAs s e (Some (met.Written w)) rest → one ≡ files ++ rest
-      → IsOne a s last e (Some e.message) one
+      → is_again last e.message ≡ false → files ≡ file_parts e.message octets → IsListedAs s e (Some (met.Written w)) rest
+      → one ≡ files ++ rest → IsOne a s last e (Some e.message) one
   new_written w files rest own told new first x both =
       let is = both ∙ ap₂ ◌++◌ first (x.parts_are ∙ x.are.parts_are) in
       let same = sym (are_octets a e octets has) in record {
@@ -361,21 +375,11 @@ module _ (a : Archive) (s : Seals) (last : Option ℕ) (e : RecordEntry) (octets
         noted_by = [];
         noted = λ es. noted_it a s last e es false (passes_it a s e octets true has own);
         altered = ap altered_in is;
-        fields = record_fields x.are.line ++ written_fields w;
-        rows = ap rows_in is;
-        manifest = record {
-          line = x.are.line;
-          line_is = x.are.line_is;
-          are = ap (λ f. record_fields x.are.line ++ f) (sym (fields_of_file a s e octets w has own told));
-        };
-        entry = (x.are.shown, Some (w.message, w.headers));
-        listed = ap index_in is;
-        index = record { shown = x.are.shown_is; letter = letter_of_file a s e octets w has own told };
-        subjects = ap subjects_in is;
+        once = once_written w x.lists own told x.are (ap rows_in is) (ap index_in is) (ap subjects_in is);
       }
 
-  new_altered : (number : ℕ) (files rest : List Part) → are_captured s e.message octets ≡ false → is_again last e.message ≡ false → files ≡ []
-      → IsListedAs s e (Some (met.Altered number)) rest → one ≡ files ++ rest → IsOne a s last e (Some e.message) one
+  new_altered : (number : ℕ) (files rest : List Part) → are_captured s e.message octets ≡ false → is_again last e.message ≡ false
+      → files ≡ [] → IsListedAs s e (Some (met.Altered number)) rest → one ≡ files ++ rest → IsOne a s last e (Some e.message) one
   new_altered number files rest other new first x both =
       let is = both ∙ ap₂ ◌++◌ first (x.parts_are ∙ ap (λ l. part.altered e.number ∷ l) x.are.parts_are) in record {
         filed_by = [];
@@ -385,17 +389,7 @@ module _ (a : Archive) (s : Seals) (last : Option ℕ) (e : RecordEntry) (octets
         noted_by = e ∷ [];
         noted = λ es. noted_it a s last e es true (passes_it a s e octets false has other);
         altered = ap altered_in is;
-        fields = record_fields x.are.line ++ sealed_fields (option_map length_and_sum (known s e.message));
-        rows = ap rows_in is;
-        manifest = record {
-          line = x.are.line;
-          line_is = x.are.line_is;
-          are = ap (λ f. record_fields x.are.line ++ f) (sym (fields_of_other a s e octets has other));
-        };
-        entry = (x.are.shown, None);
-        listed = ap index_in is;
-        index = record { shown = x.are.shown_is; letter = letter_of_other a s e octets has other };
-        subjects = ap subjects_in is;
+        once = once_altered x.lists other x.are (ap rows_in is) (ap index_in is) (ap subjects_in is);
       }
 
 abbrev told : Option (List ℕ) → Result (Option (List ℕ)) ArchiveRefusal

@@ -1,20 +1,28 @@
 -- The definitions on worked rows.
-use Rattle.std.proofs.Common.{◌≡◌, ℕ, true, false, List, [], ◌∷◌, map, codes, None, Some, refl}
+use Rattle.std.proofs.Common.{◌≡◌, ℕ, true, false, List, [], ◌∷◌, ◌++◌, map, codes, decimal, Option, None, Some, refl}
 use Rattle.std.specs.Fmt.{digits}
 use Rattle.std.specs.Str.{chars, is_utf8}
 use lib.Utf8.{encode}
 use Rattle.choice_words.specs.declared.numbers.TypedNumbers.TheVariants.{One, Range}
-use Rattle.command_lines.specs.declared.archives.Format.TheVariants.{Lines, Csv, Json, Count}
+use Rattle.cli_texts.specs.declared.headers.ListedHeaders.TheVariants.{Unasked}
+use Rattle.cli_texts.specs.declared.records.Row.{Row}
+use Rattle.command_lines.specs.declared.archives.Format.TheVariants.{Lines, Csv, Json, Numbers, Count}
+use Rattle.jiff_core.specs.declared.civil.date.Date.{Date}
 use Rattle.record_choice.specs.declared.entry.RecordEntry.{RecordEntry}
 use Rattle.cli_readings.specs.Altered.{altered_words, one_words, several_words}
 use Rattle.cli_readings.specs.Exports.{count_of, file_name, sealed_fields, sum_line, without_again}
 use Rattle.cli_readings.specs.Groups.{Added, is_twice, with_key}
-use Rattle.cli_console.specs.Counts.{one_more}
-use Rattle.cli_readings.specs.Lists.{end_of}
+use Rattle.cli_console.specs.Counts.{greatest, one_more}
+use Rattle.cli_readings.specs.Checks.{figures_of, is_passed, no_figures, together}
+use Rattle.cli_readings.specs.Lists.{IsTextOf, between, end_of, head_of}
 use Rattle.cli_readings.specs.Parts.{Part, altered_in, files_in, rows_in, subjects_in, sums_in}
 use Rattle.cli_readings.specs.Parts as part
-use Rattle.cli_readings.specs.Twice.{before_group, beside_record, head_beside, more_records}
+use Rattle.cli_readings.specs.Sequences.{AreTexts, more_for}
+use Rattle.cli_readings.specs.Twice.{before_group, beside_record, head_beside}
+use Rattle.cli_readings.specs.VolumeLists.{head_unless}
 use Rattle.cli_readings.specs.declared.groups.Sealed.{Sealed}
+use Rattle.cli_readings.specs.declared.judge.Messages.{Messages}
+use Rattle.cli_readings.specs.declared.judge.Totals.{Totals}
 
 -- ---- what was captured twice
 
@@ -50,10 +58,37 @@ cells_beside = refl
 head_of_groups : head_beside Csv false ≡ codes "octets,sha256,number,class,day,due,holds,destroyed\n"
 head_of_groups = refl
 
-three_records : more_records (sealed 1 1 ∷ sealed 2 2 ∷ sealed 3 3 ∷ []) 4 ≡ 7
+three_records : more_for (sealed 1 1 ∷ sealed 2 2 ∷ sealed 3 3 ∷ []) 4 ≡ 7
 three_records = refl
 
 -- ---- lists
+
+abbrev numbered : Row → Option ℕ → ℕ → Row
+numbered r v n = record r { volume = v; number = n }
+
+number_alone : (r : Row) → IsTextOf Numbers true (numbered r None 17) Unasked (codes "17\n")
+unfolding digits
+number_alone r = refl
+
+number_of_a_volume : (r : Row) → IsTextOf Numbers false (numbered r (Some 3) 17) Unasked (codes "3/17\n")
+unfolding digits
+number_of_a_volume r = refl
+
+only_counted : (r : Row) → IsTextOf Count true r Unasked []
+only_counted r = refl
+
+-- two numbers as objects, of which the second one stands behind a comma
+two_objects : AreTexts (λ is_first (n : ℕ) text. text ≡ between is_first ++ decimal n) true (1 ∷ 12 ∷ []) (codes "\n1,\n12")
+unfolding digits
+two_objects = (codes "\n1", refl, codes ",\n12", (codes ",\n12", refl, [], refl, refl), refl)
+
+heads_are : map (λ f. head_of f false) (Lines ∷ Csv ∷ Json ∷ Numbers ∷ Count ∷ [])
+    ≡ [] ∷ codes "number,class,day,due,holds,destroyed\n" ∷ codes "[" ∷ [] ∷ [] ∷ []
+heads_are = refl
+
+-- none stands before the records of a second volume
+heads_of_volumes : map (λ b. head_unless b Json false) (false ∷ true ∷ []) ≡ codes "[" ∷ [] ∷ []
+heads_of_volumes = refl
 
 ends_are : map (λ n. end_of Count n) (0 ∷ 12 ∷ []) ≡ codes "0\n" ∷ codes "12\n" ∷ []
 unfolding digits
@@ -64,6 +99,36 @@ object_ends = refl
 
 no_more : one_more 18446744073709551615 ≡ 18446744073709551615
 no_more = refl
+
+-- ---- checks
+
+-- a live record without a due date and a hold, the same with a hold, and a destroyed one
+abbrev live : RecordEntry → ℕ → ℕ → RecordEntry
+live e n m = record e { number = n; message = m; destroyed = false; due = None; holds = record e.holds { items = [] } }
+
+abbrev held : RecordEntry → ℕ → ℕ → RecordEntry
+held e n m = record (live e n m) { holds = record e.holds { items = record e.path { items = codes "court" } ∷ [] } }
+
+abbrev gone : RecordEntry → ℕ → ℕ → RecordEntry
+gone e n m = record (held e n m) { destroyed = true }
+
+figures_are : (e : RecordEntry) (day : Date) → figures_of day (live e 1 1 ∷ held e 2 1 ∷ gone e 7 7 ∷ [])
+    ≡ record { records = 3; live = 2; held = 1; due = 0; last = 7 }
+figures_are e day = refl
+
+no_records : (day : Date) → figures_of day [] ≡ no_figures
+no_records day = refl
+
+-- where message 1 was counted last, it is not counted again, nor that of a destroyed record; at the beginning message 0 is counted
+passed_are : (m : Messages) (e : RecordEntry)
+    → map (is_passed (record m { count = 1; last = 1 })) (live e 2 1 ∷ live e 3 3 ∷ gone e 4 3 ∷ []) ≡ true ∷ false ∷ true ∷ []
+passed_are m e = refl
+
+first_counted : (m : Messages) (e : RecordEntry) → is_passed (record m { count = 0; last = 0 }) (live e 1 0) ≡ false
+first_counted m e = refl
+
+no_more_octets : (x : Totals) → (together (record x { octets = greatest }) (record x { octets = 1 })).octets ≡ greatest
+no_more_octets x = refl
 
 -- ---- exports
 

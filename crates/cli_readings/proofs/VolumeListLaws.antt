@@ -4,7 +4,8 @@ use Rattle.std.proofs.lemmas.List.{append-nil}
 use Rattle.record_archive.specs.Archive.{Archive}
 use Rattle.record_choice.specs.declared.entry.RecordEntry.{RecordEntry}
 use Rattle.cli_console.specs.Sinks.{Writes, more_written}
-use Rattle.cli_readings.specs.Lists.{AreListedAs, HasText, Lists, end_of, more_for}
+use Rattle.cli_readings.specs.Lists.{AreListedAs, HasText, Lists, end_of}
+use Rattle.cli_readings.specs.Sequences.{more_for}
 use Rattle.cli_readings.specs.VolumeLists.{AddsVolume, Begins, Ends, head_in, in_volume}
 use Rattle.cli_readings.specs.declared.list.ListText.{ListText}
 use Rattle.cli_readings.specs.declared.volume_lists.VolumeList.{VolumeList}

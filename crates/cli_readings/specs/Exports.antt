@@ -16,7 +16,7 @@ use Rattle.cli_texts.specs.declared.records.Row.{Row}
 use Rattle.cli_texts.specs.Headers.{date_of, sender_of, subject_of}
 use Rattle.cli_texts.specs.Rows.{header_fields, record_fields, shown_octets}
 use Rattle.cli_texts.specs.Sums.{shown_sum}
-use Rattle.cli_texts.specs.Words.{words}
+use Rattle.cli_texts.specs.Words.{name as shown_name, number as shown_number, words}
 use Rattle.cli_console.specs.Counts.{greatest}
 use Rattle.cli_console.specs.Headers.{AreTextsOf}
 use Rattle.cli_console.specs.Sinks.{Writes}
@@ -147,6 +147,12 @@ so_much records messages octets =
 -- HOW MUCH THIS IS: how many records are in the manifest, how many messages went to files, and how many octets these have
 abbrev pub count_of : List Part → Count
 count_of ps = so_much (length (rows_in ps)) (length (files_in ps)) (octets_in_all (files_in ps))
+
+-- what is told of it in the end, in a line
+unfoldable pub exported_text : Count → (folder : List ℕ) → List ℕ
+exported_text c folder =
+    words (codes "exported records ") ++ shown_number c.records ++ words (codes " messages ") ++ shown_number c.messages
+    ++ words (codes " octets ") ++ shown_number c.octets ++ words (codes " to ") ++ shown_name folder ++ 10 ∷ []
 
 -- THE EXPORT OF THESE RECORDS GOES TO A DESTINATION, and nothing else
 pub record WritesExport {D : Type 0} (made : D → List Part → Type 0) (seals : Seals) (before : D) (a : Archive) (es : List RecordEntry)

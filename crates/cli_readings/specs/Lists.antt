@@ -1,8 +1,7 @@
 -- What a list has of the records that are found.
 use Rattle.std.specs.Prelude.{◌≡◌, ℕ, Bool, true, false, ◌+◌, ◌==◌, if◌then◌else◌, min}
 use Rattle.std.specs.Prelude.{List, [], ◌∷◌, ◌++◌, length, codes, decimal, Option}
-use Rattle.std.proofs.Common.{refl, sym, ap, ◌∙◌, subst, arith, ◌≤◌, zero-add}
-use Rattle.std.proofs.lemmas.Bool.{ne_eqb}
+use Rattle.std.proofs.Common.{refl, sym, ap, ◌∙◌, subst, arith, zero-add}
 use Rattle.std.proofs.lemmas.List.{append_assoc, append-nil}
 use Rattle.cli_texts.specs.declared.headers.ListedHeaders.{ListedHeaders}
 use Rattle.cli_texts.specs.declared.headers.ListedHeaders.TheVariants.{Unasked, Destroyed, Texts}
@@ -18,6 +17,7 @@ use Rattle.record_choice.specs.declared.entry.RecordEntry.{RecordEntry}
 use Rattle.cli_console.specs.Counts.{greatest, one_more}
 use Rattle.cli_console.specs.Headers.{AreTextsOf}
 use Rattle.cli_console.specs.Sinks.{Writes, more_written, nothing_written}
+use Rattle.cli_readings.specs.Sequences.{AreTexts, count_of, counted_joined, first_after, is_none, more_for, one_text, texts_joined}
 use Rattle.cli_readings.specs.declared.list.ListText.{ListText}
 
 -- ---- a record
@@ -62,9 +62,7 @@ pub record IsListedAs (a : Archive) (l : Listing) (is_first : Bool) (e : RecordE
 
 -- THE TEXT OF THESE RECORDS: that of each, once, in this order
 abbrev pub AreListedAs : Archive → Listing → (is_first : Bool) → List RecordEntry → List ℕ → Type 0
-AreListedAs a l is_first [] text = text ≡ []
-AreListedAs a l is_first (e ∷ es) text =
-    (row : List ℕ) × IsListedAs a l is_first e row × (rest : List ℕ) × AreListedAs a l false es rest × (text ≡ row ++ rest)
+AreListedAs a l is_first es text = AreTexts (IsListedAs a l) is_first es text
 
 -- ---- a whole list
 
@@ -97,11 +95,6 @@ WritesList written a l before es after = (text : List ℕ) × IsListOf a l es te
 
 -- ---- as it is made
 
--- one more for each
-abbrev pub more_for : List RecordEntry → ℕ → ℕ
-more_for [] n = n
-more_for (e ∷ es) n = more_for es (one_more n)
-
 -- A LIST HAS THIS TEXT: what is written of it, and behind that what is yet to be written
 abbrev pub HasText : {K : Type 0} (written : K → List ℕ → Type 0) → ListText K → List ℕ → Type 0
 HasText written l text = (done : List ℕ) × written l.sink done × (done ++ l.text.items ≡ text)
@@ -125,41 +118,6 @@ pub record PushesRow {K : Type 0} (written : K → List ℕ → Type 0) (a : Arc
   pub listing : new.listing ≡ old.listing
 
 -- ---- its laws
-
--- the next record is the first one of a list where these are none, and the list begins
-abbrev pub first_after : Bool → List RecordEntry → Bool
-first_after is_first [] = is_first
-first_after is_first (e ∷ es) = false
-
-not_first : (es : List RecordEntry) → first_after false es ≡ false
-not_first [] = refl
-not_first (e ∷ es) = refl
-
-rows_joined : (a : Archive) (l : Listing) (is_first : Bool) (es fs : List RecordEntry) (t u : List ℕ) → AreListedAs a l is_first es t
-    → AreListedAs a l (first_after is_first es) fs u → AreListedAs a l is_first (es ++ fs) (t ++ u)
-rows_joined a l is_first [] fs t u one other = subst (λ s. AreListedAs a l is_first fs (s ++ u)) (sym one) other
-rows_joined a l is_first (e ∷ es) fs t u one other = (
-  one.0,
-  one.1,
-  one.2 ++ u,
-  rows_joined a l false es fs one.2 u one.3 (subst (λ b. AreListedAs a l b fs u) (sym (not_first es)) other),
-  ap (λ s. s ++ u) one.4 ∙ append_assoc one.0 one.2 u,
-)
-
-counted_joined : (es fs : List RecordEntry) (n : ℕ) → more_for fs (more_for es n) ≡ more_for (es ++ fs) n
-counted_joined [] fs n = refl
-counted_joined (e ∷ es) fs n = counted_joined es fs (one_more n)
-
-pub is_some : (n : ℕ) → (one_more n == 0) ≡ false
-is_some n = ne_eqb (one_more n) 0 (λ e. omega (arith, e))
-
-is_none : (es : List RecordEntry) (n : ℕ) → (more_for es n == 0) ≡ first_after (n == 0) es
-is_none [] n = refl
-is_none (e ∷ es) n = is_none es (one_more n) ∙ ap (λ b. first_after b es) (is_some n) ∙ not_first es
-
-pub count_of : (es : List RecordEntry) (n : ℕ) → n ≤ greatest → more_for es n ≡ min (n + length es) greatest
-count_of [] n fits = omega arith
-count_of (e ∷ es) n fits = count_of es (one_more n) (omega arith) ∙ omega arith
 
 -- a text comes behind what is yet to be written
 pub text_kept : {K : Type 0} (written : K → List ℕ → Type 0) (x y : ListText K) (text : List ℕ) → y.sink ≡ x.sink
@@ -189,7 +147,7 @@ module _ {K : Type 0} (written : K → List ℕ → Type 0) (a : Archive) where
       → Lists written a x (es ++ fs) z
   more_listed x y z es fs one other = record {
     rows = one.rows ++ other.rows;
-    are = rows_joined a x.listing (x.count == 0) es fs one.rows other.rows one.are
+    are = texts_joined (IsListedAs a x.listing) (x.count == 0) es fs one.rows other.rows one.are
         (subst (λ l. AreListedAs a l (first_after (x.count == 0) es) fs other.rows) one.listing
         (subst (λ b. AreListedAs a y.listing b fs other.rows) (ap (λ n. n == 0) one.counted ∙ is_none es x.count) other.are));
     added = more_written (HasText written) x y z one.rows other.rows one.added other.added;
@@ -206,7 +164,7 @@ module _ {K : Type 0} (written : K → List ℕ → Type 0) (a : Archive) where
   pub one_listed : (x y : ListText K) (e : RecordEntry) → PushesRow written a (x.count == 0) x e y → Lists written a x (e ∷ []) y
   one_listed x y e pushed = record {
     rows = pushed.row;
-    are = (pushed.row, pushed.is, [], refl, sym (append-nil pushed.row));
+    are = one_text (IsListedAs a x.listing) (x.count == 0) e pushed.row pushed.is;
     added = pushed.added;
     counted = pushed.counted;
     listing = pushed.listing;

@@ -21,7 +21,8 @@ use Rattle.cli_console.specs.Sinks.{Writes, more_written, nothing_written}
 use Rattle.cli_history.specs.Seals.{known, length_and_sum}
 use Rattle.cli_history.specs.declared.seals.Seals.{Seals}
 use Rattle.cli_texts.specs.Sums.{shown_sum}
-use Rattle.cli_readings.specs.Lists.{HasText, IsListedAs, Lists, PushesRow, between, end_of, head_of, is_some, whole_text}
+use Rattle.cli_readings.specs.Lists.{HasText, IsListedAs, Lists, PushesRow, between, end_of, head_of, whole_text}
+use Rattle.cli_readings.specs.Sequences.{AreTexts, count_of, counted_joined, first_after, is_none, more_for, not_first, one_text, texts_joined}
 use Rattle.cli_readings.specs.Shows.{IsEntryOf}
 use Rattle.cli_readings.specs.declared.list.ListText.{ListText}
 use Rattle.cli_readings.specs.declared.twice.Grouping.{Grouping}
@@ -94,18 +95,17 @@ after_group Json = codes "\n]}"
 after_group Numbers = []
 after_group Count = []
 
--- the record of a number is listed
-pub record IsRecordListed (a : Archive) (l : Listing) (is_first : Bool) (number : ℕ) (row : List ℕ) : Type 0 where
+-- THE TEXT OF A RECORD OF A GROUP: that of a list, behind what stands beside it
+pub record IsBeside (a : Archive) (l : Listing) (beside : List ℕ) (is_first : Bool) (r : Sealed) (text : List ℕ) : Type 0 where
   pub entry : RecordEntry
-  pub of_it : IsEntryOf a number entry
+  pub of_it : IsEntryOf a r.number entry
+  pub row : List ℕ
   pub listed : IsListedAs a l is_first entry row
+  pub whole : text ≡ beside ++ row
 
--- THE TEXT OF THE RECORDS OF A GROUP: that of each, once, in this order, behind what stands beside it
+-- the text of these records: that of each, once, in this order
 abbrev pub AreBeside : Archive → Listing → (beside : List ℕ) → (is_first : Bool) → List Sealed → List ℕ → Type 0
-AreBeside a l beside is_first [] text = text ≡ []
-AreBeside a l beside is_first (r ∷ rs) text =
-    (row : List ℕ) × IsRecordListed a l is_first r.number row × (rest : List ℕ) × AreBeside a l beside false rs rest
-    × (text ≡ (beside ++ row) ++ rest)
+AreBeside a l beside is_first rs text = AreTexts (IsBeside a l beside) is_first rs text
 
 -- THE TEXT OF A GROUP
 pub record IsGroupText (a : Archive) (l : Listing) (is_first : Bool) (g : KeyedGroup) (text : List ℕ) : Type 0 where
@@ -115,9 +115,7 @@ pub record IsGroupText (a : Archive) (l : Listing) (is_first : Bool) (g : KeyedG
 
 -- the text of these groups: that of each, once, in this order
 abbrev pub AreGroupTexts : Archive → Listing → (is_first : Bool) → List KeyedGroup → List ℕ → Type 0
-AreGroupTexts a l is_first [] text = text ≡ []
-AreGroupTexts a l is_first (g ∷ gs) text =
-    (one : List ℕ) × IsGroupText a l is_first g one × (rest : List ℕ) × AreGroupTexts a l false gs rest × (text ≡ one ++ rest)
+AreGroupTexts a l is_first gs text = AreTexts (IsGroupText a l) is_first gs text
 
 -- the records of all groups
 abbrev pub all_records : List KeyedGroup → List Sealed
@@ -149,18 +147,13 @@ pub record Gathers (old : Grouping) (a : Archive) (es : List RecordEntry) (new :
 
 -- ---- as it is listed
 
--- one more for each
-abbrev pub more_records : List Sealed → ℕ → ℕ
-more_records [] n = n
-more_records (r ∷ rs) n = more_records rs (one_more n)
-
 -- these records are added behind what stands beside each, each once, in this order, and nothing else
 pub record AddsBeside {K : Type 0} (written : K → List ℕ → Type 0) (beside : List ℕ) (is_first : Bool) (old : ListText K) (a : Archive)
     (rs : List Sealed) (new : ListText K) : Type 0 where
   pub rows : List ℕ
   pub are : AreBeside a old.listing beside is_first rs rows
   pub added : Writes (HasText written) old new rows
-  pub counted : new.count ≡ more_records rs old.count
+  pub counted : new.count ≡ more_for rs old.count
   pub listing : new.listing ≡ old.listing
 
 -- these groups are added, each once, in this order, and nothing else
@@ -169,7 +162,7 @@ pub record AddsGroups {K : Type 0} (written : K → List ℕ → Type 0) (old : 
   pub rows : List ℕ
   pub are : AreGroupTexts a old.listing (old.count == 0) gs rows
   pub added : Writes (HasText written) old new rows
-  pub counted : new.count ≡ more_records (all_records gs) old.count
+  pub counted : new.count ≡ more_for (all_records gs) old.count
   pub listing : new.listing ≡ old.listing
 
 -- ---- its laws
@@ -220,53 +213,10 @@ pub one_gathered : (x y : Grouping) (a : Archive) (e : RecordEntry) (key : Key) 
 one_gathered x y a e key is writes same =
     record { gathered = (key, sealed e) ∷ []; are = (key, is, [], refl, refl); added = writes; seals = same }
 
--- the next one is the first where there are none before it, and they begin with the first
-abbrev pub first_behind : {X : Type 0} → Bool → List X → Bool
-first_behind is_first [] = is_first
-first_behind is_first (x ∷ xs) = false
-
-never_first : {X : Type 0} (xs : List X) → first_behind false xs ≡ false
-never_first [] = refl
-never_first (x ∷ xs) = refl
-
-beside_joined : (a : Archive) (l : Listing) (beside : List ℕ) (is_first : Bool) (rs ss : List Sealed) (t u : List ℕ)
-    → AreBeside a l beside is_first rs t → AreBeside a l beside (first_behind is_first rs) ss u → AreBeside a l beside is_first (rs ++ ss) (t ++ u)
-beside_joined a l beside is_first [] ss t u one other = subst (λ s. AreBeside a l beside is_first ss (s ++ u)) (sym one) other
-beside_joined a l beside is_first (r ∷ rs) ss t u one other = (
-  one.0,
-  one.1,
-  one.2 ++ u,
-  beside_joined a l beside false rs ss one.2 u one.3 (subst (λ b. AreBeside a l beside b ss u) (sym (never_first rs)) other),
-  ap (λ s. s ++ u) one.4 ∙ append_assoc (beside ++ one.0) one.2 u,
-)
-
-groups_joined : (a : Archive) (l : Listing) (is_first : Bool) (gs hs : List KeyedGroup) (t u : List ℕ) → AreGroupTexts a l is_first gs t
-    → AreGroupTexts a l (first_behind is_first gs) hs u → AreGroupTexts a l is_first (gs ++ hs) (t ++ u)
-groups_joined a l is_first [] hs t u one other = subst (λ s. AreGroupTexts a l is_first hs (s ++ u)) (sym one) other
-groups_joined a l is_first (g ∷ gs) hs t u one other = (
-  one.0,
-  one.1,
-  one.2 ++ u,
-  groups_joined a l false gs hs one.2 u one.3 (subst (λ b. AreGroupTexts a l b hs u) (sym (never_first gs)) other),
-  ap (λ s. s ++ u) one.4 ∙ append_assoc one.0 one.2 u,
-)
-
 -- a group has a record at least, so that none behind it is the first
-is_begun : (r : Sealed) (rs : List Sealed) (n : ℕ) → (more_records (r ∷ rs) n == 0) ≡ false
-is_begun r [] n = is_some n
-is_begun r (q ∷ rs) n = is_begun q rs (one_more n)
-
-is_none : (gs : List KeyedGroup) (n : ℕ) → (more_records (all_records gs) n == 0) ≡ first_behind (n == 0) gs
-is_none [] n = refl
-is_none (g ∷ gs) n = is_begun g.1.first (g.1.others.items ++ all_records gs) n
-
-records_counted : (rs ss : List Sealed) (n : ℕ) → more_records ss (more_records rs n) ≡ more_records (rs ++ ss) n
-records_counted [] ss n = refl
-records_counted (r ∷ rs) ss n = records_counted rs ss (one_more n)
-
-more_of : (rs : List Sealed) (n : ℕ) → n ≤ greatest → more_records rs n ≡ min (n + length rs) greatest
-more_of [] n fits = omega arith
-more_of (r ∷ rs) n fits = more_of rs (one_more n) (omega arith) ∙ omega arith
+is_begun : (gs : List KeyedGroup) (n : ℕ) → (more_for (all_records gs) n == 0) ≡ first_after (n == 0) gs
+is_begun [] n = refl
+is_begun (g ∷ gs) n = is_none (all_records (g ∷ gs)) n
 
 records_joined : (gs hs : List KeyedGroup) → all_records (gs ++ hs) ≡ all_records gs ++ all_records hs
 records_joined [] hs = refl
@@ -280,13 +230,13 @@ module _ {K : Type 0} (written : K → List ℕ → Type 0) (a : Archive) where
       → PushesRow written a is_first y e z → AddsBeside written beside is_first x a (r ∷ []) z
   one_beside x y z beside is_first r e of_it text count same pushed = record {
     rows = beside ++ pushed.row;
-    are = (
-      pushed.row,
-      record { entry = e; of_it = of_it; listed = subst (λ l. IsListedAs a l is_first e pushed.row) same pushed.is },
-      [],
-      refl,
-      sym (append-nil (beside ++ pushed.row)),
-    );
+    are = one_text (IsBeside a x.listing beside) is_first r (beside ++ pushed.row) (record {
+      entry = e;
+      of_it = of_it;
+      row = pushed.row;
+      listed = subst (λ l. IsListedAs a l is_first e pushed.row) same pushed.is;
+      whole = refl;
+    });
     added = more_written (HasText written) x y z beside pushed.row text pushed.added;
     counted = pushed.counted ∙ ap one_more count;
     listing = pushed.listing ∙ same;
@@ -297,13 +247,13 @@ module _ {K : Type 0} (written : K → List ℕ → Type 0) (a : Archive) where
       record { rows = []; are = refl; added = nothing_written (HasText written) x; counted = refl; listing = refl }
 
   pub more_beside : (x y z : ListText K) (beside : List ℕ) (is_first : Bool) (rs ss : List Sealed) → AddsBeside written beside is_first x a rs y
-      → AddsBeside written beside (first_behind is_first rs) y a ss z → AddsBeside written beside is_first x a (rs ++ ss) z
+      → AddsBeside written beside (first_after is_first rs) y a ss z → AddsBeside written beside is_first x a (rs ++ ss) z
   more_beside x y z beside is_first rs ss one other = record {
     rows = one.rows ++ other.rows;
-    are = beside_joined a x.listing beside is_first rs ss one.rows other.rows one.are
-        (subst (λ l. AreBeside a l beside (first_behind is_first rs) ss other.rows) one.listing other.are);
+    are = texts_joined (IsBeside a x.listing beside) is_first rs ss one.rows other.rows one.are
+        (subst (λ l. AreBeside a l beside (first_after is_first rs) ss other.rows) one.listing other.are);
     added = more_written (HasText written) x y z one.rows other.rows one.added other.added;
-    counted = other.counted ∙ ap (more_records ss) one.counted ∙ records_counted rs ss x.count;
+    counted = other.counted ∙ ap (more_for ss) one.counted ∙ counted_joined rs ss x.count;
     listing = other.listing ∙ one.listing;
   }
 
@@ -314,7 +264,7 @@ module _ {K : Type 0} (written : K → List ℕ → Type 0) (a : Archive) where
   next_beside x y z beside rs i d there one other =
       subst (λ l. AddsBeside written beside false x a l z) (sym (take_more rs i d there))
       (more_beside x y z beside false (take i rs) (get_or rs i d ∷ []) one
-      (subst (λ b. AddsBeside written beside b y a (get_or rs i d ∷ []) z) (sym (never_first (take i rs))) other))
+      (subst (λ b. AddsBeside written beside b y a (get_or rs i d ∷ []) z) (sym (not_first (take i rs))) other))
 
   pub all_beside : (x y : ListText K) (beside : List ℕ) (rs : List Sealed) (i : ℕ) → length rs ≤ i
       → AddsBeside written beside false x a (take i rs) y → AddsBeside written beside false x a rs y
@@ -330,21 +280,15 @@ module _ {K : Type 0} (written : K → List ℕ → Type 0) (a : Archive) where
       let front = before_group x.listing.format (x.count == 0) (key_of g.0) in
       let back = after_group x.listing.format in record {
         rows = (front ++ rows.rows) ++ back;
-        are = (
-          (front ++ rows.rows) ++ back,
-          record {
-            rows = rows.rows;
-            are = subst (λ l. AreBeside a l (beside_record x.listing.format (key_of g.0)) true (records_of g.1) rows.rows) same rows.are;
-            whole = refl;
-          },
-          [],
-          refl,
-          sym (append-nil ((front ++ rows.rows) ++ back)),
-        );
+        are = one_text (IsGroupText a x.listing) (x.count == 0) g ((front ++ rows.rows) ++ back) (record {
+          rows = rows.rows;
+          are = subst (λ l. AreBeside a l (beside_record x.listing.format (key_of g.0)) true (records_of g.1) rows.rows) same rows.are;
+          whole = refl;
+        });
         added = more_written (HasText written) x z u (front ++ rows.rows) back
             (more_written (HasText written) x y z front rows.rows before rows.added) after;
-        counted = counted ∙ rows.counted ∙ ap (more_records (records_of g.1)) count
-            ∙ ap (λ rs. more_records rs x.count) (sym (append-nil (records_of g.1)));
+        counted = counted ∙ rows.counted ∙ ap (more_for (records_of g.1)) count
+            ∙ ap (λ rs. more_for rs x.count) (sym (append-nil (records_of g.1)));
         listing = listed ∙ rows.listing ∙ same;
       }
 
@@ -366,12 +310,12 @@ module _ {K : Type 0} (written : K → List ℕ → Type 0) (a : Archive) where
       → AddsGroups written x a (gs ++ hs) z
   more_groups x y z gs hs one other = record {
     rows = one.rows ++ other.rows;
-    are = groups_joined a x.listing (x.count == 0) gs hs one.rows other.rows one.are
-        (subst (λ l. AreGroupTexts a l (first_behind (x.count == 0) gs) hs other.rows) one.listing
-        (subst (λ b. AreGroupTexts a y.listing b hs other.rows) (ap (λ n. n == 0) one.counted ∙ is_none gs x.count) other.are));
+    are = texts_joined (IsGroupText a x.listing) (x.count == 0) gs hs one.rows other.rows one.are
+        (subst (λ l. AreGroupTexts a l (first_after (x.count == 0) gs) hs other.rows) one.listing
+        (subst (λ b. AreGroupTexts a y.listing b hs other.rows) (ap (λ n. n == 0) one.counted ∙ is_begun gs x.count) other.are));
     added = more_written (HasText written) x y z one.rows other.rows one.added other.added;
-    counted = other.counted ∙ ap (more_records (all_records hs)) one.counted ∙ records_counted (all_records gs) (all_records hs) x.count
-        ∙ ap (λ rs. more_records rs x.count) (sym (records_joined gs hs));
+    counted = other.counted ∙ ap (more_for (all_records hs)) one.counted ∙ counted_joined (all_records gs) (all_records hs) x.count
+        ∙ ap (λ rs. more_for rs x.count) (sym (records_joined gs hs));
     listing = other.listing ∙ one.listing;
   }
 
@@ -392,7 +336,7 @@ module _ {K : Type 0} (written : K → List ℕ → Type 0) (a : Archive) where
       → u.text.items ≡ [] → WritesTwice written l s before a u.sink
   whole_twice l s before gs x y z u twice sink listing empty none head count same added end all =
       let counted : z.count ≡ min (length (all_records gs)) greatest =
-      added.counted ∙ ap (more_records (all_records gs)) (count ∙ none) ∙ more_of (all_records gs) 0 (omega arith)
+      added.counted ∙ ap (more_for (all_records gs)) (count ∙ none) ∙ count_of (all_records gs) 0 (omega arith)
       ∙ ap (λ n. min n greatest) (zero-add (length (all_records gs))) in
       let is : y.listing ≡ l = same ∙ listing in
       let ended : end_of z.listing.format z.count ≡ end_of l.format (min (length (all_records gs)) greatest) =

@@ -5,7 +5,7 @@ ghost use Rattle.record_archive.specs.Archive.{Archive};
 ghost use Rattle.record_choice.specs.Reads.{OnlyReads};
 ghost use Rattle.cli_console.specs.Finds.{found_in};
 ghost use Rattle.cli_readings.specs.Ends.{IsEnded};
-ghost use Rattle.cli_readings.specs.Exports.{ExportsFound};
+ghost use Rattle.cli_readings.specs.Exports.{ExportsFound, exported_text};
 
 use crate::conditions::conditions_of;
 use crate::destination::{Destination, Folder, HISTORY, INDEX};
@@ -182,7 +182,10 @@ fn finish(
 }
 
 /// What an export comes to, in a line.
-fn exported_line(alloc: Global, count: Count, folder: &str) -> Result<Shown, AllocError> {
+#[tactic(auto, unfolding(crate::specs::Exports::exported_text))]
+fn exported_line(alloc: Global, count: Count, folder: &str) -> Result<Shown, AllocError>
+    ensures { IfOk result (λ line. line ≡ exported_text count folder.now) }
+{
     let mut line = Shown::new(alloc);
     put!(line; "exported records " value(&count.records) " messages " value(&count.messages)
         " octets " value(&count.octets) " to " named(folder.as_bytes()))?;

@@ -1,18 +1,21 @@
 //! `report`: one page of HTML on what is kept, what is due and what is held.
 
-ghost use Rattle.std.specs.Prelude.{OnOk, refl};
+ghost use Rattle.std.specs.Prelude.{◌≡◌, IfOk, IfSome, OnOk, is_none, not, refl};
 ghost use Rattle.record_archive.specs.Archive.{Archive};
 ghost use Rattle.record_choice.specs.Reads.{OnlyReads};
 ghost use Rattle.cli_console.specs.Finds.{IsBounded, TakesThese, found_ahead};
+ghost use Rattle.cli_console.specs.Headers.{AreTextsOf};
+ghost use Rattle.cli_readings.specs.Checks.{is_live_and_due};
 ghost use Rattle.cli_readings.specs.Reports.{IsRecordOf, Reports, more_reported};
 
 use crate::conditions::conditions_of;
+use crate::list::headers_of_record;
 use class_plan::{Date, Plan};
 use cli_choice::Questions;
-use cli_console::{Failure, Reader, Search, Status, is_by, message_of, now, today, write_data};
+use cli_console::{Failure, Reader, Search, Status, is_by, now, today, write_data};
 use cli_history::Titles;
 use cli_page::{Heading, Page, Record, Report, ReportFault};
-use cli_texts::{Headers, ListedTitle, headers_of, moment_text};
+use cli_texts::{Headers, ListedTitle, moment_text};
 use command_lines::archives::Choice;
 use record_choice::Repository;
 use record_store::{RecordEntry, Store, StoreFault};
@@ -50,13 +53,15 @@ fn headers_of_due<R: Repository<Fault = StoreFault>>(
     entry: &RecordEntry,
     day: Date,
 ) -> Result<Option<Headers>, Failure>
-    ensures { OnlyReads R.clean R.stands archive.old archive.new }
+    ensures reads { OnlyReads R.clean R.stands archive.old archive.new }
+    ensures asked { IfOk result (λ h. is_none h ≡ not (is_live_and_due day entry.now)) }
+    ensures texts { IfOk result (λ o. R.clean archive.new → (a : Archive)
+        → R.stands archive.old a → IfSome o (λ h. AreTextsOf a entry.now.number h)) }
 {
-    if entry.destroyed || !is_by(entry.due, day) {
+    if !is_by(entry.due, day) {
         return Ok(None);
     }
-    let message = message_of(rt, archive, entry)?;
-    Ok(Some(headers_of(rt.alloc(), message.as_slice())?))
+    headers_of_record(rt, archive, entry)
 }
 
 /// A report by a day to which records are added.

@@ -30,18 +30,20 @@ use Rattle.cli_tasks.specs.declared.changes.Changing.{Changing}
 used_known : (listed : Option Seals) (seals used : Seals) → used ≡ unwrap_or listed seals → listed ≡ None → used ≡ seals
 used_known listed seals used by none = by ∙ ap (λ o. unwrap_or o seals) none
 
--- A CHANGE IS MADE: where it ends well, the archive is changed for the purpose of the change
-pub made_by : {S : Type 0} (g : Ghosts S) (change : Changing) (author : Author) (before opened : Store S) (purpose : Purpose)
-    (listed : Option Seals) (seals used : Seals) (old new : Ledger S LibcRuntime) (done : Result (Unit {0}) Failure) (after : Held S)
-    → purpose ≡ purpose_of change before.plan
+-- THIS IS MADE OF A LEDGER: where it ends well, the archive is changed for the purpose that is meant
+pub made_by : {S X : Type 0} (g : Ghosts S) (meant purpose : Purpose) (author : Author) (before opened : Store S) (listed : Option Seals)
+    (seals used : Seals) (old new : Ledger S LibcRuntime) (done : Result X Failure)
+    (Made : (old new : Ledger S LibcRuntime) → Seals → Type 0) (after : Held S)
+    → purpose ≡ meant
     → (changes purpose ≡ true → listed ≡ None) → (changes purpose ≡ true → opened ≡ before)
     → (changes purpose ≡ false → Glances g before opened)
     → OpensFor g purpose author opened seals old.kept → IsOccasionOf author None old.occasion
-    → used ≡ unwrap_or listed seals → Makes g old new done change used → after ≡ (store_of new.kept).conn
-    → OnOk done (Changes g (purpose_of change before.plan) author before (λ old new seals. Makes g old new done change seals) after)
-made_by g change author before opened purpose listed seals used old new (Err failure) after is none same looked opens occasion by made left = tt
-made_by g change author before opened purpose listed seals used old new (Ok x) after is none same looked opens occasion by made left =
-    subst (λ p. Changes g p author before (λ old new seals. Makes g old new (Ok x) change seals) after) is (record {
+    → used ≡ unwrap_or listed seals → Made old new used → after ≡ (store_of new.kept).conn
+    → OnOk done (Changes g meant author before Made after)
+made_by g meant purpose author before opened listed seals used old new (Err failure) Made after is none same looked opens occasion by made left =
+    tt
+made_by g meant purpose author before opened listed seals used old new (Ok x) Made after is none same looked opens occasion by made left =
+    subst (λ p. Changes g p author before Made after) is (record {
       opened = opened;
       same = same;
       looked = looked;
@@ -55,6 +57,26 @@ made_by g change author before opened purpose listed seals used old new (Ok x) a
       made = made;
       left = left;
     })
+
+-- what was made is also this
+pub changes_weaker : {S : Type 0} (g : Ghosts S) (purpose : Purpose) (author : Author) (before : Store S)
+    (Made Other : (old new : Ledger S LibcRuntime) → Seals → Type 0) (after : Held S)
+    → ((old new : Ledger S LibcRuntime) (seals : Seals) → Made old new seals → Other old new seals)
+    → Changes g purpose author before Made after → Changes g purpose author before Other after
+changes_weaker g purpose author before Made Other after to d = record {
+  opened = d.opened;
+  same = d.same;
+  looked = d.looked;
+  seals = d.seals;
+  old = d.old;
+  new = d.new;
+  opens = d.opens;
+  occasion = d.occasion;
+  used = d.used;
+  known = d.known;
+  made = to d.old d.new d.used d.made;
+  left = d.left;
+}
 
 -- WHAT IS DUE IS DISPOSED OF, by the seals of the certificates
 pub disposes : {S K : Type 0} (g : Ghosts S) (old new : Ledger S K) (result : Result (Unit {0}) Failure) (asked : Disposal) (day : Date)

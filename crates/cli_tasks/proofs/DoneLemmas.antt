@@ -1,6 +1,7 @@
 -- What a work has made of an archive, in the words of a command.
 use Rattle.std.specs.Prelude.{Result, Ok, Err, OnOk, IfOk, IfSome, Option, None}
 use Rattle.std.specs.Borrow.{Bor}
+use Rattle.std.specs.declared.prelude.LibcRuntime.{LibcRuntime}
 use Rattle.std.proofs.Common.{◌≡◌, ℕ, List, Bool, subst}
 use Rattle.jiff_core.specs.declared.civil.date.Date.{Date}
 use Rattle.class_plan.specs.Plans.{Listing}
@@ -9,6 +10,7 @@ use Rattle.sqlite.specs.Held.{Held}
 use Rattle.choice_words.specs.Typed.{first_of_volumes}
 use Rattle.choice_words.specs.declared.choice.Choice.{Choice}
 use Rattle.choice_words.specs.declared.typed.TypedChoice.{TypedChoice}
+use Rattle.record_ledger.specs.declared.ledger.Ledger.{Ledger}
 use Rattle.record_store.specs.declared.store.Store.{Store}
 use Rattle.cli_choice.specs.declared.questions.Questions.{Questions}
 use Rattle.cli_console.specs.declared.failure.Failure.{Failure}
@@ -18,9 +20,12 @@ use Rattle.command_lines.specs.declared.archives.Disposal.{Disposal}
 use Rattle.command_lines.specs.declared.archives.approvals.DisposalAsked.{DisposalAsked}
 use Rattle.command_lines.specs.declared.archives.histories.Attribution.{Attribution}
 use Rattle.cli_history.specs.declared.author.Author.{Author}
+use Rattle.cli_history.specs.declared.opening.Purpose.{Purpose}
+use Rattle.cli_history.specs.declared.seals.Seals.{Seals}
 use Rattle.cli_changes.specs.Approvals.{IsAsTyped}
 use Rattle.cli_tasks.specs.Changes.{Changes, Disposes, Makes}
-use Rattle.cli_tasks.specs.Commands.{AreAsked, ChangesBy, ChangesChosenBy, DisposesAsTyped, DoesAsTyped, DoesWith, IsTold, ReplacesPlan}
+use Rattle.cli_tasks.specs.Commands.{AreAsked, ChangesAsTold, ChangesBy, ChangesChosenBy, DisposesAsTyped, DoesAsTyped, DoesWith, IsTold}
+use Rattle.cli_tasks.specs.Commands.{ReplacesPlan}
 use Rattle.cli_tasks.specs.Purposes.{for_disposal, purpose_of}
 use Rattle.cli_tasks.specs.Works.{IsDone}
 use Rattle.cli_tasks.specs.declared.changes.ChosenChange.{ChosenChange}
@@ -44,7 +49,36 @@ settled_as WasThere Made done (Ok x) d is = record {
 }
 settled_as WasThere Made done (Err failure) d is = tt
 
+-- what was done and is named, where it is taken
+pub named_as : {X : Type 0} (done named result : Result X Failure) → IfOk named (λ x. done ≡ Ok x) → IfOk result (λ x. named ≡ Ok x)
+    → IfOk result (λ x. done ≡ Ok x)
+named_as done named (Ok x) is taken = subst (λ r. IfOk r (λ y. done ≡ Ok y)) taken is
+named_as done named (Err failure) is taken = tt
+
+-- what was made of an archive that was lent is also this
+pub done_weaker : {S : Type 0} (WasThere : Store S → Type 0) (Made Other : Store S → Held S → Type 0)
+    → ((before : Store S) (after : Held S) → Made before after → Other before after) → IsDone WasThere Made → IsDone WasThere Other
+done_weaker WasThere Made Other to d = record {
+  before = d.before;
+  after = d.after;
+  was_there = d.was_there;
+  made = to d.before d.after d.made;
+}
+
 module _ {S : Type 0} (g : Ghosts S) (WasThere : Store S → Type 0) (told : Attribution) where
+  -- what somebody made of a ledger, who is told
+  pub told_as : {X : Type 0} (author : Author) (result : Result X Failure) (purpose : Purpose)
+      (Made : X → (old new : Ledger S LibcRuntime) → Seals → Type 0) → IsTold told author
+      → IfOk result (λ x. IsDone WasThere (λ before after. Changes g purpose author before (Made x) after))
+      → IfOk result (λ x. IsDone WasThere (λ before after. ChangesAsTold g told before after purpose (Made x)))
+  told_as author (Ok x) purpose Made is d = record {
+    before = d.before;
+    after = d.after;
+    was_there = d.was_there;
+    made = (author, is, d.made);
+  }
+  told_as author (Err failure) purpose Made is d = tt
+
   -- a change by an author whom the command line tells
   pub changed_as : (author : Author) (change : Changing) (result : Result (Unit {0}) Failure) → IsTold told author
       → IfOk result (λ x. IsDone WasThere (λ before after. Changes g (purpose_of change before.plan) author before

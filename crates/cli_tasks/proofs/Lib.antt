@@ -1,3 +1,4 @@
 pub mod DoneLemmas
 pub mod ChangeLemmas
+pub mod VolumeLaws
 mod PurposeRows

@@ -1,10 +1,11 @@
 -- What a person changes in an archive.
-use Rattle.std.specs.Prelude.{◌≡◌, ℕ, true, false, List, None, Result, OnOk, OnErr, is_ok}
+use Rattle.std.specs.Prelude.{◌≡◌, ℕ, Bool, true, false, List, None, Result, IfOk, OnOk, OnErr, is_ok}
 use Rattle.std.specs.declared.prelude.LibcRuntime.{LibcRuntime}
 use Rattle.jiff.specs.Words.{epoch_day}
 use Rattle.jiff_core.specs.declared.civil.date.Date.{Date}
+use Rattle.sqlite.specs.State.{HasCleanDisk}
 use Rattle.sqlite.specs.Store.{Ghosts}
-use Rattle.sqlite.specs.Held.{Held}
+use Rattle.sqlite.specs.Held.{Held, state}
 use Rattle.class_plan.specs.Plans.{Listing}
 use Rattle.choice_words.specs.declared.choice.Choice.{Choice}
 use Rattle.cli_choice.specs.declared.holds.Change.{Change}
@@ -17,6 +18,7 @@ use Rattle.record_archive.specs.Archive.{Archive}
 use Rattle.record_choice.specs.Disposals.{Certificate}
 use Rattle.record_ledger.specs.Ledgers.{KeptFor, keeper_of, keeps_history, store_of}
 use Rattle.record_ledger.specs.declared.ledger.Ledger.{Ledger}
+use Rattle.record_store.specs.Stores.{StandsFor}
 use Rattle.record_store.specs.declared.store.Store.{Store}
 use Rattle.cli_history.specs.Authors.{IsOccasionOf}
 use Rattle.cli_history.specs.Openings.{OpensFor}
@@ -26,7 +28,8 @@ use Rattle.cli_history.specs.declared.author.Author.{Author}
 use Rattle.cli_history.specs.declared.opening.Purpose.{Purpose}
 use Rattle.cli_history.specs.declared.seals.Seals.{Seals}
 use Rattle.cli_changes.specs.Destructions.{IsDisposalOf, IsOnlyRead, IsRead}
-use Rattle.cli_changes.specs.Holdings.{HoldsWell, changed_numbers, changed_on, held_by, is_any_of}
+use Rattle.cli_changes.specs.declared.holds.HoldTally.{HoldTally}
+use Rattle.cli_changes.specs.Holdings.{HoldsAs, HoldsWell, changed_numbers, changed_on, held_by, is_any_of}
 use Rattle.cli_changes.specs.Moves.{RefilesWell, moved_to, moving_numbers}
 use Rattle.cli_changes.specs.Replacements.{Replaces}
 use Rattle.cli_changes.specs.Series.{ChangesAll, ChangesFirst, KeepsAll, WasClean}
@@ -85,7 +88,23 @@ module _ {S K : Type 0} (g : Ghosts S) (old new : Ledger S K) (result : Result (
   Makes (Chosen change choice questions) seals = ChangesChosen change choice.now questions
   Makes (ReleaseAll name is_agreed) seals = EndsHold name.now
 
+-- THE HOLD OF A NAME IS PLACED, OR ENDED, on the records of a choice that have all that is asked, and this tells what that came to: on all of
+-- them where it succeeds, and else on the first so many
+pub record HoldsFound {S K : Type 0} (g : Ghosts S) (old new : Ledger S K) (result : Result HoldTally Failure) (change : Change)
+    (name : List ℕ) (choice : Choice) (questions : Questions) : Type 0 where
+  pub falls : WasClean (keeper_of g) old new
+  pub done : IfOk result (λ tally. ChangesAll (keeper_of g) old new (changed_on change name)
+      (λ a. changed_numbers change name (found_in choice questions a))
+      (λ a. HoldsAs tally change name choice.numbers.items (found_in choice questions a)))
+  pub failed : OnErr result (ChangesFirst (keeper_of g) old new (changed_on change name)
+      (λ a. changed_numbers change name (found_in choice questions a)))
+
 -- ---- in a store
+
+-- IT IS SEEN WHETHER A LIVE RECORD HAS A HOLD of a name, in a store of which this is left
+abbrev pub ShowsHold : {S : Type 0} → Ghosts S → (name : List ℕ) → (before : Store S) → (after : Held S) → (is_held : Bool) → Type 0
+ShowsHold g name before after is_held =
+    HasCleanDisk (state g after) → (a : Archive) → StandsFor g before a → is_held ≡ is_any_of (held_by name a)
 
 -- AN AUTHOR CHANGES AN ARCHIVE: its ledger is opened for this purpose, and this is made of it, on the occasion of that author; the
 -- connection of its store is what is left. Where the archive is only listed, its seals were read before.

@@ -3,3 +3,4 @@ pub mod Numbers
 pub mod Purposes
 pub mod Changes
 pub mod Commands
+pub mod Volumes

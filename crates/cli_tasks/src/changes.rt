@@ -1,16 +1,24 @@
 //! What is changed in an archive, by whom and for what reason.
 
-ghost use Rattle.std.specs.Prelude.{◌≡◌, None, true, false, IfOk, OnOk};
+ghost use Rattle.std.specs.Prelude.{◌≡◌, None, true, false, IfOk, OnOk, Result};
+ghost use Rattle.std.specs.declared.prelude.LibcRuntime.{LibcRuntime};
+ghost use Rattle.class_plan.specs.Plans.{Listing};
+ghost use Rattle.sqlite.specs.Store.{Ghosts};
+ghost use Rattle.record_ledger.specs.declared.ledger.Ledger.{Ledger};
+ghost use Rattle.cli_console.specs.declared.failure.Failure.{Failure};
 ghost use Rattle.cli_history.specs.Reasons.{changes as is_changed_for};
 ghost use Rattle.cli_history.specs.Walks.{Glances};
+ghost use Rattle.cli_history.specs.declared.opening.Purpose.{Purpose};
+ghost use Rattle.cli_history.specs.declared.seals.Seals.{Seals};
 ghost use Rattle.cli_tasks.specs.Changes.{Changes, ChangesChosen, Makes};
-ghost use Rattle.cli_tasks.specs.Purposes.{for_plan, purpose_of as purpose_of_change};
+ghost use Rattle.cli_tasks.specs.Purposes.{for_hold, for_plan, purpose_of as purpose_of_change};
 
 use crate::archives::Work;
 use class_plan::{Date, Plan};
 use cli_changes::{
-    Certificates, Delivered, FilingRules, Intake, NamedRules, Timing, change_holds, deliver_to,
-    dispose_by, keeps_less, refile_records, release_all, replace_plan, take_new,
+    Certificates, Delivered, FilingRules, Intake, NamedRules, Place, Round, Rounds, Timing,
+    change_holds, deliver_to, dispose_by, keeps_less, refile_records, release_all, replace_plan,
+    take_new,
 };
 use cli_choice::{Change, Questions};
 use cli_console::Failure;
@@ -21,6 +29,32 @@ use record_history::Filing;
 use record_store::Store;
 use sqlite::{Alter, Connection};
 use std::alloc::{AllocError, Global};
+
+/// What is done with the ledger of an archive.
+pub trait LedgerWork: Drop {
+    /// What it comes to.
+    type Answer: Drop;
+
+    /// For what the ledger of an archive with a plan is opened.
+    ghost purpose_by: { Self → Listing → Purpose };
+
+    /// What it makes of a ledger, by what it comes to and the seals that were read.
+    ghost makes: { (S : Type 0) → Ghosts S → Self → (old new : Ledger S LibcRuntime)
+        → Result Self.Answer Failure → Seals → Type 0 };
+
+    /// For what the ledger of an archive with a plan is opened.
+    fn purpose(&self, alloc: Global, present: &Plan) -> Result<Purpose, AllocError>
+        ensures { IfOk result (λ p. p ≡ purpose_by self.now present.now) };
+
+    /// Does it.
+    fn perform<S: Alter>(
+        self,
+        rt: &HostRuntime,
+        ledger: &mut StoreLedger<'_, S>,
+        seals: &Seals,
+    ) -> Result<Self::Answer, Failure>
+        ensures { makes S S.Store self ledger.old ledger.new result seals.now };
+}
 
 /// What is changed of the records of a choice.
 #[derive(Clone, Copy)]
@@ -66,6 +100,16 @@ fn purpose_of(alloc: Global, present: &Plan, new: &Plan) -> Result<Purpose, Allo
     }
 }
 
+/// For what a ledger is opened in which a hold is placed, or ended.
+pub fn purpose_of_hold(change: Change) -> Purpose
+    ensures { result ≡ for_hold change }
+{
+    match change {
+        Change::Place => Purpose::Keeping,
+        Change::End => Purpose::Ending,
+    }
+}
+
 /// Changes the records of a choice.
 fn change_chosen<S: Alter>(
     rt: &HostRuntime,
@@ -85,33 +129,33 @@ fn change_chosen<S: Alter>(
     }
 }
 
-impl Changing<'_, '_> {
-    /// For what the ledger of an archive with a plan is opened.
-    fn purpose(&self, alloc: Global, present: &Plan) -> Result<Purpose, AllocError>
-        ensures { IfOk result (λ p. p ≡ purpose_of_change self.now present.now) }
-    {
+impl LedgerWork for Changing<'_, '_> {
+    type Answer = ();
+
+    ghost purpose_by = { purpose_of_change };
+
+    ghost makes = { λ S g it old new done seals. Makes g old new done it seals };
+
+    fn purpose(&self, alloc: Global, present: &Plan) -> Result<Purpose, AllocError> {
         match self {
             Changing::ReplacePlan { plan, .. } => purpose_of(alloc, present, plan),
             Changing::Dispose(asked, _) if !asked.destroys => Ok(Purpose::Listing),
             Changing::Chosen {
-                change: ChosenChange::Hold(Change::Place, _),
+                change: ChosenChange::Hold(change, _),
                 ..
-            } => Ok(Purpose::Keeping),
+            } => Ok(purpose_of_hold(*change)),
             Changing::Dispose(..) | Changing::Chosen { .. } | Changing::ReleaseAll { .. } => Ok(
                 Purpose::Ending,
             ),
         }
     }
 
-    /// Does it.
     fn perform<S: Alter>(
         self,
         rt: &HostRuntime,
         ledger: &mut StoreLedger<'_, S>,
         seals: &Seals,
-    ) -> Result<(), Failure>
-        ensures { Makes S.Store ledger.old ledger.new result self.entry seals.now }
-    {
+    ) -> Result<(), Failure> {
         match self {
             Changing::ReplacePlan {
                 plan,
@@ -149,25 +193,25 @@ fn seals_for_list<S: Alter>(
     }
 }
 
-/// A change of an archive, and who makes it.
+/// What is done with the ledger of an archive, and who does it.
 #[derive(Drop)]
-pub struct ChangeBy<'a, 't> {
+pub struct ChangeBy<'a, C> {
     pub author: Author<'a>,
-    pub change: Changing<'a, 't>,
+    pub change: C,
 }
 
-impl Work for ChangeBy<'_, '_> {
-    type Answer = ();
+impl<C: LedgerWork> Work for ChangeBy<'_, C> {
+    type Answer = C::Answer;
 
     ghost does = { λ S g it before done after. OnOk done
-        (Changes g (purpose_of_change it.change before.plan) it.author before
-        (λ old new seals. Makes g old new done it.change seals) after) };
+        (Changes g (C.purpose_by it.change before.plan) it.author before
+        (λ old new seals. C.makes S g it.change old new done seals) after) };
 
     fn work<S: Alter>(
         self,
         rt: &HostRuntime,
         archive: Store<S>,
-    ) -> (Connection<S>, Result<(), Failure>) {
+    ) -> (Connection<S>, Result<C::Answer, Failure>) {
         let ChangeBy { author, change } = self;
         let purpose = match change.purpose(rt.alloc(), archive.plan()) {
             Ok(purpose) => purpose,
@@ -242,22 +286,29 @@ impl Work for DeliverOne<'_> {
     }
 }
 
-/// Captures the new messages of a Maildir.
+/// Captures the new messages of a Maildir, in a volume until it is full.
 #[derive(Drop)]
 pub struct TakeNew<'a> {
     pub author: Author<'a>,
     pub job: Intake<'a>,
+    pub rounds: Rounds,
+    pub place: Place,
 }
 
-impl Work for TakeNew<'_> {
-    type Answer = ();
+impl<'a> Work for TakeNew<'a> {
+    type Answer = Round<'a>;
 
     fn work<S: Alter>(
         self,
         rt: &HostRuntime,
         archive: Store<S>,
-    ) -> (Connection<S>, Result<(), Failure>) {
-        let TakeNew { author, job } = self;
+    ) -> (Connection<S>, Result<Round<'a>, Failure>) {
+        let TakeNew {
+            author,
+            job,
+            rounds,
+            place,
+        } = self;
         let named = match job.rules().named(rt.alloc()) {
             Ok(named) => named,
             Err(AllocError) => return (archive.into_connection(), Err(Failure::NoMemory)),
@@ -265,9 +316,12 @@ impl Work for TakeNew<'_> {
         let filing = filing_of(&named);
         let ledger = match open_ledger(rt, archive, &author, filing, Purpose::Capturing) {
             Ok(ledger) => ledger,
-            Err((archive, failure)) => return (archive.into_connection(), Err(failure)),
+            Err((archive, failure)) => {
+                let failure = failure.in_volume(rt.alloc(), author.volume());
+                return (archive.into_connection(), Err(failure));
+            }
         };
-        let (ledger, done) = take_new(rt, ledger, job);
+        let (ledger, done) = take_new(rt, ledger, job, rounds, place);
         (ledger.into_store().into_connection(), done)
     }
 }

@@ -3,7 +3,7 @@
 use crate::archives::{Archives, Work, lend, not_made};
 use crate::drafts::{begin, begin_history, read_back};
 use class_plan::Plan;
-use cli_changes::{Timing, moment_in};
+use cli_changes::{Intake, Place, Space, Timing, moment_in};
 use cli_console::{Failure, Status};
 use cli_history::{
     Author, Lines, Titles, are_reasons_required, begin_history as history_begun, note_reasons,
@@ -457,4 +457,50 @@ pub fn place_for_capture<A: Archives>(
         path: path_of(rt.alloc(), store, volume)?,
         volume: Some(volume),
     })
+}
+
+/// The last volume of an archive.
+fn place_of_last(rt: &HostRuntime, folder: &str) -> Result<Capturing, Failure> {
+    let row = row_in(rt, folder).map_err(|cause| no_volumes(rt, folder, cause))?;
+    Ok(Capturing {
+        path: path_of(rt.alloc(), folder, row.last)?,
+        volume: Some(row.last),
+    })
+}
+
+/// Where the new messages of a Maildir are captured, as the next message is. Where there are none, no volume is begun.
+pub fn place_for_intake<A: Archives>(
+    rt: &HostRuntime,
+    archives: &A,
+    store: &str,
+    told: &Attribution<'_>,
+    job: &Intake<'_>,
+) -> Result<Capturing, Failure> {
+    if has_volumes(rt, store)? && !job.has_mail()? {
+        return place_of_last(rt, store);
+    }
+    place_for_capture(rt, archives, store, told, job.timing())
+}
+
+/// The space that is left in a volume.
+fn space_in(rt: &HostRuntime, folder: &str, volume: u32) -> Result<Space, NoVolumes> {
+    let row = row_in(rt, folder)?;
+    let octets = octets_of(rt, folder, volume)?;
+    Ok(Space::of(octets, row.sheet.size))
+}
+
+impl Capturing {
+    /// The place of captures in a store at a path, or in a volume of the archive there, with the space that is left.
+    pub fn place(&self, rt: &HostRuntime, store: &str) -> Result<Place, Failure> {
+        let space = match self.volume {
+            Some(volume) => {
+                space_in(rt, store, volume).map_err(|cause| no_volumes(rt, store, cause))?
+            }
+            None => Space::unbounded(),
+        };
+        Ok(Place {
+            volume: self.volume,
+            space,
+        })
+    }
 }

@@ -2,6 +2,7 @@
 
 ghost use Rattle.std.specs.Prelude.{OnOk};
 ghost use Rattle.cli_tasks.specs.Commands.{ChangesBy, ChangesChosenBy, DisposesAsTyped, Does, DoesAsTyped, DoesWith, ReplacesPlan};
+ghost use Rattle.cli_tasks.specs.Volumes.{DoesThere};
 ghost use Rattle.cli_tasks.specs.Works.{IsDone};
 
 use crate::archives::{Archives, Work, lend, settled};
@@ -11,15 +12,15 @@ use crate::copy::{Paths, copy_to};
 use crate::drafts::make;
 use crate::histories::{CheckAll, ReadHistory};
 use crate::imports::import;
-use crate::rolling::{Capturing, create_volumes, place_for_capture};
+use crate::rolling::{Capturing, create_volumes, place_for_capture, place_for_intake};
 use crate::titles::give_titles;
 use crate::volume_numbers::{choice_in_file, number_in_file};
 use crate::volumes::{execute_over, is_over_volumes};
 use choice_words::TypedChoice;
 use class_plan::Date;
 use cli_changes::{
-    FilingRules, Intake, Timing, check_rules, day_of_disposal, logged, read_message, read_plan,
-    refuse_no_mail, report_delivery, undecoded_in, with_approved, write_plan,
+    FilingRules, Intake, Round, Rounds, Timing, check_rules, day_of_disposal, logged, read_message,
+    read_plan, refuse_no_mail, report_delivery, undecoded_in, with_approved, write_plan,
 };
 use cli_choice::{Change, Questions};
 use cli_console::{Failure, day_or_today};
@@ -221,7 +222,28 @@ fn deliver<'a, A: Archives>(
     report_delivery(rt, volume, &delivery, filing.limit, undecoded.as_slice())
 }
 
-/// Captures the new messages of a Maildir.
+/// Captures the new messages of a Maildir in a round: in a store, or in the last volume of an archive until that is full.
+fn take_round<'a, A: Archives>(
+    rt: &HostRuntime,
+    archives: &A,
+    store: &str,
+    job: Intake<'a>,
+    rounds: Rounds,
+    told: &Attribution<'a>,
+) -> Result<Round<'a>, Failure> {
+    let author = Author::or_program(rt, told)?;
+    let capturing = place_for_intake(rt, archives, store, told, &job)?;
+    let place = capturing.place(rt, store)?;
+    let work = TakeNew {
+        author: author.in_volume(place.volume),
+        job,
+        rounds,
+        place,
+    };
+    lend(rt, archives, capturing.path.as_str(), work)
+}
+
+/// Captures the new messages of a Maildir, in one volume after another where it is an archive of volumes.
 fn take_from<'a, A: Archives>(
     rt: &'a HostRuntime,
     archives: &A,
@@ -231,9 +253,18 @@ fn take_from<'a, A: Archives>(
     telling: Telling,
     told: &Attribution<'a>,
 ) -> Result<(), Failure> {
-    let author = Author::or_program(rt, told)?;
-    let job = Intake::read(rt, maildir, filing, telling)?;
-    lend(rt, archives, store, TakeNew { author, job })
+    let mut job = Intake::read(rt, maildir, filing, telling)?;
+    let mut rounds = Rounds::none(rt.alloc());
+    for _ in 0..u64::MAX {
+        match take_round(rt, archives, store, job, rounds, told)? {
+            Round::Done => return Ok(()),
+            Round::NextVolume(rest, so_far) => {
+                job = rest;
+                rounds = so_far;
+            }
+        }
+    }
+    Ok(())
 }
 
 /// Captures the new messages of a Maildir. A failure is a line of its log.
@@ -461,25 +492,18 @@ fn history<A: Archives>(
     }
 }
 
-/// Does what a command line asks for.
+/// Does what a command line asks for with the archive of the store at its path.
 #[tactic(auto, using(crate::proofs::DoneLemmas::nothing_said))]
-pub fn execute<A: Archives>(
-    rt: &HostRuntime,
+fn execute_at<'a, A: Archives>(
+    rt: &'a HostRuntime,
     archives: &A,
-    line: CommandLine<'_>,
+    store: &'a str,
+    command: Command<'a>,
+    told: &Attribution<'a>,
 ) -> Result<(), Failure>
-    ensures { OnOk result (Does A.Kept.Store (A.is_at archives.now line.entry.store.now)
-        line.entry.attribution line.entry.command) }
+    ensures { OnOk result (Does A.Kept.Store (A.is_at archives.now store.now) told.now
+        command.entry) }
 {
-    let CommandLine {
-        store,
-        attribution,
-        command,
-    } = line;
-    let told = &attribution;
-    if is_over_volumes(rt, store, &command)? {
-        return execute_over(rt, archives, store, command);
-    }
     match command {
         Command::Create { plan, size } => create(rt, archives, store, plan, size, told),
         Command::WritePlan => lend(rt, archives, store, WritePlan),
@@ -527,4 +551,24 @@ pub fn execute<A: Archives>(
         }
         Command::Chosen(typed, task) => { on_typed(rt, archives, store, typed, &task, told) }
     }
+}
+
+/// Does what a command line asks for, with the archive at its path or over the volumes of the one in the folder there.
+pub fn execute<A: Archives>(
+    rt: &HostRuntime,
+    archives: &A,
+    line: CommandLine<'_>,
+) -> Result<(), Failure>
+    ensures { OnOk result (DoesThere A.Kept.Store (A.is_at archives.now) line.entry.store.now
+        line.entry.attribution line.entry.command) }
+{
+    let CommandLine {
+        store,
+        attribution,
+        command,
+    } = line;
+    if is_over_volumes(rt, store, &command)? {
+        return execute_over(rt, archives, store, command, &attribution);
+    }
+    execute_at(rt, archives, store, command, &attribution)
 }

@@ -1,5 +1,8 @@
 //! The volumes of an archive that a command is done over, one after another.
 
+ghost use Rattle.std.specs.Prelude.{◌≡◌, ◌≤◌, Ok, IfOk};
+ghost use Rattle.cli_tasks.specs.Works.{InVolume};
+
 use crate::archives::{Archives, Work, settled};
 use crate::rolling::{no_volumes, plan_at};
 use crate::volume_numbers::volume_of_record;
@@ -18,9 +21,19 @@ pub struct Volumes<'a> {
     pub last: u32,
 }
 
+/// What was done with a volume, which is named where it is a failure that is told.
+fn named_in<T: Drop>(rt: &HostRuntime, done: Result<T, Failure>, volume: u32) -> Result<T, Failure>
+    ensures { IfOk result (λ x. done ≡ Ok x) }
+{
+    done.map_err(|failure| failure.in_volume(rt.alloc(), Some(volume)))
+}
+
 impl<'a> Volumes<'a> {
-    /// The volumes of a folder. `NoInput` where one is missing, and `BadData` where the file `volumes` is damaged.
-    pub fn of(rt: &HostRuntime, folder: &'a str) -> Result<Volumes<'a>, Failure> {
+    /// The volumes of a folder: one at least. `NoInput` where one is missing, and `BadData` where the file `volumes` is damaged.
+    pub fn of(rt: &HostRuntime, folder: &'a str) -> Result<Volumes<'a>, Failure>
+        ensures folder { IfOk result (λ v. v.folder.now ≡ folder.now) }
+        ensures some { IfOk result (λ v. 1 ≤ v.last) }
+    {
         let row = row_in(rt, folder).map_err(|cause| no_volumes(rt, folder, cause))?;
         Ok(Volumes {
             folder,
@@ -35,11 +48,13 @@ impl<'a> Volumes<'a> {
         archives: &A,
         volume: u32,
         work: W,
-    ) -> Result<W::Answer, Failure> {
+    ) -> Result<W::Answer, Failure>
+        ensures { IfOk result (λ x. InVolume (A.is_at archives.now) self.now.folder.now volume
+            (λ before after. W.does A.Kept A.Kept.Store work before (Ok x) after)) }
+    {
         let path = path_of(rt.alloc(), self.folder, volume)?;
         let (done, closed) = archives.lend(rt, path.as_str(), work)?;
-        let done = done.map_err(|failure| failure.in_volume(rt.alloc(), Some(volume)));
-        settled(rt, path.as_str(), done, closed)
+        settled(rt, path.as_str(), named_in(rt, done, volume), closed)
     }
 
     /// Does something with the last volume, whose plan and titles are those of the archive.

@@ -1,18 +1,19 @@
 //! What each subcommand does over an archive of volumes.
 
 ghost use Rattle.std.specs.Prelude.{OnOk};
-ghost use Rattle.command_lines.specs.declared.archives.histories.Attribution.{Attribution};
-ghost use Rattle.cli_tasks.specs.Commands.{Does, DoesAsTyped};
+ghost use Rattle.cli_tasks.specs.Volumes.{DoesOver, DoesWithEach};
 
 use crate::archives::Archives;
 use crate::subcommands::{CheckRules, Survey, WritePlan, show, why};
+use crate::volume_changes::change_holds;
 use crate::volume_checks::check;
 use crate::volume_lists::list;
 use crate::volume_row::Volumes;
 use choice_words::TypedChoice;
+use cli_choice::Change;
 use cli_console::{Failure, Status};
 use cli_volumes::has_volumes;
-use command_lines::archives::{ChosenTask, Command};
+use command_lines::archives::{Attribution, ChosenTask, Command};
 use std::alloc::AllocError;
 
 /// The failure of what is not done over an archive of volumes.
@@ -25,53 +26,57 @@ fn not_over(rt: &HostRuntime, folder: &str) -> Failure {
     )
 }
 
-/// Whether a command on the store at a path is one on the volumes of a folder, which `execute_over` does. A message is delivered into
-/// one of them as into any store, and `create` makes them.
+/// Whether a command on the store at a path is one on the volumes of a folder, which `execute_over` does. Messages are captured in
+/// them as in any store, and `create` makes them.
 pub fn is_over_volumes(
     rt: &HostRuntime,
     store: &str,
     command: &Command<'_>,
 ) -> Result<bool, AllocError> {
     match command {
-        Command::Create { .. } | Command::Deliver { .. } => Ok(false),
+        Command::Create { .. } | Command::Deliver { .. } | Command::Intake { .. } => Ok(false),
         _ => has_volumes(rt, store),
     }
 }
 
-/// Does something with the records of a choice in the volumes of a folder. `Usage` for all but a list.
+/// Does something with the records of a choice in the volumes of a folder. `Usage` for all but a list and a change of holds.
 #[tactic(auto, using(crate::proofs::DoneLemmas::nothing_said))]
 fn on_volumes<'a, A: Archives>(
     rt: &HostRuntime,
     archives: &A,
-    folder: &str,
     volumes: Volumes<'_>,
     typed: &TypedChoice<'a>,
     task: &ChosenTask<'a>,
+    told: &Attribution<'_>,
 ) -> Result<(), Failure>
-    ensures { (told : Attribution) → OnOk result (DoesAsTyped A.Kept.Store
-        (A.is_at archives.now folder.now) told typed.now task.now) }
+    ensures { OnOk result (DoesWithEach A.Kept.Store (A.is_at archives.now)
+        volumes.entry.folder.now told.now typed.now volumes.entry.last task.now) }
 {
     match task {
         ChosenTask::List(listing) => list(rt, archives, volumes, typed, *listing),
-        ChosenTask::Export(_)
-        | ChosenTask::Report { .. }
-        | ChosenTask::Hold(_)
-        | ChosenTask::Release(_)
-        | ChosenTask::Refile(_) => Err(not_over(rt, folder)),
+        ChosenTask::Hold(name) => {
+            change_holds(rt, archives, volumes, typed, Change::Place, *name, told)
+        }
+        ChosenTask::Release(name) => {
+            change_holds(rt, archives, volumes, typed, Change::End, *name, told)
+        }
+        ChosenTask::Export(_) | ChosenTask::Report { .. } | ChosenTask::Refile(_) => {
+            Err(not_over(rt, volumes.folder))
+        }
     }
 }
 
-/// Does what a command asks for over the archive of volumes in a folder. `Usage` where it is one that is done in one volume, as all
-/// are that change one.
+/// Does what a command asks for over the archive of volumes in a folder. `Usage` where it is one that is done in one volume.
 #[tactic(auto, using(crate::proofs::DoneLemmas::nothing_said))]
 pub fn execute_over<A: Archives>(
     rt: &HostRuntime,
     archives: &A,
     folder: &str,
     command: Command<'_>,
+    told: &Attribution<'_>,
 ) -> Result<(), Failure>
-    ensures { (told : Attribution) → OnOk result (Does A.Kept.Store
-        (A.is_at archives.now folder.now) told command.entry) }
+    ensures { OnOk result (DoesOver A.Kept.Store (A.is_at archives.now) folder.now told.now
+        command.entry) }
 {
     let volumes = Volumes::of(rt, folder)?;
     match command {
@@ -89,7 +94,7 @@ pub fn execute_over<A: Archives>(
             let path = volumes.path_of_record(rt, asked.record)?;
             why(rt, archives, path.as_str(), &asked)
         }
-        Command::Chosen(typed, task) => on_volumes(rt, archives, folder, volumes, &typed, &task),
+        Command::Chosen(typed, task) => on_volumes(rt, archives, volumes, &typed, &task, told),
         Command::Create { .. }
         | Command::ReplacePlan { .. }
         | Command::Deliver { .. }

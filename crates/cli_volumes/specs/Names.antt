@@ -1,5 +1,5 @@
 -- The names of volumes.
-use Rattle.std.specs.Prelude.{ℕ, ◌/◌, ◌%◌, ◌==◌, ◌&&◌, List, ◌++◌, length, take, drop, codes, decimal, Option, Some, None, if◌then◌else◌}
+use Rattle.std.specs.Prelude.{ℕ, ◌/◌, ◌%◌, ◌==◌, ◌&&◌, List, [], ◌∷◌, ◌++◌, length, take, drop, codes, decimal, Option, Some, None, if◌then◌else◌}
 use Rattle.std.specs.Str.{bytes_eq}
 use Rattle.session_words.specs.Words.{digits_up_to}
 
@@ -16,3 +16,19 @@ volume_named name =
 -- THE NAME OF A VOLUME: its number in four digits, and `.db`
 abbrev pub name_of : ℕ → List ℕ
 name_of v = decimal (v / 1000 % 10) ++ decimal (v / 100 % 10) ++ decimal (v / 10 % 10) ++ decimal (v % 10) ++ codes ".db"
+
+-- ---- paths
+
+-- the path of a folder without the slash that it may end with
+abbrev pub without_slash : List ℕ → List ℕ
+without_slash [] = []
+without_slash (c ∷ []) = if c == 47 then [] else c ∷ []
+without_slash (c ∷ d ∷ cs) = c ∷ without_slash (d ∷ cs)
+
+-- THE PATH OF A FILE in a folder
+abbrev pub path_in : (folder name : List ℕ) → List ℕ
+path_in folder name = without_slash folder ++ (codes "/" ++ name)
+
+-- THE PATH OF A VOLUME in a folder
+abbrev pub path_of : (folder : List ℕ) (volume : ℕ) → List ℕ
+path_of folder volume = path_in folder (name_of volume)

@@ -1,7 +1,7 @@
 //! The names of volumes: `0001.db`, `0002.db` and so on.
 
 ghost use Rattle.std.specs.Prelude.{◌≡◌, ◌++◌, IfOk, OnOk, decimal, string_bytes};
-ghost use Rattle.cli_volumes.specs.Names.{name_of, volume_named};
+ghost use Rattle.cli_volumes.specs.Names.{name_of, path_in as path_of_name, path_of as path_of_volume, volume_named, without_slash};
 
 use record_volumes::LAST_VOLUME;
 use session_words::read_digits;
@@ -46,14 +46,28 @@ pub fn volume_name(alloc: Global, volume: u32) -> Result<String, AllocError>
     Ok(name)
 }
 
+/// The path of a folder without the slash that it may end with.
+fn without_slash(folder: &str) -> &str
+    ensures { result.now ≡ without_slash folder.now }
+{
+    match folder.strip_suffix('/') {
+        Some(front) => front,
+        None => folder,
+    }
+}
+
 /// The path of a file in a folder. One slash at the end of the folder's path is none of it.
-pub(crate) fn path_in(alloc: Global, folder: &str, name: &str) -> Result<String, AllocError> {
-    let folder = folder.strip_suffix('/').unwrap_or(folder);
+pub(crate) fn path_in(alloc: Global, folder: &str, name: &str) -> Result<String, AllocError>
+    ensures { IfOk result (λ path. string_bytes path ≡ path_of_name folder.now name.now) }
+{
+    let folder = without_slash(folder);
     format!(in alloc; "{folder}/{name}")
 }
 
 /// The path of a volume in a folder.
-pub fn path_of(alloc: Global, folder: &str, volume: u32) -> Result<String, AllocError> {
+pub fn path_of(alloc: Global, folder: &str, volume: u32) -> Result<String, AllocError>
+    ensures { IfOk result (λ path. string_bytes path ≡ path_of_volume folder.now volume) }
+{
     let name = volume_name(alloc, volume)?;
     path_in(alloc, folder, name.as_str())
 }

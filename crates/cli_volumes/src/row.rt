@@ -1,5 +1,7 @@
 //! The row of the volumes in a folder, and its lock.
 
+ghost use Rattle.std.specs.Prelude.{◌≤◌, IfOk};
+
 use crate::fault::NoVolumes;
 use crate::names::{path_in, path_of, volume_of};
 use crate::sheet::{Sheet, read_sheet};
@@ -68,8 +70,10 @@ pub fn has_volumes(rt: &HostRuntime, path: &str) -> Result<bool, AllocError> {
     }
 }
 
-/// The row of the volumes in a folder.
-pub fn row_in(rt: &HostRuntime, folder: &str) -> Result<Row, NoVolumes> {
+/// The row of the volumes in a folder: of one at least.
+pub fn row_in(rt: &HostRuntime, folder: &str) -> Result<Row, NoVolumes>
+    ensures { IfOk result (λ row. 1 ≤ row.last) }
+{
     let sheet = sheet_in(rt, folder)?;
     let volumes = volumes_in(rt, folder)?;
     match judge_row(rt.alloc(), sheet.begun, volumes.as_slice())? {

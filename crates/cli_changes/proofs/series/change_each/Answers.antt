@@ -1,6 +1,7 @@
-use Rattle.std.proofs.Common.{◌+◌, ◌≤◌, length, arith, get_or, subst, take}
+use Rattle.std.proofs.Common.{◌+◌, ◌≤◌, [], length, arith, get_or, subst, sym, take}
 use Rattle.std.proofs.lemmas.List.{take_all, take_more}
 use Rattle.record_archive.specs.Archive.{Archive}
+use Rattle.cli_changes.specs.declared.series.Changed.{Changed}
 use Rattle.cli_changes.specs.Series.{IsTriedOn, tried_on}
 use Rattle.cli_changes.proofs.SeriesLaws.{none_tried, on_err, one_more}
 use Rattle.cli_changes.proofs.series.change_each.Goals as goal
@@ -9,7 +10,9 @@ pub loop-number-init : goal.loop-number-init
 loop-number-init g c = record {
   falls = λ clean. clean;
   tried = λ clean (a : Archive) s.
-      none_tried (g.C.RecordChange.keeper.stands c.args.archive.now) (g.C.RecordChange.command c.args.change.now) a s;
+      let stands = g.C.RecordChange.keeper.stands c.args.archive.now in
+      let command = g.C.RecordChange.command c.args.change.now in
+      subst (λ (d : Changed). IsTriedOn stands command [] a d.is_any d.is_refused) (sym c.none-changed.ensures) (none_tried stands command a s);
 }
 
 pub loop-number-preserved : goal.loop-number-preserved

@@ -1,4 +1,4 @@
-use Rattle.std.proofs.Common.{◌≡◌, ◌∙◌, ap, subst, sym}
+use Rattle.std.proofs.Common.{◌≡◌, ◌∙◌, subst, sym}
 use Rattle.std.proofs.lemmas.Result.{on_ok_weaker}
 use Rattle.record_archive.specs.Archive.{Archive}
 use Rattle.record_ledger.specs.Ledgers.{keeper_of, kept_archive}
@@ -8,8 +8,8 @@ use Rattle.cli_changes.specs.Holdings.{changed_on, held_by, hold_command}
 use Rattle.cli_changes.specs.Series.{IsTriedOn, StopsIn}
 use Rattle.cli_changes.proofs.ChangeLaws.{all_first, none_changed, release_changes, release_stops}
 use Rattle.cli_changes.proofs.HoldLaws.{hold_is_each}
-use Rattle.cli_changes.proofs.LookingLaws.{none_listed, some_listed}
-use Rattle.cli_changes.proofs.SeriesLaws.{on_err, on_ok_both}
+use Rattle.cli_changes.proofs.LookingLaws.{some_listed}
+use Rattle.cli_changes.proofs.SeriesLaws.{on_err}
 use Rattle.cli_changes.proofs.whole_holds.release_all.Given.{Over}
 use Rattle.cli_changes.proofs.whole_holds.release_all.Goals.{After-as_slice-numbers, In_ok-changed}
 use Rattle.cli_changes.proofs.whole_holds.release_all.Goals as goal
@@ -30,26 +30,10 @@ tried g c clean a s =
     (numbers_are g (goal.at.In_ok-changed g c).After-as_slice-numbers (c.change_each.ensures.falls clean) a s)
     (c.in_ok-changed.ensures.tried clean a (c.list_held.ensures.reads.stands a s))
 
-pub returns-then-is_empty-clause-done : goal.returns-then-is_empty-clause-done
-returns-then-is_empty-clause-done g c =
-    on_ok_both c.end_of_none.result c.end_of_none.ensures.held c.end_of_none.ensures.accepted (λ held well clean (a : Archive) s.
-    let before = c.end_of_none.ensures.reads.falls clean in
-    let none = none_listed c.as_slice-numbers.result.now (sym c.is_empty.ensures ∙ c.if-is_empty.true) in
-    let made = changed_on End c.args.name.now in
-    let stood = c.list_held.ensures.reads.stands a s in (
-      subst ((keeper_of g.S.Store).stands c.end_of_none.new.archive)
-          (sym ((hold_is_each End c.args.name.now).none a)
-          ∙ ap (λ ns. made ns a) (sym none ∙ numbers_are g (goal.at.returns-then-is_empty-clause-done g c).After-as_slice-numbers before a s))
-          (c.end_of_none.ensures.reads.stands a stood),
-      held clean a stood,
-    ))
-
 pub returns-then-is_empty-clause-failed : goal.returns-then-is_empty-clause-failed
-returns-then-is_empty-clause-failed g c =
-    on_err c.end_of_none.result _ (λ clean (a : Archive) s.
-    none_changed ((keeper_of g.S.Store).stands c.end_of_none.new.archive) (hold_command End c.args.name.now) (changed_on End c.args.name.now)
-    (hold_is_each End c.args.name.now) (numbers_of (held_by c.args.name.now a)) a
-    (c.end_of_none.ensures.reads.stands a (c.list_held.ensures.reads.stands a s)))
+returns-then-is_empty-clause-failed g c = λ clean (a : Archive) s.
+    none_changed ((keeper_of g.S.Store).stands c.list_held.new.archive) (hold_command End c.args.name.now) (changed_on End c.args.name.now)
+    (hold_is_each End c.args.name.now) (numbers_of (held_by c.args.name.now a)) a (c.list_held.ensures.reads.stands a s)
 
 pub returns-in_err-held-clause-failed : goal.returns-in_err-held-clause-failed
 returns-in_err-held-clause-failed g c =

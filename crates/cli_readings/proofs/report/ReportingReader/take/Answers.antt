@@ -5,7 +5,7 @@ use Rattle.cli_readings.proofs.report.ReportingReader.take.Goals as goal
 
 pub returns-in-Ok-clause-taken : goal.returns-in-Ok-clause-taken
 returns-in-Ok-clause-taken g c = λ clean (a : Archive) s told.
-    let plan = c.plan.ensures a (c.headers_of_due.ensures.stands a s) in (
+    let plan = c.plan.ensures a (c.headers_of_due.ensures.reads.stands a s) in (
       c.record_of.result,
       c.record_of.ensures,
       c.add.new.self,

@@ -2,7 +2,7 @@ use Rattle.std.proofs.Common.{sym, subst}
 use Rattle.cli_tasks.specs.Changes.{Makes}
 use Rattle.cli_tasks.specs.declared.changes.Changing.{Changing}
 use Rattle.cli_tasks.proofs.ChangeLemmas.{disposes}
-use Rattle.cli_tasks.proofs.changes.Changing.perform.Goals as goal
+use Rattle.cli_tasks.proofs.changes.ChangingLedgerWork.perform.Goals as goal
 
 pub returns-in-Dispose : goal.returns-in-Dispose
 returns-in-Dispose g c =

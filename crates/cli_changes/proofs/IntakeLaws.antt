@@ -1,0 +1,18 @@
+-- What an intake does with a message, by what its room is afterwards.
+use Rattle.std.proofs.Common.{◌≡◌, ◌∙◌, ℕ, List, Result, sym, subst, inl, inr}
+use Rattle.cli_console.specs.declared.failure.Failure.{Failure}
+use Rattle.mail_intake.specs.declared.mailroom.Refusal.{Refusal}
+use Rattle.mail_intake.specs.declared.mailroom.Taken.{Taken}
+use Rattle.record_archive.specs.Archive.{Archive}
+use Rattle.record_archive.specs.Calls.{Keeper}
+use Rattle.cli_changes.specs.Deliveries.{IsLeft}
+use Rattle.cli_changes.specs.Intakes.{IsHandedOver}
+use Rattle.cli_changes.specs.declared.intake_room.Room.{Room}
+
+-- a message is handed over to a desk, whatever else the room does then
+pub handed_over_to : {A : Type 0} (keeper : Keeper A Archive) (before mid after : Room A) (octets : List ℕ)
+    (answer : Result Taken (Refusal Failure)) → after.desk ≡ mid.desk → IsHandedOver keeper before octets answer mid
+    → IsHandedOver keeper before octets answer after
+handed_over_to keeper before mid after octets answer same (inl h) =
+    inl (h.0, h.1, h.2, h.3, subst (IsLeft keeper answer h.1.desk) (sym same) h.4)
+handed_over_to keeper before mid after octets answer same (inr h) = inr (h.0, h.1, same ∙ h.2)

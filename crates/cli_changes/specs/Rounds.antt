@@ -1,0 +1,24 @@
+-- The rounds of an intake, one for each volume into which it captures.
+use Rattle.std.specs.Prelude.{ℕ, ◌+◌, ◌-◌, ◌^◌, min, Bool, true, false, List, Result}
+use Rattle.std.specs.Cmp.Lexicographic.{slice_cmp}
+use Rattle.std.specs.Ordering.{match_ordering, nat_cmp}
+use Rattle.cli_console.specs.declared.failure.Failure.{Failure}
+use Rattle.mail_intake.specs.declared.intake.Taking.{Taking}
+use Rattle.mail_intake.specs.declared.tally.Tally.{Tally}
+use Rattle.cli_changes.specs.Endings.{IsEndOf, status_after}
+
+-- WHAT BECAME OF THE MESSAGES of two rounds, up to the greatest number of 64 bits
+abbrev pub together : (one other : Tally) → Tally
+together one other = record {
+  taken = min (one.taken + other.taken) (2 ^ 64 - 1);
+  unfit = min (one.unfit + other.unfit) (2 ^ 64 - 1);
+  given_up = min (one.given_up + other.given_up) (2 ^ 64 - 1);
+}
+
+-- a name comes before another one, by its octets
+abbrev pub is_before : (name next : List ℕ) → Bool
+is_before name next = match_ordering (slice_cmp nat_cmp name next) true false false
+
+-- THE LAST ROUND ENDS as all of them: with the failure of its last call, or with the status of what became of all messages
+abbrev pub IsEndAfter : (before : Tally) → Taking Failure → Result (Unit {0}) Failure → Type 0
+IsEndAfter before taking done = IsEndOf taking.end (status_after (together before taking.tally) taking.nameless) done

@@ -1,0 +1,20 @@
+use Rattle.std.proofs.Common.{List, subst, sym, ℕ}
+use Rattle.std.proofs.lemmas.Result.{on_ok_weaker}
+use Rattle.command_lines.specs.declared.archives.Command.{Command}
+use Rattle.cli_tasks.specs.Volumes.{DoesOver, DoesWithEach}
+use Rattle.cli_tasks.proofs.volumes.execute_over.Goals as goal
+
+pub returns-in-Chosen : goal.returns-in-Chosen
+returns-in-Chosen g c =
+    let store = g.A.Kept.Store in
+    let IsAt = g.A.Archives.is_at c.args.archives.now in
+    let folder = c.args.folder.now in
+    let told = c.args.told.now in
+    let volumes = c.in_ok-volumes.volumes in
+    on_ok_weaker c.on_volumes.result (λ done.
+    subst (λ (k : Command). DoesOver store IsAt folder told k) (sym c.in-Chosen.is) (
+      volumes.last,
+      c.in_ok-volumes.ensures.some,
+      subst (λ (f : List ℕ). DoesWithEach store IsAt f told c.in-Chosen.choice volumes.last c.in-Chosen.task)
+          c.in_ok-volumes.ensures.folder done,
+    )) c.on_volumes.ensures

@@ -1,0 +1,213 @@
+//! What is changed in an archive of volumes: in each of them, by a ledger of its own.
+
+ghost use Rattle.std.specs.Prelude.{◌≡◌, true, false, IfOk, OnOk};
+ghost use Rattle.cli_tasks.specs.Changes.{HoldsFound, ShowsHold};
+ghost use Rattle.cli_tasks.specs.Purposes.{for_hold};
+ghost use Rattle.cli_tasks.specs.Volumes.{HoldsIn, HoldsInEach, HoldsOver, HoldsTyped, ShowsIn};
+ghost use Rattle.cli_tasks.specs.Works.{SomeVolume};
+
+use crate::archives::{Archives, Work};
+use crate::changes::{ChangeBy, LedgerWork, purpose_of_hold};
+use crate::volume_numbers::judge_numbers;
+use crate::volume_row::Volumes;
+use choice_words::TypedChoice;
+use class_plan::Plan;
+use cli_changes::{HoldChange, HoldTally, end_holds, hold_found, is_held_by};
+use cli_choice::{Change, Questions, choice_in_volume};
+use cli_console::Failure;
+use cli_history::{Author, Purpose, Seals, StoreLedger};
+use cli_readings::judge_choice;
+use command_lines::archives::{Attribution, Choice};
+use record_store::Store;
+use sqlite::{Alter, Connection};
+use std::alloc::{AllocError, Global};
+
+/// Places or ends the hold of a name on the records of a choice, of whose messages these questions are asked.
+#[derive(Drop)]
+struct ChangeHold<'a, 't> {
+    hold: HoldChange<'t>,
+    choice: &'t Choice<'a>,
+    questions: &'t Questions,
+}
+
+impl LedgerWork for ChangeHold<'_, '_> {
+    type Answer = HoldTally;
+
+    ghost purpose_by = { λ it present. for_hold it.hold.change };
+
+    ghost makes = { λ S g it old new done seals. HoldsFound g old new done it.hold.change
+        it.hold.name.now it.choice.now it.questions.now };
+
+    fn purpose(&self, _alloc: Global, _present: &Plan) -> Result<Purpose, AllocError> {
+        Ok(purpose_of_hold(self.hold.change))
+    }
+
+    fn perform<S: Alter>(
+        self,
+        _rt: &HostRuntime,
+        ledger: &mut StoreLedger<'_, S>,
+        _seals: &Seals,
+    ) -> Result<HoldTally, Failure> {
+        hold_found(ledger, &self.hold, self.choice, self.questions)
+    }
+}
+
+/// Places or ends a hold on the records of a choice in a volume.
+fn hold_in<A: Archives>(
+    archives: &A,
+    volumes: Volumes<'_>,
+    volume: u32,
+    hold: HoldChange<'_>,
+    choice: &Choice<'_>,
+    questions: &Questions,
+    told: &Attribution<'_>,
+) -> Result<HoldTally, Failure>
+    ensures { IfOk result (λ tally. HoldsIn A.Kept.Store (A.is_at archives.now)
+        volumes.entry.folder.now told.now hold.entry.change hold.entry.name.now choice.now
+        questions.now tally volume) }
+{
+    let rt = hold.rt;
+    let author = Author::of(rt, told)?.in_volume(Some(volume));
+    let change = ChangeHold {
+        hold: HoldChange {
+            volume: Some(volume),
+            ..hold
+        },
+        choice,
+        questions,
+    };
+    volumes.lend(rt, archives, volume, ChangeBy { author, change })
+}
+
+/// Places or ends a hold on the records of a volume that are asked for. One of which none is asked for is not opened.
+fn hold_typed<A: Archives>(
+    archives: &A,
+    volumes: Volumes<'_>,
+    volume: u32,
+    hold: HoldChange<'_>,
+    typed: &TypedChoice<'_>,
+    questions: &Questions,
+    told: &Attribution<'_>,
+) -> Result<HoldTally, Failure>
+    ensures { IfOk result (λ tally. HoldsTyped A.Kept.Store (A.is_at archives.now)
+        volumes.entry.folder.now told.now hold.entry.change hold.entry.name.now typed.now
+        questions.now tally volume) }
+{
+    match choice_in_volume(hold.rt.alloc(), typed, volume)? {
+        Some(choice) => hold_in(archives, volumes, volume, hold, &choice, questions, told),
+        None => Ok(HoldTally::none()),
+    }
+}
+
+/// Places or ends a hold on the records of a choice, volume by volume.
+fn hold_in_each<A: Archives>(
+    archives: &A,
+    volumes: Volumes<'_>,
+    hold: HoldChange<'_>,
+    typed: &TypedChoice<'_>,
+    questions: &Questions,
+    told: &Attribution<'_>,
+) -> Result<HoldTally, Failure>
+    ensures { IfOk result (λ tally. HoldsInEach A.Kept.Store (A.is_at archives.now)
+        volumes.entry.folder.now told.now hold.entry.change hold.entry.name.now typed.now
+        questions.now volumes.entry.last tally) }
+{
+    let mut tally = HoldTally::none();
+    for below in 0..volumes.last {
+        let next = hold_typed(archives, volumes, below + 1, hold, typed, questions, told)?;
+        tally = tally.joined(next);
+    }
+    Ok(tally)
+}
+
+/// Looks whether a live record of a store has the hold of a name.
+#[derive(Drop)]
+struct LookForHold<'a> {
+    name: &'a str,
+}
+
+impl Work for LookForHold<'_> {
+    type Answer = bool;
+
+    ghost does = { λ S g it before done after. IfOk done
+        (λ is_held. ShowsHold g it.name.now before after is_held) };
+
+    fn work<S: Alter>(
+        self,
+        rt: &HostRuntime,
+        archive: Store<S>,
+    ) -> (Connection<S>, Result<bool, Failure>) {
+        let mut archive = archive;
+        let is_held = is_held_by(rt, &mut archive, self.name);
+        (archive.into_connection(), is_held)
+    }
+}
+
+/// Whether a live record of any volume has the hold of a name.
+fn is_held_in_any<A: Archives>(
+    rt: &HostRuntime,
+    archives: &A,
+    volumes: Volumes<'_>,
+    name: &str,
+) -> Result<bool, Failure>
+    ensures { IfOk result (λ is_held. is_held ≡ true → SomeVolume volumes.entry.last
+        (ShowsIn A.Kept.Store (A.is_at archives.now) volumes.entry.folder.now name.now)) }
+{
+    for below in 0..volumes.last {
+        let is_held = volumes.lend(rt, archives, below + 1, LookForHold { name })?;
+        if is_held {
+            return Ok(true);
+        }
+    }
+    Ok(false)
+}
+
+/// Whether a live record of any volume has the hold that was to end, where it ended on none; else that one may have it.
+fn may_be_held<A: Archives>(
+    rt: &HostRuntime,
+    archives: &A,
+    volumes: Volumes<'_>,
+    change: Change,
+    name: &str,
+    is_any: bool,
+) -> Result<bool, Failure>
+    ensures { IfOk result (λ is_held. is_held ≡ true → change ≡ Change.End → is_any ≡ false
+        → SomeVolume volumes.entry.last
+        (ShowsIn A.Kept.Store (A.is_at archives.now) volumes.entry.folder.now name.now)) }
+{
+    if is_any {
+        return Ok(true);
+    }
+    match change {
+        Change::Place => Ok(true),
+        Change::End => is_held_in_any(rt, archives, volumes, name),
+    }
+}
+
+/// Places or ends the hold of a name on the records of a choice, volume by volume, each in its own ledger. It fails as in a single store,
+/// at the first volume that does, and those before it are done. What is told once is told of all volumes. `Usage` where a number is typed
+/// without its volume, and `BadData` where there is no such volume.
+pub fn change_holds<A: Archives>(
+    rt: &HostRuntime,
+    archives: &A,
+    volumes: Volumes<'_>,
+    typed: &TypedChoice<'_>,
+    change: Change,
+    name: &str,
+    told: &Attribution<'_>,
+) -> Result<(), Failure>
+    ensures { OnOk result (HoldsOver A.Kept.Store (A.is_at archives.now) volumes.entry.folder.now
+        told.now change name.now typed.now volumes.entry.last) }
+{
+    judge_numbers(rt, volumes.last, typed)?;
+    let questions = judge_choice(rt, &typed.alone)?;
+    let hold = HoldChange {
+        rt,
+        volume: None,
+        change,
+        name,
+    };
+    let tally = hold_in_each(archives, volumes, hold, typed, &questions, told)?;
+    let is_held = may_be_held(rt, archives, volumes, change, name, tally.is_any())?;
+    end_holds(rt, change, name, tally, is_held)
+}
