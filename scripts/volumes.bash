@@ -2,7 +2,7 @@
 # shellcheck disable=SC2317,SC2015,SC2154 # count calls its checks by their names, `|| shows_run` only reports, and store.bash sets keeper
 # Tests what ./mailfile-store does with an archive of volumes where no transcript can say it: where it is killed, or a call of the system
 # fails, at each moment while a volume is begun or a folder is made; where several programs begin volumes at once; on a disk that is full;
-# and by a wrong clock. ./test sources this file after store.bash; run by itself, it plays these tests.
+# without permissions; and by a wrong clock. ./test sources this file after store.bash; run by itself, it plays these tests.
 
 : "${root:=$(dirname -- "$(dirname -- "$(readlink -f -- "$0")")")}" "${work:=$(mktemp -d)}" "${self:=volumes}"
 
@@ -175,6 +175,20 @@ begins_none_by_a_wrong_clock() {
     ((status == 0)) && [[ $(< "$work/said") == 'record 2/1 class finance due '* ]] || shows_run
 }
 
+# A file or a folder of an archive that may not be read is named.
+names_what_may_not_be_read() {
+    local result=0
+    take_copy && cp -- "$(program_of mailfile_store)" "$work/program" && chmod 755 "$work" "$work/program" || return
+    ((EUID > 0)) || chown -R 65534:65534 "$here/kept"
+    chmod 000 "$here/kept/volumes"
+    other_refuses 66 "kept: volumes: Permission denied" list --store "$here/kept" || result=1
+    chmod 600 "$here/kept/volumes"
+    chmod 000 "$here/kept"
+    other_refuses 66 "kept: volumes: Permission denied" list --store "$here/kept" || result=1
+    chmod 700 "$here/kept"
+    return "$result"
+}
+
 volumes() {
     local status here=$work/archive step=${1:-1}
     if strace -o "$work/error" true > "$work/said" 2>&1; then
@@ -184,6 +198,9 @@ volumes() {
     count "an archive whose volume is over its size" make_full_archive
     count "programs that capture at once in a new volume" capture_at_once mail/bill.eml 2
     count "programs that capture at once, each in a new volume" capture_at_once large.eml $((AT_ONCE + 1))
+    if ((EUID > 0)) || command -v setpriv > "$work/found"; then
+        count "an archive that may not be read" names_what_may_not_be_read
+    fi
     if command -v cc > "$work/said" && cc -O1 -shared -fPIC -o "$work/clock.so" scripts/clock.c; then
         run create --store "$here/later" --by ann --roll 1M --plan "$here/plan.toml"
         count "a clock that is behind the volume before" begins_none_by_a_wrong_clock

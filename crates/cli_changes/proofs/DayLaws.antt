@@ -15,7 +15,7 @@ use Rattle.jiff_core.specs.declared.civil.date.Date.{Date}
 use Rattle.record_archive.specs.Archive.{Archive, Record}
 use Rattle.record_choice.specs.Choices.{Choice, chosen, every_record, meets_asked}
 use Rattle.record_choice.specs.Entries.{RecordEntry, entry_of}
-use Rattle.cli_changes.specs.Moments.{IsLast, days_of, last_day_of, number_from_1970}
+use Rattle.cli_changes.specs.Moments.{IsLast, days_of, last_day_of, number_from_1970, with_day}
 
 -- the number of a day, as 64 bits have it
 pub number_kept : (d : Date) (z : ℤ) → z ≡ epoch_day d → to_z w64 (of_z w64 z) ≡ epoch_day d
@@ -40,10 +40,11 @@ all_chosen : (a : Archive) (rs : List Record) → filter (meets_asked None every
 all_chosen a [] = refl
 all_chosen a (r ∷ rs) = ap (λ l. r ∷ l) (all_chosen a rs)
 
-pub told_of_all : (a : Archive) (c : Choice) (entries : List RecordEntry) (found : Option ℕ) → c ≡ every_record
-    → entries ≡ map (entry_of a) (chosen None c a) → found ≡ last_day_of None entries → found ≡ last_day_of None (map (entry_of a) a.records)
-told_of_all a c entries found every are told =
-    told ∙ ap (last_day_of None) (are ∙ ap (λ (d : Choice). map (entry_of a) (chosen None d a)) every
+pub told_of_all : (a : Archive) (c : Choice) (known : Option ℕ) (entries : List RecordEntry) (found : Option ℕ) → c ≡ every_record
+    → entries ≡ map (entry_of a) (chosen None c a) → found ≡ last_day_of known entries
+    → found ≡ last_day_of known (map (entry_of a) a.records)
+told_of_all a c known entries found every are told =
+    told ∙ ap (last_day_of known) (are ∙ ap (λ (d : Choice). map (entry_of a) (chosen None d a)) every
     ∙ ap (map (entry_of a)) (all_chosen a a.records))
 
 -- ---- one more day that is not later
@@ -80,11 +81,8 @@ second_added x y xs (Some l) low last =
 abbrev captured : List Record → List ℕ
 captured rs = map (λ (r : Record). r.day) rs
 
-abbrev captured_after : Option ℕ → List Record → List ℕ
-captured_after None rs = captured rs
-captured_after (Some d) rs = d ∷ captured rs
-
-last_found : (a : Archive) (rs : List Record) (before : Option ℕ) → IsLast (captured_after before rs) (last_day_of before (map (entry_of a) rs))
+last_found : (a : Archive) (rs : List Record) (before : Option ℕ)
+    → IsLast (with_day before (captured rs)) (last_day_of before (map (entry_of a) rs))
 last_found a [] None = refl
 last_found a [] (Some d) = ((zero, omega arith, refl), All-cons (λ day. day ≤ d) d [] (omega arith) (All-nil (λ day. day ≤ d)))
 last_found a (r ∷ rs) None = last_found a rs (Some r.day)
@@ -102,6 +100,7 @@ last_found a (r ∷ rs) (Some d) = go (nat_lt r.day d) refl (last_found a rs (So
         subst (λ n. IsLast (d ∷ r.day ∷ captured rs) (last_day_of (Some n) (map (entry_of a) rs))) (sym (max-eq_right low))
         (first_added d r.day (captured rs) (last_day_of (Some r.day) (map (entry_of a) rs)) low k)
 
--- the last day of an archive
-pub last_told : (a : Archive) (found : Option ℕ) → found ≡ last_day_of None (map (entry_of a) a.records) → IsLast (days_of a) found
-last_told a found told = subst (IsLast (days_of a)) (sym told) (last_found a a.records None)
+-- the last day of an archive, and of one that is known
+pub last_told : (a : Archive) (known found : Option ℕ) → found ≡ last_day_of known (map (entry_of a) a.records)
+    → IsLast (with_day known (days_of a)) found
+last_told a known found told = subst (IsLast (with_day known (days_of a))) (sym told) (last_found a a.records known)

@@ -1,5 +1,5 @@
 -- The moment of a capture.
-use Rattle.std.specs.Prelude.{◌≡◌, ◌≤◌, ◌<◌, ◌+◌, ◌/◌, ℕ, ℤ, negsuc, pos, max, List, [], ◌++◌, fold, map, Option, Some, None}
+use Rattle.std.specs.Prelude.{◌≡◌, ◌≤◌, ◌<◌, ◌+◌, ◌/◌, ℕ, ℤ, negsuc, pos, max, Bool, true, false, List, [], ◌∷◌, ◌++◌, fold, map, Option, Some, None}
 use Rattle.std.proofs.Common.{refl, sym, ap, ◌∙◌}
 use Rattle.std.proofs.lemmas.List.{map-append}
 use Rattle.std.proofs.lemmas.List.Sums.{fold-append}
@@ -59,13 +59,28 @@ IsLast days (Some last) = Contains days last × All (λ day. day ≤ last) days
 abbrev pub days_of : Archive → List ℕ
 days_of a = map (λ (r : Record). r.day) a.records
 
--- it is looked for only where no moment is named, and the clock is not
-abbrev pub IsLookedFor : Moment → (before : Option ℕ) → Archive → (last : Option ℕ) → Type 0
-IsLookedFor Unnamed before a last = IsLast (days_of a) last
-IsLookedFor Now before a last = last ≡ before
-IsLookedFor (At named) before a last = last ≡ before
+-- some days, and one more that is known, if one is
+abbrev pub with_day : (known : Option ℕ) → (days : List ℕ) → List ℕ
+with_day None days = days
+with_day (Some day) days = day ∷ days
 
--- THE MOMENT OF A CAPTURE in an archive, by the clock and by its last day
+-- it is looked for only where no moment is named, and the clock is not; a day that is known counts too
+abbrev pub IsLookedFor : Moment → (known : Option ℕ) → Archive → (last : Option ℕ) → Type 0
+IsLookedFor Unnamed known a last = IsLast (with_day known (days_of a)) last
+IsLookedFor Now known a last = last ≡ known
+IsLookedFor (At named) known a last = last ≡ known
+
+-- whether it is looked for, and no day is known
+abbrev pub is_unknown : Moment → (known : Option ℕ) → Bool
+is_unknown Unnamed None = true
+is_unknown Unnamed (Some day) = false
+is_unknown Now known = false
+is_unknown (At named) known = false
+
+abbrev pub needs_day : Timing → Bool
+needs_day timing = is_unknown timing.asked timing.last
+
+-- THE MOMENT OF A CAPTURE in an archive, by the clock and by its last day, or one that is known and later
 abbrev pub IsMomentBy : {R : Type 0} → (Clean : R → Type 0) → (Stands : R → Archive → Type 0) → Timing → (old new : R) → ℕ → Type 0
 IsMomentBy Clean Stands timing old new moment = (last : Option ℕ) × IsMomentNow timing.asked last moment
     × (Clean new → (a : Archive) → Stands old a → IsLookedFor timing.asked timing.last a last)

@@ -239,6 +239,15 @@ impl<'a> Intake<'a> {
         self.timing
     }
 
+    /// The same at other times.
+    pub fn with_timing(self, timing: Timing) -> Intake<'a>
+        ensures { result.timing ≡ timing }
+    {
+        let mut job = self;
+        job.timing = timing;
+        job
+    }
+
     /// Whether there is a new message. The failure is that of the Maildir.
     pub fn has_mail(&self) -> Result<bool, Failure> {
         let mail = new_mail(self.rt, self.maildir).map_err(|error| maildir_failure(

@@ -16,7 +16,9 @@ ghost use Rattle.cli_changes.specs.Moments.{
   last_day_of,
   later_of as later_of_days,
   more_days,
+  needs_day as needs_day_of,
   no_day,
+  with_day,
 };
 
 use class_plan::{Date, date_of, day_number};
@@ -193,17 +195,18 @@ impl Reader for LastDay {
         more_days x.last y.last z.last es fs one other };
 }
 
-/// The last day on which a record of a store was captured, in days since 1970-01-01; none where there is no record. The
-/// failure is that of the store.
+/// The last one of the days on which the records of a store were captured, and of one that is known, in days since 1970-01-01; none
+/// where there is no record and none is known. The failure is that of the store.
 fn last_day<R: Repository<Fault = StoreFault>>(
     rt: &HostRuntime,
     archive: &mut R,
+    known: Option<u32>,
 ) -> Result<Option<u32>, Failure>
     ensures reads { OnlyReads R.clean R.stands archive.old archive.new }
     ensures last { IfOk result (λ last. R.clean archive.new → (a : Archive)
-        → R.stands archive.old a → IsLast (days_of a) last) }
+        → R.stands archive.old a → IsLast (with_day known (days_of a)) last) }
 {
-    let mut days = LastDay { last: None };
+    let mut days = LastDay { last: known };
     read_chosen(rt, archive, &Choice::every(), &mut days)?;
     Ok(days.last)
 }
@@ -256,7 +259,14 @@ impl Timing {
         self.judged_at(rt, clock)
     }
 
-    /// Looks for the last day of a store, where no moment is named. The failure is that of the store.
+    /// Whether the clock is to be judged by a day, and none is known.
+    pub fn needs_day(&self) -> bool
+        ensures { result ≡ needs_day_of self.now }
+    {
+        matches!(self.asked, Moment::Unnamed) && self.last.is_none()
+    }
+
+    /// Looks for the last day of a store, where no moment is named. A day that is known counts too. The failure is that of the store.
     pub fn look<R: Repository<Fault = StoreFault>>(
         &mut self,
         rt: &HostRuntime,
@@ -270,7 +280,7 @@ impl Timing {
     {
         match self.asked {
             Moment::Unnamed => {
-                let last = last_day(rt, archive)?;
+                let last = last_day(rt, archive, self.last)?;
                 self.last = last;
                 Ok(())
             }
@@ -295,8 +305,8 @@ impl Timing {
     }
 }
 
-/// The moment of a capture that is made now in an archive, by the clock and by its last day. `TryAgain` where the clock is wrong,
-/// also where it is before the days of the archive.
+/// The moment of a capture that is made now in an archive, by the clock and by its last day, or one that is known and later.
+/// `TryAgain` where the clock is wrong, also where it is before the days of the archive.
 pub fn moment_in<R: Repository<Fault = StoreFault>>(
     rt: &HostRuntime,
     archive: &mut R,

@@ -1,4 +1,5 @@
 pub mod DoneLemmas
 pub mod ChangeLemmas
 pub mod VolumeLaws
+pub mod BackLaws
 mod PurposeRows

@@ -4,3 +4,4 @@ pub mod Purposes
 pub mod Changes
 pub mod Commands
 pub mod Volumes
+pub mod Days

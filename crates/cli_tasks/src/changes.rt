@@ -13,7 +13,8 @@ ghost use Rattle.cli_history.specs.declared.seals.Seals.{Seals};
 ghost use Rattle.cli_tasks.specs.Changes.{Changes, ChangesChosen, Makes};
 ghost use Rattle.cli_tasks.specs.Purposes.{for_hold, for_plan, purpose_of as purpose_of_change};
 
-use crate::archives::Work;
+use crate::archives::{Archives, Work};
+use crate::volume_days::Earlier;
 use class_plan::{Date, Plan};
 use cli_changes::{
     Certificates, Delivered, FilingRules, Intake, NamedRules, Place, Round, Rounds, Timing,
@@ -248,14 +249,15 @@ pub(crate) fn filing_of(rules: &Option<NamedRules>) -> Option<Filing<'_>>
 
 /// Delivers a message. What became of it is told once the archive is closed.
 #[derive(Drop)]
-pub struct DeliverOne<'a> {
+pub struct DeliverOne<'a, 'e, A> {
     pub author: Author<'a>,
     pub rules: FilingRules<'a>,
     pub timing: Timing,
     pub message: Payload,
+    pub earlier: Earlier<'e, A>,
 }
 
-impl Work for DeliverOne<'_> {
+impl<A: Archives> Work for DeliverOne<'_, '_, A> {
     type Answer = Result<Delivered, Failure>;
 
     fn work<S: Alter>(
@@ -268,7 +270,12 @@ impl Work for DeliverOne<'_> {
             rules,
             timing,
             message,
+            earlier,
         } = self;
+        let timing = match earlier.timing_in(rt, &archive, timing) {
+            Ok(timing) => timing,
+            Err(failure) => return (archive.into_connection(), Ok(Err(failure.kept()))),
+        };
         let named = match rules.named(rt.alloc()) {
             Ok(named) => named,
             Err(AllocError) => return (archive.into_connection(), Err(Failure::NoMemory)),
@@ -288,14 +295,15 @@ impl Work for DeliverOne<'_> {
 
 /// Captures the new messages of a Maildir, in a volume until it is full.
 #[derive(Drop)]
-pub struct TakeNew<'a> {
+pub struct TakeNew<'a, 'e, A> {
     pub author: Author<'a>,
     pub job: Intake<'a>,
     pub rounds: Rounds,
     pub place: Place,
+    pub earlier: Earlier<'e, A>,
 }
 
-impl<'a> Work for TakeNew<'a> {
+impl<'a, A: Archives> Work for TakeNew<'a, '_, A> {
     type Answer = Round<'a>;
 
     fn work<S: Alter>(
@@ -308,7 +316,12 @@ impl<'a> Work for TakeNew<'a> {
             job,
             rounds,
             place,
+            earlier,
         } = self;
+        let timing = match earlier.timing_in(rt, &archive, job.timing()) {
+            Ok(timing) => timing,
+            Err(failure) => return (archive.into_connection(), Err(failure)),
+        };
         let named = match job.rules().named(rt.alloc()) {
             Ok(named) => named,
             Err(AllocError) => return (archive.into_connection(), Err(Failure::NoMemory)),
@@ -321,7 +334,7 @@ impl<'a> Work for TakeNew<'a> {
                 return (archive.into_connection(), Err(failure));
             }
         };
-        let (ledger, done) = take_new(rt, ledger, job, rounds, place);
+        let (ledger, done) = take_new(rt, ledger, job.with_timing(timing), rounds, place);
         (ledger.into_store().into_connection(), done)
     }
 }

@@ -2,6 +2,7 @@
 
 use crate::archives::{Archives, Work, lend, not_made};
 use crate::drafts::{begin, begin_history, read_back};
+use crate::volume_days::Earlier;
 use class_plan::Plan;
 use cli_changes::{Intake, Place, Space, Timing, moment_in};
 use cli_console::{Failure, Status};
@@ -26,7 +27,8 @@ pub fn no_volumes(rt: &HostRuntime, folder: &str, cause: NoVolumes) -> Failure {
         NoVolumes::NoArchive
         | NoVolumes::Unfinished
         | NoVolumes::Missing(_)
-        | NoVolumes::System(_) => Status::NoInput,
+        | NoVolumes::System(_)
+        | NoVolumes::File(..) => Status::NoInput,
         NoVolumes::Damaged => Status::BadData,
         NoVolumes::There => Status::CannotMake,
         NoVolumes::Busy => Status::TryAgain,
@@ -107,13 +109,16 @@ fn ending_of<S: Alter>(
     }
 }
 
-/// What is taken over from a store whose history ends so, if it has one. `TryAgain` where the clock is wrong, by its days too.
-fn inherited_from<S: Alter>(
+/// What is taken over from a store whose history ends so, if it has one. `TryAgain` where the clock is wrong, by its days too, or by
+/// those of an earlier volume where it has no record.
+fn inherited_from<S: Alter, A: Archives>(
     rt: &HostRuntime,
     archive: &mut Store<S>,
     ending: Option<Ending>,
+    earlier: &Earlier<'_, A>,
     timing: Timing,
 ) -> Result<Inherited, Failure> {
+    let timing = earlier.timing_in(rt, archive, timing)?;
     moment_in(rt, archive, timing)?;
     Ok(Inherited {
         plan: archive.plan().copy()?,
@@ -130,11 +135,12 @@ fn inherited_from<S: Alter>(
 /// Reads what the next volume takes over from the last one, where a message may be captured now. In the next volume there is no
 /// record yet by whose day the clock could be judged.
 #[derive(Drop)]
-struct ReadLast {
+struct ReadLast<'e, A> {
     timing: Timing,
+    earlier: Earlier<'e, A>,
 }
 
-impl Work for ReadLast {
+impl<A: Archives> Work for ReadLast<'_, A> {
     type Answer = Inherited;
 
     fn work<S: Alter>(
@@ -142,9 +148,16 @@ impl Work for ReadLast {
         rt: &HostRuntime,
         archive: Store<S>,
     ) -> (Connection<S>, Result<Inherited, Failure>) {
+        let ReadLast { timing, earlier } = self;
         let (archive, ending) = ending_of(rt, archive);
         let mut archive = archive;
-        let read = ending.and_then(|ending| inherited_from(rt, &mut archive, ending, self.timing));
+        let read = ending.and_then(|ending| inherited_from(
+            rt,
+            &mut archive,
+            ending,
+            &earlier,
+            timing,
+        ));
         (archive.into_connection(), read)
     }
 }
@@ -395,9 +408,13 @@ impl<A: Archives> VolumeFolder for Folder<'_, A> {
 
     fn begin(&mut self, volume: u32) -> Result<(), Failure> {
         let rt = self.rt;
-        let last = path_of(rt.alloc(), self.path, volume.saturating_sub(1))?;
-        let timing = self.timing;
-        let before = lend(rt, self.archives, last.as_str(), ReadLast { timing })?;
+        let last = volume.saturating_sub(1);
+        let work = ReadLast {
+            timing: self.timing,
+            earlier: Earlier::of(self.archives, self.path, Some(last)),
+        };
+        let path = path_of(rt.alloc(), self.path, last)?;
+        let before = lend(rt, self.archives, path.as_str(), work)?;
         let plan = before.plan.copy()?;
         let author = Author::or_program(rt, self.told)?;
         make_volume(

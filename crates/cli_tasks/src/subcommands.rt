@@ -14,6 +14,7 @@ use crate::histories::{CheckAll, ReadHistory};
 use crate::imports::import;
 use crate::rolling::{Capturing, create_volumes, place_for_capture, place_for_intake};
 use crate::titles::give_titles;
+use crate::volume_days::Earlier;
 use crate::volume_numbers::{choice_in_file, number_in_file};
 use crate::volumes::{execute_over, is_over_volumes};
 use choice_words::TypedChoice;
@@ -214,6 +215,7 @@ fn deliver<'a, A: Archives>(
         rules,
         timing,
         message,
+        earlier: Earlier::of(archives, store, volume),
     };
     let (done, closed) = archives
         .lend(rt, path, work)
@@ -239,6 +241,7 @@ fn take_round<'a, A: Archives>(
         job,
         rounds,
         place,
+        earlier: Earlier::of(archives, store, place.volume),
     };
     lend(rt, archives, capturing.path.as_str(), work)
 }

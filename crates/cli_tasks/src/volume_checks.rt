@@ -2,7 +2,7 @@
 
 use crate::archives::{Archives, Work};
 use crate::histories::say_none;
-use crate::volume_row::{Volumes, volume_line};
+use crate::volume_row::{Volumes, failure_in, volume_line};
 use class_plan::Plan;
 use cli_console::{Failure, Joined, Status, tell, told_now, write_text};
 use cli_history::{
@@ -19,7 +19,7 @@ use tool_texts::{Shown, put};
 /// How a volume begins.
 #[derive(Drop)]
 struct Front {
-    /// Whether it has another plan than the archive.
+    /// Whether it has another plan than the archive, where that is known.
     is_behind: bool,
     beginning: Beginning,
 }
@@ -33,14 +33,18 @@ impl Front {
         }
     }
 
-    /// That of a store, by the plan of the archive.
+    /// That of a store, by the plan of the archive, where that is known.
     fn of<S: Alter>(
         rt: &HostRuntime,
         archive: &mut Store<S>,
-        plan: &Plan,
+        plan: Option<&Plan>,
     ) -> Result<Front, Failure> {
+        let is_behind = match plan {
+            Some(plan) => !is_same_plan(rt.alloc(), archive.plan(), plan)?,
+            None => false,
+        };
         Ok(Front {
-            is_behind: !is_same_plan(rt.alloc(), archive.plan(), plan)?,
+            is_behind,
             beginning: beginning_in(rt, archive)?,
         })
     }
@@ -57,7 +61,7 @@ impl Front {
 /// Reads how a volume begins.
 #[derive(Drop)]
 struct ReadFront<'p> {
-    plan: &'p Plan,
+    plan: Option<&'p Plan>,
 }
 
 impl Work for ReadFront<'_> {
@@ -146,9 +150,9 @@ struct CheckVolume<'m> {
 }
 
 impl CheckVolume<'_> {
-    /// The same failure, which names the volume where it is told.
+    /// The same failure, which names the volume.
     fn named(&self, rt: &HostRuntime, failure: Failure) -> Failure {
-        failure.in_volume(rt.alloc(), Some(self.volume))
+        failure_in(rt, failure, self.volume)
     }
 
     /// Judges a history, and looks for the marks there.
@@ -232,9 +236,10 @@ fn alone_words(alloc: Global, volume: u32) -> Result<Shown, AllocError> {
 
 /// That no event of a volume has the mark after which the next one began.
 fn broken_words(alloc: Global, volume: u32) -> Result<Shown, AllocError> {
+    let next = volume.saturating_add(1);
     let mut words = Shown::new(alloc);
-    put!(words; "the next volume began after a mark that no event of volume " value(&volume)
-        " has: it is another volume, or its history was changed")?;
+    put!(words; "volume " value(&next) " began after a mark that no event of volume " value(&volume)
+        " has: one of them is another archive's, or an older copy, or its history was changed")?;
     Ok(words)
 }
 
@@ -256,8 +261,10 @@ fn unmet_words(alloc: Global, mark: &str) -> Result<Shown, AllocError> {
 /// What is found of the volumes so far.
 #[derive(Drop)]
 struct Checking<'h> {
-    /// The plan of the archive.
-    plan: Plan,
+    /// The plan of the archive; none where the last volume is damaged.
+    plan: Option<Plan>,
+    /// Why something was not read by which volumes are compared: a damage, which is told once its volume is checked.
+    unread: Option<Failure>,
     /// A mark that was noted elsewhere.
     head: Option<&'h str>,
     /// Whether it was met.
@@ -281,7 +288,19 @@ impl Checking<'_> {
         self.add(rt, Err(Failure::shown(Status::BadData, words)))
     }
 
-    /// Reads how a volume begins. Where that cannot be read, it is told.
+    /// What was read, by which volumes are compared; none where a volume is damaged, which is noted.
+    fn noted<T: Drop>(&mut self, read: Result<T, Failure>) -> Result<Option<T>, Failure> {
+        match read {
+            Ok(found) => Ok(Some(found)),
+            Err(Failure::Told(Status::BadData, text)) => {
+                self.unread = Some(Failure::Told(Status::BadData, text));
+                Ok(None)
+            }
+            Err(failure) => Err(failure),
+        }
+    }
+
+    /// Reads how a volume begins.
     fn front<A: Archives>(
         &mut self,
         rt: &HostRuntime,
@@ -289,14 +308,11 @@ impl Checking<'_> {
         volumes: Volumes<'_>,
         volume: u32,
     ) -> Result<Front, Failure> {
-        let work = ReadFront { plan: &self.plan };
-        match volumes.lend(rt, archives, volume, work) {
-            Ok(front) => Ok(front),
-            Err(failure) => {
-                self.add(rt, Err(failure))?;
-                Ok(Front::unread())
-            }
-        }
+        let work = ReadFront {
+            plan: self.plan.as_ref(),
+        };
+        let read = volumes.lend(rt, archives, volume, work);
+        Ok(self.noted(read)?.unwrap_or(Front::unread()))
     }
 
     /// Says which event of a volume has the mark that is looked for, where one has it, and tells where that is missing after which the
@@ -354,9 +370,11 @@ impl Checking<'_> {
         }
     }
 
-    /// Writes what all volumes hold. `BadData` where something was found, and where no history has the mark, which is told.
+    /// Writes what all volumes hold. `BadData` where something was found, and where no history has the mark, which is told. What was
+    /// not read is told where nothing else was found.
     fn end(self, rt: &HostRuntime, volumes: Volumes<'_>) -> Result<(), Failure> {
         let Checking {
+            unread,
             head,
             is_met,
             totals,
@@ -372,12 +390,17 @@ impl Checking<'_> {
             }
             _ => {}
         }
-        joined.end()
+        joined.end()?;
+        match unread {
+            Some(failure) => Err(failure),
+            None => Ok(()),
+        }
     }
 }
 
-/// Checks all volumes, one after another, and that each has the plan of the archive and goes on from the one before. A mark that was
-/// noted elsewhere may be looked for in all of them.
+/// Checks all volumes, one after another, and that each has the plan of the archive and goes on from the one before. Where one is damaged,
+/// the others are checked all the same; where that is the last one, no plan is compared. A mark that was noted elsewhere may be looked
+/// for in all of them.
 pub fn check<A: Archives>(
     rt: &HostRuntime,
     archives: &A,
@@ -385,12 +408,14 @@ pub fn check<A: Archives>(
     head: Option<&str>,
 ) -> Result<(), Failure> {
     let mut checking = Checking {
-        plan: volumes.plan(rt, archives)?,
+        plan: None,
+        unread: None,
         head,
         is_met: false,
         totals: Totals::none(),
         joined: Joined::new(),
     };
+    checking.plan = checking.noted(volumes.plan(rt, archives))?;
     let mut front = checking.front(rt, archives, volumes, 1)?;
     for volume in 1..volumes.last {
         let next = checking.front(rt, archives, volumes, volume + 1)?;

@@ -7,7 +7,7 @@ use crate::archives::{Archives, Work, settled};
 use crate::rolling::{no_volumes, plan_at};
 use crate::volume_numbers::volume_of_record;
 use class_plan::Plan;
-use cli_console::Failure;
+use cli_console::{Failure, Status};
 use cli_volumes::{path_of, row_in};
 use command_lines::archives::TypedNumber;
 use std::alloc::{AllocError, Global};
@@ -21,11 +21,19 @@ pub struct Volumes<'a> {
     pub last: u32,
 }
 
-/// What was done with a volume, which is named where it is a failure that is told.
+/// The same failure, which names the volume where it is told, unless it is one of standard output.
+pub fn failure_in(rt: &HostRuntime, failure: Failure, volume: u32) -> Failure {
+    match failure {
+        Failure::Told(Status::NotWritten, text) => Failure::Told(Status::NotWritten, text),
+        failure => failure.in_volume(rt.alloc(), Some(volume)),
+    }
+}
+
+/// What was done with a volume. A failure names it, as `failure_in` says.
 fn named_in<T: Drop>(rt: &HostRuntime, done: Result<T, Failure>, volume: u32) -> Result<T, Failure>
     ensures { IfOk result (λ x. done ≡ Ok x) }
 {
-    done.map_err(|failure| failure.in_volume(rt.alloc(), Some(volume)))
+    done.map_err(|failure| failure_in(rt, failure, volume))
 }
 
 impl<'a> Volumes<'a> {
@@ -41,7 +49,7 @@ impl<'a> Volumes<'a> {
         })
     }
 
-    /// Does something with the volume of a number. What it comes to names the volume where it is a failure that is told.
+    /// Does something with the volume of a number, which a failure names, as `failure_in` says.
     pub fn lend<A: Archives, W: Work>(
         &self,
         rt: &HostRuntime,

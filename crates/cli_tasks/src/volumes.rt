@@ -3,7 +3,7 @@
 ghost use Rattle.std.specs.Prelude.{OnOk};
 ghost use Rattle.cli_tasks.specs.Volumes.{DoesOver, DoesWithEach};
 
-use crate::archives::Archives;
+use crate::archives::{Archives, lend};
 use crate::subcommands::{CheckRules, Survey, WritePlan, show, why};
 use crate::volume_changes::change_holds;
 use crate::volume_checks::check;
@@ -12,8 +12,8 @@ use crate::volume_row::Volumes;
 use choice_words::TypedChoice;
 use cli_choice::Change;
 use cli_console::{Failure, Status};
-use cli_volumes::has_volumes;
-use command_lines::archives::{Attribution, ChosenTask, Command};
+use cli_volumes::{has_volumes, path_of};
+use command_lines::archives::{Attribution, ChosenTask, Command, RulesChecked};
 use std::alloc::AllocError;
 
 /// The failure of what is not done over an archive of volumes.
@@ -37,6 +37,17 @@ pub fn is_over_volumes(
         Command::Create { .. } | Command::Deliver { .. } | Command::Intake { .. } => Ok(false),
         _ => has_volumes(rt, store),
     }
+}
+
+/// Judges rules by the plan of the archive, which is that of its last volume. What is told of them names no volume.
+fn check_rules<A: Archives>(
+    rt: &HostRuntime,
+    archives: &A,
+    volumes: Volumes<'_>,
+    asked: RulesChecked<'_>,
+) -> Result<(), Failure> {
+    let path = path_of(rt.alloc(), volumes.folder, volumes.last)?;
+    lend(rt, archives, path.as_str(), CheckRules(asked))
 }
 
 /// Does something with the records of a choice in the volumes of a folder. `Usage` for all but a list and a change of holds.
@@ -84,7 +95,7 @@ pub fn execute_over<A: Archives>(
         Command::WriteTitles { is_json } => {
             volumes.lend_last(rt, archives, Survey::Titles { is_json })
         }
-        Command::CheckRules(asked) => volumes.lend_last(rt, archives, CheckRules(asked)),
+        Command::CheckRules(asked) => check_rules(rt, archives, volumes, asked),
         Command::Check { head } => check(rt, archives, volumes, head),
         Command::Show { record, fields } => {
             let path = volumes.path_of_record(rt, record)?;

@@ -6,3 +6,6 @@ pub mod FieldLemmas
 mod FieldRows
 mod DueRows
 mod DueLemmas
+mod JsonLemmas
+mod JsonRows
+mod AsciiLemmas

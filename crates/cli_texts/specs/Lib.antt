@@ -6,3 +6,8 @@ pub mod Sums
 pub mod Words
 pub mod Lines
 pub mod Rows
+pub mod Cases
+pub mod Json
+pub mod EventValues
+pub mod Undecoded
+pub mod PlanTexts

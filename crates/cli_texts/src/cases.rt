@@ -1,9 +1,15 @@
 //! Cases, as lines and as JSON. A case is all that is kept by the hold of one name.
 
+ghost use Rattle.std.specs.Prelude.{◌≡◌, ◌++◌, Some, IfOk, OnOk, string_bytes};
+ghost use Rattle.serde_json.specs.Data.{Data};
+ghost use Rattle.serde_json.specs.View.{view};
+ghost use Rattle.cli_texts.specs.Json.{IsBeginningValue, IsCaseValue, json_text as json_text_of};
+ghost use Rattle.cli_texts.specs.Cases.{beginning_words, began_word as began_word_for, case_words, IsCaseLine};
+
 use crate::certificates::moment_text;
 use crate::escapes::shown;
-use crate::events::put_text;
-use crate::records::in_ascii;
+use crate::events::{put_reason, put_text};
+use crate::json::json_text;
 use serde_json::{Value, json};
 use std::alloc::{AllocError, Global};
 use tool_texts::{Shown, put};
@@ -32,37 +38,58 @@ pub struct ListedCase<'a> {
     pub beginning: Option<CaseBeginning<'a>>,
 }
 
-/// Adds how a case began.
-fn put_beginning(line: &mut Shown, beginning: &CaseBeginning<'_>) -> Result<(), AllocError> {
-    let moment = moment_text(line.allocator(), beginning.moment)?;
-    line.words(if beginning.is_found {
-        " found "
-    } else {
-        " since "
-    })?;
-    put!(line; value(&moment) " by ")?;
+/// Whether a history tells when the case began, or only when its hold was found.
+fn put_began_word(line: &mut Shown, is_found: bool) -> Result<(), AllocError>
+    ensures { OnOk result (line.new ≡ line.old ++ began_word_for is_found) }
+{
+    line.words(if is_found { " found " } else { " since " })
+}
+
+/// Adds how a case began, with the text of its moment.
+#[tactic(auto, unfolding(crate::specs::Cases::beginning_words))]
+fn put_beginning(
+    line: &mut Shown,
+    beginning: &CaseBeginning<'_>,
+    moment: &String,
+) -> Result<(), AllocError>
+    ensures { OnOk result
+        (line.new ≡ line.old ++ beginning_words beginning.now (string_bytes moment.now)) }
+{
+    put_began_word(line, beginning.is_found)?;
+    put!(line; value(moment) " by ")?;
     put_text(line, beginning.who)?;
-    if !beginning.reason.is_empty() {
-        line.words(" : ")?;
-        put_text(line, beginning.reason)?;
-    }
-    Ok(())
+    put_reason(line, beginning.reason)
+}
+
+/// Adds the name of a case and how many records it keeps.
+#[tactic(auto, unfolding(crate::specs::Cases::case_words))]
+fn put_case(line: &mut Shown, case: &ListedCase<'_>) -> Result<(), AllocError>
+    ensures { OnOk result (line.new ≡ line.old ++ case_words case.now) }
+{
+    put!(line; "hold " named(case.name) " records " value(&case.records))
 }
 
 /// The line of a case: `hold audit records 2 since 2026-11-28T09:12:00Z by bea : order 12/3`. One that a history found has
 /// `found` in place of `since`, and one of which no history tells ends with its records.
-pub fn case_line(alloc: Global, case: &ListedCase<'_>) -> Result<Shown, AllocError> {
+///
+/// The only refusal is no memory (99).
+pub fn case_line(alloc: Global, case: &ListedCase<'_>) -> Result<Shown, AllocError>
+    ensures { IfOk result (λ line. IsCaseLine case.now line) }
+{
     let mut line = Shown::new(alloc);
-    put!(line; "hold " named(case.name) " records " value(&case.records))?;
+    put_case(&mut line, case)?;
     if let Some(beginning) = &case.beginning {
-        put_beginning(&mut line, beginning)?;
+        let moment = moment_text(alloc, beginning.moment)?;
+        put_beginning(&mut line, beginning, &moment)?;
     }
     line.end_line()?;
     Ok(line)
 }
 
-/// How a case began, as a JSON object.
-fn beginning_object(alloc: Global, beginning: &CaseBeginning<'_>) -> Result<Value, AllocError> {
+/// How a case began, as a value.
+fn beginning_value(alloc: Global, beginning: &CaseBeginning<'_>) -> Result<Value, AllocError>
+    ensures { IfOk result (λ v. IsBeginningValue (Some beginning.now) (view v)) }
+{
     let moment = moment_text(alloc, beginning.moment)?;
     let who = shown(alloc, beginning.who)?;
     let reason = shown(alloc, beginning.reason)?;
@@ -75,17 +102,37 @@ fn beginning_object(alloc: Global, beginning: &CaseBeginning<'_>) -> Result<Valu
     })
 }
 
-/// A case as a JSON object, in ASCII. `began` is null where no history tells it.
-pub fn case_object(alloc: Global, case: &ListedCase<'_>) -> Result<String, AllocError> {
+/// How a case began, as a value; null where no history tells it.
+fn began_value(alloc: Global, case: &ListedCase<'_>) -> Result<Value, AllocError>
+    ensures { IfOk result (λ v. IsBeginningValue case.now.beginning (view v)) }
+{
+    match &case.beginning {
+        Some(beginning) => beginning_value(alloc, beginning),
+        None => Ok(Value::Null),
+    }
+}
+
+/// A case as a value.
+fn case_value(alloc: Global, case: &ListedCase<'_>) -> Result<Value, AllocError>
+    ensures { IfOk result (λ v. IsCaseValue case.now (view v)) }
+{
     let name = shown(alloc, case.name)?;
-    let began = match &case.beginning {
-        Some(beginning) => beginning_object(alloc, beginning)?,
-        None => Value::Null,
-    };
-    let object = json!(in alloc; {
+    let began = began_value(alloc, case)?;
+    json!(in alloc; {
         "name": name,
         "records": case.records,
         "began": began
-    })?;
-    in_ascii(alloc, object.to_string(alloc)?.as_str())
+    })
+}
+
+/// A case as a JSON object, in ASCII. `began` is null where no history tells it.
+///
+/// The only refusal is no memory (99).
+#[tactic(auto, using(crate::proofs::JsonLemmas::case_plain))]
+pub fn case_object(alloc: Global, case: &ListedCase<'_>) -> Result<String, AllocError>
+    ensures { IfOk result
+        (λ t. (value : Data) × IsCaseValue case.now value × (string_bytes t ≡ json_text_of value)) }
+{
+    let object = case_value(alloc, case)?;
+    json_text(alloc, &object)
 }

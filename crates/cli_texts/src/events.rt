@@ -1,15 +1,18 @@
 //! Events of a history, as JSON and as certificates.
 
-ghost use Rattle.std.specs.Prelude.{◌≡◌, ◌++◌, ℕ, List, IfOk, OnOk, string_bytes};
+ghost use Rattle.std.specs.Prelude.{◌≡◌, ◌++◌, ◌∷◌, [], ℕ, List, map, IfOk, OnOk, string_bytes};
+ghost use Rattle.serde_json.specs.Data.{no_members};
+ghost use Rattle.serde_json.specs.View.{members_view, view};
+ghost use Rattle.cli_texts.specs.Json.{json_text as json_text_of, texts_value as texts_value_of, with_members};
+ghost use Rattle.cli_texts.specs.EventValues.{event_members as event_members_of, event_value as event_value_of, field_member, field_value as field_value_of, numbers_value as numbers_value_of};
 ghost use Rattle.cli_texts.specs.Lines.{class_words, told_record, seal_words, told_deed, reason_words, told_certificate as told_certificate_of};
 ghost use Rattle.cli_texts.specs.Moments.{IsMomentText};
 ghost use Rattle.cli_texts.specs.Words.{free_words};
 
 use crate::certificates::{moment_text, put_altered, put_keeper};
-use crate::escapes::shown;
-use crate::records::in_ascii;
+use crate::json::{json_text, put_shown, shown_value};
 use crate::titles::{ClassTitle, put_title};
-use serde_json::{Map, Value, json};
+use serde_json::{Map, Value};
 use std::alloc::{AllocError, Global};
 use std::str;
 use tool_texts::{Shown, put};
@@ -55,82 +58,113 @@ pub struct ListedEvent<'a> {
 }
 
 /// The line of an event, and the end of the line: as it is hashed, where no character of it is hidden.
-pub fn history_line(alloc: Global, line: &[u8]) -> Result<Shown, AllocError> {
+///
+/// The only refusal is no memory (99).
+pub fn history_line(alloc: Global, line: &[u8]) -> Result<Shown, AllocError>
+    ensures { IfOk result (λ text. text ≡ free_words line.now ++ 10 ∷ []) }
+{
     let mut text = Shown::new(alloc);
-    match str::from_utf8(line) {
-        Ok(line) => text.value(&line)?,
-        Err(_) => text.escaped(line)?,
-    }
+    put_text(&mut text, line)?;
     text.end_line()?;
     Ok(text)
 }
 
-/// Numbers from a first to a last as JSON.
-fn json_numbers(alloc: Global, first: u32, last: u32) -> Result<Value, AllocError> {
+/// Numbers from a first to a last.
+fn numbers_value(alloc: Global, first: u32, last: u32) -> Result<Value, AllocError>
+    ensures { IfOk result (λ v. view v ≡ numbers_value_of first last) }
+{
     let mut numbers = Vec::new(alloc);
     for number in first..=last {
         numbers.push(Value::from(number))?;
     }
-    Ok(Value::Array(numbers))
+    Ok(Value::from(numbers))
 }
 
-/// Texts as JSON.
-fn json_texts(alloc: Global, texts: &[&[u8]]) -> Result<Value, AllocError> {
+/// Texts, as they are shown.
+fn texts_value(alloc: Global, texts: &[&[u8]]) -> Result<Value, AllocError>
+    ensures { IfOk result (λ v. view v ≡ texts_value_of (map (λ t. t.now) texts.now)) }
+{
     let mut values = Vec::new(alloc);
     for text in texts {
-        values.push(Value::String(shown(alloc, text)?))?;
+        values.push(shown_value(alloc, text)?)?;
     }
-    Ok(Value::Array(values))
+    Ok(Value::from(values))
 }
 
-/// The value of a field as JSON.
-fn json_field(alloc: Global, value: &Field<'_>) -> Result<Value, AllocError> {
+/// The value of a field.
+fn field_value(alloc: Global, value: &Field<'_>) -> Result<Value, AllocError>
+    ensures { IfOk result (λ v. view v ≡ field_value_of value.now) }
+{
     match value {
         Field::Number(number) => Ok(Value::from(*number)),
-        Field::Numbers(first, last) => json_numbers(alloc, *first, *last),
-        Field::Text(text) => Ok(Value::String(shown(alloc, text)?)),
-        Field::Octets(octets) => Ok(Value::String(shown(alloc, octets.as_slice())?)),
-        Field::Words(words) => Ok(Value::String(words.clone()?)),
-        Field::Texts(texts) => json_texts(alloc, texts.as_slice()),
-        Field::Truth(is_so) => Ok(Value::Bool(*is_so)),
+        Field::Numbers(first, last) => numbers_value(alloc, *first, *last),
+        Field::Text(text) => shown_value(alloc, text),
+        Field::Octets(octets) => shown_value(alloc, octets.as_slice()),
+        Field::Words(words) => Value::try_from_str(alloc, words.as_str()),
+        Field::Texts(texts) => texts_value(alloc, texts.as_slice()),
+        Field::Truth(is_so) => Ok(Value::from(*is_so)),
     }
 }
 
-/// Adds the fields of a deed to a JSON object.
+/// The members of an event's object that come before the fields of its deed, with the text of its moment.
+fn event_members(
+    alloc: Global,
+    event: &ListedEvent<'_>,
+    moment: String,
+) -> Result<Map<String, Value>, AllocError>
+    ensures { IfOk result (λ m. members_view m.entries
+        ≡ with_members (event_members_of event.now (string_bytes moment)) no_members) }
+{
+    let word = Value::try_from_str(alloc, event.word)?;
+    let mut members = Map::new(alloc);
+    serde_json::put(&mut members, alloc, "number", Value::from(event.number))?;
+    serde_json::put(&mut members, alloc, "moment", Value::from(moment))?;
+    put_shown(alloc, &mut members, "who", event.who)?;
+    serde_json::put(&mut members, alloc, "deed", word)?;
+    put_shown(alloc, &mut members, "notes", event.notes)?;
+    put_shown(alloc, &mut members, "reason", event.reason)?;
+    put_shown(alloc, &mut members, "line", event.line)?;
+    put_shown(alloc, &mut members, "mark", event.mark)?;
+    Ok(members)
+}
+
+/// Adds the fields of a deed.
 fn add_fields(
     alloc: Global,
-    object: &mut Map<String, Value>,
+    members: &mut Map<String, Value>,
     fields: &[Named<'_>],
-) -> Result<(), AllocError> {
+) -> Result<(), AllocError>
+    ensures { OnOk result (members_view members.new.entries
+        ≡ with_members (map field_member fields.now) (members_view members.old.entries)) }
+{
     for field in fields {
-        let value = json_field(alloc, &field.value)?;
-        object.insert(String::from_str(alloc, field.name)?, value)?;
+        let value = field_value(alloc, &field.value)?;
+        serde_json::put(members, alloc, field.name, value)?;
     }
     Ok(())
 }
 
+/// An event as a value, with the text of its moment.
+fn event_value(alloc: Global, event: &ListedEvent<'_>, moment: String) -> Result<Value, AllocError>
+    ensures { IfOk result
+        (λ v. view v ≡ event_value_of event.now (string_bytes moment)) }
+{
+    let mut members = event_members(alloc, event, moment)?;
+    add_fields(alloc, &mut members, event.fields)?;
+    Ok(Value::from(members))
+}
+
 /// An event as a JSON object, in ASCII, with the fields of its deed.
-pub fn event_object(alloc: Global, event: &ListedEvent<'_>) -> Result<String, AllocError> {
+///
+/// The only refusal is no memory (99).
+#[tactic(auto, using(crate::proofs::JsonLemmas::event_plain))]
+pub fn event_object(alloc: Global, event: &ListedEvent<'_>) -> Result<String, AllocError>
+    ensures { IfOk result (λ t. (moment : List ℕ) × IsMomentText event.now.moment moment
+        × (string_bytes t ≡ json_text_of (event_value_of event.now moment))) }
+{
     let moment = moment_text(alloc, event.moment)?;
-    let who = shown(alloc, event.who)?;
-    let notes = shown(alloc, event.notes)?;
-    let reason = shown(alloc, event.reason)?;
-    let line = shown(alloc, event.line)?;
-    let mark = shown(alloc, event.mark)?;
-    let mut object = json!(in alloc; {
-        "number": event.number,
-        "moment": moment,
-        "who": who,
-        "deed": event.word,
-        "notes": notes,
-        "reason": reason,
-        "line": line,
-        "mark": mark
-    })?;
-    if let Value::Object(members) = &mut object {
-        add_fields(alloc, members, event.fields)?;
-    }
-    in_ascii(alloc, object.to_string(alloc)?.as_str())
+    let object = event_value(alloc, event, moment)?;
+    json_text(alloc, &object)
 }
 
 /// A destruction, as a history tells of it.
@@ -221,7 +255,7 @@ fn put_told_deed(
 }
 
 /// Adds the reason of a deed, where it has one.
-fn put_reason(line: &mut Shown, reason: &[u8]) -> Result<(), AllocError>
+pub(crate) fn put_reason(line: &mut Shown, reason: &[u8]) -> Result<(), AllocError>
     ensures { OnOk result (line.new ≡ line.old ++ reason_words reason.now) }
 {
     if reason.is_empty() {

@@ -1,15 +1,18 @@
 //! What a message's header says, as people read it.
 
-ghost use Rattle.std.specs.Prelude.{◌≡◌, [], IfOk, MatchOption, chars, option_map, string_bytes};
+ghost use Rattle.std.specs.Prelude.{◌≡◌, ◌++◌, [], map, IfOk, OnOk, MatchOption, chars, option_map, string_bytes};
 ghost use Rattle.std.specs.Str.{encode_utf8_all};
 ghost use Rattle.mail_head.specs.Fields.{fields_of};
 ghost use Rattle.mail_display.specs.Fields.{IsShownOf};
+ghost use Rattle.mail_display.specs.Undecoded.{undecoded_in};
+ghost use Rattle.mail_display.specs.Groups.{is_called as is_called_same};
+ghost use Rattle.cli_texts.specs.Undecoded.{cause_words, is_known, undecoded_words as undecoded_words_of};
 ghost use Rattle.cli_texts.specs.Cuts.{columns_of as columns_of_character, fits_in, front_in, cut_text, cut_octets};
 ghost use Rattle.cli_texts.specs.Headers.{sender_of, subject_of, date_of, texts_in};
 
 use mail_display::{DisplayText, UndecodedWord, date, sender, subject, undecoded_words};
 use std::alloc::{AllocError, Global};
-use tool_texts::{Shown, put};
+use tool_texts::Shown;
 use unicode_width::UnicodeWidthChar;
 
 /// How many columns a text of a header has at most in a line or on a page.
@@ -149,32 +152,66 @@ impl Headers {
 /// The charsets of which rules decode each word that is written as it has to be. Of the others they decode ASCII at most.
 const KNOWN_TO_RULES: [&str; 3] = ["us-ascii", "utf-8", "iso-8859-1"];
 
+/// Whether two names are the same, in any case of their letters.
+fn is_called(name: &[u8], other: &[u8]) -> bool
+    ensures { result ≡ is_called_same name.now other.now }
+{
+    name.eq_ignore_ascii_case(other)
+}
+
 /// Whether rules know all of a charset.
-fn is_known_to_rules(charset: &[u8]) -> bool {
+fn is_known_to_rules(charset: &[u8]) -> bool
+    ensures { result ≡ is_known charset.now }
+{
     KNOWN_TO_RULES
         .iter()
-        .any(|name| charset.eq_ignore_ascii_case(name.as_bytes()))
+        .any(|name| is_called(charset, name.as_bytes()))
+}
+
+/// Why rules see a word in a charset undecoded.
+fn put_cause(line: &mut Shown, charset: &[u8]) -> Result<(), AllocError>
+    ensures { OnOk result (line.new ≡ line.old ++ cause_words charset.now) }
+{
+    line.words(if is_known_to_rules(charset) {
+        ", in a form that rules do not decode"
+    } else {
+        ", which rules see undecoded"
+    })
 }
 
 /// A line for a word that rules see undecoded, without its end: `Subject has a word in windows-1252, which rules see
 /// undecoded`; where they know its charset, that its form is the cause.
-fn undecoded_line(alloc: Global, word: &UndecodedWord) -> Result<Shown, AllocError> {
+#[tactic(auto, unfolding(crate::specs::Undecoded::undecoded_words))]
+fn undecoded_line(alloc: Global, word: &UndecodedWord) -> Result<Shown, AllocError>
+    ensures { IfOk result (λ line. line ≡ undecoded_words_of word.now) }
+{
     let mut line = Shown::new(alloc);
-    put!(line; named(word.field()) " has a word in " named(word.charset()))?;
-    line.words(if is_known_to_rules(word.charset()) {
-        ", in a form that rules do not decode"
-    } else {
-        ", which rules see undecoded"
-    })?;
+    line.named(word.field())?;
+    line.words(" has a word in ")?;
+    line.named(word.charset())?;
+    put_cause(&mut line, word.charset())?;
     Ok(line)
+}
+
+/// The lines of words.
+fn lines_of(alloc: Global, words: &[UndecodedWord]) -> Result<Vec<Shown>, AllocError>
+    ensures { IfOk result (λ lines. lines.items ≡ map undecoded_words_of words.now) }
+{
+    let mut lines = Vec::new(alloc);
+    for word in words {
+        lines.push(undecoded_line(alloc, word)?)?;
+    }
+    Ok(lines)
 }
 
 /// A line for each name of a field and each charset in which it has words that rules see undecoded, at most 20 (see
 /// `mail_display::undecoded_words`). The end of a line is not part of it.
-pub fn undecoded_lines(alloc: Global, message: &[u8]) -> Result<Vec<Shown>, AllocError> {
-    let mut lines = Vec::new(alloc);
-    for word in undecoded_words(alloc, message)? {
-        lines.push(undecoded_line(alloc, &word)?)?;
-    }
-    Ok(lines)
+///
+/// The only refusal is no memory (99).
+pub fn undecoded_lines(alloc: Global, message: &[u8]) -> Result<Vec<Shown>, AllocError>
+    ensures { IfOk result
+        (λ lines. lines.items ≡ map undecoded_words_of (undecoded_in message.now)) }
+{
+    let words = undecoded_words(alloc, message)?;
+    lines_of(alloc, words.as_slice())
 }

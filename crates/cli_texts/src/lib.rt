@@ -7,6 +7,7 @@ mod certificates;
 mod escapes;
 mod events;
 mod headers;
+mod json;
 mod numbers;
 mod plans;
 mod records;

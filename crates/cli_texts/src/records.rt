@@ -1,15 +1,18 @@
 //! Records as lines and as JSON.
 
-ghost use Rattle.std.specs.Prelude.{◌≡◌, ◌++◌, ◌∷◌, [], flat_map, option_map, IfOk, OnOk};
+ghost use Rattle.std.specs.Prelude.{◌≡◌, ◌++◌, ◌∷◌, [], flat_map, map, option_map, IfOk, OnOk, string_bytes};
+ghost use Rattle.serde_json.specs.Data.{no_members};
+ghost use Rattle.serde_json.specs.View.{members_view, view};
 ghost use Rattle.cli_texts.specs.Headers.{texts_in};
+ghost use Rattle.cli_texts.specs.Json.{due_value as due_value_of, header_members, json_text as json_text_of, record_members as record_members_of, record_value as record_value_of, text_members, texts_value, volume_members, with_members};
 ghost use Rattle.cli_texts.specs.Lines.{due_words, captured, listed_front, listed_state, hold_words, listed, header_words, texts_words};
 
-use crate::escapes::shown;
 use crate::headers::{Headers, ListedHeaders};
+use crate::json::{json_text, put_shown, shown_value};
 use crate::numbers::put_number;
 use class_plan::Date;
 use record_archive::Line;
-use serde_json::{Map, Value, json};
+use serde_json::{Map, Value};
 use std::alloc::{AllocError, Global};
 use tool_texts::{Shown, put};
 
@@ -147,115 +150,130 @@ pub fn listed_line(
     Ok(line)
 }
 
-/// A due date as JSON: a text, or null.
-fn json_due(alloc: Global, due: Option<Date>) -> Result<Value, AllocError> {
+/// A due date, or null.
+fn due_value(alloc: Global, due: Option<Date>) -> Result<Value, AllocError>
+    ensures { IfOk result (λ v. view v ≡ due_value_of due) }
+{
     match due {
-        Some(date) => Ok(Value::String(format!(in alloc; "{date}")?)),
+        Some(date) => Ok(Value::from(format!(in alloc; "{date}")?)),
         None => Ok(Value::Null),
     }
 }
 
-/// The names of holds as JSON.
-fn json_holds(alloc: Global, holds: &[Vec<u8>]) -> Result<Value, AllocError> {
+/// The names of holds.
+fn holds_value(alloc: Global, holds: &[Vec<u8>]) -> Result<Value, AllocError>
+    ensures { IfOk result (λ v. view v ≡ texts_value (map (λ h. h.items) holds.now)) }
+{
     let mut names = Vec::new(alloc);
     for name in holds {
-        names.push(Value::String(shown(alloc, name.as_slice())?))?;
+        names.push(shown_value(alloc, name.as_slice())?)?;
     }
-    Ok(Value::Array(names))
+    Ok(Value::from(names))
 }
 
-/// A member of a JSON object with a text, or null.
-pub(crate) fn add_text(
+/// The members of a record's object that come before what its message's header says.
+fn record_members(alloc: Global, row: &Row<'_>) -> Result<Map<String, Value>, AllocError>
+    ensures { IfOk result
+        (λ m. members_view m.entries ≡ with_members (record_members_of row.now) no_members) }
+{
+    let date = row.day;
+    let day = format!(in alloc; "{date}")?;
+    let due = due_value(alloc, row.due)?;
+    let holds = holds_value(alloc, row.holds)?;
+    let mut members = Map::new(alloc);
+    serde_json::put(&mut members, alloc, "number", Value::from(row.number))?;
+    put_shown(alloc, &mut members, "class", row.path)?;
+    serde_json::put(&mut members, alloc, "day", Value::from(day))?;
+    serde_json::put(&mut members, alloc, "due", due)?;
+    serde_json::put(&mut members, alloc, "holds", holds)?;
+    serde_json::put(&mut members, alloc, "destroyed", Value::from(row.destroyed))?;
+    Ok(members)
+}
+
+/// Adds the members of a message's header.
+fn add_texts(
     alloc: Global,
-    object: &mut Map<String, Value>,
-    name: &str,
-    text: Option<&str>,
-) -> Result<(), AllocError> {
-    let value = match text {
-        Some(text) => Value::String(String::from_str(alloc, text)?),
-        None => Value::Null,
-    };
-    object.insert(String::from_str(alloc, name)?, value)?;
-    Ok(())
+    members: &mut Map<String, Value>,
+    sender: Value,
+    subject: Value,
+    date: Value,
+) -> Result<(), AllocError>
+    ensures { OnOk result (members_view members.new.entries
+        ≡ with_members (text_members (view sender) (view subject) (view date))
+        (members_view members.old.entries)) }
+{
+    serde_json::put(members, alloc, "sender", sender)?;
+    serde_json::put(members, alloc, "subject", subject)?;
+    serde_json::put(members, alloc, "date", date)
 }
 
-/// Adds the texts of a header to a JSON object.
+/// Adds what is listed of a message's header: its texts, or null where the message is destroyed.
 fn add_headers(
     alloc: Global,
-    object: &mut Map<String, Value>,
-    headers: Option<&Headers>,
-) -> Result<(), AllocError> {
-    add_text(
-        alloc,
-        object,
-        "sender",
-        headers.map(|it| it.sender.as_str()),
-    )?;
-    add_text(
-        alloc,
-        object,
-        "subject",
-        headers.map(|it| it.subject.as_str()),
-    )?;
-    add_text(alloc, object, "date", headers.map(|it| it.date.as_str()))
-}
-
-/// Adds the number of a volume to a JSON object, where there is one.
-fn add_volume(
-    alloc: Global,
-    object: &mut Map<String, Value>,
-    volume: Option<u32>,
-) -> Result<(), AllocError> {
-    if let Some(volume) = volume {
-        let number = json!(in alloc; volume)?;
-        object.insert(String::from_str(alloc, "volume")?, number)?;
-    }
-    Ok(())
-}
-
-/// A JSON text in ASCII: each other character, which can only stand in a string, by its code units of UTF-16 (RFC 8259,
-/// section 7). So a terminal takes none of it for a command.
-pub(crate) fn in_ascii(alloc: Global, json: &str) -> Result<String, AllocError> {
-    let mut ascii = String::new(alloc);
-    for c in json.chars() {
-        if c.is_ascii() && !c.is_ascii_control() {
-            ascii.push(c)?;
-        } else {
-            let mut units = [0; 2];
-            for unit in c.encode_utf16(&mut units).iter() {
-                write!(ascii, "\\u{unit:04x}")?;
-            }
+    members: &mut Map<String, Value>,
+    headers: ListedHeaders<'_>,
+) -> Result<(), AllocError>
+    ensures { OnOk result (members_view members.new.entries
+        ≡ with_members (header_members headers.entry) (members_view members.old.entries)) }
+{
+    match headers {
+        ListedHeaders::Unasked => Ok(()),
+        ListedHeaders::Destroyed => {
+            add_texts(alloc, members, Value::Null, Value::Null, Value::Null)
+        }
+        ListedHeaders::Texts(headers) => {
+            let sender = Value::try_from_str(alloc, headers.sender.as_str())?;
+            let subject = Value::try_from_str(alloc, headers.subject.as_str())?;
+            let date = Value::try_from_str(alloc, headers.date.as_str())?;
+            add_texts(alloc, members, sender, subject, date)
         }
     }
-    Ok(ascii)
+}
+
+/// Adds the number of a volume, where there is one.
+fn add_volume(
+    alloc: Global,
+    members: &mut Map<String, Value>,
+    volume: Option<u32>,
+) -> Result<(), AllocError>
+    ensures { OnOk result (members_view members.new.entries
+        ≡ with_members (volume_members volume) (members_view members.old.entries)) }
+{
+    match volume {
+        Some(volume) => serde_json::put(members, alloc, "volume", Value::from(volume)),
+        None => Ok(()),
+    }
+}
+
+/// A record as a value.
+#[tactic(auto, using(crate::proofs::JsonLemmas::with_more))]
+fn record_value(
+    alloc: Global,
+    row: &Row<'_>,
+    headers: ListedHeaders<'_>,
+) -> Result<Value, AllocError>
+    ensures { IfOk result (λ v. view v ≡ record_value_of row.now headers.entry) }
+{
+    let mut members = record_members(alloc, row)?;
+    add_volume(alloc, &mut members, row.volume)?;
+    add_headers(alloc, &mut members, headers)?;
+    Ok(Value::from(members))
 }
 
 /// A record as a JSON object, in ASCII. In a volume it has the number of the volume as `volume`. Where what its message's
 /// header says is asked for, the object has it as `sender`, `subject` and `date`: as texts, or null where the message is
 /// destroyed.
+///
+/// The only refusal is no memory (99).
+#[tactic(auto, using(crate::proofs::JsonLemmas::record_plain))]
 pub fn json_object(
     alloc: Global,
     row: &Row<'_>,
     headers: ListedHeaders<'_>,
-) -> Result<String, AllocError> {
-    let path = shown(alloc, row.path)?;
-    let date = row.day;
-    let day = format!(in alloc; "{date}")?;
-    let due = json_due(alloc, row.due)?;
-    let holds = json_holds(alloc, row.holds)?;
-    let mut object = json!(in alloc; {
-        "number": row.number,
-        "class": path,
-        "day": day,
-        "due": due,
-        "holds": holds,
-        "destroyed": row.destroyed
-    })?;
-    if let Value::Object(members) = &mut object {
-        add_volume(alloc, members, row.volume)?;
-        if !matches!(&headers, ListedHeaders::Unasked) {
-            add_headers(alloc, members, headers.texts())?;
-        }
-    }
-    in_ascii(alloc, object.to_string(alloc)?.as_str())
+) -> Result<String, AllocError>
+    ensures { IfOk result
+        (λ t. string_bytes t ≡ json_text_of (record_value_of row.now headers.entry)) }
+{
+    let object = record_value(alloc, row, headers)?;
+    json_text(alloc, &object)
 }

@@ -1,11 +1,13 @@
 //! Titles of classes, as lines and as JSON.
 
-ghost use Rattle.std.specs.Prelude.{◌≡◌, ◌++◌, ◌∷◌, [], IfOk, OnOk};
+ghost use Rattle.std.specs.Prelude.{◌≡◌, ◌++◌, ◌∷◌, [], IfOk, OnOk, string_bytes};
+ghost use Rattle.serde_json.specs.View.{view};
+ghost use Rattle.cli_texts.specs.Json.{json_text as json_text_of, title_value as title_value_of};
 ghost use Rattle.cli_texts.specs.Lines.{title_and_basis, title_words, titled_class};
 
 use crate::escapes::shown;
-use crate::records::in_ascii;
-use serde_json::json;
+use crate::json::json_text;
+use serde_json::{Value, json};
 use std::alloc::{AllocError, Global};
 use tool_texts::{Shown, put};
 
@@ -57,15 +59,27 @@ pub fn title_line(alloc: Global, it: &ListedTitle<'_>) -> Result<Shown, AllocErr
     Ok(line)
 }
 
-/// A class with its title as a JSON object, in ASCII.
-pub fn title_object(alloc: Global, it: &ListedTitle<'_>) -> Result<String, AllocError> {
+/// A class with its title as a value.
+fn title_value(alloc: Global, it: &ListedTitle<'_>) -> Result<Value, AllocError>
+    ensures { IfOk result (λ v. view v ≡ title_value_of it.now) }
+{
     let path = shown(alloc, it.path)?;
     let title = shown(alloc, it.title)?;
     let basis = shown(alloc, it.basis)?;
-    let object = json!(in alloc; {
+    json!(in alloc; {
         "class": path,
         "title": title,
         "basis": basis
-    })?;
-    in_ascii(alloc, object.to_string(alloc)?.as_str())
+    })
+}
+
+/// A class with its title as a JSON object, in ASCII.
+///
+/// The only refusal is no memory (99).
+#[tactic(auto, using(crate::proofs::JsonLemmas::title_plain))]
+pub fn title_object(alloc: Global, it: &ListedTitle<'_>) -> Result<String, AllocError>
+    ensures { IfOk result (λ t. string_bytes t ≡ json_text_of (title_value_of it.now)) }
+{
+    let object = title_value(alloc, it)?;
+    json_text(alloc, &object)
 }

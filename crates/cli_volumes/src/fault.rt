@@ -1,13 +1,14 @@
 //! Why there is no archive of volumes, in words.
 
+use crate::names::volume_name;
 use record_volumes::RowFault;
-use std::alloc::AllocError;
+use std::alloc::{AllocError, AllocFailed, Global};
 use std::{fmt, io};
 
 /// Why the volumes of a folder cannot be had.
 #[derive(Drop)]
 pub enum NoVolumes {
-    /// The folder has no file `volumes`, and so is no archive.
+    /// The folder has no file `volumes`.
     NoArchive,
     /// The file `volumes` is damaged.
     Damaged,
@@ -21,6 +22,8 @@ pub enum NoVolumes {
     There,
     /// The system refuses.
     System(io::Error),
+    /// The system refuses something of the file of this name.
+    File(String, io::Error),
     /// No memory.
     NoMemory,
 }
@@ -38,6 +41,12 @@ impl From<io::Error> for NoVolumes {
 
 impl From<AllocError> for NoVolumes {
     fn from(_error: AllocError) -> NoVolumes {
+        NoVolumes::NoMemory
+    }
+}
+
+impl<T: Drop> From<AllocFailed<T>> for NoVolumes {
+    fn from(_error: AllocFailed<T>) -> NoVolumes {
         NoVolumes::NoMemory
     }
 }
@@ -68,10 +77,26 @@ fn write_missing<W: fmt::Write>(f: &mut fmt::Formatter<W>, volumes: &[u32]) -> f
 }
 
 impl NoVolumes {
+    /// Why the file of a name cannot be had.
+    pub(crate) fn of_file(alloc: Global, name: &str, error: io::Error) -> NoVolumes {
+        match (NoVolumes::from(error), String::from_str(alloc, name)) {
+            (NoVolumes::System(error), Ok(name)) => NoVolumes::File(name, error),
+            (cause, _) => cause,
+        }
+    }
+
+    /// Why the file of a volume cannot be had.
+    pub(crate) fn of_volume(alloc: Global, volume: u32, error: io::Error) -> NoVolumes {
+        match volume_name(alloc, volume) {
+            Ok(name) => NoVolumes::of_file(alloc, name.as_str(), error),
+            Err(AllocError) => NoVolumes::NoMemory,
+        }
+    }
+
     /// The words of a cause that has no more to say.
     fn words(&self) -> &'static str {
         match self {
-            NoVolumes::NoArchive => "a folder; a store is a file, as records.db in it",
+            NoVolumes::NoArchive => "the file volumes of the folder is gone; restore it",
             NoVolumes::Damaged => "the file volumes of the folder is damaged; restore it",
             NoVolumes::Unfinished => {
                 "no volume in it: create was cut off; remove the folder, and begin again"
@@ -79,7 +104,7 @@ impl NoVolumes {
             NoVolumes::Busy => "another program makes a volume of this archive",
             NoVolumes::There => "there is something already",
             NoVolumes::NoMemory => "out of memory",
-            NoVolumes::Missing(_) | NoVolumes::System(_) => "refused",
+            NoVolumes::Missing(_) | NoVolumes::System(_) | NoVolumes::File(..) => "refused",
         }
     }
 }
@@ -88,6 +113,7 @@ impl fmt::Display for NoVolumes {
     fn fmt<W: fmt::Write>(&self, f: &mut fmt::Formatter<W>) -> fmt::Result {
         match self {
             NoVolumes::System(error) => write!(f, "{error}"),
+            NoVolumes::File(name, error) => write!(f, "{name}: {error}"),
             NoVolumes::Missing(volumes) => write_missing(f, volumes.as_slice()),
             cause => f.write_str(cause.words()),
         }

@@ -31,21 +31,28 @@ pub struct Row {
     pub last: u32,
 }
 
+/// Whether a path leads nowhere.
+fn is_nowhere(error: &io::Error) -> bool {
+    matches!(error.kind(), ErrorKind::NotFound | ErrorKind::NotADirectory)
+}
+
 /// The sheet of a folder.
 pub(crate) fn sheet_in(rt: &HostRuntime, folder: &str) -> Result<Sheet, NoVolumes> {
     let path = path_in(rt.alloc(), folder, SHEET)?;
     let file = match fs::open(rt, path.as_str()) {
         Ok(file) => file,
         Err(error) if error.kind() == ErrorKind::NotFound => return Err(NoVolumes::NoArchive),
-        Err(error) => return Err(NoVolumes::from(error)),
+        Err(error) => return Err(NoVolumes::of_file(rt.alloc(), SHEET, error)),
     };
     let mut octets = Vec::new(rt.alloc());
-    file.take(MOST).read_to_end(&mut octets)?;
+    if let Err(error) = file.take(MOST).read_to_end(&mut octets) {
+        return Err(NoVolumes::of_file(rt.alloc(), SHEET, error));
+    }
     read_sheet(rt.alloc(), octets.as_slice())?.ok_or(NoVolumes::Damaged)
 }
 
-/// The numbers of the volumes that a folder has. Other names are passed over.
-fn volumes_in(rt: &HostRuntime, folder: &str) -> io::Result<Vec<u32>> {
+/// The numbers of the volumes whose names a folder has. Other names are passed over.
+fn volumes_named(rt: &HostRuntime, folder: &str) -> io::Result<Vec<u32>> {
     let mut volumes = Vec::new(rt.alloc());
     for entry in fs::read_dir(rt, folder)? {
         match entry {
@@ -61,22 +68,62 @@ fn volumes_in(rt: &HostRuntime, folder: &str) -> io::Result<Vec<u32>> {
     Ok(volumes)
 }
 
-/// Whether an archive of volumes is at a path: a folder with the file `volumes`.
+/// Whether a volume is there: a file of its name, or a link to one.
+fn is_there(rt: &HostRuntime, folder: &str, volume: u32) -> Result<bool, NoVolumes> {
+    let path = path_of(rt.alloc(), folder, volume)?;
+    match fs::metadata(rt, path.as_str()) {
+        Ok(found) => Ok(found.is_file()),
+        Err(error) if is_nowhere(&error) => Ok(false),
+        Err(error) => Err(NoVolumes::of_volume(rt.alloc(), volume, error)),
+    }
+}
+
+/// Those of some volumes that are there.
+fn volumes_there(rt: &HostRuntime, folder: &str, named: &[u32]) -> Result<Vec<u32>, NoVolumes> {
+    let mut volumes = Vec::new(rt.alloc());
+    for volume in named {
+        if is_there(rt, folder, *volume)? {
+            volumes.push(*volume)?;
+        }
+    }
+    Ok(volumes)
+}
+
+/// Whether a folder is at a path.
+fn is_folder(rt: &HostRuntime, path: &str) -> bool {
+    match fs::metadata(rt, path) {
+        Ok(found) => found.is_dir(),
+        Err(_) => false,
+    }
+}
+
+/// Whether a folder has the name of a first volume.
+fn has_first(rt: &HostRuntime, folder: &str) -> Result<bool, AllocError> {
+    let first = path_of(rt.alloc(), folder, 1)?;
+    Ok(fs::symlink_metadata(rt, first.as_str()).is_ok())
+}
+
+/// Whether an archive of volumes is at a path: a folder with the file `volumes`; or one that had it, since it has a first volume, or that
+/// may have it, since nobody may look into it. Of these two `row_in` says why the volumes cannot be had.
 pub fn has_volumes(rt: &HostRuntime, path: &str) -> Result<bool, AllocError> {
     let sheet = path_in(rt.alloc(), path, SHEET)?;
     match fs::metadata(rt, sheet.as_str()) {
         Ok(found) => Ok(found.is_file()),
-        Err(_) => Ok(false),
+        Err(error) if is_nowhere(&error) => has_first(rt, path),
+        Err(error) => Ok(error.kind() == ErrorKind::PermissionDenied && is_folder(rt, path)),
     }
 }
 
-/// The row of the volumes in a folder: of one at least.
+/// The row of the volumes in a folder: of one at least. `Missing` where a volume of the row has no name in the folder, or where a name
+/// leads to no file.
 pub fn row_in(rt: &HostRuntime, folder: &str) -> Result<Row, NoVolumes>
     ensures { IfOk result (λ row. 1 ≤ row.last) }
 {
     let sheet = sheet_in(rt, folder)?;
-    let volumes = volumes_in(rt, folder)?;
-    match judge_row(rt.alloc(), sheet.begun, volumes.as_slice())? {
+    let named = volumes_named(rt, folder)?;
+    let last = judge_row(rt.alloc(), sheet.begun, named.as_slice())?;
+    let there = volumes_there(rt, folder, named.as_slice())?;
+    match judge_row(rt.alloc(), last, there.as_slice())? {
         0 => Err(NoVolumes::Unfinished),
         last => Ok(Row { sheet, last }),
     }
@@ -85,7 +132,10 @@ pub fn row_in(rt: &HostRuntime, folder: &str) -> Result<Row, NoVolumes>
 /// How many octets the file of a volume has, or the file that a link in its place leads to.
 pub fn octets_of(rt: &HostRuntime, folder: &str, volume: u32) -> Result<u64, NoVolumes> {
     let path = path_of(rt.alloc(), folder, volume)?;
-    Ok(fs::metadata(rt, path.as_str())?.len())
+    match fs::metadata(rt, path.as_str()) {
+        Ok(found) => Ok(found.len()),
+        Err(error) => Err(NoVolumes::of_volume(rt.alloc(), volume, error)),
+    }
 }
 
 /// The lock of a folder, which ends with it.
@@ -102,7 +152,8 @@ pub fn lock_folder(rt: &HostRuntime, folder: &str) -> Result<FolderLock, NoVolum
         .write(true)
         .create(true)
         .mode(MODE)
-        .open(rt, path.as_str())?;
+        .open(rt, path.as_str())
+        .map_err(|error| NoVolumes::of_file(rt.alloc(), LOCK, error))?;
     file.try_lock().map_err(io::Error::from)?;
     Ok(FolderLock { _file: file })
 }

@@ -1,12 +1,18 @@
 //! The file `volumes` of a folder.
 
 ghost use Rattle.std.specs.Prelude.{◌≡◌, IfOk, IfSome, string_bytes};
-ghost use Rattle.cli_volumes.specs.Sheets.{spelling};
+ghost use Rattle.cli_volumes.specs.Sheets.{IsSize, IsSpelled, spelling};
 
 use crate::names::push_number;
 use record_volumes::LAST_VOLUME;
 use session_words::read_number;
 use std::alloc::{AllocError, Global};
+
+/// The least size of a volume, in octets.
+const LEAST: u64 = 1 << 20;
+
+/// The greatest size of a volume, in octets.
+const GREATEST: u64 = 1 << 40;
 
 /// What the file `volumes` says.
 #[derive(Clone, Copy)]
@@ -29,10 +35,15 @@ pub fn sheet_text(alloc: Global, sheet: Sheet) -> Result<String, AllocError>
     Ok(text)
 }
 
-/// The numbers that stand where a sheet has them.
-fn numbers_of(octets: &[u8]) -> Option<Sheet> {
+/// The numbers that stand where a sheet has them, with a size that a volume may have.
+fn numbers_of(octets: &[u8]) -> Option<Sheet>
+    ensures { IfSome result (λ sheet. IsSize sheet.size) }
+{
     let mut words = octets.split(|octet| *octet == b' ' || *octet == b'\n');
-    let size = read_number(words.nth(4)?, u64::MAX)?;
+    let size = read_number(words.nth(4)?, GREATEST)?;
+    if size < LEAST || size > GREATEST {
+        return None;
+    }
     let begun = read_number(words.nth(1)?, u64::from(LAST_VOLUME))?;
     Some(Sheet {
         size,
@@ -40,9 +51,10 @@ fn numbers_of(octets: &[u8]) -> Option<Sheet> {
     })
 }
 
-/// What octets say that are the text of a sheet, octet for octet. None for any others.
+/// What octets say that are the text of a sheet, octet for octet, by which a volume has 1,048,576 to 1,099,511,627,776 octets. None for any
+/// others.
 pub fn read_sheet(alloc: Global, octets: &[u8]) -> Result<Option<Sheet>, AllocError>
-    ensures { IfOk result (λ o. IfSome o (λ sheet. octets.now ≡ spelling sheet)) }
+    ensures { IfOk result (λ o. IfSome o (λ sheet. IsSpelled sheet octets.now)) }
 {
     let Some(sheet) = numbers_of(octets) else {
         return Ok(None);

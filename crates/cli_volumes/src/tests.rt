@@ -28,9 +28,11 @@ fn a_sheet_is_read_as_it_is_spelled(rt: HostRuntime) -> Result<(), AllocError> {
     );
     let read = read_sheet(rt.alloc(), text.as_bytes())?;
     assert!(rt; matches!(read, Some(sheet) if sheet.size == 33_554_432 && sheet.begun == 5));
-    let longer = read_sheet(rt.alloc(), b"mailfile volumes 1\nsize 1\nbegun 5\n\n")?;
-    let other = read_sheet(rt.alloc(), b"mailfile volumes 2\nsize 1\nbegun 5\n")?;
-    assert!(rt; longer.is_none() && other.is_none());
+    let longer = read_sheet(rt.alloc(), b"mailfile volumes 1\nsize 1048576\nbegun 5\n\n")?;
+    let other = read_sheet(rt.alloc(), b"mailfile volumes 2\nsize 1048576\nbegun 5\n")?;
+    let least = read_sheet(rt.alloc(), b"mailfile volumes 1\nsize 1048576\nbegun 5\n")?;
+    let less = read_sheet(rt.alloc(), b"mailfile volumes 1\nsize 1048575\nbegun 5\n")?;
+    assert!(rt; longer.is_none() && other.is_none() && least.is_some() && less.is_none());
     Ok(())
 }
 

@@ -5,4 +5,5 @@ use Rattle.cli_changes.proofs.moments.last_day.Goals as goal
 pub returns-clause-last : goal.returns-clause-last
 returns-clause-last g c = λ clean (a : Archive) s.
     let took = c.in_ok-read_chosen.ensures.taken clean a s in
-    last_told a c.read_chosen.new.reader.last (told_of_all a _ _ c.read_chosen.new.reader.last c.every.ensures took.1 took.2)
+    let found = c.read_chosen.new.reader.last in
+    last_told a c.args.known found (told_of_all a _ c.args.known _ found c.every.ensures took.1 took.2)
