@@ -48,6 +48,10 @@ maildir_status kind.NotFound = Some NoInput
 maildir_status kind.NotADirectory = Some NoInput
 maildir_status k = Some TryAgain
 
+-- a failure of a Maildir: one that the system has, with its status, or want of memory
+abbrev pub IsOfMaildir : Failure → Type 0
+IsOfMaildir failure = (k : ErrorKind) × IsFailureOf (maildir_status k) failure
+
 -- ---- what is answered of a message
 
 -- discarded where no class is captured

@@ -1,5 +1,6 @@
 -- What an intake does at its desk with a message.
-use Rattle.std.specs.Prelude.{◌≡◌, ◌⊎◌, ℕ, List, length, string_bytes, Result, Ok, Err, IfSome}
+use Rattle.std.specs.Prelude.{◌≡◌, ◌⊎◌, ℕ, List, length, String, string_bytes, Option, Some, None, Result, Ok, Err}
+use Rattle.std.specs.declared.alloc.Global.{Global}
 use Rattle.cli_console.specs.declared.failure.Failure.{Failure}
 use Rattle.desk_commands.specs.declared.fault.DeskFault.{DeskFault}
 use Rattle.filing_desk.specs.declared.deliveries.Delivery.{Delivery}
@@ -10,10 +11,13 @@ use Rattle.mail_intake.specs.declared.mailroom.Taken.TheVariants.{Captured}
 use Rattle.record_archive.specs.Archive.{Archive}
 use Rattle.record_archive.specs.Calls.{Keeper}
 use Rattle.cli_changes.specs.Deliveries.{IsDelivered, IsLeft}
-use Rattle.cli_changes.specs.Endings.{IsAnswer, taken_of}
+use Rattle.cli_changes.specs.Endings.{IsAnswer, IsOfMaildir, taken_of}
 use Rattle.cli_changes.specs.Moments.{IsMomentNow}
 use Rattle.cli_changes.specs.Spaces.{with_message}
 use Rattle.cli_changes.specs.declared.intake_room.Room.{Room}
+use Rattle.cli_changes.specs.declared.rounds.Round.{Round}
+use Rattle.cli_changes.specs.declared.rounds.Rounds.{Rounds}
+use Rattle.cli_changes.specs.declared.rounds.Round.TheVariants.{Done, NextVolume}
 use Rattle.cli_changes.specs.declared.space.Space.{Space}
 
 -- it captures where it did, and the round goes on as far as it did
@@ -33,13 +37,37 @@ abbrev pub space_after : {F : Type 0} → Result Taken (Refusal F) → (octets :
 space_after (Ok Captured) octets s = with_message octets s
 space_after _ octets s = s
 
--- THE ROUND ENDS where the volume is full: nothing is delivered, and this is the message with which the next round begins; if a next
--- one can begin
+-- A ROUND BEGINS with what the rounds before it came to, and has not ended
+pub record BeginsAfter {A : Type 0} (rounds : Rounds) (room : Room A) : Type 0 where
+  pub before : room.before ≡ rounds.tally
+  pub told : room.told ≡ rounds.told
+  pub has_spoken : room.has_spoken ≡ rounds.has_spoken
+  pub has_complained : room.has_complained ≡ rounds.has_complained
+  pub next : room.next ≡ None
+
+-- THE NEXT ROUND BEGINS with the message of this name; there is none only where the Maildir, or memory, fails
+abbrev pub GoesOnWith : {Z : Type 0} → (name : List ℕ) → Failure → (next : Option (String Z)) → Type 0
+GoesOnWith name failure (Some next) = string_bytes next ≡ name
+GoesOnWith name failure None = IsOfMaildir failure
+
+-- THE ROUND ENDS where the volume is full: nothing is delivered, and the next round begins with this message
 pub record EndsRound {A : Type 0} (before : Room A) (name : List ℕ) (answer : Result Taken (Refusal Failure)) (after : Room A) : Type 0 where
   pub failure : Failure
   pub answered : answer ≡ Err (Ends failure)
   pub desk : after.desk ≡ before.desk
-  pub next : IfSome after.next (λ next. string_bytes next ≡ name)
+  pub next : GoesOnWith name failure after.next
+
+-- how a round ended: as the last one, or with a next one, which goes on with the same intake and with what the rounds came to
+abbrev pub round_of : {A : Type 0} → Room A → (begun : ℕ) → (next : Option (String Global)) → Round
+round_of room begun None = Done
+round_of room begun (Some next) = NextVolume room.job (record {
+  begun = Some begun;
+  tally = room.before;
+  next = Some next;
+  told = room.told;
+  has_spoken = room.has_spoken;
+  has_complained = room.has_complained;
+})
 
 module _ {A : Type 0} (keeper : Keeper A Archive) where
   -- the desk delivered these octets at a moment that the clock gives, for the officer of the intake

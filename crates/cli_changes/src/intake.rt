@@ -233,7 +233,9 @@ impl<'a> Intake<'a> {
     }
 
     /// When messages are captured.
-    pub fn timing(&self) -> Timing {
+    pub fn timing(&self) -> Timing
+        ensures { result ≡ self.now.timing }
+    {
         self.timing
     }
 

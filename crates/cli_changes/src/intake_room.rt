@@ -1,20 +1,34 @@
 //! The room in which an intake is made: a Maildir in files, a desk over an archive, and a log.
 
-ghost use Rattle.std.specs.Prelude.{◌≡◌, ℕ, List, false, true, string_bytes, IfErr, IfOk, IfSome};
+ghost use Rattle.std.specs.Prelude.{
+  ◌≡◌,
+  ℕ,
+  List,
+  false,
+  true,
+  is_some,
+  string_bytes,
+  IfErr,
+  IfOk,
+};
 ghost use Rattle.desk_commands.specs.Limits.{greatest_message};
 ghost use Rattle.desk_commands.specs.Payloads.{IsOf};
 ghost use Rattle.mail_intake.specs.declared.mailroom.Refusal.TheVariants.{Stays};
 ghost use Rattle.cli_changes.specs.Deliveries.{IsDropped, IsLeft, IsLeftBy};
-ghost use Rattle.cli_changes.specs.Endings.{taken_of, IsAnswer, IsGivenUp, IsRefusal};
+ghost use Rattle.cli_changes.specs.Endings.{taken_of, IsAnswer, IsGivenUp, IsOfMaildir, IsRefusal};
 ghost use Rattle.cli_changes.specs.Intakes.{
+  BeginsAfter,
   EndsRound,
+  GoesOnWith,
   IsAtPlace,
   IsDeliveredNow,
   IsHandedOver,
   IsQuiet,
   TakesOne,
+  round_of,
   space_after,
 };
+ghost use Rattle.cli_changes.specs.Rounds.{together as tallies_together};
 ghost use Rattle.cli_changes.specs.Spaces.{is_full as is_full_space};
 
 use crate::deliver::{desk_status, undecoded_in};
@@ -159,7 +173,12 @@ impl<'a, A: Records> Room<'a, A> {
         plan: Option<Plan>,
         timing: Timing,
         mail: NewMail,
-    ) -> Room<'a, A> {
+    ) -> Room<'a, A>
+        ensures job { result.job ≡ job.entry }
+        ensures place { result.place ≡ place }
+        ensures desk { result.desk ≡ desk }
+        ensures rounds { BeginsAfter rounds result }
+    {
         let Rounds {
             tally,
             told,
@@ -184,19 +203,29 @@ impl<'a, A: Records> Room<'a, A> {
     }
 
     /// Whether the round ended since the volume is full.
-    pub fn is_full(&self) -> bool {
+    pub fn is_full(&self) -> bool
+        ensures { result ≡ is_some self.now.next }
+    {
         self.next.is_some()
     }
 
     /// Counts the messages of a round that ended since the volume is full.
-    pub fn end_round(&mut self, tally: &Tally, has_complained: bool) {
+    pub fn end_round(&mut self, tally: &Tally, has_complained: bool)
+        ensures { self.new ≡ record self.old {
+          before = tallies_together self.old.before tally.now;
+          has_complained = has_complained;
+        } }
+    {
         let all = together(&self.before, tally);
         self.before = all;
         self.has_complained = has_complained;
     }
 
     /// Gives the archive back, and says how the round ended, in an intake that began at a moment.
-    pub fn into_round(self, begun: u64) -> (A, Round<'a>) {
+    pub fn into_round(self, begun: u64) -> (A, Round<'a>)
+        ensures archive { result.0 ≡ self.entry.desk.store }
+        ensures round { result.1 ≡ round_of self.entry begun self.entry.next }
+    {
         let Room {
             job,
             next,
@@ -208,13 +237,13 @@ impl<'a, A: Records> Room<'a, A> {
             ..
         } = self;
         let archive = desk.into_store();
-        if next.is_none() {
+        let Some(next) = next else {
             return (archive, Round::Done);
-        }
+        };
         let rounds = Rounds {
             begun: Some(begun),
             tally: before,
-            next,
+            next: Some(next),
             told,
             has_spoken,
             has_complained,
@@ -352,17 +381,19 @@ impl<'a, A: Records> Room<'a, A> {
     }
 
     /// Makes the moves so far last over a power cut. The failure is that of the Maildir.
-    fn settle_moves(&self) -> Result<(), Failure> {
-        settle(self.job.rt, self.job.maildir).map_err(|error| maildir_failure(
-            self.job.rt,
-            self.job.maildir,
-            error,
-        ))
+    fn settle_moves(&self) -> Result<(), Failure>
+        ensures { IfErr result IsOfMaildir }
+    {
+        match settle(self.job.rt, self.job.maildir) {
+            Ok(()) => Ok(()),
+            Err(error) => Err(maildir_failure(self.job.rt, self.job.maildir, error)),
+        }
     }
 
     /// The name of a message with which the next round is to begin, once the moves so far last.
     fn settled_before(&self, name: &str) -> Result<String, Failure>
-        ensures { IfOk result (λ next. string_bytes next ≡ name.now) }
+        ensures name { IfOk result (λ next. string_bytes next ≡ name.now) }
+        ensures failed { IfErr result IsOfMaildir }
     {
         self.settle_moves()?;
         Ok(String::from_str(self.job.rt.alloc(), name)?)
@@ -371,7 +402,7 @@ impl<'a, A: Records> Room<'a, A> {
     /// Ends the round at the message of a name, with which the next one begins. What is answered is told only where that fails.
     fn end_before(&mut self, name: &str) -> Failure
         ensures desk { self.new.desk ≡ self.old.desk }
-        ensures next { IfSome self.new.next (λ next. string_bytes next ≡ name.now) }
+        ensures next { GoesOnWith name.now result self.new.next }
     {
         match self.settled_before(name) {
             Ok(next) => {

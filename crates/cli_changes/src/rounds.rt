@@ -1,7 +1,13 @@
 //! The rounds of an intake: one for each volume into which it captures.
 
-ghost use Rattle.std.specs.Prelude.{◌≡◌, filter, not, string_bytes};
-ghost use Rattle.cli_changes.specs.Rounds.{is_before as comes_before, together};
+ghost use Rattle.std.specs.Prelude.{◌≡◌};
+ghost use Rattle.cli_changes.specs.Rounds.{
+  IsBeginning,
+  from_on,
+  is_before as comes_before,
+  left_names,
+  together,
+};
 
 use crate::intake::Intake;
 use mail_intake::{Tally, Told};
@@ -36,7 +42,9 @@ pub struct Rounds {
 
 impl Rounds {
     /// None was made.
-    pub fn none(alloc: Global) -> Rounds {
+    pub fn none(alloc: Global) -> Rounds
+        ensures { IsBeginning result }
+    {
         Rounds {
             begun: None,
             tally: Tally {
@@ -75,14 +83,15 @@ fn is_before(name: &str, next: &str) -> bool
 
 /// Leaves out the names that come before this one.
 fn leave_out(names: &mut Vec<String>, next: &str)
-    ensures { names.new.items ≡
-        filter (λ n. not (comes_before (string_bytes n) next.now)) names.old.items }
+    ensures { names.new.items ≡ from_on next.now names.old.items }
 {
     names.retain(|name| !is_before(name.as_str(), next));
 }
 
 /// The names of messages that are left for a round, of all that are listed.
-pub(crate) fn left_of(names: Vec<String>, rounds: &Rounds) -> Vec<String> {
+pub(crate) fn left_of(names: Vec<String>, rounds: &Rounds) -> Vec<String>
+    ensures { result.items ≡ left_names rounds.now.next names.items }
+{
     let mut names = names;
     if let Some(next) = &rounds.next {
         leave_out(&mut names, next.as_str());
