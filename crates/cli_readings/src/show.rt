@@ -49,9 +49,10 @@ pub(crate) fn entry_of<R: Repository<Fault = StoreFault>>(
 }
 
 /// Finds that octets are those that were captured as the message of an entry, as far as its seal is known. `BadData` where they
-/// are not.
+/// are not, told with the number of the volume, in an archive of volumes.
 fn judge_octets(
     alloc: Global,
+    volume: Option<u32>,
     seals: &Seals,
     entry: &RecordEntry,
     octets: &[u8],
@@ -61,10 +62,10 @@ fn judge_octets(
 {
     match seals.is_captured(alloc, entry.message, octets)? {
         Fidelity::Unsealed | Fidelity::Same => Ok(()),
-        Fidelity::Altered(event) => Err(Failure::shown(
-            Status::BadData,
-            altered_words(alloc, entry.number, event),
-        )),
+        Fidelity::Altered(event) => {
+            let words = altered_words(alloc, entry.number, event);
+            Err(Failure::shown(Status::BadData, words).in_volume(alloc, volume))
+        }
     }
 }
 
@@ -86,8 +87,7 @@ fn octets_of<R: Repository<Fault = StoreFault>>(
     let octets = archive
         .message(entry.number)
         .map_err(|fault| Failure::of_store(alloc, typed.word, fault))?;
-    let judged = judge_octets(alloc, seals, entry, octets.as_slice());
-    judged.map_err(|failure| failure.in_volume(alloc, typed.volume))?;
+    judge_octets(alloc, typed.volume, seals, entry, octets.as_slice())?;
     Ok(octets)
 }
 

@@ -22,9 +22,7 @@ use Rattle.cli_history.specs.Walks.{Glances}
 use Rattle.cli_history.specs.declared.author.Author.{Author}
 use Rattle.cli_history.specs.declared.opening.Purpose.{Purpose}
 use Rattle.cli_history.specs.declared.seals.Seals.{Seals}
-use Rattle.cli_tasks.specs.Changes.{Changes, Disposes, Makes}
-use Rattle.cli_tasks.specs.Purposes.{purpose_of}
-use Rattle.cli_tasks.specs.declared.changes.Changing.{Changing}
+use Rattle.cli_tasks.specs.Changes.{Changes, Disposes}
 
 -- the seals that a change goes by are those of the ledger, where none were read before
 used_known : (listed : Option Seals) (seals used : Seals) → used ≡ unwrap_or listed seals → listed ≡ None → used ≡ seals

@@ -1,5 +1,5 @@
 -- What a command line makes of an archive of volumes, where it ends well.
-use Rattle.std.specs.Prelude.{◌≡◌, ◌≤◌, ◌⊎◌, ℕ, true, false, List, Option, Some, None, IfSome, Ok}
+use Rattle.std.specs.Prelude.{◌≡◌, ◌⊎◌, ℕ, true, false, List, Option, Some, None, IfSome, Ok}
 use Rattle.sqlite.specs.Store.{Ghosts}
 use Rattle.choice_words.specs.Typed.{first_above, first_alone, numbers_for}
 use Rattle.choice_words.specs.declared.choice.Choice.{Choice}

@@ -1,7 +1,5 @@
 use Rattle.std.proofs.Common.{inl, inr}
 use Rattle.std.proofs.lemmas.Result.{on_ok_weaker}
-use Rattle.cli_tasks.specs.Commands.{Does}
-use Rattle.cli_tasks.specs.Volumes.{DoesOver}
 use Rattle.cli_tasks.proofs.subcommands.execute.Goals as goal
 
 pub returns-then-is_over_volumes : goal.returns-then-is_over_volumes

@@ -11,16 +11,16 @@ returns g c =
     let told = c.args.told.now in
     let change = c.args.change in
     let name = c.args.name.now in
-    let choice = c.args.choice.now in
+    let typed = c.args.typed.now in
     let questions = c.in_ok-questions.questions in
     let tally = c.in_ok-tally.tally in
     let last = c.args.volumes.last in
     on_ok_both c.end_holds.result c.end_holds.ensures.held c.end_holds.ensures.accepted (λ seen well. record {
-      none = c.in_ok-judge_numberless.ensures.none;
-      first = c.in_ok-judge_numberless.ensures.first;
+      none = c.in_ok-judge_numbers.ensures.none;
+      within = c.in_ok-judge_numbers.ensures.within;
       questions = questions;
       asked = record { test = c.in_ok-questions.ensures.test; fields = c.in_ok-questions.ensures.fields };
-      each = each_held store IsAt folder told change name choice questions last tally well c.in_ok-tally.ensures;
-      held = held_in_one store IsAt folder told change name choice questions last tally c.in_ok-tally.ensures
+      each = each_held store IsAt folder told change name questions typed last tally well c.in_ok-tally.ensures;
+      held = held_in_one store IsAt folder told change name typed questions last tally c.in_ok-tally.ensures
           (λ ends none. c.in_ok-is_held.ensures (seen ends none) ends (c.is_any.ensures ∙ none));
     })

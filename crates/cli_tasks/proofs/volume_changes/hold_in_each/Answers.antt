@@ -10,10 +10,10 @@ loop-below-init g c =
     let folder = c.args.volumes.folder.now in
     let told = c.args.told.now in
     let hold = c.args.hold in
-    let choice = c.args.choice.now in
+    let typed = c.args.typed.now in
     let questions = c.args.questions.now in
-    subst (λ (t : HoldTally). HoldsInEach g.A.Kept.Store IsAt folder told hold.change hold.name.now choice questions 0 t)
-    (sym c.none-tally.ensures) (held_in_none g.A.Kept.Store IsAt folder told hold.change hold.name.now choice questions)
+    subst (λ (t : HoldTally). HoldsInEach g.A.Kept.Store IsAt folder told hold.change hold.name.now typed questions 0 t)
+    (sym c.none-tally.ensures) (held_in_none g.A.Kept.Store IsAt folder told hold.change hold.name.now questions typed)
 
 pub loop-below-preserved : goal.loop-below-preserved
 loop-below-preserved g c =
@@ -21,12 +21,12 @@ loop-below-preserved g c =
     let folder = c.args.volumes.folder.now in
     let told = c.args.told.now in
     let hold = c.args.hold in
-    let choice = c.args.choice.now in
+    let typed = c.args.typed.now in
     let questions = c.args.questions.now in
     let below = c.loop-below.below in
-    subst (λ (t : HoldTally). HoldsInEach g.A.Kept.Store IsAt folder told hold.change hold.name.now choice questions (below + 1) t)
+    subst (λ (t : HoldTally). HoldsInEach g.A.Kept.Store IsAt folder told hold.change hold.name.now typed questions (below + 1) t)
     (sym c.joined-tally.ensures)
-    (held_in_next g.A.Kept.Store IsAt folder told hold.change hold.name.now choice questions below c.loop-below.tally c.in_ok-next.next
+    (held_in_next g.A.Kept.Store IsAt folder told hold.change hold.name.now questions typed below c.loop-below.tally c.in_ok-next.next
     c.loop-below.invariant c.in_ok-next.ensures)
 
 pub returns : goal.returns
@@ -34,4 +34,4 @@ returns g c =
     let hold = c.args.hold in
     let all : c.loop-below.below ≡ c.args.volumes.last = omega arith in
     subst (λ (n : ℕ). HoldsInEach g.A.Kept.Store (g.A.Archives.is_at c.args.archives.now) c.args.volumes.folder.now c.args.told.now
-    hold.change hold.name.now c.args.choice.now c.args.questions.now n c.loop-below.tally) all c.loop-below.invariant
+    hold.change hold.name.now c.args.typed.now c.args.questions.now n c.loop-below.tally) all c.loop-below.invariant

@@ -15,6 +15,6 @@ returns-in-Chosen g c =
     subst (λ (k : Command). DoesOver store IsAt folder told k) (sym c.in-Chosen.is) (
       volumes.last,
       c.in_ok-volumes.ensures.some,
-      subst (λ (f : List ℕ). DoesWithEach store IsAt f told c.in-Chosen.choice volumes.last c.in-Chosen.task)
+      subst (λ (f : List ℕ). DoesWithEach store IsAt f told c.in-Chosen.typed volumes.last c.in-Chosen.task)
           c.in_ok-volumes.ensures.folder done,
     )) c.on_volumes.ensures

@@ -1,6 +1,5 @@
-use Rattle.std.proofs.Common.{Bool, ap, subst, sym}
+use Rattle.std.proofs.Common.{Bool, subst, sym}
 use Rattle.std.proofs.lemmas.Result.{IfOk-weaker}
-use Rattle.record_archive.specs.Archive.{Archive}
 use Rattle.cli_tasks.specs.Changes.{ShowsHold}
 use Rattle.cli_tasks.proofs.volume_changes.LookForHoldWork.work.Goals as goal
 

@@ -1,7 +1,5 @@
-use Rattle.std.proofs.Common.{◌∙◌, Ok, Result, subst}
-use Rattle.sqlite.specs.Held.{Held}
+use Rattle.std.proofs.Common.{◌∙◌, subst}
 use Rattle.record_store.specs.declared.store.Store.{Store}
-use Rattle.cli_console.specs.declared.failure.Failure.{Failure}
 use Rattle.cli_volumes.specs.Names.{path_of}
 use Rattle.cli_tasks.specs.Works.{IsDone}
 use Rattle.cli_tasks.proofs.DoneLemmas.{named_as, settled_as}
