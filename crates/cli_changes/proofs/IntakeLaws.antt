@@ -1,11 +1,14 @@
 -- What an intake does with a message, by what its room is afterwards.
-use Rattle.std.proofs.Common.{◌≡◌, ◌∙◌, ℕ, List, Result, sym, subst, inl, inr}
+use Rattle.std.proofs.Common.{◌≡◌, ◌∙◌, ℕ, List, Result, Ok, Err, IfErr, IsErrAnd, sym, subst, inl, inr}
+use Rattle.std.specs.declared.io.ErrorKind.TheVariants.{OutOfMemory}
 use Rattle.cli_console.specs.declared.failure.Failure.{Failure}
+use Rattle.cli_console.specs.declared.failure.Failure.TheVariants.{NoMemory}
 use Rattle.mail_intake.specs.declared.mailroom.Refusal.{Refusal}
 use Rattle.mail_intake.specs.declared.mailroom.Taken.{Taken}
 use Rattle.record_archive.specs.Archive.{Archive}
 use Rattle.record_archive.specs.Calls.{Keeper}
 use Rattle.cli_changes.specs.Deliveries.{IsLeft}
+use Rattle.cli_changes.specs.Endings.{IsOfMaildir}
 use Rattle.cli_changes.specs.Intakes.{IsHandedOver}
 use Rattle.cli_changes.specs.declared.intake_room.Room.{Room}
 
@@ -16,3 +19,8 @@ pub handed_over_to : {A : Type 0} (keeper : Keeper A Archive) (before mid after 
 handed_over_to keeper before mid after octets answer same (inl h) =
     inl (h.0, h.1, h.2, h.3, subst (IsLeft keeper answer h.1.desk) (sym same) h.4)
 handed_over_to keeper before mid after octets answer same (inr h) = inr (h.0, h.1, same ∙ h.2)
+
+-- want of memory is a failure of the Maildir too
+pub want_of_memory : {T : Type 0} (r : Result T Failure) → IsErrAnd r (λ f. f ≡ NoMemory) → IfErr r IsOfMaildir
+want_of_memory (Err f) is = (OutOfMemory, is)
+want_of_memory (Ok t) is = tt
