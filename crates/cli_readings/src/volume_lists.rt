@@ -50,8 +50,8 @@ impl<'a, K: Sink + Drop> VolumeList<'a, K> {
         Ok(())
     }
 
-    /// Adds the records of a volume that meet a choice, and whose messages have what is asked of them. Answers the search, which is at
-    /// its end. `BadData` where the class is none of the plan of the volume.
+    /// Adds the records of a volume that meet a choice, and whose messages have what is asked of them. Answers the search, which
+    /// is at its end. `BadData` where the class is none of the plan of the volume.
     pub fn add_volume<'s, 'c, R: Repository<Fault = StoreFault>>(
         &mut self,
         rt: &HostRuntime,

@@ -108,8 +108,8 @@ fn read_scripts(rt: &HostRuntime, folder: &str, officer: &str) -> Result<Scripts
     Scripts::new(alloc, main, others).map_err(|fault| failure_of(rt, fault))
 }
 
-/// A record of an archive as it was captured, with the plan of today and with the event by which it got another class. `BadData` where there is none of its number, and where
-/// its message is not the one that was captured.
+/// A record of an archive as it was captured, with the plan of today and with the event by which it got another class. `BadData`
+/// where there is none of its number, and where its message is not the one that was captured.
 pub fn read_captured<S: Alter>(
     rt: &HostRuntime,
     archive: &mut Store<S>,
@@ -291,9 +291,9 @@ fn explain(
     write_parting(rt, &today, &former)
 }
 
-/// Writes why a record is in its class: the record, the event by which it was refiled, if it was, a report on the run of today's rules over its message at its day,
-/// whether that files it there again, and which words of its fields rules see undecoded; with the rules of former times
-/// also where their run differs.
+/// Writes why a record is in its class: the record, the event by which it was refiled, if it was, a report on the run of today's
+/// rules over its message at its day, whether that files it there again, and which words of its fields rules see undecoded; with
+/// the rules of former times also where their run differs.
 pub fn write_why(rt: &HostRuntime, asked: &Why<'_>, captured: &Captured) -> Result<(), Failure> {
     match &captured.message {
         Some(message) => explain(rt, asked, captured, message.as_slice()),
