@@ -241,7 +241,7 @@ impl<'a> Intake<'a> {
 
     /// The same at other times.
     pub fn with_timing(self, timing: Timing) -> Intake<'a>
-        ensures { result.timing ≡ timing }
+        ensures { result ≡ record self.entry { timing = timing } }
     {
         let mut job = self;
         job.timing = timing;

@@ -263,7 +263,11 @@ impl Timing {
     pub fn needs_day(&self) -> bool
         ensures { result ≡ needs_day_of self.now }
     {
-        matches!(self.asked, Moment::Unnamed) && self.last.is_none()
+        match (self.asked, self.last) {
+            (Moment::Unnamed, None) => true,
+            (Moment::Unnamed, Some(_)) => false,
+            (Moment::Now, _) | (Moment::At(_), _) => false,
+        }
     }
 
     /// Looks for the last day of a store, where no moment is named. A day that is known counts too. The failure is that of the store.
