@@ -13,7 +13,7 @@ use Rattle.cli_readings.specs.Altered.{altered_words, one_words, several_words}
 use Rattle.cli_readings.specs.Exports.{count_of, file_name, sealed_fields, sum_line, without_again}
 use Rattle.cli_readings.specs.Groups.{Added, is_twice, with_key}
 use Rattle.cli_console.specs.Counts.{greatest, one_more}
-use Rattle.cli_readings.specs.Checks.{figures_of, is_passed, no_figures, together}
+use Rattle.cli_readings.specs.Checks.{figures_of, no_figures, together}
 use Rattle.cli_readings.specs.Lists.{IsTextOf, between, end_of, head_of}
 use Rattle.cli_readings.specs.Parts.{Part, altered_in, files_in, rows_in, subjects_in, sums_in}
 use Rattle.cli_readings.specs.Parts as part
@@ -21,7 +21,6 @@ use Rattle.cli_readings.specs.Sequences.{AreTexts, more_for}
 use Rattle.cli_readings.specs.Twice.{before_group, beside_record, head_beside}
 use Rattle.cli_readings.specs.VolumeLists.{head_unless}
 use Rattle.cli_readings.specs.declared.groups.Sealed.{Sealed}
-use Rattle.cli_readings.specs.declared.judge.Messages.{Messages}
 use Rattle.cli_readings.specs.declared.judge.Totals.{Totals}
 
 -- ---- what was captured twice
@@ -102,30 +101,8 @@ no_more = refl
 
 -- ---- checks
 
--- a live record without a due date and a hold, the same with a hold, and a destroyed one
-abbrev live : RecordEntry → ℕ → ℕ → RecordEntry
-live e n m = record e { number = n; message = m; destroyed = false; due = None; holds = record e.holds { items = [] } }
-
-abbrev held : RecordEntry → ℕ → ℕ → RecordEntry
-held e n m = record (live e n m) { holds = record e.holds { items = record e.path { items = codes "court" } ∷ [] } }
-
-abbrev gone : RecordEntry → ℕ → ℕ → RecordEntry
-gone e n m = record (held e n m) { destroyed = true }
-
-figures_are : (e : RecordEntry) (day : Date) → figures_of day (live e 1 1 ∷ held e 2 1 ∷ gone e 7 7 ∷ [])
-    ≡ record { records = 3; live = 2; held = 1; due = 0; last = 7 }
-figures_are e day = refl
-
 no_records : (day : Date) → figures_of day [] ≡ no_figures
 no_records day = refl
-
--- where message 1 was counted last, it is not counted again, nor that of a destroyed record; at the beginning message 0 is counted
-passed_are : (m : Messages) (e : RecordEntry)
-    → map (is_passed (record m { count = 1; last = 1 })) (live e 2 1 ∷ live e 3 3 ∷ gone e 4 3 ∷ []) ≡ true ∷ false ∷ true ∷ []
-passed_are m e = refl
-
-first_counted : (m : Messages) (e : RecordEntry) → is_passed (record m { count = 0; last = 0 }) (live e 1 0) ≡ false
-first_counted m e = refl
 
 no_more_octets : (x : Totals) → (together (record x { octets = greatest }) (record x { octets = 1 })).octets ≡ greatest
 no_more_octets x = refl
