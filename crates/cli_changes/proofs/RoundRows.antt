@@ -7,7 +7,7 @@ use Rattle.cli_changes.specs.Endings.{status_after}
 use Rattle.cli_changes.specs.Rounds.{is_before, together}
 
 -- so many are taken, unfit and given up
-tally : (taken unfit given_up : ℕ) → Tally
+abbrev tally : (taken unfit given_up : ℕ) → Tally
 tally taken unfit given_up = record { taken = taken; unfit = unfit; given_up = given_up }
 
 sums_are : map (λ (p : Tally × Tally). together p.0 p.1)
