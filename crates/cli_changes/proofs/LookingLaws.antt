@@ -43,6 +43,11 @@ some_of : (ns : List ℕ) → (length ns == 0) ≡ false → is_any_of ns ≡ tr
 some_of [] h = absurd cc
 some_of (n ∷ ns) h = refl
 
+-- a test whether there are none says that there are some
+pub is_some : (x y : Bool) → x ≡ y → not x ≡ true → y ≡ false
+is_some true y is some = absurd cc
+is_some false y is some = sym is
+
 -- there are records where there are their numbers
 pub some_listed : (ns : List ℕ) (es : List RecordEntry) → ns ≡ numbers_of es → (length ns == 0) ≡ false → is_any_of es ≡ true
 some_listed ns es are some = sym (numbered es) ∙ ap is_any_of (sym are) ∙ some_of ns some

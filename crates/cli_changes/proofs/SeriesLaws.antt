@@ -11,7 +11,7 @@ use Rattle.record_archive.specs.declared.fault.ArchiveFault.TheVariants.{Databas
 use Rattle.record_archive.specs.Lists.{IsAscending}
 use Rattle.record_archive.specs.declared.fault.ArchiveRefusal.{ArchiveRefusal}
 use Rattle.record_choice.proofs.PageLaws.{all_weaker}
-use Rattle.cli_changes.specs.Series.{Command, tried, tried_on, answers_on, IsTried, IsTriedOn}
+use Rattle.cli_changes.specs.Series.{Command, tried, tried_on, answers_on, IsTried, IsTriedOn, StopsIn}
 
 -- ---- one command
 
@@ -104,6 +104,15 @@ one_more S T command ns a any refused n b all any_new refused_new these so not_s
       refused = not_so ∙ ap₂ (λ x y. x || not y) was.refused one.done ∙ any_more not (answers_on command ns a) last
           ∙ ap (list_any not) (sym answers);
     }
+
+take_whole : {X : Type 0} (xs : List X) → take (length xs) xs ≡ xs
+take_whole [] = refl
+take_whole (x ∷ xs) = ap (λ l. x ∷ l) (take_whole xs)
+
+-- all of them, as the first so many
+pub all_stop : (S : Archive → Type 0) (command : Command) (ns : List ℕ) (a : Archive) (any refused : Bool)
+    → IsTriedOn S command ns a any refused → StopsIn S command ns a
+all_stop S command ns a any refused tried = (length ns, subst (λ l. S (tried_on command l a)) (sym (take_whole ns)) tried.stands)
 
 -- ---- each for itself
 

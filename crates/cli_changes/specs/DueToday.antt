@@ -13,6 +13,15 @@ use Rattle.record_choice.specs.Entries.{RecordEntry}
 use Rattle.record_choice.specs.Views.{shows_due}
 use Rattle.cli_changes.specs.declared.due_today.DueToday.{DueToday}
 use Rattle.cli_changes.specs.Refilings.{is_destroyable}
+use Rattle.cli_changes.specs.Series.{sum_of}
+
+-- of no record
+abbrev pub none_due : DueToday
+none_due = record { all = 0; destroyable = 0 }
+
+-- THE RECORDS OF TWO STORES that are due
+abbrev pub due_in_both : DueToday → DueToday → DueToday
+due_in_both one other = record { all = sum_of one.all other.all; destroyable = sum_of one.destroyable other.destroyable }
 
 -- A LIVE RECORD IS DUE by a day, as if it were in the class of a path of a plan. Days are counted from 1970-01-01.
 abbrev pub is_due_in : Listing → (path : List ℕ) → (today : ℤ) → RecordEntry → Bool

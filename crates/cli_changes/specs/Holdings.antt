@@ -1,5 +1,5 @@
 -- On which records a hold is placed, or ended.
-use Rattle.std.specs.Prelude.{◌≡◌, ◌||◌, ◌&&◌, not, ℕ, ◌+◌, min, Bool, true, false, List, ◌++◌, ◌∷◌, [], map, filter, Result, Some}
+use Rattle.std.specs.Prelude.{◌≡◌, ◌||◌, ◌&&◌, not, ℕ, Bool, true, false, List, ◌++◌, ◌∷◌, [], map, filter, Result, Some}
 use Rattle.std.proofs.Common.{sym, ap, ap₂, refl, ◌∙◌}
 use Rattle.std.proofs.lemmas.List.{append_assoc, append-nil, map-append}
 use Rattle.std.proofs.lemmas.List.Elements.{filter-append}
@@ -15,11 +15,10 @@ use Rattle.record_choice.specs.Choices.{Choice, every_live_record, named}
 use Rattle.record_choice.specs.Disposals.{is_one_of}
 use Rattle.record_choice.specs.Entries.{RecordEntry, entry_view}
 use Rattle.record_choice.specs.declared.entry.RecordEntry as own
-use Rattle.cli_console.specs.Counts.{greatest}
 use Rattle.cli_console.specs.Finds.{HasSingles, entries_of, numbers_of}
 use Rattle.cli_changes.specs.declared.holds.HoldTally.{HoldTally}
 use Rattle.cli_changes.specs.declared.holds.Meant.{Meant}
-use Rattle.cli_changes.specs.Series.{changed_in_both}
+use Rattle.cli_changes.specs.Series.{changed_in_both, sum_of}
 
 -- ---- what is changed
 
@@ -88,8 +87,8 @@ none_tried = record { changed = record { is_any = false; is_refused = false }; p
 abbrev pub in_both : HoldTally → HoldTally → HoldTally
 in_both x y = record {
   changed = changed_in_both x.changed y.changed;
-  passed = min (x.passed + y.passed) greatest;
-  destroyed = min (x.destroyed + y.destroyed) greatest;
+  passed = sum_of x.passed y.passed;
+  destroyed = sum_of x.destroyed y.destroyed;
 }
 
 -- ---- the numbers of those that are meant

@@ -1,6 +1,7 @@
 -- Records that are changed one after another.
-use Rattle.std.specs.Prelude.{◌≡◌, ◌||◌, ℕ, Bool, not, List, [], ◌∷◌, take, Result, Ok, Err, is_ok}
+use Rattle.std.specs.Prelude.{◌≡◌, ◌+◌, ◌||◌, ℕ, Bool, false, min, not, List, [], ◌∷◌, take, Result, Ok, Err, is_ok}
 use Rattle.std.specs.List.{list_any}
+use Rattle.cli_console.specs.Counts.{greatest}
 use Rattle.record_archive.specs.Archive.{Archive}
 use Rattle.record_archive.specs.Calls.{Keeper}
 use Rattle.record_choice.specs.Reads.{OnlyReads}
@@ -37,9 +38,17 @@ pub record IsTriedOn (Stands : Archive → Type 0) (command : Command) (ns : Lis
   pub any : is_any ≡ list_any (λ b. b) (answers_on command ns a)
   pub refused : is_refused ≡ list_any not (answers_on command ns a)
 
+-- IT WAS DONE ON ALL OF THEM, one after another
+abbrev pub IsDoneOn : (Stands : Archive → Type 0) → Command → List ℕ → Archive → Type 0
+IsDoneOn Stands command ns a = (is_any : Bool) × IsTriedOn Stands command ns a is_any false
+
 -- it was tried on the first of them, and on no other
 abbrev pub StopsIn : (Stands : Archive → Type 0) → Command → List ℕ → Archive → Type 0
 StopsIn Stands command ns a = (k : ℕ) × Stands (tried_on command (take k ns) a)
+
+-- a count in two stores, up to the greatest one
+abbrev pub sum_of : ℕ → ℕ → ℕ
+sum_of x y = min (x + y) greatest
 
 -- what became of records of two stores
 abbrev pub changed_in_both : Changed → Changed → Changed

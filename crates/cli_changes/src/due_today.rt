@@ -3,7 +3,7 @@
 ghost use Rattle.std.specs.Prelude.{◌≡◌, ◌++◌, OnOk};
 ghost use Rattle.jiff.specs.Words.{epoch_day};
 ghost use Rattle.record_choice.specs.Entries.{entry_view};
-ghost use Rattle.cli_changes.specs.DueToday.{count_line, due_today_lines, with_entry, with_record};
+ghost use Rattle.cli_changes.specs.DueToday.{count_line, due_in_both, due_today_lines, none_due, with_entry, with_record};
 
 use crate::refilings::is_destroyable;
 use class_plan::{Date, Plan, Schedule};
@@ -25,11 +25,21 @@ pub struct DueToday {
 impl DueToday {
     /// None of no record.
     pub fn none() -> DueToday
-        ensures { result ≡ record { all = 0; destroyable = 0 } }
+        ensures { result ≡ none_due }
     {
         DueToday {
             all: 0,
             destroyable: 0,
+        }
+    }
+
+    /// Those of some records, and those of others.
+    pub fn joined(self, other: DueToday) -> DueToday
+        ensures { result ≡ due_in_both self other }
+    {
+        DueToday {
+            all: self.all.saturating_add(other.all),
+            destroyable: self.destroyable.saturating_add(other.destroyable),
         }
     }
 

@@ -76,11 +76,15 @@ pub use moments::{MomentFault, Timing, judge_moment, moment_in};
 pub use no_mail::refuse_no_mail;
 pub use plan::{replace_plan, write_plan};
 pub use plan_file::read_plan;
-pub use refile::refile_records;
+pub use refile::{
+    MoveTally, Moves, RefilingTo, judge_moves, judge_refiling, moves_shown, refile_listed,
+    refile_records,
+};
 pub use rounds::{Round, Rounds};
 pub use rule_checks::check_rules;
 pub use rules::{FilingRules, NamedRules};
+pub use series::judge_refused;
 pub use space::{Place, Space};
 pub use time_of_day::logged;
 pub use titles::{read_titles, set_titles};
-pub use whole_holds::release_all;
+pub use whole_holds::{judge_release, list_held, release_all, release_listed};

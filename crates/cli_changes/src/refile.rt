@@ -1,6 +1,6 @@
 //! `refile`: records that get another class of the plan.
 
-ghost use Rattle.std.specs.Prelude.{◌≡◌, ◌||◌, ◌∷◌, ◌++◌, [], List, ℕ, true, false, not, IfOk, OnErr, OnOk};
+ghost use Rattle.std.specs.Prelude.{◌≡◌, ◌||◌, ◌∷◌, ◌++◌, [], List, ℕ, true, false, not, IfOk, IsOk, OnErr, OnOk};
 ghost use Rattle.class_plan.specs.Plans.{has};
 ghost use Rattle.record_archive.specs.Archive.{Archive};
 ghost use Rattle.record_archive.specs.Refiling.{refile};
@@ -10,28 +10,42 @@ ghost use Rattle.cli_texts.specs.Lines.{due_words};
 ghost use Rattle.cli_console.specs.Finds.{HasSingles, IsAtEnd, IsBounded, IsEndOf, TakesThese, found_ahead, found_in};
 ghost use Rattle.cli_changes.specs.Holdings.{is_any_of};
 ghost use Rattle.cli_changes.specs.Moves.{
+  AddsMovers,
   AddsMoving,
   MovesOne,
+  RefilesListed,
   RefilesWell,
   is_refused as is_refused_one,
+  more_movers,
   more_moving,
   moved_to,
+  moves_in_both,
   moving_numbers,
+  no_movers,
+  no_moves,
   none_moving,
+  tally_of,
 };
-ghost use Rattle.cli_changes.specs.RefilingLines.{move_line as move_line_of, refiled_line as refiled_line_of, there_words};
+ghost use Rattle.cli_changes.specs.RefilingLines.{
+  move_line as move_line_of,
+  moves_lines,
+  refiled_line as refiled_line_of,
+  there_words,
+};
 ghost use Rattle.cli_changes.specs.Series.{ChangesAll, ChangesFirst, WasClean};
 ghost use Rattle.std.specs.List.{list_any};
 
 use crate::due_today::{DueToday, put_due_today};
-use crate::refilings::{Fate, fate_of};
-use crate::series::{RecordChange, change_each, judge_refused, refusal_line, refusal_told};
+use crate::refilings::{Fate, fate_of, gets};
+use crate::series::{
+    RecordChange, change_all, judge_listed, judge_refused, refusal_line, refusal_told,
+};
 use choice_words::TypedNumbers;
 use class_plan::{Date, Plan};
 use cli_choice::Questions;
 use cli_console::{Failure, Reader, Search, Status, agrees, tell, tell_words, today, write_text};
 use cli_history::StoreLedger;
-use cli_texts::{Headers, due_by};
+use cli_texts::{Headers, due_by, put_number};
 use command_lines::archives::{Choice, Refiling};
 use record_choice::Repository;
 use record_store::{ArchiveRefusal, RecordEntry, StoreFault};
@@ -41,10 +55,10 @@ use tool_plans::meant_class;
 use tool_texts::{Shown, put};
 
 /// Finds that a move can be told: the store has a history. Else `BadData`.
-fn judge_history<S: Alter>(rt: &HostRuntime, ledger: &StoreLedger<'_, S>) -> Result<(), Failure>
-    ensures { OnOk result (keeps_history ledger.now.kept ≡ true) }
+fn judge_history(rt: &HostRuntime, is_noted: bool) -> Result<(), Failure>
+    ensures { OnOk result (is_noted ≡ true) }
 {
-    if ledger.is_noted() {
+    if is_noted {
         return Ok(());
     }
     Err(Failure::told(
@@ -55,24 +69,38 @@ fn judge_history<S: Alter>(rt: &HostRuntime, ledger: &StoreLedger<'_, S>) -> Res
 }
 
 /// That the class which records are to get is none of a plan, and which one was meant, perhaps.
-fn no_class(alloc: Global, to: &str, plan: &Plan) -> Result<Shown, AllocError> {
+fn no_class(alloc: Global, to: &[u8], plan: &Plan) -> Result<Shown, AllocError> {
     let mut text = Shown::new(alloc);
     let number = ArchiveRefusal::NoClass.number();
-    put!(text; "--to " named(to.as_bytes()) ": " value(&number) ": no class of the plan")?;
-    if let Some(meant) = meant_class(alloc, plan, to.as_bytes())? {
+    put!(text; "--to " named(to) ": " value(&number) ": no class of the plan")?;
+    if let Some(meant) = meant_class(alloc, plan, to)? {
         put!(text; "; is it " quoted(meant.as_bytes()) "?")?;
     }
     Ok(text)
 }
 
 /// Finds that the class which records are to get is one of the plan, open or closed. Else `BadData` (59).
-fn judge_class(alloc: Global, to: &str, plan: &Plan) -> Result<(), Failure>
+fn judge_class(alloc: Global, to: &[u8], plan: &Plan) -> Result<(), Failure>
     ensures { OnOk result (has plan.now.rows to.now ≡ true) }
 {
-    if plan.schedule_of(to.as_bytes()).is_none() {
+    if plan.schedule_of(to).is_none() {
         return Err(Failure::shown(Status::BadData, no_class(alloc, to, plan)));
     }
     Ok(())
+}
+
+/// Finds that records of an archive can get a class: it has a history, else `BadData`, and its plan the class, else `BadData` (59).
+pub fn judge_refiling(
+    rt: &HostRuntime,
+    is_noted: bool,
+    plan: &Plan,
+    to: &[u8],
+) -> Result<(), Failure>
+    ensures noted { OnOk result (is_noted ≡ true) }
+    ensures class { OnOk result (has plan.now.rows to.now ≡ true) }
+{
+    judge_history(rt, is_noted)?;
+    judge_class(rt.alloc(), to, plan)
 }
 
 /// Adds a due date, or `never`.
@@ -89,14 +117,17 @@ fn put_due(line: &mut Shown, due: Option<Date>) -> Result<(), AllocError>
 #[tactic(auto, unfolding(crate::specs::RefilingLines::move_line))]
 fn move_line(
     alloc: Global,
+    volume: Option<u32>,
     entry: &RecordEntry,
     to: &[u8],
     due: Option<Date>,
 ) -> Result<Shown, AllocError>
-    ensures { IfOk result (λ line. line ≡ move_line_of entry.now to.now due) }
+    ensures { IfOk result (λ line. line ≡ move_line_of volume entry.now to.now due) }
 {
     let mut line = Shown::new(alloc);
-    put!(line; "record " value(&entry.number) " class " named(entry.path.as_slice()) " due ")?;
+    line.words("record ")?;
+    put_number(&mut line, volume, entry.number)?;
+    put!(line; " class " named(entry.path.as_slice()) " due ")?;
     put_due(&mut line, entry.due)?;
     put!(line; " to " named(to) " due ")?;
     put_due(&mut line, due)?;
@@ -106,18 +137,26 @@ fn move_line(
 
 /// That a record which is typed has the class already.
 #[tactic(auto, unfolding(crate::specs::RefilingLines::there_words))]
-fn there_line(alloc: Global, number: u32, to: &[u8]) -> Result<Shown, AllocError>
-    ensures { IfOk result (λ line. line ≡ there_words number to.now) }
+fn there_line(
+    alloc: Global,
+    volume: Option<u32>,
+    number: u32,
+    to: &[u8],
+) -> Result<Shown, AllocError>
+    ensures { IfOk result (λ line. line ≡ there_words volume number to.now) }
 {
     let mut line = Shown::new(alloc);
-    put!(line; value(&number) ": the record is in " named(to) " already")?;
+    put_number(&mut line, volume, number)?;
+    put!(line; ": the record is in " named(to) " already")?;
     Ok(line)
 }
 
 /// What a refiling changes.
 #[derive(Drop)]
-struct Moves<'a> {
+pub struct Moves<'a> {
     rt: &'a HostRuntime,
+    /// The number of the volume of the records, in an archive of volumes.
+    volume: Option<u32>,
     /// The class that records get.
     to: &'a [u8],
     typed: &'a [TypedNumbers],
@@ -155,7 +194,8 @@ impl Moves<'_> {
         ensures { OnOk result (MovesOne self.old entry.now.number self.new) }
     {
         let due = due_by(plan, self.to, entry.day);
-        write_text(self.rt, &move_line(self.rt.alloc(), entry, self.to, due)?)?;
+        let line = move_line(self.rt.alloc(), self.volume, entry, self.to, due)?;
+        write_text(self.rt, &line)?;
         self.before
             .add(entry, entry.path.as_slice(), plan, self.today);
         self.after.add(entry, self.to, plan, self.today);
@@ -171,12 +211,18 @@ impl Moves<'_> {
             Fate::Moves => self.add(entry, plan),
             Fate::PassedOver => Ok(()),
             Fate::IsThere => {
-                tell(self.rt, &there_line(alloc, entry.number, self.to)?);
+                tell(
+                    self.rt,
+                    &there_line(alloc, self.volume, entry.number, self.to)?,
+                );
                 Ok(())
             }
             Fate::IsDestroyed => {
                 let refusal = ArchiveRefusal::Destroyed;
-                tell(self.rt, &refusal_line(alloc, None, entry.number, refusal)?);
+                tell(
+                    self.rt,
+                    &refusal_line(alloc, self.volume, entry.number, refusal)?,
+                );
                 self.is_refused = true;
                 Ok(())
             }
@@ -192,11 +238,71 @@ impl Moves<'_> {
         self.is_refused = self.is_refused || !is_all_found;
     }
 
+    /// The sums of what it changes.
+    pub fn tally(&self) -> MoveTally
+        ensures { result ≡ tally_of self.now }
+    {
+        MoveTally {
+            count: self.numbers.len() as u64,
+            before: self.before,
+            after: self.after,
+            is_refused: self.is_refused,
+        }
+    }
+
+    /// The numbers of the records that get the class.
+    pub fn into_numbers(self) -> Vec<u32>
+        ensures { result.items ≡ self.numbers.items }
+    {
+        let Moves { numbers, .. } = self;
+        numbers
+    }
+}
+
+/// The sums of what refilings change, in one store or in several.
+#[derive(Clone, Copy)]
+pub struct MoveTally {
+    /// How many records get another class.
+    count: u64,
+    /// How many of them are due at once, before and after.
+    before: DueToday,
+    after: DueToday,
+    /// Whether a record that is typed is refused, which was told.
+    pub is_refused: bool,
+}
+
+impl MoveTally {
+    /// Of nothing.
+    pub fn none() -> MoveTally
+        ensures { result ≡ no_moves }
+    {
+        MoveTally {
+            count: 0,
+            before: DueToday::none(),
+            after: DueToday::none(),
+            is_refused: false,
+        }
+    }
+
+    /// Of these, and of those in another store.
+    pub fn joined(self, other: MoveTally) -> MoveTally
+        ensures { result ≡ moves_in_both self other }
+    {
+        MoveTally {
+            count: self.count.saturating_add(other.count),
+            before: self.before.joined(other.before),
+            after: self.after.joined(other.after),
+            is_refused: self.is_refused || other.is_refused,
+        }
+    }
+
     /// How many records get the class, and how many are due at once by that, in three lines.
-    fn totals(&self, alloc: Global) -> Result<Shown, AllocError> {
+    #[tactic(auto, unfolding(crate::specs::RefilingLines::moves_lines))]
+    fn text(&self, alloc: Global) -> Result<Shown, AllocError>
+        ensures { IfOk result (λ text. text ≡ moves_lines self.now) }
+    {
         let mut text = Shown::new(alloc);
-        let count = self.numbers.len();
-        put!(text; "records that get another class: " value(&count))?;
+        put!(text; "records that get another class: " value(&self.count))?;
         text.end_line()?;
         put_due_today(&mut text, self.before, self.after)?;
         Ok(text)
@@ -232,10 +338,11 @@ fn take_found<R: Repository<Fault = StoreFault>>(
     search.read_found(moves.rt, archive, moves)
 }
 
-/// Finds the records that get a class, and writes for each what that changes.
-fn moves_shown<'a, R: Repository<Fault = StoreFault>>(
+/// Finds the records that get a class, and writes for each what that changes. They are those of a volume, in an archive of volumes.
+pub fn moves_shown<'a, R: Repository<Fault = StoreFault>>(
     rt: &'a HostRuntime,
     archive: &mut R,
+    volume: Option<u32>,
     to: &'a [u8],
     choice: &'a Choice<'_>,
     questions: &Questions,
@@ -253,6 +360,7 @@ fn moves_shown<'a, R: Repository<Fault = StoreFault>>(
 {
     let mut moves = Moves {
         rt,
+        volume,
         to,
         typed: choice.numbers.as_slice(),
         today: today(rt)?,
@@ -263,35 +371,40 @@ fn moves_shown<'a, R: Repository<Fault = StoreFault>>(
     };
     let mut search = Search::new(rt, archive, choice, questions)?;
     take_found(archive, &mut search, &mut moves)?;
-    let is_all_found = is_all_found(search.end(rt, archive))?;
+    let is_all_found = is_all_found(search.end_in(rt, archive, volume))?;
     moves.note_missing(is_all_found);
     Ok(moves)
 }
 
 /// The line of a record that has got a class.
 #[tactic(auto, unfolding(crate::specs::RefilingLines::refiled_line))]
-fn refiled_line(alloc: Global, number: u32, to: &[u8]) -> Result<Shown, AllocError>
-    ensures { IfOk result (λ line. line ≡ refiled_line_of number to.now) }
+fn refiled_line(alloc: Global, refiling: &RefilingTo<'_>, number: u32) -> Result<Shown, AllocError>
+    ensures { IfOk result (λ line. line
+        ≡ refiled_line_of refiling.now.volume number refiling.now.to.now) }
 {
     let mut line = Shown::new(alloc);
-    put!(line; "record " value(&number) " refiled to " named(to))?;
+    line.words("record ")?;
+    put_number(&mut line, refiling.volume, number)?;
+    put!(line; " refiled to " named(refiling.to))?;
     line.end_line()?;
     Ok(line)
 }
 
 /// Writes that a record has got a class. That is done, so whatever happens to the line is no failure.
-fn write_refiled(rt: &HostRuntime, number: u32, to: &[u8]) {
-    if let Ok(line) = refiled_line(rt.alloc(), number, to) {
-        let _ = write_text(rt, &line);
+fn write_refiled(refiling: &RefilingTo<'_>, number: u32) {
+    if let Ok(line) = refiled_line(refiling.rt.alloc(), refiling, number) {
+        let _ = write_text(refiling.rt, &line);
     }
 }
 
 /// The refiling of single records.
 #[derive(Clone, Copy)]
-struct RefilingTo<'a> {
-    rt: &'a HostRuntime,
+pub struct RefilingTo<'a> {
+    pub rt: &'a HostRuntime,
+    /// The number of the volume of the records, in an archive of volumes.
+    pub volume: Option<u32>,
     /// The class that they get.
-    to: &'a [u8],
+    pub to: &'a [u8],
 }
 
 impl<S: Alter> RecordChange<StoreLedger<'_, S>> for RefilingTo<'_> {
@@ -303,23 +416,26 @@ impl<S: Alter> RecordChange<StoreLedger<'_, S>> for RefilingTo<'_> {
     fn change_one(&self, ledger: &mut StoreLedger<'_, S>, number: u32) -> Result<bool, Failure> {
         match ledger.refile(number, self.to) {
             Ok(()) => {
-                write_refiled(self.rt, number, self.to);
+                write_refiled(self, number);
                 Ok(true)
             }
-            Err(fault) => refusal_told(self.rt, None, number, fault),
+            Err(fault) => refusal_told(self.rt, self.volume, number, fault),
         }
     }
 }
 
-/// Writes how many records get another class, and finds that someone agrees to that, else `Usage`; or tells that none does.
-fn judge_moves(rt: &HostRuntime, moves: &Moves<'_>, is_agreed: bool) -> Result<(), Failure> {
-    if moves.numbers.is_empty() {
-        if !moves.is_refused {
+/// Writes how many records get another class, and finds that someone agrees to that, else `Usage`. Where none does, this is told, and
+/// nobody is asked.
+pub fn judge_moves(rt: &HostRuntime, tally: MoveTally, is_agreed: bool) -> Result<(), Failure>
+    ensures { tally.count ≡ 0 → IsOk result }
+{
+    if tally.count == 0 {
+        if !tally.is_refused {
             tell_words(rt, "none of these records gets another class");
         }
         return Ok(());
     }
-    write_text(rt, &moves.totals(rt.alloc())?)?;
+    write_text(rt, &tally.text(rt.alloc())?)?;
     if is_agreed || agrees(rt, "refile these records?") {
         return Ok(());
     }
@@ -328,6 +444,44 @@ fn judge_moves(rt: &HostRuntime, moves: &Moves<'_>, is_agreed: bool) -> Result<(
         Status::Usage,
         "no record is refiled; --yes refiles them",
     ))
+}
+
+/// The numbers of records that get a class.
+#[derive(Drop)]
+struct Movers<'a> {
+    /// The class.
+    to: &'a [u8],
+    numbers: Vec<u32>,
+}
+
+impl Movers<'_> {
+    /// Adds the number of a record if it gets the class.
+    fn look_at(&mut self, entry: &RecordEntry) -> Result<(), Failure>
+        ensures { OnOk result (AddsMovers self.old (entry.now ∷ []) self.new) }
+    {
+        if gets(entry, self.to) {
+            self.numbers.push(entry.number)?;
+            return Ok(());
+        }
+        Ok(())
+    }
+}
+
+impl Reader for Movers<'_> {
+    ghost takes = { λ old a es new. AddsMovers old es new };
+
+    fn take<R: Repository<Fault = StoreFault>>(
+        &mut self,
+        _archive: &mut R,
+        entry: &RecordEntry,
+        _headers: Option<&Headers>,
+    ) -> Result<(), Failure> {
+        self.look_at(entry)
+    }
+
+    ghost takes_none = { λ movers a. no_movers movers };
+
+    ghost takes_more = { λ x y z a es fs one other. more_movers x y z es fs one other };
 }
 
 /// Gives the records that are found another class of the plan, once it was written what that changes, for each and in all, and
@@ -359,12 +513,67 @@ pub fn refile_records<S: Alter>(
         (moved_to refiling.entry.to.now)
         (λ a. moving_numbers refiling.entry.to.now (found_in choice.now questions.now a))) }
 {
-    judge_history(rt, ledger)?;
-    judge_class(rt.alloc(), refiling.to, ledger.plan_kept())?;
     let to = refiling.to.as_bytes();
-    let moves = moves_shown(rt, ledger, to, choice, questions)?;
-    judge_moves(rt, &moves, refiling.is_agreed)?;
-    let changed = change_each(&RefilingTo { rt, to }, ledger, moves.numbers.as_slice())?;
-    judge_refused(moves.is_refused)?;
-    judge_refused(changed.is_refused)
+    let is_noted = ledger.is_noted();
+    judge_refiling(rt, is_noted, ledger.plan_kept(), to)?;
+    let volume = None;
+    let moves = moves_shown(rt, ledger, volume, to, choice, questions)?;
+    judge_moves(rt, moves.tally(), refiling.is_agreed)?;
+    change_all(
+        &RefilingTo { rt, volume, to },
+        ledger,
+        moves.numbers.as_slice(),
+    )?;
+    judge_refused(moves.is_refused)
+}
+
+/// The numbers of the records that are found and get a class, in their order.
+fn movers_of<R: Repository<Fault = StoreFault>>(
+    rt: &HostRuntime,
+    archive: &mut R,
+    to: &[u8],
+    choice: &Choice<'_>,
+    questions: &Questions,
+) -> Result<Vec<u32>, Failure>
+    ensures reads { OnlyReads R.clean R.stands archive.old archive.new }
+    ensures movers { IfOk result (λ v. R.clean archive.new → (a : Archive) → R.stands archive.old a
+        → v.items ≡ moving_numbers to.now (found_in choice.now questions.now a)) }
+{
+    let mut movers = Movers {
+        to,
+        numbers: Vec::new(rt.alloc()),
+    };
+    let mut search = Search::new(rt, archive, choice, questions)?;
+    search.read_found(rt, archive, &mut movers)?;
+    let Movers { numbers, .. } = movers;
+    Ok(numbers)
+}
+
+/// Gives the records of a volume that are found another class of the plan, which are those that were listed. `TryAgain` where they are
+/// others by now; else it is refused and ends as `refile_records` does.
+pub fn refile_listed<S: Alter>(
+    ledger: &mut StoreLedger<'_, S>,
+    refiling: &RefilingTo<'_>,
+    choice: &Choice<'_>,
+    questions: &Questions,
+    listed: &[u32],
+) -> Result<(), Failure>
+    ensures falls { WasClean (keeper_of S.Store) ledger.old ledger.new }
+    ensures noted { OnOk result (keeps_history ledger.old.kept ≡ true) }
+    ensures done { OnOk result (ChangesAll (keeper_of S.Store) ledger.old ledger.new
+        (moved_to refiling.now.to.now)
+        (λ a. moving_numbers refiling.now.to.now (found_in choice.now questions.now a))
+        (λ a. RefilesListed refiling.now.to.now listed.now
+        (found_in choice.now questions.now a) a)) }
+    ensures failed { OnErr result (ChangesFirst (keeper_of S.Store) ledger.old ledger.new
+        (moved_to refiling.now.to.now)
+        (λ a. moving_numbers refiling.now.to.now (found_in choice.now questions.now a))) }
+{
+    let rt = refiling.rt;
+    let is_noted = ledger.is_noted();
+    judge_refiling(rt, is_noted, ledger.plan_kept(), refiling.to)?;
+    let movers = movers_of(rt, ledger, refiling.to, choice, questions)?;
+    let numbers = movers.as_slice();
+    judge_listed(rt, numbers, listed)?;
+    change_all(refiling, ledger, numbers)
 }

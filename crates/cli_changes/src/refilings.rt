@@ -33,7 +33,7 @@ fn is_same_path(one: &[u8], other: &[u8]) -> bool
 }
 
 /// Whether a record gets a class: it is live, and in another one.
-fn gets(entry: &RecordEntry, to: &[u8]) -> bool
+pub(crate) fn gets(entry: &RecordEntry, to: &[u8]) -> bool
     ensures { result ≡ moves to.now (entry_view entry.now) }
 {
     !entry.destroyed && !is_same_path(entry.path.as_slice(), to)

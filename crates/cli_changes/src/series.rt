@@ -4,7 +4,7 @@ ghost use Rattle.std.specs.Prelude.{◌≡◌, ◌||◌, false, not, IfOk, OnErr
 ghost use Rattle.record_archive.specs.Archive.{Archive};
 ghost use Rattle.record_archive.specs.Calls.{Keeper};
 ghost use Rattle.record_archive.specs.Faults.{is_trouble};
-ghost use Rattle.cli_changes.specs.Series.{Command, IsTried, IsTriedOn, StopsIn, changed_in_both};
+ghost use Rattle.cli_changes.specs.Series.{Command, IsDoneOn, IsTried, IsTriedOn, StopsIn, changed_in_both};
 
 use cli_console::{Failure, Status, refusal_words, tell};
 use cli_texts::put_number;
@@ -95,6 +95,24 @@ pub(crate) fn change_each<A, C: RecordChange<A>>(
     Ok(changed)
 }
 
+/// The same; in the end `BadData` where the archive refuses one, which was told.
+pub(crate) fn change_all<A, C: RecordChange<A>>(
+    change: &C,
+    archive: &mut A,
+    numbers: &[u32],
+) -> Result<(), Failure>
+    ensures falls { C.keeper.clean archive.new → C.keeper.clean archive.old }
+    ensures done { OnOk result (C.keeper.clean archive.new → (a : Archive)
+        → C.keeper.stands archive.old a → IsDoneOn (C.keeper.stands archive.new)
+        (C.command change.now) numbers.now a) }
+    ensures stopped { OnErr result (C.keeper.clean archive.new → (a : Archive)
+        → C.keeper.stands archive.old a → StopsIn (C.keeper.stands archive.new)
+        (C.command change.now) numbers.now a) }
+{
+    let changed = change_each(change, archive, numbers)?;
+    judge_refused(changed.is_refused)
+}
+
 /// That the archive refuses to change a record, which is that of a volume in an archive of volumes.
 pub(crate) fn refusal_line(
     alloc: Global,
@@ -132,11 +150,26 @@ pub(crate) fn refusal_told(
 }
 
 /// Finds that no record was refused. Else `BadData`; which one it is was told.
-pub(crate) fn judge_refused(is_refused: bool) -> Result<(), Failure>
+pub fn judge_refused(is_refused: bool) -> Result<(), Failure>
     ensures { OnOk result (is_refused ≡ false) }
 {
     if is_refused {
         return Err(Failure::Reported(Status::BadData));
     }
     Ok(())
+}
+
+/// Finds that the records which are to be changed are those that were listed before. Else `TryAgain`: another program has changed them
+/// in between.
+pub(crate) fn judge_listed(rt: &HostRuntime, numbers: &[u32], listed: &[u32]) -> Result<(), Failure>
+    ensures { OnOk result (numbers.now ≡ listed.now) }
+{
+    if numbers == listed {
+        return Ok(());
+    }
+    Err(Failure::told(
+        rt.alloc(),
+        Status::TryAgain,
+        "another program has changed these records since they were listed; they stay as they are",
+    ))
 }

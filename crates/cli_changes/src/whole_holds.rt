@@ -16,7 +16,7 @@ ghost use Rattle.cli_changes.specs.Holdings.{
 ghost use Rattle.cli_changes.specs.Series.{ChangesAll, ChangesFirst, WasClean};
 
 use crate::holds::{HoldChange, held_choice, not_held};
-use crate::series::{change_each, judge_refused};
+use crate::series::{change_all, judge_listed};
 use cli_choice::Change;
 use cli_console::{Failure, Reader, Status, agrees, read_chosen, write_text};
 use cli_history::StoreLedger;
@@ -25,10 +25,10 @@ use record_choice::Repository;
 use record_store::{RecordEntry, StoreFault};
 use sqlite::Alter;
 
-/// A record as it is listed.
-fn row_of(entry: &RecordEntry) -> Row<'_> {
+/// A record as it is listed: one of a volume, in an archive of volumes.
+fn row_of(volume: Option<u32>, entry: &RecordEntry) -> Row<'_> {
     Row {
-        volume: None,
+        volume,
         number: entry.number,
         path: entry.path.as_slice(),
         day: entry.day,
@@ -38,12 +38,30 @@ fn row_of(entry: &RecordEntry) -> Row<'_> {
     }
 }
 
-/// Writes the line of each record that it takes, and notes their numbers.
+/// Notes the numbers of the records that it takes, and writes their lines where they are to be seen.
 #[derive(Drop)]
 struct HeldList<'a> {
     rt: &'a HostRuntime,
+    /// The number of their volume, in an archive of volumes.
+    volume: Option<u32>,
+    /// Whether their lines are written.
+    is_shown: bool,
     /// The numbers of the records that it took.
     numbers: Vec<u32>,
+}
+
+impl HeldList<'_> {
+    /// Writes the line of a record, where it is to be seen.
+    fn show(&self, entry: &RecordEntry) -> Result<(), Failure> {
+        if !self.is_shown {
+            return Ok(());
+        }
+        let row = row_of(self.volume, entry);
+        write_text(
+            self.rt,
+            &listed_line(self.rt.alloc(), &row, ListedHeaders::Unasked)?,
+        )
+    }
 }
 
 impl Reader for HeldList<'_> {
@@ -56,8 +74,7 @@ impl Reader for HeldList<'_> {
         entry: &RecordEntry,
         _headers: Option<&Headers>,
     ) -> Result<(), Failure> {
-        let line = listed_line(self.rt.alloc(), &row_of(entry), ListedHeaders::Unasked)?;
-        write_text(self.rt, &line)?;
+        self.show(entry)?;
         Ok(self.numbers.push(entry.number)?)
     }
 
@@ -67,11 +84,13 @@ impl Reader for HeldList<'_> {
         more_listed x.numbers.items y.numbers.items z.numbers.items es fs one other };
 }
 
-/// Lists the live records that the hold of a name keeps. Answers the numbers of all that are listed, in their order.
-fn list_held<R: Repository<Fault = StoreFault>>(
+/// The numbers of the live records that the hold of a name keeps, in their order; their lines are written where they are to be seen.
+fn held_numbers<R: Repository<Fault = StoreFault>>(
     rt: &HostRuntime,
     archive: &mut R,
+    volume: Option<u32>,
     name: &str,
+    is_shown: bool,
 ) -> Result<Vec<u32>, Failure>
     ensures reads { OnlyReads R.clean R.stands archive.old archive.new }
     ensures listed { IfOk result (λ v. R.clean archive.new → (a : Archive) → R.stands archive.old a
@@ -79,11 +98,83 @@ fn list_held<R: Repository<Fault = StoreFault>>(
 {
     let mut list = HeldList {
         rt,
+        volume,
+        is_shown,
         numbers: Vec::new(rt.alloc()),
     };
     read_chosen(rt, archive, &held_choice(rt.alloc(), name)?, &mut list)?;
     let HeldList { numbers, .. } = list;
     Ok(numbers)
+}
+
+/// Lists the live records that the hold of a name keeps, which are those of a volume, in an archive of volumes. Answers the numbers of
+/// all that are listed, in their order.
+pub fn list_held<R: Repository<Fault = StoreFault>>(
+    rt: &HostRuntime,
+    archive: &mut R,
+    volume: Option<u32>,
+    name: &str,
+) -> Result<Vec<u32>, Failure>
+    ensures reads { OnlyReads R.clean R.stands archive.old archive.new }
+    ensures listed { IfOk result (λ v. R.clean archive.new → (a : Archive) → R.stands archive.old a
+        → v.items ≡ numbers_of (held_by name.now a)) }
+{
+    held_numbers(rt, archive, volume, name, true)
+}
+
+/// Finds that someone agrees to the end of a hold on the records that were listed. `BadData` where none was, or `Usage` where the name of
+/// the hold reads as numbers of records; `Usage` where nobody agrees.
+pub fn judge_release(
+    rt: &HostRuntime,
+    name: &str,
+    is_any: bool,
+    is_agreed: bool,
+) -> Result<(), Failure>
+    ensures { OnOk result (is_any ≡ true) }
+{
+    if !is_any {
+        return Err(not_held(rt.alloc(), name));
+    }
+    if is_agreed || agrees(rt, "release all of these records?") {
+        return Ok(());
+    }
+    Err(Failure::told(
+        rt.alloc(),
+        Status::Usage,
+        "no record is released; --yes releases them",
+    ))
+}
+
+/// Ends the hold of a name on each live record of a volume that has it, which are those that were listed. `TryAgain` where they are
+/// others by now, and `BadData` where the archive refuses one, which is told.
+///
+/// Where it succeeds, the hold is ended on each of them, and nothing else of the archive has changed. Where it fails, it is so for the
+/// first of them, in the order of their numbers, up to one of them, none or all, and nothing else has changed.
+pub fn release_listed<S: Alter>(
+    rt: &HostRuntime,
+    archive: &mut StoreLedger<'_, S>,
+    volume: u32,
+    name: &str,
+    listed: &[u32],
+) -> Result<(), Failure>
+    ensures falls { WasClean (keeper_of S.Store) archive.old archive.new }
+    ensures done { OnOk result (ChangesAll (keeper_of S.Store) archive.old archive.new
+        (changed_on Change.End name.now) (λ a. numbers_of (held_by name.now a))
+        (λ a. numbers_of (held_by name.now a) ≡ listed.now)) }
+    ensures failed { OnErr result (ChangesFirst (keeper_of S.Store) archive.old archive.new
+        (changed_on Change.End name.now) (λ a. numbers_of (held_by name.now a))) }
+{
+    let volume = Some(volume);
+    let held = held_numbers(rt, archive, volume, name, false)?;
+    let numbers = held.as_slice();
+    judge_listed(rt, numbers, listed)?;
+    let hold = HoldChange {
+        rt,
+        volume,
+        change: Change::End,
+        name,
+    };
+    change_all(&hold, archive, numbers)
 }
 
 /// Ends the hold of a name on each live record that has it, once these were listed, and someone agrees. `BadData` where no record
@@ -105,24 +196,14 @@ pub fn release_all<S: Alter>(
     ensures failed { OnErr result (ChangesFirst (keeper_of S.Store) archive.old archive.new
         (changed_on Change.End name.now) (λ a. numbers_of (held_by name.now a))) }
 {
-    let held = list_held(rt, archive, name)?;
+    let held = list_held(rt, archive, None, name)?;
     let numbers = held.as_slice();
-    if numbers.is_empty() {
-        return Err(not_held(rt.alloc(), name));
-    }
-    if !is_agreed && !agrees(rt, "release all of these records?") {
-        return Err(Failure::told(
-            rt.alloc(),
-            Status::Usage,
-            "no record is released; --yes releases them",
-        ));
-    }
+    judge_release(rt, name, !numbers.is_empty(), is_agreed)?;
     let hold = HoldChange {
         rt,
         volume: None,
         change: Change::End,
         name,
     };
-    let changed = change_each(&hold, archive, numbers)?;
-    judge_refused(changed.is_refused)
+    change_all(&hold, archive, numbers)
 }

@@ -79,6 +79,14 @@ module _ {S : Type 0} (g : Ghosts S) (WasThere : Store S → Type 0) (told : Att
   }
   told_as author (Err failure) purpose Made is d = tt
 
+  -- the same where nothing is answered
+  pub told_well : (author : Author) (result : Result (Unit {0}) Failure) (purpose : Purpose)
+      (Made : (old new : Ledger S LibcRuntime) → Seals → Type 0) → IsTold told author
+      → IfOk result (λ x. IsDone WasThere (λ before after. Changes g purpose author before Made after))
+      → OnOk result (IsDone WasThere (λ before after. ChangesAsTold g told before after purpose Made))
+  told_well author (Ok x) purpose Made is d = told_as author (Ok x) purpose (λ y. Made) is d
+  told_well author (Err failure) purpose Made is d = tt
+
   -- a change by an author whom the command line tells
   pub changed_as : (author : Author) (change : Changing) (result : Result (Unit {0}) Failure) → IsTold told author
       → IfOk result (λ x. IsDone WasThere (λ before after. Changes g (purpose_of change before.plan) author before

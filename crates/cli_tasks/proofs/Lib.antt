@@ -2,4 +2,6 @@ pub mod DoneLemmas
 pub mod ChangeLemmas
 pub mod VolumeLaws
 pub mod BackLaws
+pub mod ReleaseLaws
+pub mod MoveLaws
 mod PurposeRows

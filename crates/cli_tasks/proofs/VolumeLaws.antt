@@ -24,18 +24,19 @@ use Rattle.cli_changes.specs.Series.{IsSoOf}
 use Rattle.cli_changes.proofs.ChangeLaws.{ended_held}
 use Rattle.cli_tasks.specs.Changes.{ChangesThese, HoldsFound}
 use Rattle.cli_tasks.specs.Commands.{ChangesAsTold, well}
+use Rattle.cli_tasks.specs.Numbers.{IsChoiceTyped}
 use Rattle.cli_tasks.specs.Purposes.{for_hold}
 use Rattle.cli_tasks.specs.Volumes.{EndsOnOne, HoldsBy, HoldsIn, HoldsInEach, HoldsTyped, HoldsTypedVolume, HoldsVolume, IsAccepted}
-use Rattle.cli_tasks.specs.Volumes.{IsChoiceTyped, IsHeldIn, ShowsIn}
+use Rattle.cli_tasks.specs.Volumes.{IsHeldIn, ShowsIn}
 use Rattle.cli_tasks.specs.Works.{EachVolume, SomeVolume}
 use Rattle.cli_tasks.proofs.ChangeLemmas.{changes_weaker}
 use Rattle.cli_tasks.proofs.DoneLemmas.{done_weaker}
 
-or_first : (x y : Bool) → (x || y) ≡ false → x ≡ false
+pub or_first : (x y : Bool) → (x || y) ≡ false → x ≡ false
 or_first true y e = e
 or_first false y e = refl
 
-or_second : (x y : Bool) → (x || y) ≡ false → y ≡ false
+pub or_second : (x y : Bool) → (x || y) ≡ false → y ≡ false
 or_second true y e = absurd cc
 or_second false y e = e
 

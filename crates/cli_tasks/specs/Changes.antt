@@ -30,9 +30,10 @@ use Rattle.cli_history.specs.declared.seals.Seals.{Seals}
 use Rattle.cli_changes.specs.Destructions.{IsDisposalOf, IsOnlyRead, IsRead}
 use Rattle.cli_changes.specs.declared.holds.HoldTally.{HoldTally}
 use Rattle.cli_changes.specs.Holdings.{HoldsAs, HoldsWell, changed_numbers, changed_on, held_by, is_any_of}
-use Rattle.cli_changes.specs.Moves.{RefilesWell, moved_to, moving_numbers}
+use Rattle.cli_changes.specs.Moves.{RefilesListed, RefilesWell, moved_to, moving_numbers}
 use Rattle.cli_changes.specs.Replacements.{Replaces}
 use Rattle.cli_changes.specs.Series.{ChangesAll, ChangesFirst, KeepsAll, WasClean}
+use Rattle.cli_tasks.specs.declared.volume_refilings.Moved.{Moved}
 use Rattle.cli_tasks.specs.declared.changes.ChosenChange.{ChosenChange}
 use Rattle.cli_tasks.specs.declared.changes.ChosenChange.TheVariants.{Hold, Refile}
 use Rattle.cli_tasks.specs.declared.changes.Changing.{Changing}
@@ -57,11 +58,22 @@ module _ {S K : Type 0} (g : Ghosts S) (old new : Ledger S K) (result : Result (
   abbrev pub EndsHold : (name : List ℕ) → Type 0
   EndsHold name = ChangesThese (changed_on hold.End name) (λ a. numbers_of (held_by name a)) (λ a. is_any_of (held_by name a) ≡ true)
 
+  -- it is ended on each record that has it, which are those of these numbers
+  abbrev pub EndsListed : (name listed : List ℕ) → Type 0
+  EndsListed name listed =
+      ChangesThese (changed_on hold.End name) (λ a. numbers_of (held_by name a)) (λ a. numbers_of (held_by name a) ≡ listed)
+
   -- THE RECORDS OF A CHOICE that have all that is asked GET THIS CLASS, which the history tells
   pub record Refiles (to : List ℕ) (choice : Choice) (questions : Questions) : Type 0 where
     pub noted : OnOk result (keeps_history old.kept ≡ true)
     pub moved : ChangesThese (moved_to to) (λ a. moving_numbers to (found_in choice questions a))
         (λ a. RefilesWell to choice.numbers.items (found_in choice questions a) a)
+
+  -- they are those of these numbers
+  pub record RefilesFound (to listed : List ℕ) (choice : Choice) (questions : Questions) : Type 0 where
+    pub noted : OnOk result (keeps_history old.kept ≡ true)
+    pub moved : ChangesThese (moved_to to) (λ a. moving_numbers to (found_in choice questions a))
+        (λ a. RefilesListed to listed (found_in choice questions a) a)
 
   -- WHAT IS DUE BY A DAY IS DISPOSED OF, by these seals: nothing is destroyed unless that is asked for, and then the records that are
   -- meant, and no other
@@ -105,6 +117,20 @@ pub record HoldsFound {S K : Type 0} (g : Ghosts S) (old new : Ledger S K) (resu
 abbrev pub ShowsHold : {S : Type 0} → Ghosts S → (name : List ℕ) → (before : Store S) → (after : Held S) → (is_held : Bool) → Type 0
 ShowsHold g name before after is_held =
     HasCleanDisk (state g after) → (a : Archive) → StandsFor g before a → is_held ≡ is_any_of (held_by name a)
+
+-- THE RECORDS THAT HAVE A HOLD of a name are those of these numbers, in a store of which this is left
+abbrev pub ListsHeld : {S : Type 0} → Ghosts S → (name : List ℕ) → (before : Store S) → (after : Held S) → (listed : List ℕ) → Type 0
+ListsHeld g name before after listed =
+    HasCleanDisk (state g after) → (a : Archive) → StandsFor g before a → listed ≡ numbers_of (held_by name a)
+
+-- the records of a choice that get another class in a store of which this is left, and what that changes. Where none is refused, each
+-- number that is typed by itself is found, and none of these is destroyed.
+pub record ShowsMoves {S : Type 0} (g : Ghosts S) (to : List ℕ) (choice : Choice) (questions : Questions) (before : Store S) (after : Held S)
+    (moved : Moved) : Type 0 where
+  pub moves : HasCleanDisk (state g after) → (a : Archive) → StandsFor g before a
+      → moved.numbers.items ≡ moving_numbers to (found_in choice questions a)
+  pub well : moved.tally.is_refused ≡ false → HasCleanDisk (state g after) → (a : Archive) → StandsFor g before a
+      → RefilesWell to choice.numbers.items (found_in choice questions a) a
 
 -- AN AUTHOR CHANGES AN ARCHIVE: its ledger is opened for this purpose, and this is made of it, on the occasion of that author; the
 -- connection of its store is what is left. Where the archive is only listed, its seals were read before.

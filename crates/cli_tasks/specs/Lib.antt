@@ -3,5 +3,7 @@ pub mod Numbers
 pub mod Purposes
 pub mod Changes
 pub mod Commands
+pub mod Releases
+pub mod Refiles
 pub mod Volumes
 pub mod Days

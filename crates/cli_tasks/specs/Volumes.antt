@@ -1,11 +1,10 @@
 -- What a command line makes of an archive of volumes, where it ends well.
 use Rattle.std.specs.Prelude.{◌≡◌, ◌⊎◌, ℕ, true, false, List, Option, Some, None, IfSome, Ok}
 use Rattle.sqlite.specs.Store.{Ghosts}
-use Rattle.choice_words.specs.Typed.{first_above, first_alone, numbers_for}
+use Rattle.choice_words.specs.Typed.{first_above, first_alone}
 use Rattle.choice_words.specs.declared.choice.Choice.{Choice}
 use Rattle.choice_words.specs.declared.numbers.TypedNumbers.{TypedNumbers}
 use Rattle.choice_words.specs.declared.typed.TypedChoice.{TypedChoice}
-use Rattle.cli_choice.specs.TypedVolumes.{IsChoiceIn}
 use Rattle.cli_choice.specs.declared.holds.Change.{Change}
 use Rattle.cli_choice.specs.declared.holds.Change.TheVariants as hold
 use Rattle.cli_choice.specs.declared.questions.Questions.{Questions}
@@ -24,19 +23,16 @@ use Rattle.cli_changes.specs.Holdings.{changed_numbers, changed_on, held_by, is_
 use Rattle.cli_changes.specs.Series.{IsSoOf}
 use Rattle.cli_tasks.specs.Changes.{ChangesThese, HoldsFound, ShowsHold}
 use Rattle.cli_tasks.specs.Commands.{AreAsked, ChangesAsTold, Does, well}
+use Rattle.cli_tasks.specs.Numbers.{IsChoiceTyped}
 use Rattle.cli_tasks.specs.Purposes.{for_hold}
+use Rattle.cli_tasks.specs.Refiles.{RefilesOver}
+use Rattle.cli_tasks.specs.Releases.{ReleasesOver}
 use Rattle.cli_tasks.specs.Works.{EachVolume, InVolume, OverVolumes, SomeVolume}
 
 -- each number that is typed by itself is found, and the archive refuses none of these
 pub record IsAccepted (change : Change) (name : List ℕ) (typed : List TypedNumbers) (found : List RecordEntry) : Type 0 where
   pub each_found : HasSingles typed found
   pub accepted : meant_numbers change name typed found ≡ changed_numbers change name found
-
--- the choice for a volume, of what is typed of all of them: it asks for those of its records that are chosen of all, and its numbers are
--- those that are typed with it; none where none of its records is chosen
-pub record IsChoiceTyped (typed : TypedChoice) (volume : ℕ) (choice : Option Choice) : Type 0 where
-  pub chosen : IsChoiceIn typed volume choice
-  pub numbers : IfSome choice (λ (c : Choice). c.numbers.items ≡ numbers_for volume typed.of_volumes.items)
 
 -- a live record of a volume is seen with a hold
 abbrev pub ShowsIn : {S : Type 0} (g : Ghosts S) (IsAt : (path : List ℕ) → Store S → Type 0) (folder name : List ℕ) (volume : ℕ) → Type 0
@@ -106,18 +102,18 @@ module _ {S : Type 0} (g : Ghosts S) (IsAt : (path : List ℕ) → Store S → T
 
   -- ---- command lines
 
-  -- what is done with the records of a choice in each of so many volumes; none gets another class
+  -- what is done with the records of a choice in each of so many volumes
   abbrev pub DoesWithEach : TypedChoice → (last : ℕ) → ChosenTask → Type 0
   DoesWithEach typed last (task.Hold name) = HoldsOver hold.Place name.now typed last
   DoesWithEach typed last (task.Release name) = HoldsOver hold.End name.now typed last
-  DoesWithEach typed last (task.Refile refiling) = ⊥
+  DoesWithEach typed last (task.Refile refiling) = RefilesOver g IsAt folder told refiling.to.now typed last
   DoesWithEach typed last t = Unit {0}
 
-  -- WHAT A COMMAND LINE MAKES of the volumes in a folder, where it changes records, holds or the plan: of these it is done with holds alone.
+  -- WHAT A COMMAND LINE MAKES of the volumes in a folder, where it changes records, holds or the plan: holds and classes of records.
   -- Nothing is said here of the others.
   abbrev pub DoesOver : Command → Type 0
   DoesOver (command.Chosen typed chosen) = OverVolumes (λ last. DoesWithEach typed last chosen)
-  DoesOver (command.ReleaseAll name is_agreed) = ⊥
+  DoesOver (command.ReleaseAll name is_agreed) = OverVolumes (ReleasesOver g IsAt folder told name.now)
   DoesOver (command.ReplacePlan path is_agreed) = ⊥
   DoesOver (command.Dispose asked) = ⊥
   DoesOver c = Unit {0}

@@ -1,21 +1,26 @@
 //! What is changed in an archive of volumes: in each of them, by a ledger of its own.
 
-ghost use Rattle.std.specs.Prelude.{◌≡◌, true, false, IfOk, OnOk};
-ghost use Rattle.cli_tasks.specs.Changes.{HoldsFound, ShowsHold};
+ghost use Rattle.std.specs.Prelude.{◌≡◌, All, true, false, IfOk, OnOk};
+ghost use Rattle.cli_history.specs.declared.opening.Purpose.TheVariants.{Ending};
+ghost use Rattle.cli_tasks.specs.Changes.{EndsListed, HoldsFound, ListsHeld, ShowsHold};
 ghost use Rattle.cli_tasks.specs.Purposes.{for_hold};
+ghost use Rattle.cli_tasks.specs.Releases.{EndsIn, EndsWhereAny, ListsEach, ReleasesOver, is_any_listed};
 ghost use Rattle.cli_tasks.specs.Volumes.{HoldsIn, HoldsInEach, HoldsOver, HoldsTyped, ShowsIn};
 ghost use Rattle.cli_tasks.specs.Works.{SomeVolume};
 
 use crate::archives::{Archives, Work};
 use crate::changes::{ChangeBy, LedgerWork, purpose_of_hold};
 use crate::volume_numbers::judge_numbers;
-use crate::volume_row::Volumes;
+use crate::volume_row::{Volumes, author_in};
 use choice_words::TypedChoice;
 use class_plan::Plan;
-use cli_changes::{HoldChange, HoldTally, end_holds, hold_found, is_held_by};
+use cli_changes::{
+    HoldChange, HoldTally, end_holds, hold_found, is_held_by, judge_release, list_held,
+    release_listed,
+};
 use cli_choice::{Change, Questions, choice_in_volume};
 use cli_console::Failure;
-use cli_history::{Author, Purpose, Seals, StoreLedger};
+use cli_history::{Purpose, Seals, StoreLedger};
 use cli_readings::judge_choice;
 use command_lines::archives::{Attribution, Choice};
 use record_store::Store;
@@ -67,7 +72,7 @@ fn hold_in<A: Archives>(
         questions.now tally volume) }
 {
     let rt = hold.rt;
-    let author = Author::of(rt, told)?.in_volume(Some(volume));
+    let author = author_in(rt, told, volume)?;
     let change = ChangeHold {
         hold: HoldChange {
             volume: Some(volume),
@@ -210,4 +215,171 @@ pub fn change_holds<A: Archives>(
     let tally = hold_in_each(archives, volumes, hold, typed, &questions, told)?;
     let is_held = may_be_held(rt, archives, volumes, change, name, tally.is_any())?;
     end_holds(rt, change, name, tally, is_held)
+}
+
+/// The records of a volume that were listed.
+#[derive(Drop)]
+pub struct Listed {
+    pub volume: u32,
+    /// Their numbers.
+    pub numbers: Vec<u32>,
+}
+
+/// Lists the records that the hold of a name keeps in a volume.
+#[derive(Drop)]
+struct ListHeld<'a> {
+    volume: u32,
+    name: &'a str,
+}
+
+impl Work for ListHeld<'_> {
+    type Answer = Vec<u32>;
+
+    ghost does = { λ S g it before done after. IfOk done
+        (λ numbers. ListsHeld g it.name.now before after numbers.items) };
+
+    fn work<S: Alter>(
+        self,
+        rt: &HostRuntime,
+        archive: Store<S>,
+    ) -> (Connection<S>, Result<Vec<u32>, Failure>) {
+        let mut archive = archive;
+        let listed = list_held(rt, &mut archive, Some(self.volume), self.name);
+        (archive.into_connection(), listed)
+    }
+}
+
+/// Ends the hold of a name on the records of a volume, which are those of these numbers.
+#[derive(Drop)]
+struct ReleaseListed<'t> {
+    volume: u32,
+    name: &'t str,
+    numbers: &'t [u32],
+}
+
+impl LedgerWork for ReleaseListed<'_> {
+    type Answer = ();
+
+    ghost purpose_by = { λ it present. Ending };
+
+    ghost makes = { λ S g it old new done seals. EndsListed g old new done it.name.now
+        it.numbers.now };
+
+    fn purpose(&self, _alloc: Global, _present: &Plan) -> Result<Purpose, AllocError> {
+        Ok(Purpose::Ending)
+    }
+
+    fn perform<S: Alter>(
+        self,
+        rt: &HostRuntime,
+        ledger: &mut StoreLedger<'_, S>,
+        _seals: &Seals,
+    ) -> Result<(), Failure> {
+        release_listed(rt, ledger, self.volume, self.name, self.numbers)
+    }
+}
+
+/// Lists the records that the hold of a name keeps, volume by volume.
+fn list_in_each<A: Archives>(
+    rt: &HostRuntime,
+    archives: &A,
+    volumes: Volumes<'_>,
+    name: &str,
+) -> Result<Vec<Listed>, Failure>
+    ensures { IfOk result (λ listed. ListsEach A.Kept.Store (A.is_at archives.now)
+        volumes.entry.folder.now name.now volumes.entry.last listed.items) }
+{
+    let mut listed = Vec::new(rt.alloc());
+    for below in 0..volumes.last {
+        let volume = below + 1;
+        let numbers = volumes.lend(rt, archives, volume, ListHeld { volume, name })?;
+        listed.push(Listed { volume, numbers })?;
+    }
+    Ok(listed)
+}
+
+/// Ends the hold of a name on the records of a volume, which are those of these numbers.
+fn release_in<A: Archives>(
+    rt: &HostRuntime,
+    archives: &A,
+    volumes: Volumes<'_>,
+    volume: u32,
+    name: &str,
+    numbers: &[u32],
+    told: &Attribution<'_>,
+) -> Result<(), Failure>
+    ensures { OnOk result (EndsIn A.Kept.Store (A.is_at archives.now) volumes.entry.folder.now
+        told.now name.now volume numbers.now) }
+{
+    let author = author_in(rt, told, volume)?;
+    let change = ReleaseListed {
+        volume,
+        name,
+        numbers,
+    };
+    volumes.lend(rt, archives, volume, ChangeBy { author, change })
+}
+
+/// Ends the hold of a name on the records of a volume that were listed, if any were.
+fn release_any_in<A: Archives>(
+    rt: &HostRuntime,
+    archives: &A,
+    volumes: Volumes<'_>,
+    name: &str,
+    listed: &Listed,
+    told: &Attribution<'_>,
+) -> Result<(), Failure>
+    ensures { OnOk result (EndsWhereAny A.Kept.Store (A.is_at archives.now)
+        volumes.entry.folder.now told.now name.now listed.now) }
+{
+    let numbers = listed.numbers.as_slice();
+    if numbers.is_empty() {
+        return Ok(());
+    }
+    release_in(rt, archives, volumes, listed.volume, name, numbers, told)
+}
+
+/// Ends the hold of a name on the records that were listed, volume by volume.
+fn release_each<A: Archives>(
+    rt: &HostRuntime,
+    archives: &A,
+    volumes: Volumes<'_>,
+    name: &str,
+    listed: &[Listed],
+    told: &Attribution<'_>,
+) -> Result<(), Failure>
+    ensures { OnOk result (All (EndsWhereAny A.Kept.Store (A.is_at archives.now)
+        volumes.entry.folder.now told.now name.now) listed.now) }
+{
+    for of_volume in listed {
+        release_any_in(rt, archives, volumes, name, of_volume, told)?;
+    }
+    Ok(())
+}
+
+/// Whether records were listed.
+fn is_any(listed: &[Listed]) -> bool
+    ensures { result ≡ is_any_listed listed.now }
+{
+    listed.iter().any(|of_volume| !of_volume.numbers.is_empty())
+}
+
+/// Ends the hold of a name on each live record of all volumes that has it, once these were listed, and someone agrees. `BadData` where no
+/// record has it, and `Usage` where nobody agrees: then nothing is done. Else it fails as in a single store, at the first volume that does;
+/// also with `TryAgain` where a volume has other records with the hold by then.
+pub fn release_all<A: Archives>(
+    rt: &HostRuntime,
+    archives: &A,
+    volumes: Volumes<'_>,
+    name: &str,
+    is_agreed: bool,
+    told: &Attribution<'_>,
+) -> Result<(), Failure>
+    ensures { OnOk result (ReleasesOver A.Kept.Store (A.is_at archives.now)
+        volumes.entry.folder.now told.now name.now volumes.entry.last) }
+{
+    let listed = list_in_each(rt, archives, volumes, name)?;
+    let listed = listed.as_slice();
+    judge_release(rt, name, is_any(listed), is_agreed)?;
+    release_each(rt, archives, volumes, name, listed, told)
 }

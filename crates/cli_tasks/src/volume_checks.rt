@@ -219,7 +219,7 @@ impl Work for CheckVolume<'_> {
 }
 
 /// That a volume has not the plan of the archive.
-fn behind_words(alloc: Global, volume: u32) -> Result<Shown, AllocError> {
+pub fn behind_words(alloc: Global, volume: u32) -> Result<Shown, AllocError> {
     let mut words = Shown::new(alloc);
     put!(words; "volume " value(&volume)
         ": its plan is not that of the archive, which is the plan of the last volume; plan --set gives it that one")?;

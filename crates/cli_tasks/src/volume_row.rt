@@ -1,6 +1,7 @@
 //! The volumes of an archive that a command is done over, one after another.
 
 ghost use Rattle.std.specs.Prelude.{◌≡◌, ◌≤◌, Ok, IfOk};
+ghost use Rattle.cli_tasks.specs.Commands.{IsTold};
 ghost use Rattle.cli_tasks.specs.Works.{InVolume};
 
 use crate::archives::{Archives, Work, settled};
@@ -8,8 +9,9 @@ use crate::rolling::{no_volumes, plan_at};
 use crate::volume_numbers::volume_of_record;
 use class_plan::Plan;
 use cli_console::{Failure, Status};
+use cli_history::Author;
 use cli_volumes::{path_of, row_in};
-use command_lines::archives::TypedNumber;
+use command_lines::archives::{Attribution, TypedNumber};
 use std::alloc::{AllocError, Global};
 use tool_texts::{Shown, put};
 
@@ -19,6 +21,17 @@ pub struct Volumes<'a> {
     pub folder: &'a str,
     /// The number of the last one. The first one is 1, and none is missing between.
     pub last: u32,
+}
+
+/// Who changes a volume, as the command line tells.
+pub fn author_in<'a>(
+    rt: &HostRuntime,
+    told: &Attribution<'a>,
+    volume: u32,
+) -> Result<Author<'a>, AllocError>
+    ensures { IfOk result (λ author. IsTold told.now author) }
+{
+    Ok(Author::of(rt, told)?.in_volume(Some(volume)))
 }
 
 /// The same failure, which names the volume where it is told, unless it is one of standard output.

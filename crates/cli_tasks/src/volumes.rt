@@ -5,9 +5,10 @@ ghost use Rattle.cli_tasks.specs.Volumes.{DoesOver, DoesWithEach};
 
 use crate::archives::{Archives, lend};
 use crate::subcommands::{CheckRules, Survey, WritePlan, show, why};
-use crate::volume_changes::change_holds;
+use crate::volume_changes::{change_holds, release_all};
 use crate::volume_checks::check;
 use crate::volume_lists::list;
+use crate::volume_refilings::refile;
 use crate::volume_row::Volumes;
 use choice_words::TypedChoice;
 use cli_choice::Change;
@@ -50,7 +51,7 @@ fn check_rules<A: Archives>(
     lend(rt, archives, path.as_str(), CheckRules(asked))
 }
 
-/// Does something with the records of a choice in the volumes of a folder. `Usage` for all but a list and a change of holds.
+/// Does something with the records of a choice in the volumes of a folder. `Usage` for an export and a report.
 #[tactic(auto, using(crate::proofs::DoneLemmas::nothing_said))]
 fn on_volumes<'a, A: Archives>(
     rt: &HostRuntime,
@@ -71,9 +72,8 @@ fn on_volumes<'a, A: Archives>(
         ChosenTask::Release(name) => {
             change_holds(rt, archives, volumes, typed, Change::End, *name, told)
         }
-        ChosenTask::Export(_) | ChosenTask::Report { .. } | ChosenTask::Refile(_) => {
-            Err(not_over(rt, volumes.folder))
-        }
+        ChosenTask::Refile(refiling) => refile(rt, archives, volumes, typed, *refiling, told),
+        ChosenTask::Export(_) | ChosenTask::Report { .. } => Err(not_over(rt, volumes.folder)),
     }
 }
 
@@ -106,6 +106,9 @@ pub fn execute_over<A: Archives>(
             why(rt, archives, path.as_str(), &asked)
         }
         Command::Chosen(typed, task) => on_volumes(rt, archives, volumes, &typed, &task, told),
+        Command::ReleaseAll { name, is_agreed } => {
+            release_all(rt, archives, volumes, name, is_agreed, told)
+        }
         Command::Create { .. }
         | Command::ReplacePlan { .. }
         | Command::Deliver { .. }
@@ -113,7 +116,6 @@ pub fn execute_over<A: Archives>(
         | Command::Import(_)
         | Command::Copy { .. }
         | Command::Dispose(_)
-        | Command::ReleaseAll { .. }
         | Command::Holds { .. }
         | Command::Twice(_)
         | Command::SetTitles { .. }

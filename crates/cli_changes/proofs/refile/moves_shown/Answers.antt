@@ -12,7 +12,7 @@ returns-clause-found g c = λ accepted clean (a : Archive) s.
     let ended = c.take_found.new.search in
     let none = none_missing c.take_found.new.moves.is_refused c.in_ok-is_all_found.is_all_found c.note_missing.new.self.is_refused
     (missing_of ended) (ap (λ (m : Moves). m.is_refused) c.note_missing.ensures) accepted
-    (c.in_ok-is_all_found.ensures (missing_of ended) c.end.ensures.found) in
+    (c.in_ok-is_all_found.ensures (missing_of ended) c.end_in.ensures.found) in
     has_singles c.args.choice.now (found_in c.args.choice.now c.args.questions.now a) begun ended a c.in_ok-search.ensures.typed
     c.in_ok-search.ensures.none (c.in_ok-search.ensures.found a (g.met.R.Repository.is_archive c.args.archive.now a s))
-    (c.in_ok-take_found.ensures.ended (c.end.ensures.reads.falls clean) a s) none
+    (c.in_ok-take_found.ensures.ended (c.end_in.ensures.reads.falls clean) a s) none

@@ -1,12 +1,10 @@
-use Rattle.std.proofs.Common.{Ok, subst, sym}
+use Rattle.std.proofs.Common.{Ok}
 use Rattle.std.specs.declared.prelude.LibcRuntime.{LibcRuntime}
 use Rattle.record_ledger.specs.declared.ledger.Ledger.{Ledger}
 use Rattle.cli_changes.specs.declared.holds.HoldTally.{HoldTally}
-use Rattle.cli_history.specs.declared.author.Author.{Author}
 use Rattle.cli_history.specs.declared.seals.Seals.{Seals}
 use Rattle.cli_volumes.specs.Names.{path_of}
 use Rattle.cli_tasks.specs.Changes.{HoldsFound}
-use Rattle.cli_tasks.specs.Commands.{IsTold}
 use Rattle.cli_tasks.specs.Purposes.{for_hold}
 use Rattle.cli_tasks.proofs.DoneLemmas.{told_as}
 use Rattle.cli_tasks.proofs.volume_changes.hold_in.Goals as goal
@@ -15,8 +13,7 @@ pub returns : goal.returns
 returns g c =
     let hold = c.args.hold in
     told_as g.A.Kept.Store (g.A.Archives.is_at c.args.archives.now (path_of c.args.volumes.folder.now c.args.volume)) c.args.told.now
-    c.in_volume-author.result c.lend.result (for_hold hold.change)
+    c.in_ok-author.author c.lend.result (for_hold hold.change)
     (λ (t : HoldTally) (old new : Ledger g.row.A-Kept.Denot LibcRuntime) (seals : Seals).
     HoldsFound g.A.Kept.Store old new (Ok t) hold.change hold.name.now c.args.choice.now c.args.questions.now)
-    (subst (λ (a : Author). IsTold c.args.told.now a) (sym c.in_volume-author.ensures)
-    (record { name = c.in_ok-of.ensures.name; reason = c.in_ok-of.ensures.reason })) c.lend.ensures
+    c.in_ok-author.ensures c.lend.ensures

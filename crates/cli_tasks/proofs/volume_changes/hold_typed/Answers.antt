@@ -2,7 +2,8 @@ use Rattle.std.proofs.Common.{None, Option, Some, subst}
 use Rattle.std.proofs.lemmas.Result.{IfOk-weaker}
 use Rattle.choice_words.specs.declared.choice.Choice.{Choice}
 use Rattle.cli_changes.specs.declared.holds.HoldTally.{HoldTally}
-use Rattle.cli_tasks.specs.Volumes.{HoldsIn, HoldsTyped, IsChoiceTyped}
+use Rattle.cli_tasks.specs.Numbers.{IsChoiceTyped}
+use Rattle.cli_tasks.specs.Volumes.{HoldsIn, HoldsTyped}
 use Rattle.cli_tasks.proofs.volume_changes.hold_typed.Goals as goal
 
 pub returns-in-Some : goal.returns-in-Some

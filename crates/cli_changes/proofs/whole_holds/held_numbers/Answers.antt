@@ -3,7 +3,7 @@ use Rattle.record_archive.specs.Archive.{Archive}
 use Rattle.record_choice.specs.Choices.{Choice, chosen}
 use Rattle.record_choice.specs.Entries.{entry_of, entry_view}
 use Rattle.cli_console.specs.Finds.{numbers_of}
-use Rattle.cli_changes.proofs.whole_holds.list_held.Goals as goal
+use Rattle.cli_changes.proofs.whole_holds.held_numbers.Goals as goal
 
 pub returns-clause-listed : goal.returns-clause-listed
 returns-clause-listed g c = λ clean (a : Archive) s.

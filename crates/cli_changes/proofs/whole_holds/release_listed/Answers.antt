@@ -1,0 +1,52 @@
+use Rattle.std.proofs.Common.{◌≡◌, ◌∙◌, false, subst, sym}
+use Rattle.std.proofs.lemmas.Result.{on_err_weaker, on_ok_weaker}
+use Rattle.record_archive.specs.Archive.{Archive}
+use Rattle.record_ledger.specs.Ledgers.{keeper_of, kept_archive}
+use Rattle.cli_choice.specs.declared.holds.Change.TheVariants.{End}
+use Rattle.cli_console.specs.Finds.{numbers_of}
+use Rattle.cli_changes.specs.Holdings.{changed_on, held_by, hold_command}
+use Rattle.cli_changes.specs.Series.{IsDoneOn, StopsIn}
+use Rattle.cli_changes.proofs.ChangeLaws.{none_changed, release_changes, release_stops}
+use Rattle.cli_changes.proofs.HoldLaws.{hold_is_each}
+use Rattle.cli_changes.proofs.SeriesLaws.{on_err}
+use Rattle.cli_changes.proofs.whole_holds.release_listed.Given.{Over}
+use Rattle.cli_changes.proofs.whole_holds.release_listed.Goals.{After-as_slice-numbers}
+use Rattle.cli_changes.proofs.whole_holds.release_listed.Goals as goal
+
+-- the numbers that are handed on are those of the records that have the hold
+numbers_are : (g : Over) (c : After-as_slice-numbers g) → (keeper_of g.S.Store).clean c.held_numbers.new.archive → (a : Archive)
+    → (keeper_of g.S.Store).stands c.args.archive.now a → c.as_slice-numbers.result.now ≡ numbers_of (held_by c.args.name.now a)
+numbers_are g c clean a s = c.as_slice-numbers.ensures.value ∙ c.in_ok-held.ensures.listed clean a s
+
+pub returns-clause-done : goal.returns-clause-done
+returns-clause-done g c =
+    let at = (goal.at.returns-clause-done g c).After-as_slice-numbers in
+    on_ok_weaker c.change_all.result (λ done clean (a : Archive) s.
+    let stands = (keeper_of g.S.Store).stands c.change_all.new.archive in
+    let are = numbers_are g at (c.change_all.ensures.falls clean) a s in
+    let all = subst (λ ns. IsDoneOn stands (hold_command End c.args.name.now) ns a) are
+    (done clean a (c.held_numbers.ensures.reads.stands a s)) in (
+      release_changes stands a (kept_archive g.S.Store c.args.archive.now.kept a s) c.args.name.now all.0 false all.1,
+      sym are ∙ c.in_ok-judge_listed.ensures,
+    )) c.change_all.ensures.done
+
+pub returns-clause-failed : goal.returns-clause-failed
+returns-clause-failed g c =
+    let at = (goal.at.returns-clause-failed g c).After-as_slice-numbers in
+    on_err_weaker c.change_all.result (λ stopped clean (a : Archive) s.
+    let stands = (keeper_of g.S.Store).stands c.change_all.new.archive in
+    release_stops stands a (kept_archive g.S.Store c.args.archive.now.kept a s) c.args.name.now
+    (subst (λ ns. StopsIn stands (hold_command End c.args.name.now) ns a) (numbers_are g at (c.change_all.ensures.falls clean) a s)
+    (stopped clean a (c.held_numbers.ensures.reads.stands a s)))) c.change_all.ensures.stopped
+
+pub returns-in_err-judge_listed-clause-failed : goal.returns-in_err-judge_listed-clause-failed
+returns-in_err-judge_listed-clause-failed g c =
+    on_err c.from_residual-in_err-judge_listed.result _ (λ clean (a : Archive) s.
+    none_changed ((keeper_of g.S.Store).stands c.held_numbers.new.archive) (hold_command End c.args.name.now) (changed_on End c.args.name.now)
+    (hold_is_each End c.args.name.now) (numbers_of (held_by c.args.name.now a)) a (c.held_numbers.ensures.reads.stands a s))
+
+pub returns-in_err-held-clause-failed : goal.returns-in_err-held-clause-failed
+returns-in_err-held-clause-failed g c =
+    on_err c.from_residual.result _ (λ clean (a : Archive) s.
+    none_changed ((keeper_of g.S.Store).stands c.held_numbers.new.archive) (hold_command End c.args.name.now) (changed_on End c.args.name.now)
+    (hold_is_each End c.args.name.now) (numbers_of (held_by c.args.name.now a)) a (c.held_numbers.ensures.reads.stands a s))

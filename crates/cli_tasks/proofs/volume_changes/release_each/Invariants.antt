@@ -1,0 +1,8 @@
+use Rattle.std.proofs.Common.{All, take}
+use Rattle.cli_tasks.specs.Releases.{EndsWhereAny}
+use Rattle.cli_tasks.proofs.volume_changes.release_each.Given as goal
+
+abbrev pub invariant-loop-of_volume : goal.invariant-loop-of_volume
+invariant-loop-of_volume g l =
+    All (EndsWhereAny g.A.Kept.Store (g.A.Archives.is_at l.fn.archives) l.fn.volumes.folder.now l.fn.told l.fn.name)
+    (take l.of_volume-index l.listed)

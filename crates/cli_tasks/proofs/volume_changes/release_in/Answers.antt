@@ -1,0 +1,17 @@
+use Rattle.std.specs.declared.prelude.LibcRuntime.{LibcRuntime}
+use Rattle.record_ledger.specs.declared.ledger.Ledger.{Ledger}
+use Rattle.cli_history.specs.declared.opening.Purpose.TheVariants.{Ending}
+use Rattle.cli_history.specs.declared.seals.Seals.{Seals}
+use Rattle.cli_volumes.specs.Names.{path_of}
+use Rattle.cli_tasks.specs.Changes.{EndsListed}
+use Rattle.cli_tasks.specs.Commands.{well}
+use Rattle.cli_tasks.proofs.DoneLemmas.{told_well}
+use Rattle.cli_tasks.proofs.volume_changes.release_in.Goals as goal
+
+pub returns : goal.returns
+returns g c =
+    told_well g.A.Kept.Store (g.A.Archives.is_at c.args.archives.now (path_of c.args.volumes.folder.now c.args.volume)) c.args.told.now
+    c.in_ok-author.author c.lend.result Ending
+    (λ (old new : Ledger g.row.A-Kept.Denot LibcRuntime) (seals : Seals).
+    EndsListed g.A.Kept.Store old new well c.args.name.now c.args.numbers.now)
+    c.in_ok-author.ensures c.lend.ensures
