@@ -5,7 +5,8 @@ use Rattle.choice_words.specs.declared.numbers.TypedNumbers.{TypedNumbers}
 use Rattle.choice_words.specs.declared.numbers.TypedNumbers.TheVariants.{One, Range}
 use Rattle.choice_words.specs.declared.volumes.VolumeNumber.{VolumeNumber}
 use Rattle.choice_words.specs.declared.volumes.VolumeNumbers.{VolumeNumbers}
-use Rattle.choice_words.specs.Typed.{from_number, is_reached, numbers_for}
+use Rattle.choice_words.specs.Numbers.{is_all}
+use Rattle.choice_words.specs.Typed.{from_number, is_named_or_none, is_reached, numbers_for}
 use Rattle.choice_words.specs.Volumes.{reversed_in_volume, volume_number, volume_numbers}
 
 abbrev of_volume : ℕ → TypedNumbers → Option VolumeNumbers
@@ -72,6 +73,13 @@ typed =
 parts_are : map (λ v. numbers_for v typed) (1 ∷ 2 ∷ 3 ∷ []) ≡ [] ∷ (One 1 ∷ []) ∷ (Range 5 9 ∷ One 17 ∷ []) ∷ []
 parts_are = refl
 
+named_are : map (λ v. is_named_or_none v typed) (1 ∷ 2 ∷ 3 ∷ []) ≡ false ∷ true ∷ true ∷ []
+named_are = refl
+
+-- where nothing is typed, each volume is meant
+all_are : map (λ v. is_named_or_none v []) (1 ∷ 2 ∷ []) ≡ true ∷ true ∷ []
+all_are = refl
+
 -- from 2/5 on
 abbrev first : Option VolumeNumber
 first = Some (record { volume = 2; number = 5 })
@@ -81,3 +89,7 @@ reached_are = refl
 
 firsts_are : map (λ v. from_number v first) (2 ∷ 3 ∷ []) ≡ 5 ∷ 0 ∷ []
 firsts_are = refl
+
+-- all numbers of a volume, and others
+whole_are : map is_all (Range 1 4294967295 ∷ Range 2 4294967295 ∷ Range 1 9 ∷ One 1 ∷ []) ≡ true ∷ false ∷ false ∷ false ∷ []
+whole_are = refl

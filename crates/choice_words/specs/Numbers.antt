@@ -1,5 +1,6 @@
 -- The words that are numbers of records.
-use Rattle.std.specs.Prelude.{ℕ, ◌+◌, ◌==◌, ◌&&◌, ◌||◌, nat_le, Bool, List, length, take, drop, Option, Some, None, is_some, option_map, if◌then◌else◌}
+use Rattle.std.specs.Prelude.{ℕ, ◌+◌, ◌==◌, ◌&&◌, ◌||◌, nat_le, Bool, false, if◌then◌else◌, List, length, take, drop}
+use Rattle.std.specs.Prelude.{Option, Some, None, is_some, option_map}
 use Rattle.std.specs.List.{position, slice_split, list_any, list_all}
 use Rattle.session_words.specs.Words.{number_up_to}
 use Rattle.choice_words.specs.declared.numbers.TypedNumbers.{TypedNumbers}
@@ -40,6 +41,11 @@ reversed_typed word = reversed_round (position is_hyphen word) word
 -- THE NUMBERS THAT A WORD IS: one number, or a range
 abbrev pub numbers_typed : List ℕ → Option TypedNumbers
 numbers_typed word = numbers_round (position is_hyphen word) word
+
+-- ALL NUMBERS OF RECORDS, as the range from the first to the last
+abbrev pub is_all : TypedNumbers → Bool
+is_all (One n) = false
+is_all (Range first last) = (first == 1) && (last == 4294967295)
 
 -- numbers of records, or a range of them backwards
 abbrev pub is_numbers : List ℕ → Bool

@@ -61,9 +61,13 @@ abbrev pub is_reached : ℕ → Option VolumeNumber → Bool
 is_reached v None = true
 is_reached v (Some f) = nat_le f.volume v
 
+-- A VOLUME IS NAMED by one of the words, or none is
+abbrev pub is_named_or_none : ℕ → List VolumeNumbers → Bool
+is_named_or_none v ws = (length ws == 0) || list_any (is_of v) ws
+
 -- RECORDS OF A VOLUME MAY BE ASKED FOR: none where numbers of other volumes alone are typed, and none before the first
 abbrev pub is_asked_of : ℕ → TypedChoice → Bool
-is_asked_of v c = ((length c.of_volumes.items == 0) || list_any (is_of v) c.of_volumes.items) && is_reached v c.from
+is_asked_of v c = is_named_or_none v c.of_volumes.items && is_reached v c.from
 
 -- records of a volume are looked at from this number on: the typed one in the volume that is typed with it, and from 0 on in any other
 abbrev pub from_number : ℕ → Option VolumeNumber → ℕ

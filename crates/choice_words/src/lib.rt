@@ -21,7 +21,7 @@ pub use numbers::{
     TypedNumbers, read_numbers, read_record_number, reads_as_numbers, reversed_range,
 };
 pub use ranges::add_number;
-pub use typed::TypedChoice;
+pub use typed::{TypedChoice, above_in, is_named_or_none, numbers_for};
 pub use volumes::{
     VolumeNumber, VolumeNumbers, read_volume_number, read_volume_numbers, reversed_volume_range,
 };

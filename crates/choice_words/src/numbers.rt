@@ -2,7 +2,7 @@
 
 ghost use Rattle.std.specs.Prelude.{◌≡◌, ◌==◌, ◌||◌, length};
 ghost use Rattle.std.specs.List.{position, list_any, list_all, slice_split};
-ghost use Rattle.choice_words.specs.Numbers.{is_comma, is_hyphen, is_numbers, record_number, numbers_typed, range_typed, reads_as_numbers, reversed_typed};
+ghost use Rattle.choice_words.specs.Numbers.{is_comma, is_all, is_hyphen, is_numbers, record_number, numbers_typed, range_typed, reads_as_numbers, reversed_typed};
 
 use session_words::read_number;
 
@@ -13,6 +13,18 @@ pub enum TypedNumbers {
     One(u32),
     /// The numbers from one to another, both included, as `5-9`.
     Range { first: u32, last: u32 },
+}
+
+impl TypedNumbers {
+    /// Whether these are all numbers of records.
+    pub fn is_all(self) -> bool
+        ensures { result ≡ is_all self }
+    {
+        match self {
+            TypedNumbers::One(_) => false,
+            TypedNumbers::Range { first, last } => first == 1 && last == u32::MAX,
+        }
+    }
 }
 
 /// The number of a record that a word is: 1 to 4,294,967,295, in decimal digits without a leading zero. None for any other

@@ -1,8 +1,8 @@
 //! What is typed of a choice before it is known whether the archive has volumes.
 
-ghost use Rattle.std.specs.Prelude.{◌≡◌, ◌==◌, ◌||◌, length, is_some, IfOk, IfSome};
+ghost use Rattle.std.specs.Prelude.{◌≡◌, is_some, IfOk, IfSome};
 ghost use Rattle.std.specs.List.{find, list_any};
-ghost use Rattle.choice_words.specs.Typed.{IsChoiceFor, first_above, first_alone, first_number_above, first_of_volumes, from_number, is_above, is_asked_of, is_of, is_reached, is_untyped, numbers_for, number_after_one, numbers_of_first};
+ghost use Rattle.choice_words.specs.Typed.{IsChoiceFor, first_above, first_alone, first_number_above, first_of_volumes, from_number, is_above, is_asked_of, is_named_or_none, is_of, is_reached, is_untyped, numbers_for, number_after_one, numbers_of_first};
 
 use crate::choice::Choice;
 use crate::numbers::TypedNumbers;
@@ -55,7 +55,7 @@ fn first_number_above(last: u32, first: Option<VolumeNumber>) -> Option<VolumeNu
 }
 
 /// The first of some numbers whose volume has a number above this one.
-fn above_in(words: &[VolumeNumbers], last: u32) -> Option<VolumeNumbers>
+pub fn above_in(words: &[VolumeNumbers], last: u32) -> Option<VolumeNumbers>
     ensures { result ≡ find (is_above last) words.now }
 {
     for word in words {
@@ -67,7 +67,7 @@ fn above_in(words: &[VolumeNumbers], last: u32) -> Option<VolumeNumbers>
 }
 
 /// The numbers of a volume among some, without that of the volume.
-fn numbers_for(
+pub fn numbers_for(
     alloc: Global,
     volume: u32,
     words: &[VolumeNumbers],
@@ -91,8 +91,8 @@ fn is_named(words: &[VolumeNumbers], volume: u32) -> bool
 }
 
 /// Whether one of some words names a volume, or there is none.
-fn is_named_or_none(words: &[VolumeNumbers], volume: u32) -> bool
-    ensures { result ≡ ((length words.now == 0) || list_any (is_of volume) words.now) }
+pub fn is_named_or_none(words: &[VolumeNumbers], volume: u32) -> bool
+    ensures { result ≡ is_named_or_none volume words.now }
 {
     words.is_empty() || is_named(words, volume)
 }

@@ -1,13 +1,25 @@
 -- Rows of what is said of searches and readers.
-use Rattle.std.proofs.Common.{◌≡◌, ◌∷◌, [], true, false, Some, None, Ok, Err, refl, arith}
+use Rattle.std.proofs.Common.{◌≡◌, ◌∷◌, ◌++◌, [], true, false, Some, None, Ok, Err, codes, refl, arith}
 use Rattle.record_choice.specs.Choices.{Choice, every_record}
 use Rattle.record_choice.specs.Entries.{RecordEntry}
 use Rattle.cli_console.specs.Failures.{GoesOn, lets_go_on, refused_after}
+use Rattle.cli_console.specs.Numbers.{from_to, range_in}
 use Rattle.cli_console.specs.Turns.{IsFurther}
 use Rattle.cli_console.specs.Finds.{IsAsked, IsFirst}
 use Rattle.cli_console.specs.declared.failure.Failure.TheVariants.{Closed, Reported}
 use Rattle.cli_console.specs.declared.failure.Status.TheVariants.{BadData, TryAgain}
 use Rattle.cli_console.proofs.Ahead.{asked_for}
+use Rattle.cli_texts.specs.Words.{number, words}
+
+-- all numbers of a volume, and others
+all_of_a_volume : range_in (Some 3) 1 4294967295 ≡ number 3 ++ words (codes "/")
+all_of_a_volume = refl
+
+not_all_of_a_volume : range_in (Some 3) 5 9 ≡ from_to (Some 3) 5 9
+not_all_of_a_volume = refl
+
+all_of_a_store : range_in None 1 4294967295 ≡ from_to None 1 4294967295
+all_of_a_store = refl
 
 -- a walk goes on above where it stood, or not at all
 further_up : IsFurther (Some 4) (Some 7)

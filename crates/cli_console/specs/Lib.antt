@@ -6,3 +6,4 @@ pub mod Numbers
 pub mod Headers
 pub mod Finds
 pub mod Sinks
+pub mod Sequences

@@ -26,8 +26,8 @@ pub use counts::counted;
 pub use failure::{Failure, Status, refusal_words};
 pub use joined::Joined;
 pub use output::{
-    agrees, put_numbers, put_typed, tell, tell_in, tell_words, tell_words_in, told_now, write_data,
-    write_text,
+    agrees, in_array, put_numbers, put_typed, tell, tell_in, tell_words, tell_words_in,
+    text_between, told_now, write_data, write_text,
 };
 pub use reader::Reader;
 pub use readings::read_chosen;

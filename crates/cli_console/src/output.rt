@@ -1,7 +1,8 @@
 //! What is written for people and programs. A text for people is a [`Shown`] one, or words of the program.
 
-ghost use Rattle.std.specs.Prelude.{◌≡◌, ◌++◌, OnOk};
-ghost use Rattle.cli_console.specs.Numbers.{numbers_typed, typed_words};
+ghost use Rattle.std.specs.Prelude.{◌≡◌, ◌++◌, IfOk, OnOk, string_bytes};
+ghost use Rattle.cli_console.specs.Numbers.{numbers_typed, range_in, typed_words};
+ghost use Rattle.cli_console.specs.Sequences.{between};
 
 use crate::failure::{Failure, Status};
 use choice_words::TypedNumbers;
@@ -10,7 +11,21 @@ use std::alloc::{AllocError, Global};
 use std::io::{Error, ErrorKind, IsTerminal, Write};
 use tool_texts::{Shown, put};
 
-/// Adds numbers of records as they are typed; those of a volume after its number, as `3/5-9`.
+/// Adds the numbers from one to another as they are typed; those of a volume after its number, as `3/5-9`, and all of it as `3/`.
+fn put_range(text: &mut Shown, volume: Option<u32>, first: u32, last: u32) -> Result<(), AllocError>
+    ensures { OnOk result (text.new ≡ text.old ++ range_in volume first last) }
+{
+    let is_all = TypedNumbers::Range { first, last }.is_all();
+    match volume {
+        Some(volume) if is_all => put!(text; value(&volume) "/"),
+        _ => {
+            put_number(text, volume, first)?;
+            put!(text; "-" value(&last))
+        }
+    }
+}
+
+/// Adds numbers of records as they are typed; those of a volume after its number, as `3/5-9`, and all of it as `3/`.
 pub fn put_typed(
     text: &mut Shown,
     volume: Option<u32>,
@@ -20,10 +35,7 @@ pub fn put_typed(
 {
     match numbers {
         TypedNumbers::One(number) => put_number(text, volume, number),
-        TypedNumbers::Range { first, last } => {
-            put_number(text, volume, first)?;
-            put!(text; "-" value(&last))
-        }
+        TypedNumbers::Range { first, last } => put_range(text, volume, first, last),
     }
 }
 
@@ -33,6 +45,21 @@ pub fn put_numbers(text: &mut Shown, numbers: TypedNumbers) -> Result<(), AllocE
 {
     text.words(" ")?;
     put_typed(text, None, numbers)
+}
+
+/// What stands before an object in an array of JSON: the end of a line, and a comma before that where it is not the first.
+pub fn text_between(is_first: bool) -> &'static str
+    ensures { result.now ≡ between is_first }
+{
+    if is_first { "\n" } else { ",\n" }
+}
+
+/// An object in an array of JSON, behind what stands before it.
+pub fn in_array(alloc: Global, is_first: bool, object: &str) -> Result<String, AllocError>
+    ensures { IfOk result (λ s. string_bytes s ≡ between is_first ++ object.now) }
+{
+    let sign = text_between(is_first);
+    format!(in alloc; "{sign}{object}")
 }
 
 /// The failure of a write to standard output.

@@ -14,3 +14,8 @@ pub mod CaptureLemmas
 pub mod JudgementLemmas
 pub mod MarkLemmas
 pub mod OpeningLemmas
+pub mod PrintingLaws
+pub mod CertificateLaws
+mod PrintedRows
+pub mod AllCaseLemmas
+mod AllCaseRows

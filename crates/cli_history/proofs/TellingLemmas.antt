@@ -1,5 +1,5 @@
 -- What the rows of a history tell, a row at a time and a page at a time.
-use Rattle.std.proofs.Common.{◌≡◌, ◌+◌, ◌<◌, ◌≤◌, ◌^◌, ◌++◌, ◌∷◌, ◌∙◌, [], ℕ, List, Option, Some, None, option_map, map, take}
+use Rattle.std.proofs.Common.{◌≡◌, ◌+◌, ◌<◌, ◌≤◌, ◌^◌, ◌++◌, ◌∷◌, ◌∙◌, [], ℕ, List, Option, Some, None, true, false, option_map, map, take}
 use Rattle.std.proofs.Common.{get_or, length, refl, ap, sym}
 use Rattle.record_tables.specs.Events.{Event as Row}
 use Rattle.record_reads.specs.Events.{event_of}
@@ -7,9 +7,13 @@ use Rattle.record_reads.specs.declared.events.EventRow.{EventRow}
 use Rattle.record_history.specs.Events.{Deed, Event}
 use Rattle.record_history.specs.Lines.{line_of}
 use Rattle.record_history.specs.Readable.{IsReadable}
+use Rattle.record_history.specs.Reading.{Fails}
+use Rattle.record_history.specs.declared.faults.LineFault.{LineFault}
+use Rattle.record_history.specs.declared.faults.LineFault.TheVariants.{NotALine, NoMemory}
+use Rattle.cli_console.specs.declared.failure.Failure.{Failure}
 use Rattle.record_history.specs.Titles.{Title, last_title, title_given}
 use Rattle.cli_history.specs.Seals.{known, later, sealed_by}
-use Rattle.cli_history.specs.Tellings.{AreTold, TakesRow, TellEach, TellsRow, seal_told, sealed_among, title_told, titled_among}
+use Rattle.cli_history.specs.Tellings.{AreTold, TakesRow, TellEach, TellsRow, is_told_as_bad, seal_told, sealed_among, title_told, titled_among}
 use Rattle.cli_history.specs.Titles.{Path, title_of}
 use Rattle.cli_history.specs.declared.seals.Seals.{Seals}
 use Rattle.cli_history.proofs.ReplayLemmas.{later_none, later_thrice}
@@ -79,6 +83,13 @@ read_elsewhere row n e only other low = λ f readable is. other (sym (number_rea
 pub not_read : (row : EventRow) → ((m : ℕ) (f : Event) → m < 2 ^ 64 → IsReadable f → row.line.items ≡ line_of m f → read_as m f ≡ None)
     → row.number < 2 ^ 64 → TellsRow (event_of row) None
 not_read row only low = λ f readable is. some_none row.number f (only row.number f low readable is)
+
+-- the same, where the failure is bad data: memory did not run out
+pub not_read_or_no_memory : (row : EventRow) (fault : LineFault) (failure : Failure) → ((m : ℕ) (f : Event) → m < 2 ^ 64 → IsReadable f
+    → row.line.items ≡ line_of m f → Fails fault (read_as m f)) → (Some fault ≡ Some NoMemory → is_told_as_bad failure ≡ false)
+    → row.number < 2 ^ 64 → is_told_as_bad failure ≡ true → TellsRow (event_of row) None
+not_read_or_no_memory row NotALine failure only memory low bad = not_read row only low
+not_read_or_no_memory row NoMemory failure only memory low bad = absurd (let e = sym (memory refl) ∙ bad in cc)
 
 -- the row tells a deed, which is taken
 pub takes_some : (r : Row) (old new : Seals) (deed : Deed) (o : Option Event) → TellsRow r o → Some deed ≡ option_map (λ (e : Event). e.deed) o

@@ -1,5 +1,6 @@
 -- Which events of a history are asked for.
-use Rattle.std.specs.Prelude.{ℕ, pos, ◌==◌, ◌&&◌, ◌||◌, ◌+◌, ◌-◌, ◌/◌, not, nat_le, int_le, min, Bool, true, false, List, length, Option, Some, None}
+use Rattle.std.specs.Prelude.{ℕ, pos, ◌==◌, ◌&&◌, ◌||◌, ◌+◌, ◌-◌, ◌/◌, not, nat_le, int_le, min, Bool, true, false, List, length}
+use Rattle.std.specs.Prelude.{Option, Some, None, is_none}
 use Rattle.std.specs.List.{list_any}
 use Rattle.std.specs.Str.{bytes_eq}
 use Rattle.jiff.specs.Words.{epoch_day}
@@ -94,3 +95,7 @@ abbrev pub asks_for : HistoryAsked → (is_there : Bool) → Event → Bool
 asks_for asked is_there e = where_asked (λ day. int_le (epoch_day day) (pos (e.moment / 86400))) asked.since
     && where_asked (λ name. bytes_eq name.now e.who) asked.by && where_asked (λ k. is_same_kind k (kind_of e.deed)) asked.kind
     && (is_about asked.numbers.items e.deed || (is_there && is_plan_found e.deed))
+
+-- EACH EVENT IS ASKED FOR, whatever it is
+abbrev pub asks_for_all : HistoryAsked → Bool
+asks_for_all asked = (length asked.numbers.items == 0) && is_none asked.since && is_none asked.by && is_none asked.kind

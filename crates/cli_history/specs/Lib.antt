@@ -17,3 +17,6 @@ pub mod Openings
 pub mod Acceptances
 pub mod Judgements
 pub mod Volumes
+pub mod Printed
+pub mod Certified
+pub mod AllCases

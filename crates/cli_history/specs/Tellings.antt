@@ -1,5 +1,5 @@
 -- What the rows of a history tell of messages and classes, whether something stands against them or not.
-use Rattle.std.specs.Prelude.{◌≡◌, ◌≢◌, ℕ, Bool, true, false, List, [], ◌∷◌, Option, Some, None}
+use Rattle.std.specs.Prelude.{◌≡◌, ◌≢◌, ℕ, Bool, true, false, List, [], ◌∷◌, Option, Some, None, Result, Ok, Err}
 use Rattle.record_tables.specs.Events.{Event as Row}
 use Rattle.record_tables.specs.declared.event_layout.EventLayout.{EventLayout}
 use Rattle.record_tables.specs.declared.event_layout.EventLayout.TheVariants.{Absent, Present, Other}
@@ -7,6 +7,11 @@ use Rattle.record_history.specs.Events.{Event, Seal}
 use Rattle.record_history.specs.Lines.{line_of}
 use Rattle.record_history.specs.Readable.{IsReadable}
 use Rattle.record_history.specs.Titles.{Title, last_title, title_given}
+use Rattle.record_history.specs.Views.{event_view}
+use Rattle.record_history.specs.declared.events.Event.{Event as ReadEvent}
+use Rattle.cli_console.specs.Failures.{is_bad_data}
+use Rattle.cli_console.specs.declared.failure.Failure.{Failure}
+use Rattle.cli_console.specs.declared.failure.Failure.TheVariants.{Closed, NoMemory, Told, Reported}
 use Rattle.cli_history.specs.Seals.{known, later, sealed_by}
 use Rattle.cli_history.specs.Titles.{Path, title_of}
 use Rattle.cli_history.specs.declared.seals.Seals.{Seals}
@@ -21,6 +26,18 @@ is_present Other = false
 abbrev pub TellsRow : Row → Option Event → Type 0
 TellsRow r (Some e) = (r.line ≡ line_of r.number e) × IsReadable e
 TellsRow r None = (e : Event) → IsReadable e → r.line ≢ line_of r.number e
+
+-- bad data that is yet to be told, as that the line of a row is none of an event
+abbrev pub is_told_as_bad : Failure → Bool
+is_told_as_bad Closed = false
+is_told_as_bad NoMemory = false
+is_told_as_bad (Told s words) = is_bad_data s
+is_told_as_bad (Reported s) = false
+
+-- the row tells the event that is read, or none where the failure is bad data
+abbrev pub TellsAs : Row → Result ReadEvent Failure → Type 0
+TellsAs r (Ok e) = TellsRow r (Some (event_view e))
+TellsAs r (Err failure) = is_told_as_bad failure ≡ true → TellsRow r None
 
 -- each row tells the event at its place, or none
 abbrev pub TellEach : List Row → List (Option Event) → Type 0

@@ -1,15 +1,15 @@
-//! `holds`: the cases of an archive. A case is all that is kept by the hold of one name.
+//! The cases of a store. A case is all that is kept by the hold of one name.
 
 ghost use Rattle.std.specs.Prelude.{◌≡◌, IfOk, option_map};
 ghost use Rattle.record_history.specs.Views.{deed_view};
 ghost use Rattle.cli_history.specs.Cases.{begun, case_after, found, joined, parted, placed, reopened, told_view};
 
+use crate::all_cases::{Began, Kept, NamedCase};
 use crate::pages::{PAGE, event_of};
 use crate::seals::deed_of;
-use cli_console::{Failure, Walk, write_data};
-use cli_texts::{CaseBeginning, ListedCase, case_line, case_object};
+use cli_console::{Failure, Walk};
 use record_choice::{Choice, Holder};
-use record_history::{Deed, Event};
+use record_history::Deed;
 use record_store::{EventLayout, EventRow, RecordEntry, Store};
 use sqlite::Alter;
 use std::alloc::{AllocError, Global};
@@ -252,100 +252,63 @@ pub(crate) fn page_from<S: Alter>(
     ))
 }
 
-/// The text of a case: its line, or a JSON object that comes after others.
-fn text_of(
+/// How a case began whose event is in a row.
+fn began_by(
     alloc: Global,
-    case: &ListedCase<'_>,
-    is_json: bool,
-    is_first: bool,
-) -> Result<String, AllocError> {
-    if !is_json {
-        return Ok(case_line(alloc, case)?.into_string());
-    }
-    let object = case_object(alloc, case)?;
-    let sign = if is_first { "\n" } else { ",\n" };
-    format!(in alloc; "{sign}{object}")
-}
-
-/// The text of a case whose beginning no history tells.
-fn untold_text(
-    alloc: Global,
-    name: &[u8],
-    case: Case,
-    is_json: bool,
-    is_first: bool,
-) -> Result<String, AllocError> {
-    let listed = ListedCase {
-        name,
-        records: case.records,
-        beginning: None,
-    };
-    text_of(alloc, &listed, is_json, is_first)
-}
-
-/// A case as it is listed, which began with the event of a number.
-fn listed_case<'a>(
-    name: &'a [u8],
-    records: u64,
-    number: u32,
-    event: &Event<'a>,
+    volume: Option<u32>,
+    row: &EventRow,
     is_found: bool,
-) -> ListedCase<'a> {
-    let beginning = Some(CaseBeginning {
-        event: number,
+) -> Result<Began, Failure> {
+    let event = event_of(alloc, row)?;
+    Ok(Began {
+        volume,
+        event: row.number,
         moment: event.moment,
-        who: event.who,
-        reason: event.reason,
+        who: Vec::from_slice(alloc, event.who)?,
+        reason: Vec::from_slice(alloc, event.reason)?,
         is_found,
-    });
-    ListedCase {
-        name,
-        records,
-        beginning,
-    }
+    })
 }
 
-/// The text of a case, with how it began where the history tells that.
-fn told_text<S: Alter>(
+/// How a case began, where the history of a store tells that.
+fn began_in<S: Alter>(
     rt: &HostRuntime,
     archive: &mut Store<S>,
-    name: &[u8],
+    volume: Option<u32>,
     case: Case,
-    is_json: bool,
-    is_first: bool,
-) -> Result<String, Failure> {
-    let alloc = rt.alloc();
+) -> Result<Option<Began>, Failure> {
     let Some(told) = case.told.filter(|told| !told.is_open) else {
-        return Ok(untold_text(alloc, name, case, is_json, is_first)?);
+        return Ok(None);
     };
     let rows = page_from(rt, archive, told.event, 1)?;
-    let Some(row) = rows.first() else {
-        return Ok(untold_text(alloc, name, case, is_json, is_first)?);
-    };
-    let event = event_of(alloc, row)?;
-    let listed = listed_case(name, case.records, row.number, &event, told.is_found);
-    Ok(text_of(alloc, &listed, is_json, is_first)?)
+    match rows.first() {
+        Some(row) => Ok(Some(began_by(rt.alloc(), volume, row, told.is_found)?)),
+        None => Ok(None),
+    }
 }
 
-/// Writes the cases of an archive, a line each in byte order of their names, or as an array of JSON objects: how many records
-/// each has, and, where the store keeps a history that tells it, since when, by whom and for what reason. An event whose line
-/// cannot be read tells nothing; `check` finds it. A failure is that of the store.
-pub fn write_cases<S: Alter>(
+/// The cases of a store, which is the volume of a number, in an archive of volumes: how many records each has, and, where the store
+/// keeps a history that tells it, since when, by whom and for what reason. An event whose line cannot be read tells nothing; `check`
+/// finds it. A failure is that of the store.
+pub(crate) fn cases_in<S: Alter>(
     rt: &HostRuntime,
     archive: &mut Store<S>,
-    is_json: bool,
-) -> Result<(), Failure> {
+    volume: Option<u32>,
+) -> Result<Vec<NamedCase>, Failure> {
     let mut cases = Cases::of(rt, archive)?;
     if let EventLayout::Present = archive.event_layout() {
         cases.take_all(rt, archive)?;
     }
-    let mut is_first = true;
-    let (before, after) = if is_json { ("[", "\n]\n") } else { ("", "") };
-    write_data(rt, before.as_bytes())?;
+    let mut named = Vec::new(rt.alloc());
     for (name, case) in &cases.cases {
-        let text = told_text(rt, archive, name.as_slice(), *case, is_json, is_first)?;
-        write_data(rt, text.as_bytes())?;
-        is_first = false;
+        let began = began_in(rt, archive, volume, *case)?;
+        named.push(NamedCase {
+            name: Vec::from_slice(rt.alloc(), name.as_slice())?,
+            kept: Kept {
+                records: case.records,
+                began,
+            },
+        })?;
     }
-    write_data(rt, after.as_bytes())
+    Ok(named)
 }

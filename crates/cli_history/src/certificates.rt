@@ -1,9 +1,14 @@
 //! `certificates`: those of records that were destroyed, from the history.
 
-ghost use Rattle.std.specs.Prelude.{◌≡◌, IfOk, IfSome, option_map};
+ghost use Rattle.std.specs.Prelude.{◌≡◌, ◌∷◌, [], IfOk, IfSome, OnOk, map, option_map};
 ghost use Rattle.record_history.specs.Spelled.{IsSpelledDeed};
-ghost use Rattle.record_history.specs.Views.{deed_view};
+ghost use Rattle.record_history.specs.Views.{deed_view, event_view};
+ghost use Rattle.record_noted.specs.Histories.{rows_of};
+ghost use Rattle.record_reads.specs.Events.{event_of as row_of};
+ghost use Rattle.cli_history.specs.Certified.{Certifies, IsCertificateOf, WritesCertificates, certified, destroyed_by as record_destroyed};
+ghost use Rattle.cli_history.specs.Tellings.{TellsRow};
 ghost use Rattle.cli_history.specs.Titles.{title_seen, title_beside};
+ghost use Rattle.cli_history.specs.Walks.{ForArchive, Looks};
 
 use crate::chosen::is_about;
 use crate::days::day_text;
@@ -15,7 +20,7 @@ use crate::untold::tell_untold;
 use crate::watching::Watch;
 use choice_words::TypedNumbers;
 use class_plan::schedule_text;
-use cli_console::{Failure, Status, write_text};
+use cli_console::{Failure, Sink, StandardOutput, Status};
 use cli_texts::{ClassTitle, ToldCertificate, told_certificate};
 use record_history::{Deed, Event, Seal};
 use record_judge::SealedArchive;
@@ -44,7 +49,9 @@ fn entry_of<S: Alter>(
     rt: &HostRuntime,
     noted: &mut NotedStore<S>,
     number: u32,
-) -> Result<Option<RecordEntry>, Failure> {
+) -> Result<Option<RecordEntry>, Failure>
+    ensures { Looks S.Store noted.old noted.new }
+{
     match noted.entry(number) {
         Ok(entry) => Ok(Some(entry)),
         Err(StoreFault::Refused(ArchiveRefusal::NoRecord)) => Ok(None),
@@ -54,7 +61,8 @@ fn entry_of<S: Alter>(
 
 /// The event of a row; none where its line is none of an event.
 fn readable<'a>(alloc: Global, row: &'a EventRow) -> Result<Option<Event<'a>>, Failure>
-    ensures { IfOk result (λ o. IfSome o (λ e. IsSpelledDeed (deed_view e.deed))) }
+    ensures spelled { IfOk result (λ o. IfSome o (λ e. IsSpelledDeed (deed_view e.deed))) }
+    ensures tells { IfOk result (λ o. TellsRow (row_of row.now) (option_map event_view o)) }
 {
     match event_of(alloc, row) {
         Ok(event) => Ok(Some(event)),
@@ -63,11 +71,24 @@ fn readable<'a>(alloc: Global, row: &'a EventRow) -> Result<Option<Event<'a>>, F
     }
 }
 
-/// The record that an event destroys, where it is one of those of the numbers that are typed, if there are any.
-fn destroyed_in(typed: &[TypedNumbers], event: &Event<'_>) -> Option<u32> {
-    match &event.deed {
-        Deed::Destroyed { number, .. } if is_about(typed, &event.deed) => Some(*number),
+/// The record that a deed destroys, if it destroys one.
+fn destroyed_by(deed: &Deed<'_>) -> Option<u32>
+    ensures { result ≡ record_destroyed (deed_view deed.now) }
+{
+    match deed {
+        Deed::Destroyed { number, .. } => Some(*number),
         _ => None,
+    }
+}
+
+/// The record that an event destroys, where it is one of those of the numbers that are typed, if there are any.
+fn destroyed_in(typed: &[TypedNumbers], event: &Event<'_>) -> Option<u32>
+    ensures { result ≡ certified typed.now (event_view event.now) }
+{
+    if is_about(typed, &event.deed) {
+        destroyed_by(&event.deed)
+    } else {
+        None
     }
 }
 
@@ -79,7 +100,9 @@ impl Messages {
         noted: &mut NotedStore<S>,
         typed: &[TypedNumbers],
         row: &EventRow,
-    ) -> Result<(), Failure> {
+    ) -> Result<(), Failure>
+        ensures { Looks S.Store noted.old noted.new }
+    {
         let Some(event) = readable(rt.alloc(), row)? else {
             return Ok(());
         };
@@ -123,7 +146,9 @@ impl Messages {
         noted: &mut NotedStore<S>,
         typed: &[TypedNumbers],
         page: &[EventRow],
-    ) -> Result<(), Failure> {
+    ) -> Result<(), Failure>
+        ensures { Looks S.Store noted.old noted.new }
+    {
         for row in page {
             self.add(rt, noted, typed, row)?;
         }
@@ -144,14 +169,16 @@ fn messages_of<S: Alter>(
     rt: &HostRuntime,
     noted: &mut NotedStore<S>,
     typed: &[TypedNumbers],
-) -> Result<Messages, Failure> {
+) -> Result<Messages, Failure>
+    ensures { Looks S.Store noted.old noted.new }
+{
     let mut messages = Messages {
         seals: BTreeMap::new(rt.alloc()),
     };
     let mut events = Events::all();
     for _ in 0..u64::MAX {
         let Some(page) = events.next_page(rt, noted)? else {
-            break;
+            return Ok(messages);
         };
         messages.add_page(rt, noted, typed, page.as_slice())?;
     }
@@ -163,11 +190,13 @@ fn find_seals<S: Alter>(
     rt: &HostRuntime,
     noted: &mut NotedStore<S>,
     messages: &mut Messages,
-) -> Result<(), Failure> {
+) -> Result<(), Failure>
+    ensures { Looks S.Store noted.old noted.new }
+{
     let mut events = Events::all();
     for _ in 0..u64::MAX {
         let Some(page) = events.next_page(rt, noted)? else {
-            break;
+            return Ok(());
         };
         messages.look_at_page(rt.alloc(), page.as_slice())?;
     }
@@ -210,15 +239,18 @@ fn title_of_class<'t>(titles: &'t Titles, entry: Option<&RecordEntry>) -> Option
     }
 }
 
-/// The certificate of an event that destroys a record; none of any other event.
+/// The certificate of an event that destroys a record, which may be one of a volume; none of any other event.
 fn certificate_of(
     alloc: Global,
+    volume: Option<u32>,
     row: &EventRow,
     event: &Event<'_>,
     beside: Beside<'_>,
     messages: &Messages,
 ) -> Result<Option<Shown>, AllocError>
     requires { IsSpelledDeed (deed_view event.now.deed) }
+    ensures { IfOk result
+        (IsCertificateOf volume (row_of row.now) (event_view event.now)) }
 {
     let Deed::Destroyed {
         number,
@@ -237,6 +269,7 @@ fn certificate_of(
         _ => None,
     };
     let told = ToldCertificate {
+        volume,
         number: *number,
         path: entry.map(|entry| entry.path.as_slice()),
         title: beside.title,
@@ -255,7 +288,9 @@ fn certificate_of(
 
 /// Certificates that are printed of a history, which is judged as it is read.
 #[derive(Drop)]
-struct Printing<'n> {
+struct PrintedCertificates<'n> {
+    /// The number of the volume, in an archive of volumes.
+    volume: Option<u32>,
     typed: &'n [TypedNumbers],
     messages: Messages,
     watch: Watch,
@@ -266,7 +301,7 @@ struct Printing<'n> {
     told: BTreeSet<u32>,
 }
 
-impl<'n> Printing<'n> {
+impl<'n> PrintedCertificates<'n> {
     /// The live record that keeps the message of a record, up to the event that was judged last. Where something stands against an
     /// event, no record is known to have kept a message.
     fn keeper_of(&self, entry: Option<&RecordEntry>) -> Option<u32> {
@@ -287,6 +322,8 @@ impl<'n> Printing<'n> {
         entry: Option<&RecordEntry>,
     ) -> Result<Option<Shown>, AllocError>
         requires { IsSpelledDeed (deed_view event.now.deed) }
+        ensures { IfOk result
+            (IsCertificateOf self.now.volume (row_of row.now) (event_view event.now)) }
     {
         let title = title_of_class(&self.titles, entry);
         let kept_by = self.keeper_of(entry);
@@ -295,16 +332,21 @@ impl<'n> Printing<'n> {
             title,
             kept_by,
         };
-        certificate_of(alloc, row, event, beside, &self.messages)
+        certificate_of(alloc, self.volume, row, event, beside, &self.messages)
     }
 
     /// Prints the certificate of an event, where it destroys a record that is asked for.
-    fn print_one<S: Alter>(
+    fn print_one<S: Alter, K: Sink + Drop>(
         &mut self,
         rt: &HostRuntime,
         noted: &mut NotedStore<S>,
         row: &EventRow,
-    ) -> Result<(), Failure> {
+        sink: &mut K,
+    ) -> Result<(), Failure>
+        ensures looks { Looks S.Store noted.old noted.new }
+        ensures certified { OnOk result (Certifies K.written self.old sink.old
+            (row_of row.now ∷ []) self.new sink.new) }
+    {
         let Some(event) = readable(rt.alloc(), row)? else {
             return Ok(());
         };
@@ -316,37 +358,62 @@ impl<'n> Printing<'n> {
         self.told.insert(number)?;
         let entry = entry_of(rt, noted, number)?;
         match self.text_of(rt.alloc(), row, &event, entry.as_ref())? {
-            Some(text) => write_text(rt, &text),
+            Some(text) => sink.write(text.as_str().as_bytes()),
             None => Ok(()),
         }
     }
 
+    /// Judges an event, and prints its certificate.
+    fn print_row<S: Alter, K: Sink + Drop>(
+        &mut self,
+        rt: &HostRuntime,
+        noted: &mut NotedStore<S>,
+        row: &EventRow,
+        sink: &mut K,
+    ) -> Result<(), Failure>
+        ensures looks { Looks S.Store noted.old noted.new }
+        ensures certified { OnOk result (Certifies K.written self.old sink.old
+            (row_of row.now ∷ []) self.new sink.new) }
+    {
+        self.watch.look_at(rt, row)?;
+        self.print_one(rt, noted, row, sink)
+    }
+
     /// Prints the certificates of a page of events.
-    fn print_page<S: Alter>(
+    fn print_page<S: Alter, K: Sink + Drop>(
         &mut self,
         rt: &HostRuntime,
         noted: &mut NotedStore<S>,
         page: &[EventRow],
-    ) -> Result<(), Failure> {
+        sink: &mut K,
+    ) -> Result<(), Failure>
+        ensures looks { Looks S.Store noted.old noted.new }
+        ensures certified { OnOk result (Certifies K.written self.old sink.old
+            (map row_of page.now) self.new sink.new) }
+    {
         for row in page {
-            self.watch.look_at(rt, row)?;
-            self.print_one(rt, noted, row)?;
+            self.print_row(rt, noted, row, sink)?;
         }
         Ok(())
     }
 
     /// Prints the certificates of a history.
-    fn print_all<S: Alter>(
+    fn print_all<S: Alter, K: Sink + Drop>(
         &mut self,
         rt: &HostRuntime,
         noted: &mut NotedStore<S>,
-    ) -> Result<(), Failure> {
+        sink: &mut K,
+    ) -> Result<(), Failure>
+        ensures looks { Looks S.Store noted.old noted.new }
+        ensures certified { OnOk result (ForArchive S.Store noted.old noted.new (λ a ls.
+            Certifies K.written self.old sink.old (rows_of ls) self.new sink.new)) }
+    {
         let mut events = Events::all();
         for _ in 0..u64::MAX {
             let Some(page) = events.next_page(rt, noted)? else {
-                break;
+                return Ok(());
             };
-            self.print_page(rt, noted, page.as_slice())?;
+            self.print_page(rt, noted, page.as_slice(), sink)?;
         }
         Ok(())
     }
@@ -358,7 +425,7 @@ impl<'n> Printing<'n> {
         noted: &mut NotedStore<S>,
     ) -> Result<(), Failure> {
         if self.typed.is_empty() {
-            return tell_untold(rt, noted, &self.told);
+            return tell_untold(rt, noted, self.volume, &self.told);
         }
         Ok(())
     }
@@ -369,7 +436,7 @@ impl<'n> Printing<'n> {
         self.watch.end(rt.alloc())?;
         if self
             .missing
-            .tell(rt, "no event tells that it was destroyed")?
+            .tell(rt, self.volume, "no event tells that it was destroyed")?
         {
             return Ok(());
         }
@@ -377,26 +444,47 @@ impl<'n> Printing<'n> {
     }
 }
 
-/// Prints a certificate for each record that was destroyed, by the history: all, or those of the numbers that are typed. The
-/// events are judged as they are read. `BadData` in the end where something stands against one, which is told, and where a
-/// number is typed of whose record no event tells that it was destroyed. Where no number is typed, such records are told, and
-/// that is no fault: a program without a history may have destroyed them, or they were destroyed before the history began.
-pub fn write_certificates<S: Alter>(
+/// Writes the certificates of a history to a sink, one behind the other. Answers what the history came to as it was read, and the sink.
+fn certificates_to<'n, S: Alter, K: Sink + Drop>(
     rt: &HostRuntime,
     noted: &mut NotedStore<S>,
-    typed: &[TypedNumbers],
-) -> Result<(), Failure> {
+    volume: Option<u32>,
+    typed: &'n [TypedNumbers],
+    sink: K,
+) -> Result<(PrintedCertificates<'n>, K), Failure>
+    ensures looks { Looks S.Store noted.old noted.new }
+    ensures certified { IfOk result (λ printed. ForArchive S.Store noted.old noted.new (λ a ls.
+        WritesCertificates K.written volume typed.now sink (rows_of ls) printed.1)) }
+{
     let mut messages = messages_of(rt, noted, typed)?;
     find_seals(rt, noted, &mut messages)?;
-    let mut printing = Printing {
+    let mut printed = PrintedCertificates {
+        volume,
         typed,
         messages,
-        watch: Watch::new(rt.alloc(), None)?,
+        watch: Watch::new(rt.alloc(), volume)?,
         titles: Titles::none(rt.alloc()),
         missing: Missing::of(rt.alloc(), typed)?,
         told: BTreeSet::new(rt.alloc()),
     };
-    printing.print_all(rt, noted)?;
-    printing.tell_untold(rt, noted)?;
-    printing.end(rt)
+    let mut sink = sink;
+    printed.print_all(rt, noted, &mut sink)?;
+    Ok((printed, sink))
+}
+
+/// Prints a certificate for each record that was destroyed, by the history of a store: all, or those of the numbers that are typed. In
+/// an archive of volumes the store is the volume of a number, which names its records and events. The events are judged as they are
+/// read. `BadData` in the end where something stands against one, which is told, and where a number is typed of whose record no event
+/// tells that it was destroyed. Where no number is typed, such records are told, and that is no fault: a program without a history may
+/// have destroyed them, or they were destroyed before the history began.
+pub fn write_certificates<S: Alter>(
+    rt: &HostRuntime,
+    noted: &mut NotedStore<S>,
+    volume: Option<u32>,
+    typed: &[TypedNumbers],
+) -> Result<(), Failure> {
+    let output = StandardOutput::new(rt);
+    let (printed, _output) = certificates_to(rt, noted, volume, typed, output)?;
+    printed.tell_untold(rt, noted)?;
+    printed.end(rt)
 }

@@ -5,7 +5,7 @@ ghost use Rattle.std.specs.List.{list_any};
 ghost use Rattle.std.specs.Str.{bytes_eq};
 ghost use Rattle.jiff.specs.Words.{epoch_day};
 ghost use Rattle.record_history.specs.Views.{deed_view, event_view};
-ghost use Rattle.cli_history.specs.Chosen.{any_meets, asks_for, is_about as is_about_one, is_plan_found as is_found_plan};
+ghost use Rattle.cli_history.specs.Chosen.{any_meets, asks_for, asks_for_all, is_about as is_about_one, is_plan_found as is_found_plan};
 ghost use Rattle.cli_history.specs.Chosen.{is_same_kind, is_there_after as is_one_there, kind_of, meets, subjects, where_asked};
 
 use choice_words::TypedNumbers;
@@ -171,7 +171,9 @@ pub fn is_asked(asked: &HistoryAsked<'_>, is_there: bool, event: &Event<'_>) -> 
 }
 
 /// Whether each event is asked for, whatever it is.
-pub fn is_for_all(asked: &HistoryAsked<'_>) -> bool {
+pub fn is_for_all(asked: &HistoryAsked<'_>) -> bool
+    ensures { result ≡ asks_for_all asked.now }
+{
     asked.numbers.is_empty() && asked.since.is_none() && asked.by.is_none() && asked.kind.is_none()
 }
 

@@ -8,7 +8,8 @@
 //! - `pages`: the events of a history, a page at a time; `watching`: they are judged as they are read;
 //! - `chosen`: which events are asked for; `missing`: of which numbers none tells; `printing`: these, as lines or as JSON;
 //!   `fields`: what a deed tells, as named fields; `days` and `notes`: parts of lines;
-//! - `cases`: what the hold of each name keeps, and how that began;
+//! - `cases`: what the hold of each name keeps in a store, and how that began; `all_cases`: the same in several stores, as lines or as
+//!   JSON;
 //! - `refiled`: by which event a record got its class; `titles`: what classes are called, and the legal basis of their schedules;
 //! - `certificates`: those of records that were destroyed; `untold`: records that are, and of which no event tells that;
 //! - `captured`: what is captured for an officer already;
@@ -20,9 +21,11 @@
 //!   `plans`: whether two plans are the same; `flaws`: what stands against an event; `marks`: which event has a mark that
 //!   begins so.
 //!
-//! What it writes, no contract speaks of: tests of the program show it.
+//! Of what it writes, contracts speak of the events that `history` prints, of the line of a certificate and of the texts of cases; of the
+//! rest, tests of the program show it.
 #![tactic(auto)]
 
+mod all_cases;
 mod author;
 mod beginning;
 mod captured;
@@ -56,10 +59,10 @@ mod titles;
 mod untold;
 mod watching;
 
+pub use all_cases::{AllCases, write_cases};
 pub use author::Author;
 pub use beginning::begin_history;
 pub use captured::captured_for;
-pub use cases::write_cases;
 pub use certificates::write_certificates;
 pub use copies::Lines;
 pub use damaged::Whole;
@@ -70,7 +73,7 @@ pub use marks::event_with_mark;
 pub use notes::{Beginning, beginning_in, is_altered, notes_after, notes_of};
 pub use opening::{Purpose, StoreLedger, open_history, open_ledger, open_noted, open_with_seals};
 pub use plans::is_same_plan;
-pub use printing::write_history;
+pub use printing::{HistoryText, PrintedHistory, write_history};
 pub use reasons::{accept_findings, are_reasons_required, note_reasons};
 pub use refiled::last_refiling;
 pub use seals::{Fidelity, Seals, altered_words};

@@ -2,7 +2,7 @@
 
 use crate::chosen::{any_touches, records_of, touches};
 use choice_words::TypedNumbers;
-use cli_console::{Failure, tell};
+use cli_console::{Failure, put_typed, tell};
 use record_history::Deed;
 use std::alloc::{AllocError, Global};
 use tool_texts::{Shown, put};
@@ -14,18 +14,15 @@ pub struct Missing {
     rest: Vec<TypedNumbers>,
 }
 
-/// Adds a number as it is typed, or a range.
-pub fn put_typed(text: &mut Shown, typed: &TypedNumbers) -> Result<(), AllocError> {
-    match typed {
-        TypedNumbers::One(number) => text.value(number),
-        TypedNumbers::Range { first, last } => put!(text; value(first) "-" value(last)),
-    }
-}
-
-/// What is said of numbers of which nothing is told.
-fn missed(alloc: Global, typed: &TypedNumbers, words: &'static str) -> Result<Shown, AllocError> {
+/// What is said of numbers of which nothing is told; those of a volume stand after its number.
+fn missed(
+    alloc: Global,
+    volume: Option<u32>,
+    typed: TypedNumbers,
+    words: &'static str,
+) -> Result<Shown, AllocError> {
     let mut text = Shown::new(alloc);
-    put_typed(&mut text, typed)?;
+    put_typed(&mut text, volume, typed)?;
     put!(text; ": " words(words))?;
     Ok(text)
 }
@@ -66,10 +63,15 @@ impl Missing {
         Ok(())
     }
 
-    /// Says in these words of each number that it was not met. Answers whether each was.
-    pub fn tell(&self, rt: &HostRuntime, words: &'static str) -> Result<bool, Failure> {
+    /// Says in these words of each number, which may be one of a volume, that it was not met. Answers whether each was.
+    pub fn tell(
+        &self,
+        rt: &HostRuntime,
+        volume: Option<u32>,
+        words: &'static str,
+    ) -> Result<bool, Failure> {
         for typed in &self.rest {
-            tell(rt, &missed(rt.alloc(), typed, words)?);
+            tell(rt, &missed(rt.alloc(), volume, *typed, words)?);
         }
         Ok(self.rest.is_empty())
     }

@@ -1,6 +1,6 @@
 //! The events of a history and the records beside it, a page at a time.
 
-ghost use Rattle.std.specs.Prelude.{◌≡◌, ◌-◌, ◌<◌, ℕ, None, Some, List, drop, length, map, take, IfOk};
+ghost use Rattle.std.specs.Prelude.{◌≡◌, ◌-◌, ◌<◌, ℕ, None, Some, List, drop, false, length, map, take, IfOk};
 ghost use Rattle.sqlite.specs.State.{HasCleanDisk};
 ghost use Rattle.sqlite.specs.Held.{state};
 ghost use Rattle.record_choice.specs.Entries.{entry_view};
@@ -10,6 +10,7 @@ ghost use Rattle.record_history.specs.Views.{deed_view, event_view};
 ghost use Rattle.record_noted.specs.Histories.{rows_of};
 ghost use Rattle.record_reads.specs.Events.{event_of as row_of};
 ghost use Rattle.cli_history.specs.Replays.{told_by};
+ghost use Rattle.cli_history.specs.Tellings.{TellsAs, is_told_as_bad};
 ghost use Rattle.cli_history.specs.Walks.{ForArchive, Glances, HasLines, IsNextEntries, IsNextPage, Looks, number_behind};
 
 use cli_console::{Failure, Status};
@@ -169,7 +170,9 @@ pub fn at_event(alloc: Global, number: u32, words: &'static str) -> Result<Shown
 }
 
 /// Why the line of a row is not that of its event: it has another number, or could not be read.
-fn line_failure(alloc: Global, number: u32, fault: Option<LineFault>) -> Failure {
+fn line_failure(alloc: Global, number: u32, fault: Option<LineFault>) -> Failure
+    ensures { fault ≡ Some LineFault.NoMemory → is_told_as_bad result ≡ false }
+{
     let words = match fault {
         Some(LineFault::NoMemory) => return Failure::NoMemory,
         Some(LineFault::NotALine) => "its line is none of an event",
@@ -180,13 +183,18 @@ fn line_failure(alloc: Global, number: u32, fault: Option<LineFault>) -> Failure
 
 /// The event of a row. `BadData` where its line is none, or is that of another number.
 pub fn event_of<'a>(alloc: Global, row: &'a EventRow) -> Result<Event<'a>, Failure>
-    ensures { IfOk result (λ e. IsSpelledDeed (deed_view e.deed)) }
+    ensures spelled { IfOk result (λ e. IsSpelledDeed (deed_view e.deed)) }
+    ensures tells { TellsAs (row_of row.now) result }
 {
-    match read_line(alloc, row.line.as_slice()) {
-        Ok((number, event)) if number == u64::from(row.number) => Ok(event),
-        Ok(_) => Err(line_failure(alloc, row.number, None)),
-        Err(fault) => Err(line_failure(alloc, row.number, Some(fault))),
+    let own = u64::from(row.number);
+    let (number, event) = match read_line(alloc, row.line.as_slice()) {
+        Ok(read) => read,
+        Err(fault) => return Err(line_failure(alloc, row.number, Some(fault))),
+    };
+    if number != own {
+        return Err(line_failure(alloc, row.number, None));
     }
+    Ok(event)
 }
 
 /// The same, of a row against which nothing stands: its line is one, and is not written again to be compared.

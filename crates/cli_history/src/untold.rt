@@ -1,9 +1,8 @@
 //! Records that are destroyed, and of which no event tells that.
 
-use crate::missing::put_typed;
 use crate::pages::Entries;
 use choice_words::{TypedNumbers, add_number};
-use cli_console::{Failure, tell};
+use cli_console::{Failure, put_typed, tell};
 use record_noted::NotedStore;
 use record_store::RecordEntry;
 use sqlite::Alter;
@@ -42,8 +41,12 @@ fn untold_of<S: Alter>(
     Ok(untold)
 }
 
-/// That some records are destroyed, and have no certificate.
-fn untold_words(alloc: Global, untold: &[TypedNumbers]) -> Result<Shown, AllocError> {
+/// That some records, which may be those of a volume, are destroyed, and have no certificate.
+fn untold_words(
+    alloc: Global,
+    volume: Option<u32>,
+    untold: &[TypedNumbers],
+) -> Result<Shown, AllocError> {
     let mut words = Shown::new(alloc);
     words.words(if let [TypedNumbers::One(_)] = untold {
         "record"
@@ -52,21 +55,23 @@ fn untold_words(alloc: Global, untold: &[TypedNumbers]) -> Result<Shown, AllocEr
     })?;
     for typed in untold {
         words.words(" ")?;
-        put_typed(&mut words, typed)?;
+        put_typed(&mut words, volume, *typed)?;
     }
     put!(words; ": destroyed, and no event tells by whom; there is no certificate here")?;
     Ok(words)
 }
 
-/// Tells which records of a store are destroyed, and are none of those of which an event tells that, where there is one.
+/// Tells which records of a store are destroyed, and are none of those of which an event tells that, where there is one. Those of a
+/// volume stand after its number.
 pub fn tell_untold<S: Alter>(
     rt: &HostRuntime,
     noted: &mut NotedStore<S>,
+    volume: Option<u32>,
     told: &BTreeSet<u32>,
 ) -> Result<(), Failure> {
     let untold = untold_of(rt, noted, told)?;
     if !untold.is_empty() {
-        tell(rt, &untold_words(rt.alloc(), untold.as_slice())?);
+        tell(rt, &untold_words(rt.alloc(), volume, untold.as_slice())?);
     }
     Ok(())
 }

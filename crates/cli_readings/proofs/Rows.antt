@@ -14,10 +14,10 @@ use Rattle.cli_readings.specs.Exports.{count_of, file_name, sealed_fields, sum_l
 use Rattle.cli_readings.specs.Groups.{Added, is_twice, with_key}
 use Rattle.cli_console.specs.Counts.{greatest, one_more}
 use Rattle.cli_readings.specs.Checks.{figures_of, no_figures, together}
-use Rattle.cli_readings.specs.Lists.{IsTextOf, between, end_of, head_of}
+use Rattle.cli_readings.specs.Lists.{IsTextOf, end_of, head_of}
 use Rattle.cli_readings.specs.Parts.{Part, altered_in, files_in, rows_in, subjects_in, sums_in}
 use Rattle.cli_readings.specs.Parts as part
-use Rattle.cli_readings.specs.Sequences.{AreTexts, more_for}
+use Rattle.cli_console.specs.Sequences.{AreTexts, between, more_for}
 use Rattle.cli_readings.specs.Twice.{before_group, beside_record, head_beside}
 use Rattle.cli_readings.specs.VolumeLists.{head_unless}
 use Rattle.cli_readings.specs.declared.groups.Sealed.{Sealed}

@@ -5,7 +5,7 @@ use Rattle.record_archive.specs.Archive.{Archive}
 use Rattle.record_choice.specs.declared.entry.RecordEntry.{RecordEntry}
 use Rattle.cli_console.specs.Sinks.{Writes, more_written}
 use Rattle.cli_readings.specs.Lists.{AreListedAs, HasText, Lists, end_of}
-use Rattle.cli_readings.specs.Sequences.{more_for}
+use Rattle.cli_console.specs.Sequences.{more_for}
 use Rattle.cli_readings.specs.VolumeLists.{AddsVolume, Begins, Ends, head_in, in_volume}
 use Rattle.cli_readings.specs.declared.list.ListText.{ListText}
 use Rattle.cli_readings.specs.declared.volume_lists.VolumeList.{VolumeList}

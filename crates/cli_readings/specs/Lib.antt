@@ -7,7 +7,6 @@ pub mod Groups
 pub mod Lists
 pub mod Parts
 pub mod Reports
-pub mod Sequences
 pub mod Shows
 pub mod Twice
 pub mod VolumeLists

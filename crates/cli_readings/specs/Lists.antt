@@ -17,7 +17,7 @@ use Rattle.record_choice.specs.declared.entry.RecordEntry.{RecordEntry}
 use Rattle.cli_console.specs.Counts.{greatest, one_more}
 use Rattle.cli_console.specs.Headers.{AreTextsOf}
 use Rattle.cli_console.specs.Sinks.{Writes, more_written, nothing_written}
-use Rattle.cli_readings.specs.Sequences.{AreTexts, count_of, counted_joined, first_after, is_none, more_for, one_text, texts_joined}
+use Rattle.cli_console.specs.Sequences.{AreTexts, between, count_of, counted_joined, first_after, is_none, more_for, one_text, texts_joined}
 use Rattle.cli_readings.specs.declared.list.ListText.{ListText}
 
 -- ---- a record
@@ -38,10 +38,6 @@ abbrev pub IsHeaderOf : Archive → (are_asked : Bool) → RecordEntry → Liste
 IsHeaderOf a are_asked e Unasked = are_asked ≡ false
 IsHeaderOf a are_asked e Destroyed = (are_asked ≡ true) × (e.destroyed ≡ true)
 IsHeaderOf a are_asked e (Texts headers) = (are_asked ≡ true) × AreTextsOf a e.number headers.now
-
--- what stands between two objects of JSON, and before the first one
-abbrev pub between : (is_first : Bool) → List ℕ
-between is_first = if is_first then codes "\n" else codes ",\n"
 
 -- A RECORD IN A FORMAT: as a line, as a row of CSV, as an object of JSON, of which nothing else is claimed, or by its number;
 -- where the records are only counted, nothing

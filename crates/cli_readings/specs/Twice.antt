@@ -21,8 +21,9 @@ use Rattle.cli_console.specs.Sinks.{Writes, more_written, nothing_written}
 use Rattle.cli_history.specs.Seals.{known, length_and_sum}
 use Rattle.cli_history.specs.declared.seals.Seals.{Seals}
 use Rattle.cli_texts.specs.Sums.{shown_sum}
-use Rattle.cli_readings.specs.Lists.{HasText, IsListedAs, Lists, PushesRow, between, end_of, head_of, whole_text}
-use Rattle.cli_readings.specs.Sequences.{AreTexts, count_of, counted_joined, first_after, is_none, more_for, not_first, one_text, texts_joined}
+use Rattle.cli_readings.specs.Lists.{HasText, IsListedAs, Lists, PushesRow, end_of, head_of, whole_text}
+use Rattle.cli_console.specs.Sequences.{AreTexts, between, count_of, counted_joined, first_after, is_none, more_for, not_first, one_text}
+use Rattle.cli_console.specs.Sequences.{texts_joined}
 use Rattle.cli_readings.specs.Shows.{IsEntryOf}
 use Rattle.cli_readings.specs.declared.list.ListText.{ListText}
 use Rattle.cli_readings.specs.declared.twice.Grouping.{Grouping}

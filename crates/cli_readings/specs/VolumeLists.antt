@@ -6,7 +6,7 @@ use Rattle.record_archive.specs.Archive.{Archive}
 use Rattle.record_choice.specs.declared.entry.RecordEntry.{RecordEntry}
 use Rattle.cli_console.specs.Sinks.{Writes}
 use Rattle.cli_readings.specs.Lists.{AreListedAs, HasText, end_of, head_of}
-use Rattle.cli_readings.specs.Sequences.{more_for}
+use Rattle.cli_console.specs.Sequences.{more_for}
 use Rattle.cli_readings.specs.declared.volume_lists.VolumeList.{VolumeList}
 
 -- the same of records of a volume, whose number stands before theirs

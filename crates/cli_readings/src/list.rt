@@ -6,11 +6,12 @@ ghost use Rattle.record_choice.specs.Reads.{OnlyReads};
 ghost use Rattle.cli_console.specs.Headers.{AreTextsOf};
 ghost use Rattle.cli_console.specs.Finds.{IsAtEnd, IsBounded, TakesThese, found_ahead, found_in};
 ghost use Rattle.cli_readings.specs.Ends.{IsEnded};
-ghost use Rattle.cli_readings.specs.Lists.{HasText, IsHeaderOf, IsRowOf, IsTextOf, Lists, PushesRow, WritesList, between, end_of, head_of, more_listed, none_listed};
+ghost use Rattle.cli_readings.specs.Lists.{HasText, IsHeaderOf, IsRowOf, IsTextOf, Lists, PushesRow, WritesList, end_of, head_of, more_listed, none_listed};
+ghost use Rattle.cli_console.specs.Sequences.{between};
 ghost use Rattle.cli_console.specs.Sinks.{Writes};
 
 use cli_choice::Questions;
-use cli_console::{Failure, Reader, Search, Sink, StandardOutput, message_of};
+use cli_console::{Failure, Reader, Search, Sink, StandardOutput, message_of, text_between};
 use cli_texts::{
     Headers, LIST_HEADER, LIST_HEADER_WITH_TEXTS, ListedHeaders, Row, headers_of, json_object,
     listed_line, listed_row, number_text,
@@ -55,13 +56,6 @@ pub(crate) fn headers_of_record<R: Repository<Fault = StoreFault>>(
     }
     let message = message_of(rt, archive, entry)?;
     Ok(Some(headers_of(rt.alloc(), message.as_slice())?))
-}
-
-/// What stands before an object of JSON.
-pub(crate) fn text_between(is_first: bool) -> &'static str
-    ensures { result.now ≡ between is_first }
-{
-    if is_first { "\n" } else { ",\n" }
 }
 
 /// A record as a JSON object, after what stands between it and the one before.

@@ -10,8 +10,10 @@ ghost use Rattle.cli_readings.specs.Shows.{IsEntryOf};
 ghost use Rattle.cli_readings.specs.Twice.{AddsBeside, AddsGroups, AreCapturedTwice, Gathers, IsKeyOf, WritesTwice, after_group, before_group, beside_record, head_beside, more_gathered, none_gathered, sum_text as sum_text_of};
 
 use crate::groups::{Group, Groups, SealKey, Sealed};
-use crate::list::{ListText, headers_of_record, text_between};
-use cli_console::{Failure, Reader, Sink, StandardOutput, message_of, read_chosen};
+use crate::list::{ListText, headers_of_record};
+use cli_console::{
+    Failure, Reader, Sink, StandardOutput, message_of, read_chosen, text_between,
+};
 use cli_history::Seals;
 use cli_texts::{Headers, LIST_HEADER, LIST_HEADER_WITH_TEXTS, ListedHeaders, sum_of};
 use command_lines::archives::{Format, Listing};

@@ -1,8 +1,10 @@
 //! What is read of histories.
 
 use crate::archives::Work;
-use cli_console::{Failure, Status, write_text};
-use cli_history::{judge_history, open_history, open_noted, write_certificates, write_history};
+use cli_console::{Failure, StandardOutput, Status, write_text};
+use cli_history::{
+    HistoryText, judge_history, open_history, open_noted, write_certificates, write_history,
+};
 use cli_readings::{Contents, write_contents};
 use command_lines::archives::{HistoryAsked, TypedNumbers};
 use record_noted::{NotedStore, Opened};
@@ -12,26 +14,43 @@ use tool_texts::Shown;
 
 /// What is read of a history.
 #[derive(Drop)]
-pub enum ReadHistory<'a> {
+pub enum ReadHistory<'t, 'o, 'a> {
+    /// Prints the events of a store that is one file.
     Print(HistoryAsked<'a>),
-    Certificates(Vec<TypedNumbers>),
+    /// Prints the events of a volume behind those of the volumes before it.
+    Add {
+        volume: u32,
+        asked: HistoryAsked<'a>,
+        text: &'t mut HistoryText<StandardOutput<'o>>,
+    },
+    /// Prints the certificates of records, which may be those of a volume.
+    Certificates {
+        volume: Option<u32>,
+        numbers: Vec<TypedNumbers>,
+    },
 }
 
-impl ReadHistory<'_> {
+impl ReadHistory<'_, '_, '_> {
     /// Does it.
-    fn perform<S: Alter>(
-        &self,
-        rt: &HostRuntime,
-        noted: &mut NotedStore<S>,
-    ) -> Result<(), Failure> {
+    fn perform<S: Alter>(self, rt: &HostRuntime, noted: &mut NotedStore<S>) -> Result<(), Failure> {
         match self {
-            ReadHistory::Print(asked) => write_history(rt, noted, asked),
-            ReadHistory::Certificates(numbers) => write_certificates(rt, noted, numbers.as_slice()),
+            ReadHistory::Print(asked) => write_history(rt, noted, &asked),
+            ReadHistory::Add {
+                volume,
+                asked,
+                text,
+            } => {
+                let printed = text.add_history(rt, noted, Some(volume), &asked)?;
+                printed.end(rt)
+            }
+            ReadHistory::Certificates { volume, numbers } => {
+                write_certificates(rt, noted, volume, numbers.as_slice())
+            }
         }
     }
 }
 
-impl Work for ReadHistory<'_> {
+impl Work for ReadHistory<'_, '_, '_> {
     type Answer = ();
 
     fn work<S: Alter>(

@@ -7,9 +7,9 @@
 //! - `titles`: those of classes;
 //! - `drafts`: new archives, which get their places once they are found whole;
 //! - `volumes`: what is done over an archive of volumes; `volume_row`: these, one after another; `volume_numbers`: numbers that are
-//!   typed with a volume, or without; `volume_lists`, `volume_checks`, `volume_changes` and `volume_refilings`: subcommands over them;
-//!   `volume_days`: by which days the clock is judged where the last one has no record; `rolling`: archives of volumes, and volumes, that
-//!   begin;
+//!   typed with a volume, or without; `volume_lists`, `volume_histories`, `volume_checks`, `volume_changes` and `volume_refilings`:
+//!   subcommands over them; `volume_days`: by which days the clock is judged where the last one has no record; `rolling`: archives of
+//!   volumes, and volumes, that begin;
 //! - `copy`: a new archive with all that another one has;
 //! - `reports`: why something was not done, for a person and as a status;
 //! - `program`: the command line, and what it asks for.
@@ -36,6 +36,7 @@ mod titles;
 mod volume_changes;
 mod volume_checks;
 mod volume_days;
+mod volume_histories;
 mod volume_lists;
 mod volume_numbers;
 mod volume_refilings;

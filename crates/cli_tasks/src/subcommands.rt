@@ -15,7 +15,7 @@ use crate::imports::import;
 use crate::rolling::{Capturing, create_volumes, place_for_capture, place_for_intake};
 use crate::titles::give_titles;
 use crate::volume_days::Earlier;
-use crate::volume_numbers::{choice_in_file, number_in_file};
+use crate::volume_numbers::{choice_in_file, history_in_file, number_in_file, numbers_in_file};
 use crate::volumes::{execute_over, is_over_volumes};
 use choice_words::TypedChoice;
 use class_plan::Date;
@@ -491,7 +491,10 @@ fn history<A: Archives>(
             require_reasons(rt, archives, store, Author::of(rt, told)?, reasons)
         }
         HistoryTask::AcceptFound => accept_found(rt, archives, store, Author::of(rt, told)?),
-        HistoryTask::Print(asked) => lend(rt, archives, store, ReadHistory::Print(asked)),
+        HistoryTask::Print(typed) => {
+            let asked = history_in_file(rt, typed)?;
+            lend(rt, archives, store, ReadHistory::Print(asked))
+        }
     }
 }
 
@@ -550,7 +553,11 @@ fn execute_at<'a, A: Archives>(
         }
         Command::History(task) => history(rt, archives, store, task, told),
         Command::Certificates { numbers } => {
-            lend(rt, archives, store, ReadHistory::Certificates(numbers))
+            let work = ReadHistory::Certificates {
+                volume: None,
+                numbers: numbers_in_file(rt, numbers)?,
+            };
+            lend(rt, archives, store, work)
         }
         Command::Chosen(typed, task) => { on_typed(rt, archives, store, typed, &task, told) }
     }

@@ -1,41 +1,26 @@
 //! Numbers of records that are typed with a volume, or without: which of the two is right, the archive says.
 
-ghost use Rattle.std.specs.Prelude.{◌≡◌, ◌≤◌, ℕ, IfErr, IfOk, None, OnOk, Some};
-ghost use Rattle.choice_words.specs.Typed.{first_above, first_alone, first_of_volumes};
+ghost use Rattle.std.specs.Prelude.{◌≡◌, ◌≤◌, [], ℕ, IfErr, IfOk, None, OnOk, Some};
+ghost use Rattle.std.specs.List.{find};
+ghost use Rattle.choice_words.specs.Typed.{first_above, first_alone, first_of_volumes, first_or, is_above};
 ghost use Rattle.cli_console.specs.Failures.{IsToldAs};
 ghost use Rattle.cli_console.specs.declared.failure.Status.TheVariants.{BadData, Usage};
 ghost use Rattle.cli_tasks.specs.Numbers.{IsRefusedIn};
 
-use choice_words::{TypedChoice, VolumeNumbers};
+use choice_words::{TypedChoice, VolumeNumbers, above_in};
 use cli_console::{Failure, Status, put_typed};
-use command_lines::archives::{Choice, TypedNumber, TypedNumbers};
+use command_lines::archives::{
+    Choice, HistoryAsked, Numbers, TypedHistory, TypedNumber, TypedNumbers,
+};
 use std::alloc::{AllocError, Global};
 use tool_texts::{Shown, put};
 
-/// Whether numbers are all that a volume can have.
-fn are_all(numbers: TypedNumbers) -> bool {
-    match numbers {
-        TypedNumbers::One(_) => false,
-        TypedNumbers::Range { first, last } => first == 1 && last == u32::MAX,
-    }
-}
-
-/// Numbers with their volume, as they are typed.
-fn typed_in(alloc: Global, typed: VolumeNumbers) -> Result<Shown, AllocError> {
-    let mut text = Shown::new(alloc);
-    if are_all(typed.numbers) {
-        put!(text; value(&typed.volume) "/")?;
-    } else {
-        put_typed(&mut text, Some(typed.volume), typed.numbers)?;
-    }
-    Ok(text)
-}
-
 /// That a store in one file has no volumes, and what is typed instead.
 fn no_volumes_words(alloc: Global, typed: VolumeNumbers) -> Result<Shown, AllocError> {
-    let mut text = typed_in(alloc, typed)?;
+    let mut text = Shown::new(alloc);
+    put_typed(&mut text, Some(typed.volume), typed.numbers)?;
     text.words(": this store is one file, in which a record has no volume")?;
-    if !are_all(typed.numbers) {
+    if !typed.numbers.is_all() {
         text.words("; type ")?;
         put_typed(&mut text, None, typed.numbers)?;
     }
@@ -52,7 +37,8 @@ fn no_number_words(alloc: Global, typed: TypedNumbers) -> Result<Shown, AllocErr
 
 /// That an archive has no volume of a number.
 fn no_volume_words(alloc: Global, typed: VolumeNumbers, last: u32) -> Result<Shown, AllocError> {
-    let mut text = typed_in(alloc, typed)?;
+    let mut text = Shown::new(alloc);
+    put_typed(&mut text, Some(typed.volume), typed.numbers)?;
     put!(text; ": no volume " value(&typed.volume) " in the archive; its last one is " value(&last))?;
     Ok(text)
 }
@@ -70,6 +56,42 @@ pub fn choice_in_file<'a>(rt: &HostRuntime, typed: TypedChoice<'a>) -> Result<Ch
             Ok(alone)
         }
     }
+}
+
+/// Finds that no number is typed with a volume, in a store that is one file. `Usage` where one is.
+fn judge_alone(rt: &HostRuntime, of_volumes: &[VolumeNumbers]) -> Result<(), Failure>
+    ensures none { OnOk result (of_volumes.now ≡ []) }
+    ensures refused { IfErr result (IsToldAs Usage) }
+{
+    match of_volumes {
+        [first, ..] => { Err(Failure::shown(Status::Usage, no_volumes_words(rt.alloc(), *first))) }
+        [] => Ok(()),
+    }
+}
+
+/// Numbers that are typed, in a store that is one file. `Usage` where one is typed with a volume.
+pub fn numbers_in_file(rt: &HostRuntime, typed: Numbers) -> Result<Vec<TypedNumbers>, Failure>
+    ensures alone { IfOk result (λ v. v ≡ typed.alone) }
+    ensures none { OnOk result (typed.of_volumes.items ≡ []) }
+    ensures refused { IfErr result (IsToldAs Usage) }
+{
+    judge_alone(rt, typed.of_volumes.as_slice())?;
+    let Numbers { alone, .. } = typed;
+    Ok(alone)
+}
+
+/// What is asked of the history of a store that is one file. `Usage` where a number is typed with a volume.
+pub fn history_in_file<'a>(
+    rt: &HostRuntime,
+    typed: TypedHistory<'a>,
+) -> Result<HistoryAsked<'a>, Failure>
+    ensures alone { IfOk result (λ asked. asked ≡ typed.entry.alone) }
+    ensures none { OnOk result (typed.entry.of_volumes.items ≡ []) }
+    ensures refused { IfErr result (IsToldAs Usage) }
+{
+    judge_alone(rt, typed.of_volumes.as_slice())?;
+    let TypedHistory { alone, .. } = typed;
+    Ok(alone)
 }
 
 /// The number of a record of a store that is one file. `Usage` where it is typed with a volume.
@@ -91,6 +113,39 @@ pub fn number_in_file<'a>(
     Err(Failure::shown(Status::Usage, no_volumes_words(rt.alloc(), numbers)))
 }
 
+/// The first of some numbers.
+fn first_of(numbers: &[TypedNumbers]) -> Option<TypedNumbers>
+    ensures { result ≡ first_or None numbers.now }
+{
+    match numbers {
+        [first, ..] => Some(*first),
+        [] => None,
+    }
+}
+
+/// `Usage` for numbers without a volume, and else `BadData` for those of a volume after the last one.
+fn judge_found(
+    rt: &HostRuntime,
+    last: u32,
+    alone: Option<TypedNumbers>,
+    above: Option<VolumeNumbers>,
+) -> Result<(), Failure>
+    ensures none { OnOk result (alone ≡ None) }
+    ensures within { OnOk result (above ≡ None) }
+    ensures refused { IfErr result (IsRefusedIn alone) }
+{
+    if let Some(numbers) = alone {
+        return Err(Failure::shown(Status::Usage, no_number_words(rt.alloc(), numbers)));
+    }
+    match above {
+        Some(numbers) => Err(Failure::shown(
+            Status::BadData,
+            no_volume_words(rt.alloc(), numbers, last),
+        )),
+        None => Ok(()),
+    }
+}
+
 /// Finds that each number of a choice that is typed has its volume, which is none after the last one of an archive. `Usage` where
 /// one has no volume, and `BadData` where there is no such volume.
 pub fn judge_numbers(rt: &HostRuntime, last: u32, typed: &TypedChoice<'_>) -> Result<(), Failure>
@@ -98,16 +153,21 @@ pub fn judge_numbers(rt: &HostRuntime, last: u32, typed: &TypedChoice<'_>) -> Re
     ensures within { OnOk result (first_above last typed.now ≡ None) }
     ensures refused { IfErr result (IsRefusedIn (first_alone typed.now)) }
 {
-    if let Some(numbers) = typed.first_alone() {
-        return Err(Failure::shown(Status::Usage, no_number_words(rt.alloc(), numbers)));
-    }
-    match typed.first_above(last) {
-        Some(numbers) => Err(Failure::shown(
-            Status::BadData,
-            no_volume_words(rt.alloc(), numbers, last),
-        )),
-        None => Ok(()),
-    }
+    judge_found(rt, last, typed.first_alone(), typed.first_above(last))
+}
+
+/// The same of numbers that are typed by themselves: those without a volume, and those with one.
+pub fn judge_typed(
+    rt: &HostRuntime,
+    last: u32,
+    alone: &[TypedNumbers],
+    of_volumes: &[VolumeNumbers],
+) -> Result<(), Failure>
+    ensures none { OnOk result (alone.now ≡ []) }
+    ensures within { OnOk result (find (is_above last) of_volumes.now ≡ None) }
+    ensures refused { IfErr result (IsRefusedIn (first_or None alone.now)) }
+{
+    judge_found(rt, last, first_of(alone), above_in(of_volumes, last))
 }
 
 /// The volume of a record, which is none after the last one of an archive. `Usage` where its number is typed without one, and

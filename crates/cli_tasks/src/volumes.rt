@@ -7,6 +7,7 @@ use crate::archives::{Archives, lend};
 use crate::subcommands::{CheckRules, Survey, WritePlan, show, why};
 use crate::volume_changes::{change_holds, release_all};
 use crate::volume_checks::check;
+use crate::volume_histories::{print_certificates, print_histories, write_holds};
 use crate::volume_lists::list;
 use crate::volume_refilings::refile;
 use crate::volume_row::Volumes;
@@ -14,7 +15,7 @@ use choice_words::TypedChoice;
 use cli_choice::Change;
 use cli_console::{Failure, Status};
 use cli_volumes::{has_volumes, path_of};
-use command_lines::archives::{Attribution, ChosenTask, Command, RulesChecked};
+use command_lines::archives::{Attribution, ChosenTask, Command, HistoryTask, RulesChecked};
 use std::alloc::AllocError;
 
 /// The failure of what is not done over an archive of volumes.
@@ -77,6 +78,21 @@ fn on_volumes<'a, A: Archives>(
     }
 }
 
+/// Prints the histories of the volumes of a folder. `Usage` for what changes one.
+fn history<A: Archives>(
+    rt: &HostRuntime,
+    archives: &A,
+    volumes: Volumes<'_>,
+    task: &HistoryTask<'_>,
+) -> Result<(), Failure> {
+    match task {
+        HistoryTask::Print(typed) => print_histories(rt, archives, volumes, typed),
+        HistoryTask::Begin | HistoryTask::Reasons(_) | HistoryTask::AcceptFound => {
+            Err(not_over(rt, volumes.folder))
+        }
+    }
+}
+
 /// Does what a command asks for over the archive of volumes in a folder. `Usage` where it is one that is done in one volume.
 #[tactic(auto, using(crate::proofs::DoneLemmas::nothing_said))]
 pub fn execute_over<A: Archives>(
@@ -105,6 +121,9 @@ pub fn execute_over<A: Archives>(
             let path = volumes.path_of_record(rt, asked.record)?;
             why(rt, archives, path.as_str(), &asked)
         }
+        Command::Holds { is_json } => write_holds(rt, archives, volumes, is_json),
+        Command::History(task) => history(rt, archives, volumes, &task),
+        Command::Certificates { numbers } => print_certificates(rt, archives, volumes, &numbers),
         Command::Chosen(typed, task) => on_volumes(rt, archives, volumes, &typed, &task, told),
         Command::ReleaseAll { name, is_agreed } => {
             release_all(rt, archives, volumes, name, is_agreed, told)
@@ -116,10 +135,7 @@ pub fn execute_over<A: Archives>(
         | Command::Import(_)
         | Command::Copy { .. }
         | Command::Dispose(_)
-        | Command::Holds { .. }
         | Command::Twice(_)
-        | Command::SetTitles { .. }
-        | Command::History(_)
-        | Command::Certificates { .. } => Err(not_over(rt, folder)),
+        | Command::SetTitles { .. } => Err(not_over(rt, folder)),
     }
 }

@@ -106,14 +106,20 @@ header_members_plain listed.Unasked = tt
 header_members_plain listed.Destroyed = (refl, (refl, (refl, tt)))
 header_members_plain (listed.Texts headers) = (refl, (refl, (refl, tt)))
 
-volume_members_plain : (volume : Option ℕ) (headers : ListedHeaders) → ArePlain (volume_members volume ++ header_members headers)
-volume_members_plain None headers = header_members_plain headers
-volume_members_plain (Some v) headers = (refl, header_members_plain headers)
+volume_members_plain : (volume : Option ℕ) (more : List Member) → ArePlain more → ArePlain (volume_members volume ++ more)
+volume_members_plain None more are = are
+volume_members_plain (Some v) more are = (refl, are)
+
+volume_plain : (volume : Option ℕ) → ArePlain (volume_members volume)
+volume_plain None = tt
+volume_plain (Some v) = (refl, tt)
 
 pub record_plain : (r : Row) (headers : ListedHeaders) → has_float (record_value r headers) ≡ false
 record_plain r headers =
+    let holds = texts_plain (map (λ h. h.items) r.holds.now) in
+    let rest = volume_members_plain r.volume (header_members headers) (header_members_plain headers) in
     with_plain (record_members r ++ (volume_members r.volume ++ header_members headers)) no_members
-    (refl, (refl, (refl, (due_plain r.due, (texts_plain (map (λ h. h.items) r.holds.now), (refl, volume_members_plain r.volume headers)))))) refl
+    (refl, (refl, (refl, (due_plain r.due, (holds, (refl, rest)))))) refl
 
 pub title_plain : (t : ListedTitle) → has_float (title_value t) ≡ false
 title_plain t = with_plain (title_members t) no_members (refl, (refl, (refl, tt))) refl
@@ -121,7 +127,9 @@ title_plain t = with_plain (title_members t) no_members (refl, (refl, (refl, tt)
 beginning_plain : (beginning : Option CaseBeginning) (began : Data) → IsBeginningValue beginning began → has_float began ≡ false
 beginning_plain None began is = ap has_float is
 beginning_plain (Some b) began is =
-    ap has_float is.2 ∙ with_plain (beginning_members b is.0) no_members (refl, (refl, (refl, (refl, (refl, tt))))) refl
+    ap has_float is.2
+    ∙ with_plain (beginning_members b is.0 ++ volume_members b.volume) no_members
+    (refl, (refl, (refl, (refl, (refl, volume_plain b.volume))))) refl
 
 pub case_plain : (c : ListedCase) (value : Data) → IsCaseValue c value → has_float value ≡ false
 case_plain c value is =
@@ -140,8 +148,12 @@ fields_plain : (fields : List Named) → ArePlain (map field_member fields)
 fields_plain [] = tt
 fields_plain (f ∷ fs) = (field_plain f.value, fields_plain fs)
 
-event_members_plain : (e : ListedEvent) (moment : List ℕ) → ArePlain (event_members e moment ++ map field_member e.fields.now)
-event_members_plain e moment = (refl, (refl, (refl, (refl, (refl, (refl, (refl, (refl, fields_plain e.fields.now))))))))
+event_members_plain : (e : ListedEvent) (moment : List ℕ)
+    → ArePlain (event_members e moment ++ (volume_members e.volume ++ map field_member e.fields.now))
+event_members_plain e moment =
+    let rest = volume_members_plain e.volume (map field_member e.fields.now) (fields_plain e.fields.now) in
+    (refl, (refl, (refl, (refl, (refl, (refl, (refl, (refl, rest))))))))
 
 pub event_plain : (e : ListedEvent) (moment : List ℕ) → has_float (event_value e moment) ≡ false
-event_plain e moment = with_plain (event_members e moment ++ map field_member e.fields.now) no_members (event_members_plain e moment) refl
+event_plain e moment =
+    with_plain (event_members e moment ++ (volume_members e.volume ++ map field_member e.fields.now)) no_members (event_members_plain e moment) refl

@@ -4,6 +4,8 @@ pub mod MomentLemmas
 pub mod TextLemmas
 pub mod FieldLemmas
 mod FieldRows
+mod HistoryRows
+pub mod HistoryLineLemmas
 mod DueRows
 mod DueLemmas
 mod JsonLemmas

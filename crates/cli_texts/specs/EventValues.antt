@@ -7,7 +7,7 @@ use Rattle.cli_texts.specs.declared.events.Field.{Field}
 use Rattle.cli_texts.specs.declared.events.Field.TheVariants as field
 use Rattle.cli_texts.specs.declared.events.ListedEvent.{ListedEvent}
 use Rattle.cli_texts.specs.declared.events.Named.{Named}
-use Rattle.cli_texts.specs.Json.{Member, object_of, shown_value, texts_value}
+use Rattle.cli_texts.specs.Json.{Member, object_of, shown_value, texts_value, volume_members}
 
 -- all numbers from a first to a last
 abbrev pub numbers_value : (first last : ℕ) → Data
@@ -38,6 +38,6 @@ event_members e moment =
     ∷ (codes "mark", shown_value e.mark.now)
     ∷ []
 
--- THE OBJECT OF AN EVENT, with the fields of its deed
+-- THE OBJECT OF AN EVENT, with the number of its volume, where it has one, and the fields of its deed
 abbrev pub event_value : ListedEvent → (moment : List ℕ) → Data
-event_value e moment = object_of (event_members e moment ++ map field_member e.fields.now)
+event_value e moment = object_of (event_members e moment ++ (volume_members e.volume ++ map field_member e.fields.now))

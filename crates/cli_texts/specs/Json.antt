@@ -119,7 +119,8 @@ beginning_members b moment =
 -- the value of how it began: null where no history tells it
 abbrev pub IsBeginningValue : Option CaseBeginning → Data → Type 0
 IsBeginningValue None value = value ≡ null
-IsBeginningValue (Some b) value = (moment : List ℕ) × IsMomentText b.moment moment × (value ≡ object_of (beginning_members b moment))
+IsBeginningValue (Some b) value = (moment : List ℕ) × IsMomentText b.moment moment
+    × (value ≡ object_of (beginning_members b moment ++ volume_members b.volume))
 
 -- with the value of how it began
 abbrev pub case_members : ListedCase → (began : Data) → List Member
@@ -129,3 +130,7 @@ case_members c began =
 -- THE OBJECT OF A CASE
 abbrev pub IsCaseValue : ListedCase → Data → Type 0
 IsCaseValue c value = (began : Data) × IsBeginningValue c.beginning began × (value ≡ object_of (case_members c began))
+
+-- THE TEXT OF THAT OBJECT
+abbrev pub IsCaseObject : ListedCase → List ℕ → Type 0
+IsCaseObject c text = (value : Data) × IsCaseValue c value × (text ≡ json_text value)

@@ -5,6 +5,7 @@ pub mod Moments
 pub mod Sums
 pub mod Words
 pub mod Lines
+pub mod HistoryLines
 pub mod Rows
 pub mod Cases
 pub mod Json

@@ -18,7 +18,7 @@ abbrev pub due_words : Option Date → List ℕ
 due_words None = words (codes "never")
 due_words (Some date) = words (date_text date)
 
--- THE NUMBER OF A RECORD: its own, as 17, after that of its volume where it has one, as 3/17
+-- THE NUMBER OF A RECORD, or of an event: its own, as 17, after that of its volume where it has one, as 3/17
 abbrev pub record_number : (volume : Option ℕ) → ℕ → List ℕ
 record_number None n = number n
 record_number (Some v) n = number v ++ words (codes "/") ++ number n
@@ -85,9 +85,10 @@ destroyed_record c =
 unfoldable pub destroyed_message : Certificate → List ℕ
 destroyed_message c = words (codes " octets ") ++ number c.octets ++ words (codes " sha256 ") ++ words c.sum.now
 
-abbrev pub kept_words : Option ℕ → List ℕ
-kept_words None = []
-kept_words (Some keeper) = words (codes " message kept by record ") ++ number keeper
+-- which record of the same volume keeps the message
+abbrev pub kept_words : (volume keeper : Option ℕ) → List ℕ
+kept_words volume None = []
+kept_words volume (Some keeper) = words (codes " message kept by record ") ++ record_number volume keeper
 
 -- that the message was not the one that follows
 unfoldable pub other_words : List ℕ
@@ -112,8 +113,8 @@ altered_words is_altered =
 -- A CERTIFICATE, with the text of its moment
 abbrev pub certificate : Certificate → (moment : List ℕ) → List ℕ
 certificate c moment =
-    destroyed_record c ++ destroyed_message c ++ words (codes " at ") ++ words moment ++ kept_words c.kept_by ++ replaced_words c.captured
-    ++ 10 ∷ []
+    destroyed_record c ++ destroyed_message c ++ words (codes " at ") ++ words moment ++ kept_words None c.kept_by
+    ++ replaced_words c.captured ++ 10 ∷ []
 
 -- ---- a certificate from a history
 
@@ -125,8 +126,8 @@ class_words (Some path) title = words (codes " class ") ++ name path.now ++ titl
 -- the record, and the day by which it was due
 unfoldable pub told_record : ToldCertificate → List ℕ
 told_record c =
-    words (codes "destroyed record ") ++ number c.number ++ class_words c.path c.title ++ words (codes " as due by ") ++ words c.day.now
-    ++ words (codes " (") ++ escaped c.schedule.now ++ words (codes ")")
+    words (codes "destroyed record ") ++ record_number c.volume c.number ++ class_words c.path c.title ++ words (codes " as due by ")
+    ++ words c.day.now ++ words (codes " (") ++ escaped c.schedule.now ++ words (codes ")")
 
 -- the length and the sum of its message, where they are known
 abbrev pub seal_words : Option (ℕ × Bor (List ℕ)) → List ℕ
@@ -135,7 +136,9 @@ seal_words (Some seal) = words (codes " octets ") ++ number seal.0 ++ words (cod
 
 -- when it was destroyed, by whom and by which event
 unfoldable pub told_deed : ToldCertificate → (moment : List ℕ) → List ℕ
-told_deed c moment = words (codes " at ") ++ words moment ++ words (codes " by ") ++ free_words c.who.now ++ words (codes " event ") ++ number c.event
+told_deed c moment =
+    words (codes " at ") ++ words moment ++ words (codes " by ") ++ free_words c.who.now ++ words (codes " event ")
+    ++ record_number c.volume c.event
 
 abbrev pub reason_words : List ℕ → List ℕ
 reason_words [] = []
@@ -144,5 +147,5 @@ reason_words (b ∷ bs) = words (codes " : ") ++ free_words (b ∷ bs)
 -- A CERTIFICATE FROM A HISTORY, with the text of its moment
 abbrev pub told_certificate : ToldCertificate → (moment : List ℕ) → List ℕ
 told_certificate c moment =
-    told_record c ++ seal_words c.seal ++ told_deed c moment ++ kept_words c.kept_by ++ altered_words c.is_altered
+    told_record c ++ seal_words c.seal ++ told_deed c moment ++ kept_words c.volume c.kept_by ++ altered_words c.is_altered
     ++ reason_words c.reason.now ++ 10 ∷ []

@@ -1,22 +1,24 @@
 //! Cases, as lines and as JSON. A case is all that is kept by the hold of one name.
 
 ghost use Rattle.std.specs.Prelude.{◌≡◌, ◌++◌, Some, IfOk, OnOk, string_bytes};
-ghost use Rattle.serde_json.specs.Data.{Data};
-ghost use Rattle.serde_json.specs.View.{view};
-ghost use Rattle.cli_texts.specs.Json.{IsBeginningValue, IsCaseValue, json_text as json_text_of};
+ghost use Rattle.serde_json.specs.Data.{no_members};
+ghost use Rattle.serde_json.specs.View.{members_view, view};
+ghost use Rattle.cli_texts.specs.Json.{IsBeginningValue, IsCaseObject, IsCaseValue, beginning_members as beginning_members_of, with_members};
 ghost use Rattle.cli_texts.specs.Cases.{beginning_words, began_word as began_word_for, case_words, IsCaseLine};
 
 use crate::certificates::moment_text;
 use crate::escapes::shown;
 use crate::events::{put_reason, put_text};
-use crate::json::json_text;
-use serde_json::{Value, json};
+use crate::json::{add_volume, json_text, put_shown};
+use serde_json::{Map, Value, json};
 use std::alloc::{AllocError, Global};
 use tool_texts::{Shown, put};
 
 /// How a case began, as a history tells it.
 #[derive(Clone, Copy)]
 pub struct CaseBeginning<'a> {
+    /// The number of the volume whose history tells it, in an archive of volumes.
+    pub volume: Option<u32>,
     /// The number of the event.
     pub event: u32,
     /// In seconds since 1970-01-01T00:00:00Z.
@@ -86,20 +88,38 @@ pub fn case_line(alloc: Global, case: &ListedCase<'_>) -> Result<Shown, AllocErr
     Ok(line)
 }
 
-/// How a case began, as a value.
+/// The members of how a case began but for the volume, with the text of that moment.
+fn beginning_members(
+    alloc: Global,
+    beginning: &CaseBeginning<'_>,
+    moment: String,
+) -> Result<Map<String, Value>, AllocError>
+    ensures { IfOk result (λ m. members_view m.entries
+        ≡ with_members (beginning_members_of beginning.now (string_bytes moment)) no_members) }
+{
+    let mut members = Map::new(alloc);
+    serde_json::put(&mut members, alloc, "event", Value::from(beginning.event))?;
+    serde_json::put(&mut members, alloc, "moment", Value::from(moment))?;
+    put_shown(alloc, &mut members, "who", beginning.who)?;
+    put_shown(alloc, &mut members, "reason", beginning.reason)?;
+    serde_json::put(
+        &mut members,
+        alloc,
+        "found",
+        Value::from(beginning.is_found),
+    )?;
+    Ok(members)
+}
+
+/// How a case began, as a value. In a volume it has the number of the volume as `volume`.
+#[tactic(auto, using(crate::proofs::JsonLemmas::with_more))]
 fn beginning_value(alloc: Global, beginning: &CaseBeginning<'_>) -> Result<Value, AllocError>
     ensures { IfOk result (λ v. IsBeginningValue (Some beginning.now) (view v)) }
 {
     let moment = moment_text(alloc, beginning.moment)?;
-    let who = shown(alloc, beginning.who)?;
-    let reason = shown(alloc, beginning.reason)?;
-    json!(in alloc; {
-        "event": beginning.event,
-        "moment": moment,
-        "who": who,
-        "reason": reason,
-        "found": beginning.is_found
-    })
+    let mut members = beginning_members(alloc, beginning, moment)?;
+    add_volume(alloc, &mut members, beginning.volume)?;
+    Ok(Value::from(members))
 }
 
 /// How a case began, as a value; null where no history tells it.
@@ -130,8 +150,7 @@ fn case_value(alloc: Global, case: &ListedCase<'_>) -> Result<Value, AllocError>
 /// The only refusal is no memory (99).
 #[tactic(auto, using(crate::proofs::JsonLemmas::case_plain))]
 pub fn case_object(alloc: Global, case: &ListedCase<'_>) -> Result<String, AllocError>
-    ensures { IfOk result
-        (λ t. (value : Data) × IsCaseValue case.now value × (string_bytes t ≡ json_text_of value)) }
+    ensures { IfOk result (λ t. IsCaseObject case.now (string_bytes t)) }
 {
     let object = case_value(alloc, case)?;
     json_text(alloc, &object)

@@ -6,6 +6,7 @@ ghost use Rattle.hex.specs.Hex.{encode_lower};
 ghost use Rattle.cli_texts.specs.Lines.{destroyed_record, destroyed_message, kept_words, other_words, other_message, replaced_words, altered_words, certificate};
 ghost use Rattle.cli_texts.specs.Moments.{two_digits, time_text, day_and_time as day_and_time_of, IsMomentText};
 
+use crate::numbers::put_number;
 use crate::records::put_due;
 use crate::titles::{ClassTitle, put_title};
 use class_plan::{Date, day_of};
@@ -121,12 +122,19 @@ fn put_message(line: &mut Shown, it: &Certificate<'_>) -> Result<(), AllocError>
     put!(line; " octets " value(&it.octets) " sha256 " value(&it.sum))
 }
 
-/// Adds which record keeps the message, if one does.
-pub(crate) fn put_keeper(line: &mut Shown, keeper: Option<u32>) -> Result<(), AllocError>
-    ensures { OnOk result (line.new ≡ line.old ++ kept_words keeper) }
+/// Adds which record of the same volume keeps the message, if one does.
+pub(crate) fn put_keeper(
+    line: &mut Shown,
+    volume: Option<u32>,
+    keeper: Option<u32>,
+) -> Result<(), AllocError>
+    ensures { OnOk result (line.new ≡ line.old ++ kept_words volume keeper) }
 {
     match keeper {
-        Some(keeper) => put!(line; " message kept by record " value(&keeper)),
+        Some(keeper) => {
+            line.words(" message kept by record ")?;
+            put_number(line, volume, keeper)
+        }
         None => Ok(()),
     }
 }
@@ -179,7 +187,7 @@ fn line_with(alloc: Global, it: &Certificate<'_>, moment: &String) -> Result<Sho
     put_record(&mut line, it)?;
     put_message(&mut line, it)?;
     put!(line; " at " value(moment))?;
-    put_keeper(&mut line, it.kept_by)?;
+    put_keeper(&mut line, None, it.kept_by)?;
     put_replaced(&mut line, it)?;
     line.end_line()?;
     Ok(line)

@@ -1,6 +1,6 @@
 //! Events of a history, as JSON and as certificates.
 
-ghost use Rattle.std.specs.Prelude.{◌≡◌, ◌++◌, ◌∷◌, [], ℕ, List, map, IfOk, OnOk, string_bytes};
+ghost use Rattle.std.specs.Prelude.{◌≡◌, ◌++◌, ℕ, List, map, IfOk, OnOk, string_bytes};
 ghost use Rattle.serde_json.specs.Data.{no_members};
 ghost use Rattle.serde_json.specs.View.{members_view, view};
 ghost use Rattle.cli_texts.specs.Json.{json_text as json_text_of, texts_value as texts_value_of, with_members};
@@ -10,7 +10,8 @@ ghost use Rattle.cli_texts.specs.Moments.{IsMomentText};
 ghost use Rattle.cli_texts.specs.Words.{free_words};
 
 use crate::certificates::{moment_text, put_altered, put_keeper};
-use crate::json::{json_text, put_shown, shown_value};
+use crate::json::{add_volume, json_text, put_shown, shown_value};
+use crate::numbers::put_number;
 use crate::titles::{ClassTitle, put_title};
 use serde_json::{Map, Value};
 use std::alloc::{AllocError, Global};
@@ -40,6 +41,8 @@ pub struct Named<'a> {
 /// An event as it is printed.
 #[derive(Clone, Copy)]
 pub struct ListedEvent<'a> {
+    /// The number of the volume whose history tells it, in an archive of volumes.
+    pub volume: Option<u32>,
     pub number: u32,
     /// In seconds since 1970-01-01T00:00:00Z.
     pub moment: u64,
@@ -55,18 +58,6 @@ pub struct ListedEvent<'a> {
     pub line: &'a [u8],
     /// That of the chain up to it.
     pub mark: &'a [u8],
-}
-
-/// The line of an event, and the end of the line: as it is hashed, where no character of it is hidden.
-///
-/// The only refusal is no memory (99).
-pub fn history_line(alloc: Global, line: &[u8]) -> Result<Shown, AllocError>
-    ensures { IfOk result (λ text. text ≡ free_words line.now ++ 10 ∷ []) }
-{
-    let mut text = Shown::new(alloc);
-    put_text(&mut text, line)?;
-    text.end_line()?;
-    Ok(text)
 }
 
 /// Numbers from a first to a last.
@@ -106,7 +97,7 @@ fn field_value(alloc: Global, value: &Field<'_>) -> Result<Value, AllocError>
     }
 }
 
-/// The members of an event's object that come before the fields of its deed, with the text of its moment.
+/// The members of an event's object that come before its volume and the fields of its deed, with the text of its moment.
 fn event_members(
     alloc: Global,
     event: &ListedEvent<'_>,
@@ -145,16 +136,18 @@ fn add_fields(
 }
 
 /// An event as a value, with the text of its moment.
+#[tactic(auto, using(crate::proofs::JsonLemmas::with_more))]
 fn event_value(alloc: Global, event: &ListedEvent<'_>, moment: String) -> Result<Value, AllocError>
     ensures { IfOk result
         (λ v. view v ≡ event_value_of event.now (string_bytes moment)) }
 {
     let mut members = event_members(alloc, event, moment)?;
+    add_volume(alloc, &mut members, event.volume)?;
     add_fields(alloc, &mut members, event.fields)?;
     Ok(Value::from(members))
 }
 
-/// An event as a JSON object, in ASCII, with the fields of its deed.
+/// An event as a JSON object, in ASCII, with the fields of its deed. In a volume it has the number of the volume as `volume`.
 ///
 /// The only refusal is no memory (99).
 #[tactic(auto, using(crate::proofs::JsonLemmas::event_plain))]
@@ -170,6 +163,8 @@ pub fn event_object(alloc: Global, event: &ListedEvent<'_>) -> Result<String, Al
 /// A destruction, as a history tells of it.
 #[derive(Clone, Copy)]
 pub struct ToldCertificate<'a> {
+    /// The number of its volume, whose history tells of it, in an archive of volumes.
+    pub volume: Option<u32>,
     pub number: u32,
     /// The path of its class; none where the archive has no such record.
     pub path: Option<&'a [u8]>,
@@ -225,7 +220,8 @@ fn put_class(
 fn put_told_record(line: &mut Shown, it: &ToldCertificate<'_>) -> Result<(), AllocError>
     ensures { OnOk result (line.new ≡ line.old ++ told_record it.now) }
 {
-    put!(line; "destroyed record " value(&it.number))?;
+    line.words("destroyed record ")?;
+    put_number(line, it.volume, it.number)?;
     put_class(line, it.path, it.title)?;
     put!(line; " as due by " value(&it.day) " (" escaped(it.schedule) ")")
 }
@@ -251,7 +247,8 @@ fn put_told_deed(
 {
     put!(line; " at " value(moment) " by ")?;
     put_text(line, it.who)?;
-    put!(line; " event " value(&it.event))
+    line.words(" event ")?;
+    put_number(line, it.volume, it.event)
 }
 
 /// Adds the reason of a deed, where it has one.
@@ -274,7 +271,7 @@ fn told_line(alloc: Global, it: &ToldCertificate<'_>, moment: &String) -> Result
     put_told_record(&mut line, it)?;
     put_seal(&mut line, it.seal)?;
     put_told_deed(&mut line, it, moment)?;
-    put_keeper(&mut line, it.kept_by)?;
+    put_keeper(&mut line, it.volume, it.kept_by)?;
     put_altered(&mut line, it.is_altered)?;
     put_reason(&mut line, it.reason)?;
     line.end_line()?;
@@ -284,7 +281,7 @@ fn told_line(alloc: Global, it: &ToldCertificate<'_>, moment: &String) -> Result
 /// The line of a certificate from a history: `destroyed record 7 class finance as due by 2030-11-14 (7 years destroy) octets 83
 /// sha256 SUM at 2030-12-01T09:00:00Z by bea event 12`, and its reason after ` : ` where it has one. The class, the length and
 /// the sum are left out where they are not known. The title and the legal basis of the class come after its path, as
-/// `title_line` has them.
+/// `title_line` has them. In a volume the numbers of records and of the event are as `3/7`.
 ///
 /// The only refusal is no memory (99).
 pub fn told_certificate(alloc: Global, it: &ToldCertificate<'_>) -> Result<Shown, AllocError>

@@ -6,7 +6,7 @@ ghost use Rattle.std.specs.List.{list_all};
 ghost use Rattle.serde_json.specs.Data.{put};
 ghost use Rattle.serde_json.specs.View.{members_view, view};
 ghost use Rattle.serde_json.specs.Written.{has_float};
-ghost use Rattle.cli_texts.specs.Json.{ascii_of, ascii_text, is_printable as is_printable_code, json_text as json_text_of, shown_value as shown_value_of, unit_escape};
+ghost use Rattle.cli_texts.specs.Json.{ascii_of, ascii_text, is_printable as is_printable_code, json_text as json_text_of, shown_value as shown_value_of, unit_escape, volume_members, with_members};
 
 use crate::escapes::shown;
 use serde_json::{Map, Value};
@@ -116,4 +116,19 @@ pub(crate) fn put_shown(
 {
     let value = shown_value(alloc, octets)?;
     serde_json::put(members, alloc, name, value)
+}
+
+/// Adds the number of a volume to an object, where there is one.
+pub(crate) fn add_volume(
+    alloc: Global,
+    members: &mut Map<String, Value>,
+    volume: Option<u32>,
+) -> Result<(), AllocError>
+    ensures { OnOk result (members_view members.new.entries
+        ≡ with_members (volume_members volume) (members_view members.old.entries)) }
+{
+    match volume {
+        Some(volume) => serde_json::put(members, alloc, "volume", Value::from(volume)),
+        None => Ok(()),
+    }
 }

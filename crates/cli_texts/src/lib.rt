@@ -7,6 +7,7 @@ mod certificates;
 mod escapes;
 mod events;
 mod headers;
+mod history_lines;
 mod json;
 mod numbers;
 mod plans;
@@ -20,10 +21,9 @@ pub use cases::{CaseBeginning, ListedCase, case_line, case_object};
 pub use certificates::{
     CapturedMessage, Certificate, certificate_line, moment_text, sum_of, sum_text,
 };
-pub use events::{
-    Field, ListedEvent, Named, ToldCertificate, event_object, history_line, told_certificate,
-};
+pub use events::{Field, ListedEvent, Named, ToldCertificate, event_object, told_certificate};
 pub use headers::{Headers, ListedHeaders, headers_of, undecoded_lines};
+pub use history_lines::{NumberPlaces, history_line};
 pub use numbers::{number_text, put_number};
 pub use plans::{due_by, plan_of_text, plan_text};
 pub use records::{Row, captured_line, captured_words, json_object, listed_line};

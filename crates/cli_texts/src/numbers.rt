@@ -1,4 +1,4 @@
-//! The numbers of records.
+//! The numbers of records and of events.
 
 ghost use Rattle.std.specs.Prelude.{◌≡◌, ◌++◌, OnOk, IfOk, string_bytes};
 ghost use Rattle.cli_texts.specs.Rows.{number_field};
@@ -7,7 +7,7 @@ ghost use Rattle.cli_texts.specs.Lines.{record_number};
 use std::alloc::{AllocError, Global};
 use tool_texts::{Shown, put};
 
-/// Adds the number of a record, after that of its volume where it has one: `17`, or `3/17`.
+/// Adds the number of a record, or of an event, after that of its volume where it has one: `17`, or `3/17`.
 pub fn put_number(text: &mut Shown, volume: Option<u32>, number: u32) -> Result<(), AllocError>
     ensures { OnOk result (text.new ≡ text.old ++ record_number volume number) }
 {

@@ -4,11 +4,11 @@ ghost use Rattle.std.specs.Prelude.{◌≡◌, ◌++◌, ◌∷◌, [], flat_map
 ghost use Rattle.serde_json.specs.Data.{no_members};
 ghost use Rattle.serde_json.specs.View.{members_view, view};
 ghost use Rattle.cli_texts.specs.Headers.{texts_in};
-ghost use Rattle.cli_texts.specs.Json.{due_value as due_value_of, header_members, json_text as json_text_of, record_members as record_members_of, record_value as record_value_of, text_members, texts_value, volume_members, with_members};
+ghost use Rattle.cli_texts.specs.Json.{due_value as due_value_of, header_members, json_text as json_text_of, record_members as record_members_of, record_value as record_value_of, text_members, texts_value, with_members};
 ghost use Rattle.cli_texts.specs.Lines.{due_words, captured, listed_front, listed_state, hold_words, listed, header_words, texts_words};
 
 use crate::headers::{Headers, ListedHeaders};
-use crate::json::{json_text, put_shown, shown_value};
+use crate::json::{add_volume, json_text, put_shown, shown_value};
 use crate::numbers::put_number;
 use class_plan::Date;
 use record_archive::Line;
@@ -227,21 +227,6 @@ fn add_headers(
             let date = Value::try_from_str(alloc, headers.date.as_str())?;
             add_texts(alloc, members, sender, subject, date)
         }
-    }
-}
-
-/// Adds the number of a volume, where there is one.
-fn add_volume(
-    alloc: Global,
-    members: &mut Map<String, Value>,
-    volume: Option<u32>,
-) -> Result<(), AllocError>
-    ensures { OnOk result (members_view members.new.entries
-        ≡ with_members (volume_members volume) (members_view members.old.entries)) }
-{
-    match volume {
-        Some(volume) => serde_json::put(members, alloc, "volume", Value::from(volume)),
-        None => Ok(()),
     }
 }
 

@@ -1,9 +1,12 @@
 -- The numbers of records that are typed, with a volume or without.
 use Rattle.std.specs.Prelude.{◌≡◌, ℕ, ◌++◌, ◌||◌, Bool, true, List, [], ◌∷◌, map, flat_map, Option, Some, None, is_some, option_map}
+use Rattle.std.specs.Prelude.{IfSome, Vec}
+use Rattle.std.specs.declared.alloc.Global.{Global}
 use Rattle.std.specs.Borrow.{Bor}
 use Rattle.std.specs.List.{list_all}
 use Rattle.session_words.specs.Words.{number_up_to}
 use Rattle.choice_words.specs.Numbers.{numbers_typed}
+use Rattle.choice_words.specs.Typed.{is_named_or_none, numbers_for}
 use Rattle.choice_words.specs.Volumes.{volume_number, volume_numbers}
 use Rattle.choice_words.specs.declared.numbers.TypedNumbers.{TypedNumbers}
 use Rattle.choice_words.specs.declared.volumes.VolumeNumber.{VolumeNumber}
@@ -19,6 +22,13 @@ volume_and_number None alone = option_map (λ n. (None, n)) alone
 -- THE NUMBER OF A RECORD THAT A WORD IS, with that of its volume, if it has one
 abbrev pub number_typed : List ℕ → Option (Option ℕ × ℕ)
 number_typed word = volume_and_number (volume_number word) (number_up_to 4294967295 word)
+
+-- ---- of one volume
+
+-- THE NUMBERS OF A VOLUME ALONE among these: none where other volumes alone are named
+pub record AreOfVolume (v : ℕ) (words : List VolumeNumbers) (numbers : Option (Vec TypedNumbers Global)) : Type 0 where
+  pub asked : is_some numbers ≡ is_named_or_none v words
+  pub own : IfSome numbers (λ (ns : Vec TypedNumbers Global). ns.items ≡ numbers_for v words)
 
 -- ---- several
 

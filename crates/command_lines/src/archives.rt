@@ -26,13 +26,14 @@ use choice_words::reads_as_numbers;
 pub use choice_words::{Choice, TypedChoice, TypedNumbers};
 use clap::ArgMatches;
 use disposals::damage_asked;
-pub use histories::{Attribution, DeedKind, HistoryAsked, HistoryTask, Reasons};
+pub use histories::{Attribution, DeedKind, HistoryAsked, HistoryTask, Reasons, TypedHistory};
 use histories::{attribution_asked, head_asked, history_asked, judge_author};
 use holds::{NAME_FORGOTTEN, hold_asked, release_asked};
 use imports::import_asked;
 pub use imports::{Dating, Import};
 use jiff::civil::Date;
-use numbers::{numbers_alone_asked, record_asked};
+pub use numbers::Numbers;
+use numbers::{numbers_alone_asked, numbers_asked, record_asked};
 use questions::{choice_asked, conditions_asked, day_asked};
 pub use refilings::Refiling;
 use refilings::refile_asked;
@@ -99,7 +100,7 @@ pub enum Command<'a> {
     History(HistoryTask<'a>),
     /// Prints the certificates of records that were destroyed; of all, where there is no number.
     Certificates {
-        numbers: Vec<TypedNumbers>,
+        numbers: Numbers,
     },
     /// Judges rules by the plan of the store.
     CheckRules(RulesChecked<'a>),
@@ -471,7 +472,7 @@ fn reading_asked<'a>(
         "check" => check_asked(alloc, asked)?,
         "history" => Command::History(history_asked(alloc, asked)?),
         "certificates" => Command::Certificates {
-            numbers: numbers_alone_asked(alloc, asked)?,
+            numbers: numbers_asked(alloc, asked)?,
         },
         "holds" => Command::Holds {
             is_json: has_flag(asked, words::JSON),

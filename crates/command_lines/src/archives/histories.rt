@@ -1,12 +1,16 @@
 //! What a command line asks of a history, and what it tells for one.
 
-use super::numbers::numbers_alone_asked;
+ghost use Rattle.std.specs.Prelude.{◌≡◌, is_some, IfOk, IfSome};
+ghost use Rattle.choice_words.specs.Typed.{is_named_or_none};
+ghost use Rattle.command_lines.specs.Histories.{IsAskedFor};
+
+use super::numbers::{Numbers, numbers_asked, numbers_in_volume};
 use super::questions::day_asked;
 use super::words::JSON;
 use super::{Command, history_words as words};
 use crate::reading::{NoCommand, has_flag, value_of};
 use crate::table::Word;
-use choice_words::TypedNumbers;
+use choice_words::{TypedNumbers, VolumeNumbers};
 use clap::ArgMatches;
 use jiff::civil::Date;
 use session_words::is_name;
@@ -45,7 +49,7 @@ pub enum DeedKind {
     Accepted,
 }
 
-/// Which events are printed, and how.
+/// Which events of a store are printed, and how.
 #[derive(Drop)]
 pub struct HistoryAsked<'a> {
     /// Those of records with these numbers; all, where there is none.
@@ -57,6 +61,48 @@ pub struct HistoryAsked<'a> {
     pub kind: Option<DeedKind>,
     /// Whether they are printed as an array of JSON objects.
     pub is_json: bool,
+}
+
+/// Which events are printed, and how, as it is typed. Numbers of an archive in one file have no volume, and those of an archive of
+/// volumes have one; which of the two is right, the archive says.
+#[derive(Drop)]
+pub struct TypedHistory<'a> {
+    /// What else is asked for, and the numbers without a volume.
+    pub alone: HistoryAsked<'a>,
+    /// The numbers with a volume.
+    pub of_volumes: Vec<VolumeNumbers>,
+}
+
+impl<'a> TypedHistory<'a> {
+    /// What is asked of the history of a volume, for that volume alone. None where numbers of other volumes alone are typed. Numbers
+    /// without a volume count for nothing here.
+    pub fn in_volume(
+        &self,
+        alloc: Global,
+        volume: u32,
+    ) -> Result<Option<HistoryAsked<'a>>, AllocError>
+        ensures asked { IfOk result (λ o. is_some o
+            ≡ is_named_or_none volume self.now.of_volumes.items) }
+        ensures events { IfOk result (λ o. IfSome o (IsAskedFor volume self.now)) }
+    {
+        match numbers_in_volume(alloc, volume, self.of_volumes.as_slice())? {
+            Some(numbers) => Ok(Some(HistoryAsked {
+                numbers,
+                ..self.alone
+            })),
+            None => Ok(None),
+        }
+    }
+
+    /// Whether something that is printed is chosen, but for who did it.
+    fn is_chosen(&self) -> bool {
+        let asked = &self.alone;
+        !asked.numbers.is_empty()
+            || !self.of_volumes.is_empty()
+            || asked.since.is_some()
+            || asked.kind.is_some()
+            || asked.is_json
+    }
 }
 
 /// Whether those who decide which records are kept, and how long, have to give a reason.
@@ -76,7 +122,7 @@ pub enum HistoryTask<'a> {
     /// It is noted that a person lets stand what a program that keeps no history has left. Who that is, and for what reason,
     /// is told beside it.
     AcceptFound,
-    Print(HistoryAsked<'a>),
+    Print(TypedHistory<'a>),
 }
 
 /// The greatest length of a reason.
@@ -197,19 +243,16 @@ fn kind_asked(alloc: Global, asked: &ArgMatches<'_>) -> Result<Option<DeedKind>,
 }
 
 /// Which events are asked for.
-fn events_asked<'a>(alloc: Global, asked: &ArgMatches<'a>) -> Result<HistoryAsked<'a>, NoCommand> {
-    Ok(HistoryAsked {
-        numbers: numbers_alone_asked(alloc, asked)?,
+fn events_asked<'a>(alloc: Global, asked: &ArgMatches<'a>) -> Result<TypedHistory<'a>, NoCommand> {
+    let Numbers { alone, of_volumes } = numbers_asked(alloc, asked)?;
+    let alone = HistoryAsked {
+        numbers: alone,
         since: day_asked(alloc, asked, &words::EVENTS_SINCE)?,
         by: value_of(asked, words::BY),
         kind: kind_asked(alloc, asked)?,
         is_json: has_flag(asked, JSON),
-    })
-}
-
-/// Whether something that is printed is chosen.
-fn is_chosen(events: &HistoryAsked<'_>) -> bool {
-    !events.numbers.is_empty() || events.since.is_some() || events.kind.is_some() || events.is_json
+    };
+    Ok(TypedHistory { alone, of_volumes })
 }
 
 /// A change of a history that a flag asks for.
@@ -267,10 +310,10 @@ fn task_of<'a>(change: Change) -> HistoryTask<'a> {
 fn judge_change(
     alloc: Global,
     asked: &ArgMatches<'_>,
-    events: &HistoryAsked<'_>,
+    events: &TypedHistory<'_>,
     change: Change,
 ) -> Result<(), NoCommand> {
-    if is_chosen(events) {
+    if events.is_chosen() {
         let reason =
             "--begin, --require-reason, --waive-reason and --accept-found stand with --by and --reason alone";
         return Err(NoCommand::Wrong(String::from_str(alloc, reason)?));

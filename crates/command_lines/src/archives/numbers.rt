@@ -1,13 +1,13 @@
 //! The numbers of records that a command line has, with the number of their volume or without.
 
 ghost use Rattle.std.specs.Prelude.{◌≡◌, IfOk};
-ghost use Rattle.command_lines.specs.Numbers.{AddsWord, AreTyped, number_typed};
+ghost use Rattle.command_lines.specs.Numbers.{AddsWord, AreOfVolume, AreTyped, number_typed};
 
 use super::{TypedNumber, question_words as words};
 use crate::reading::{NoCommand, required, seen, value_of, values_of};
 use choice_words::{
-    TypedNumbers, VolumeNumber, VolumeNumbers, read_numbers, read_volume_number,
-    read_volume_numbers, reversed_range, reversed_volume_range,
+    TypedNumbers, VolumeNumber, VolumeNumbers, is_named_or_none, numbers_for, read_numbers,
+    read_volume_number, read_volume_numbers, reversed_range, reversed_volume_range,
 };
 use clap::ArgMatches;
 use session_words::read_number;
@@ -90,6 +90,21 @@ fn no_numbers_of_volumes(alloc: Global, word: &str) -> Result<String, AllocError
     }
 }
 
+/// The numbers of a volume among some, without that of the volume; none of them, which means all, where there are no others. `None`
+/// where other volumes alone are named, so that nothing of this one is asked for.
+pub(super) fn numbers_in_volume(
+    alloc: Global,
+    volume: u32,
+    words: &[VolumeNumbers],
+) -> Result<Option<Vec<TypedNumbers>>, AllocError>
+    ensures { IfOk result (AreOfVolume volume words.now) }
+{
+    if !is_named_or_none(words, volume) {
+        return Ok(None);
+    }
+    Ok(Some(numbers_for(alloc, volume, words)?))
+}
+
 /// Numbers of records, as they are typed.
 #[derive(Drop)]
 pub struct Numbers {
@@ -100,6 +115,17 @@ pub struct Numbers {
 }
 
 impl Numbers {
+    /// Those of a volume alone. `None` where nothing of it is asked for. Numbers without a volume count for nothing here.
+    pub fn in_volume(
+        &self,
+        alloc: Global,
+        volume: u32,
+    ) -> Result<Option<Vec<TypedNumbers>>, AllocError>
+        ensures { IfOk result (AreOfVolume volume self.now.of_volumes.items) }
+    {
+        numbers_in_volume(alloc, volume, self.of_volumes.as_slice())
+    }
+
     /// Adds the numbers that a word is. Answers whether it is any.
     fn add(&mut self, word: &[u8]) -> Result<bool, AllocError>
         ensures { IfOk result (λ is_any. AddsWord word.now self.old self.new is_any) }

@@ -1,5 +1,5 @@
 -- The texts of several things, one behind the other, and how many things these are.
-use Rattle.std.specs.Prelude.{◌≡◌, ℕ, ◌+◌, ◌==◌, Bool, false, min, List, [], ◌∷◌, ◌++◌, length}
+use Rattle.std.specs.Prelude.{◌≡◌, ℕ, ◌+◌, ◌==◌, Bool, true, false, if◌then◌else◌, min, List, [], ◌∷◌, ◌++◌, length, codes}
 use Rattle.std.proofs.Common.{refl, sym, ap, ◌∙◌, subst, arith, ◌≤◌}
 use Rattle.std.proofs.lemmas.Bool.{ne_eqb}
 use Rattle.std.proofs.lemmas.List.{append_assoc, append-nil}
@@ -10,6 +10,15 @@ abbrev pub AreTexts : {X : Type 0} (IsText : (is_first : Bool) → X → List �
 AreTexts IsText is_first [] text = text ≡ []
 AreTexts IsText is_first (x ∷ xs) text =
     (one : List ℕ) × IsText is_first x one × (rest : List ℕ) × AreTexts IsText false xs rest × (text ≡ one ++ rest)
+
+-- what stands between two objects of JSON, and before the first one
+abbrev pub between : (is_first : Bool) → List ℕ
+between is_first = if is_first then codes "\n" else codes ",\n"
+
+-- those that are meant, where this one is: it alone, or none
+abbrev pub only : {X : Type 0} → Bool → X → List X
+only true x = x ∷ []
+only false x = []
 
 -- one more for each, up to the greatest count
 abbrev pub more_for : {X : Type 0} → List X → ℕ → ℕ

@@ -1,0 +1,128 @@
+-- Certificates that are written, a row at a time and a page at a time.
+use Rattle.std.proofs.Common.{◌≡◌, ◌+◌, ◌<◌, ◌≤◌, ◌++◌, ◌∷◌, ◌∙◌, [], ℕ, List, Bool, true, false, Option, Some, None, cond, map, take, get_or}
+use Rattle.std.proofs.Common.{length, refl, ap, sym, subst}
+use Rattle.std.proofs.lemmas.List.{append_assoc, append-nil}
+use Rattle.std.specs.Borrow.{Bor}
+use Rattle.std.specs.Prelude.{is_some}
+use Rattle.choice_words.specs.declared.numbers.TypedNumbers.{TypedNumbers}
+use Rattle.record_tables.specs.Events.{Event as Row}
+use Rattle.record_reads.specs.Events.{event_of}
+use Rattle.record_reads.specs.declared.events.EventRow.{EventRow}
+use Rattle.record_history.specs.Events.{Event}
+use Rattle.cli_console.specs.Sequences.{AreTexts, first_after, one_text, only, texts_joined}
+use Rattle.cli_console.specs.Sinks.{Writes, more_written, nothing_written}
+use Rattle.cli_history.specs.Certified.{Certifies, IsCertificateOf, IsLineOf, WritesCertificates, certified, certified_at, certified_rows, destroyed_by}
+use Rattle.cli_history.specs.Chosen.{is_about}
+use Rattle.cli_history.specs.Tellings.{TellEach, TellsRow}
+use Rattle.cli_history.specs.declared.certificates.PrintedCertificates.{PrintedCertificates}
+use Rattle.cli_history.proofs.PrintingLaws.{tell_joined}
+use Rattle.cli_history.proofs.WalkLemmas.{all_of_page, more_of_page}
+
+-- an event of which a certificate is asked destroys that record
+pub certified_is : (words : List TypedNumbers) (e : Event) (n : ℕ) → certified words e ≡ Some n → destroyed_by e.deed ≡ Some n
+certified_is words e n is = go (is_about words e.deed) is
+  where
+    go : (b : Bool) → cond b (destroyed_by e.deed) None ≡ Some n → destroyed_by e.deed ≡ Some n
+    go true same = same
+    go false same = absurd cc
+
+-- which line is that of an event does not depend on whether it is the first one
+any_first : (volume : Option ℕ) (b : Bool) (xs : List (Row × Event)) (text : List ℕ) → AreTexts (IsLineOf volume) true xs text
+    → AreTexts (IsLineOf volume) b xs text
+any_first volume b [] text are = are
+any_first volume b (x ∷ xs) text are = are
+
+certified_joined : (words : List TypedNumbers) (rows more : List Row) (told others : List (Option Event)) → TellEach rows told
+    → certified_rows words rows told ++ certified_rows words more others ≡ certified_rows words (rows ++ more) (told ++ others)
+certified_joined words [] more [] others tell = refl
+certified_joined words (r ∷ rows) more (o ∷ told) others tell =
+    append_assoc (certified_at words r o) (certified_rows words rows told) (certified_rows words more others)
+    ∙ ap (λ rest. certified_at words r o ++ rest) (certified_joined words rows more told others tell.1)
+certified_joined words [] more (o ∷ told) others tell = absurd tell
+certified_joined words (r ∷ rows) more [] others tell = absurd tell
+
+module _ {K : Type 0} (written : K → List ℕ → Type 0) where
+  pub none_certified : (p : PrintedCertificates) (k : K) → Certifies written p k [] p k
+  none_certified p k = record {
+    told = [];
+    tell = tt;
+    text = [];
+    are = refl;
+    added = nothing_written written k;
+    typed = refl;
+    volume = refl;
+  }
+
+  -- a row that tells no event of which a certificate is asked
+  pub row_passed : (p q : PrintedCertificates) (k : K) (r : Row) (o : Option Event) → TellsRow r o → certified_at p.typed.now r o ≡ []
+      → q.typed ≡ p.typed → q.volume ≡ p.volume → Certifies written p k (r ∷ []) q k
+  row_passed p q k r o tells none typed volume = record {
+    told = o ∷ [];
+    tell = (tells, tt);
+    text = [];
+    are = subst (λ xs. AreTexts (IsLineOf p.volume) true (xs ++ []) []) (sym none) refl;
+    added = nothing_written written k;
+    typed = typed;
+    volume = volume;
+  }
+
+  -- one that does
+  pub row_certified : (p q : PrintedCertificates) (k m : K) (r : Row) (e : Event) (n : ℕ) (text : List ℕ) → TellsRow r (Some e)
+      → certified p.typed.now e ≡ Some n → IsCertificateOf p.volume r e (Some text) → Writes written k m text → q.typed ≡ p.typed
+      → q.volume ≡ p.volume → Certifies written p k (r ∷ []) q m
+  row_certified p q k m r e n text tells asked is writes typed volume = record {
+    told = Some e ∷ [];
+    tell = (tells, tt);
+    text = text;
+    are = subst (λ (c : Option ℕ). AreTexts (IsLineOf p.volume) true (only (is_some c) (r, e) ++ []) text) (sym asked)
+        (one_text (IsLineOf p.volume) true (r, e) text is);
+    added = writes;
+    typed = typed;
+    volume = volume;
+  }
+
+  pub more_certified : (p q r : PrintedCertificates) (k m n : K) (rows more : List Row) → Certifies written p k rows q m
+      → Certifies written q m more r n → Certifies written p k (rows ++ more) r n
+  more_certified p q r k m n rows more one other =
+      let words = p.typed.now in
+      let these = certified_rows words rows one.told in
+      let behind : AreTexts (IsLineOf p.volume) true (certified_rows words more other.told) other.text =
+      subst (λ v. AreTexts (IsLineOf v) true (certified_rows words more other.told) other.text) one.volume
+      (subst (λ (t : Bor (List TypedNumbers)). AreTexts (IsLineOf q.volume) true (certified_rows t.now more other.told) other.text) one.typed
+      other.are) in
+      record {
+        told = one.told ++ other.told;
+        tell = tell_joined rows more one.told other.told one.tell other.tell;
+        text = one.text ++ other.text;
+        are = subst (λ xs. AreTexts (IsLineOf p.volume) true xs (one.text ++ other.text))
+            (certified_joined words rows more one.told other.told one.tell)
+            (texts_joined (IsLineOf p.volume) true these (certified_rows words more other.told) one.text other.text one.are
+            (any_first p.volume (first_after true these) (certified_rows words more other.told) other.text behind));
+        added = more_written written k m n one.text other.text one.added other.added;
+        typed = other.typed ∙ one.typed;
+        volume = other.volume ∙ one.volume;
+      }
+
+  -- the rows of a page: one more, and all
+  pub page_more : (p q r : PrintedCertificates) (k m n : K) (page : List EventRow) (i : ℕ) (d : EventRow) → i < length page
+      → Certifies written p k (map event_of (take i page)) q m → Certifies written q m (event_of (get_or page i d) ∷ []) r n
+      → Certifies written p k (map event_of (take (i + 1) page)) r n
+  page_more p q r k m n page i d low one other =
+      more_of_page (λ rows. Certifies written p k rows r n) event_of [] page i d low
+      (more_certified p q r k m n (map event_of (take i page)) (event_of (get_or page i d) ∷ []) one other)
+
+  pub page_all : (p q : PrintedCertificates) (k m : K) (page : List EventRow) (i : ℕ) → length page ≤ i
+      → Certifies written p k (map event_of (take i page)) q m → Certifies written p k (map event_of page) q m
+  page_all p q k m page i all so_far = all_of_page (λ rows. Certifies written p k rows q m) event_of [] page i all so_far
+
+  -- those of a whole history
+  pub all_certified : (volume : Option ℕ) (words : List TypedNumbers) (p q : PrintedCertificates) (k m : K) (rows : List Row)
+      → p.typed.now ≡ words → p.volume ≡ volume → Certifies written p k rows q m → WritesCertificates written volume words k rows m
+  all_certified volume words p q k m rows typed number all = (
+    all.told,
+    all.tell,
+    all.text,
+    subst (λ v. AreTexts (IsLineOf v) true (certified_rows words rows all.told) all.text) number
+        (subst (λ ws. AreTexts (IsLineOf p.volume) true (certified_rows ws rows all.told) all.text) typed all.are),
+    all.added,
+  )

@@ -1,0 +1,28 @@
+use Rattle.std.proofs.Common.{◌≡◌, ◌∙◌, [], Some, None, ap, option_map, refl, subst, sym}
+use Rattle.std.specs.Prelude.{is_some}
+use Rattle.std.proofs.lemmas.Result.{on_ok_weaker}
+use Rattle.record_history.specs.Views.{event_view}
+use Rattle.record_reads.specs.Events.{event_of}
+use Rattle.cli_console.specs.Sequences.{only}
+use Rattle.cli_console.specs.Sinks.{Writes}
+use Rattle.cli_history.specs.Certified.{IsCertificateOf}
+use Rattle.cli_history.specs.Tellings.{TellsRow}
+use Rattle.cli_history.proofs.CertificateLaws.{certified_is, row_certified, row_passed}
+use Rattle.cli_history.proofs.certificates.PrintedCertificates.print_one.Goals as goal
+
+-- the row tells no event
+pub returns-in_default-clause-certified : goal.returns-in_default-clause-certified
+returns-in_default-clause-certified g c =
+    let was = c.args.self.now in
+    row_passed g.K.Sink.written was was c.args.sink.now (event_of c.args.row.now) None
+    (subst (λ o. TellsRow (event_of c.args.row.now) (option_map event_view o)) c.in_default.is c.in_ok-readable.ensures.tells) refl refl refl
+
+-- no certificate is asked of the one that it tells
+pub returns-in_default-2-clause-certified : goal.returns-in_default-2-clause-certified
+returns-in_default-2-clause-certified g c =
+    let was = c.args.self.now in
+    let row = event_of c.args.row.now in
+    let event = event_view c.in-Some.event in
+    row_passed g.K.Sink.written was (record was { titles = c.take.new.self }) c.args.sink.now row (Some event)
+    (subst (λ o. TellsRow row (option_map event_view o)) c.in-Some.is c.in_ok-readable.ensures.tells)
+    (ap (λ n. only (is_some n) (row, event)) (sym c.destroyed_in.ensures ∙ c.in_default-2.is)) refl refl

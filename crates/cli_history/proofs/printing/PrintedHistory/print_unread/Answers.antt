@@ -1,0 +1,24 @@
+use Rattle.std.proofs.Common.{◌∙◌, ◌==◌, None, refl, sym, true}
+use Rattle.std.proofs.lemmas.Result.{on_ok_weaker}
+use Rattle.record_reads.specs.Events.{event_of}
+use Rattle.cli_history.specs.Chosen.{asks_for_all}
+use Rattle.cli_history.proofs.PrintingLaws.{row_passed, row_printed, unread_text}
+use Rattle.cli_history.proofs.printing.PrintedHistory.print_unread.Goals as goal
+
+pub returns-then-not-prints_unread-clause-printed : goal.returns-then-not-prints_unread-clause-printed
+returns-then-not-prints_unread-clause-printed g c =
+    let was = c.args.self.now in
+    row_passed g.K.Sink.written was (record was { is_any_unread = true }) c.args.text.now (event_of c.args.row.now) None
+    (sym c.prints_unread.ensures ∙ c.if-not-prints_unread.true) refl (record { asked = refl; volume = refl })
+
+pub returns-clause-printed : goal.returns-clause-printed
+returns-clause-printed g c =
+    let was = c.args.self.now in
+    let text = c.args.text.now in
+    let row = event_of c.args.row.now in
+    let asked = sym c.prints_unread.ensures ∙ c.if-not-prints_unread.false in
+    let is_text = unread_text was.volume (asks_for_all was.asked.now) text.is_json (text.count == 0) row c.as_str.result.now asked
+    (c.as_str.ensures.value ∙ c.in_ok-line.ensures) in
+    on_ok_weaker c.push.result (λ added.
+    row_printed g.K.Sink.written was (record was { is_any_unread = true }) text c.push.new.self row None c.as_str.result.now asked is_text
+    added.added added.rest refl (record { asked = refl; volume = refl })) c.push.ensures

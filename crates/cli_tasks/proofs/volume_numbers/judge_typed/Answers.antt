@@ -1,0 +1,12 @@
+use Rattle.std.proofs.Common.{◌≡◌, ◌∙◌, ◌∷◌, List, None, [], refl, sym}
+use Rattle.std.proofs.lemmas.Result.{on_ok_weaker}
+use Rattle.choice_words.specs.Typed.{first_or}
+use Rattle.cli_tasks.proofs.volume_numbers.judge_typed.Goals as goal
+
+no_first : {X : Type 0} (xs : List X) → first_or None xs ≡ None → xs ≡ []
+no_first [] none = refl
+no_first (x ∷ xs) none = absurd cc
+
+pub returns-clause-none : goal.returns-clause-none
+returns-clause-none c =
+    on_ok_weaker c.judge_found.result (λ none. no_first c.args.alone.now (sym c.first_of.ensures ∙ none)) c.judge_found.ensures.none
