@@ -18,7 +18,10 @@ pub mod ChangeLaws
 pub mod ReplacementLaws
 pub mod LookingLaws
 pub mod DueListLaws
+pub mod ApprovalLaws
 mod ChangeRows
 mod ImportRows
 mod RoundRows
 mod SpaceRows
+mod ApprovalRows
+mod TallyRows

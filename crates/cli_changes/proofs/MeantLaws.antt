@@ -1,14 +1,16 @@
 -- The records that are meant by what is typed.
 use Rattle.std.proofs.Common.{◌≡◌, ◌∙◌, ◌<◌, ◌==◌, ◌||◌, ◌&&◌, ℕ, ℤ, nat_le, Bool, true, false, cond, List, [], ◌∷◌, ◌++◌, length, map, filter}
-use Rattle.std.proofs.Common.{refl, sym, ap, ap₂, subst, arith, true≢false}
+use Rattle.std.proofs.Common.{refl, sym, ap, ap₂, subst, arith, not, true≢false}
 use Rattle.std.proofs.lemmas.Bool.Decides.{nat_tests}
+use Rattle.std.proofs.lemmas.List.{length-map}
 use Rattle.std.proofs.lemmas.List.Folds.{list_any-append}
 use Rattle.std.proofs.Math.Bool.{or_assoc}
 use Rattle.std.specs.List.{AllByRecursion}
 use Rattle.choice_words.specs.Ranges.{is_meant_by}
 use Rattle.choice_words.specs.declared.numbers.TypedNumbers.{TypedNumbers}
 use Rattle.choice_words.specs.declared.numbers.TypedNumbers.TheVariants.{One, Range}
-use Rattle.cli_choice.specs.Disposals.{is_ranged, numbers_meant}
+use Rattle.cli_choice.specs.Disposals.{IsMeant, is_ranged, numbers_meant}
+use Rattle.cli_choice.specs.declared.disposals.Meant.{Meant}
 use Rattle.cli_choice.specs.Typed.{singles}
 use Rattle.command_lines.specs.declared.archives.Disposal.{Disposal}
 use Rattle.record_archive.specs.Archive.{Archive, Line}
@@ -18,7 +20,9 @@ use Rattle.record_choice.specs.Disposals.{Certificate, asked_list, disposable_li
 use Rattle.record_choice.specs.Reasons.{MayGo}
 use Rattle.record_choice.proofs.Asked.{none_asked}
 use Rattle.cli_history.specs.declared.seals.Seals.{Seals}
-use Rattle.cli_changes.specs.Destructions.{DisposesUnaltered, IsDisposal, IsDisposalOf, damage_asked, is_meant, meant_numbers, numbers_of}
+use Rattle.cli_changes.specs.declared.altered.Damage.TheVariants as on_damage
+use Rattle.cli_changes.specs.Destructions.{DisposesUnaltered, IsDisposal, IsDisposalOf, MayBegin, are_any, damage_asked, is_meant, meant_numbers}
+use Rattle.cli_changes.specs.Destructions.{numbers_of}
 use Rattle.cli_changes.specs.Runs.{IsUnaltered}
 use Rattle.cli_changes.proofs.DueLaws.{numbers_filtered}
 use Rattle.cli_changes.proofs.DisposalLaws.{none_gone}
@@ -29,6 +33,13 @@ use Rattle.cli_changes.proofs.RunLaws.{all_first, none_left}
 pub numbers_viewed : (ls : List code.Line) → numbers_of (map line_view ls) ≡ map (λ (l : code.Line). l.number) ls
 numbers_viewed [] = refl
 numbers_viewed (l ∷ ls) = ap (λ k. l.number ∷ k) (numbers_viewed ls)
+
+-- there is a line where there is a record
+pub listed_any : (a : Archive) (day : ℤ) (asked : List ℕ) (lines : List code.Line) → map line_view lines ≡ asked_list a day asked
+    → not (length lines == 0) ≡ are_any (numbers_of (asked_list a day asked))
+listed_any a day asked lines are =
+    ap (λ n. not (n == 0)) (sym (length-map lines (λ (l : code.Line). l.number)) ∙ ap length (sym (numbers_viewed lines))
+    ∙ ap (λ ls. length (numbers_of ls)) are)
 
 or_swap : (a b c : Bool) → (a || (b || c)) ≡ (b || (a || c))
 or_swap true true c = refl
@@ -94,6 +105,9 @@ picked_meant ws ns =
 all_listed : (a : Archive) (day : ℤ) → asked_list a day [] ≡ disposable_list a day
 all_listed a day = sym (none_asked [] (disposable_list a day) refl)
 
+pub meant_as : (typed : List TypedNumbers) (lines : List Line) (m n : Meant) → m ≡ n → IsMeant typed lines m → IsMeant typed lines n
+meant_as typed lines m n is h = subst (IsMeant typed lines) is h
+
 -- where nothing is typed, all are meant
 pub meant_all : (a : Archive) (day : ℤ) (typed : List TypedNumbers) → typed ≡ [] → numbers_of (asked_list a day []) ≡ meant_numbers a day typed
 meant_all a day [] e =
@@ -134,6 +148,18 @@ meant_none a day (w ∷ ws) none typed =
     none_kept [] = refl
     none_kept (n ∷ ns) = none_kept ns
 
+-- where those that are asked for may be destroyed, a disposal of those that are meant may begin
+pub asked_may_begin : (seals : Seals) (d : Disposal) (day : ℤ) (numbers : List ℕ) (a : Archive)
+    → numbers_of (asked_list a day numbers) ≡ meant_numbers a day d.numbers.items
+    → (AllByRecursion (MayGo a day) numbers → AllByRecursion (MayGo a day) (singles d.numbers.items))
+    → AllByRecursion (MayGo a day) numbers
+    → (damage_asked d.is_damaged ≡ on_damage.Refused → AllByRecursion (IsUnaltered seals a) (numbers_of (asked_list a day numbers)))
+    → MayBegin seals d a day
+asked_may_begin seals d day numbers a are typed may unaltered = record {
+  may_go = typed may;
+  unaltered = λ undamaged. subst (AllByRecursion (IsUnaltered seals a)) are (unaltered (ap damage_asked undamaged));
+}
+
 -- THE DISPOSAL OF THE RECORDS THAT ARE MEANT is that of those that are asked for
 pub disposal_meant : (seals : Seals) (d : Disposal) (Left : Archive → Type 0) (day : ℤ) (numbers : List ℕ) (done : Bool) (cs : List Certificate)
     (a : Archive) → numbers_of (asked_list a day numbers) ≡ meant_numbers a day d.numbers.items
@@ -142,8 +168,7 @@ pub disposal_meant : (seals : Seals) (d : Disposal) (Left : Archive → Type 0) 
 disposal_meant seals d Left day numbers done cs a are typed h =
     record {
       these = subst (λ l. IsDisposal Left day l done cs a) are h.disposal.these;
-      may_go = λ begun. typed (h.disposal.may_go begun);
-      unaltered = λ begun undamaged. subst (AllByRecursion (IsUnaltered seals a)) are (h.unaltered begun (ap damage_asked undamaged));
+      may_begin = λ begun. asked_may_begin seals d day numbers a are typed (h.disposal.may_go begun) (h.unaltered begun);
     }
 
 -- each that is typed by itself is asked for
@@ -161,9 +186,18 @@ pub none_meant : (seals : Seals) (d : Disposal) (Left : Archive → Type 0) (day
 none_meant seals d Left day a left =
     record {
       these = none_gone Left day (meant_numbers a day d.numbers.items) a left;
-      may_go = λ no. absurd (true≢false (sym no));
-      unaltered = λ no. absurd (true≢false (sym no));
+      may_begin = λ no. absurd (true≢false (sym no));
     }
+
+-- where none is meant, a disposal may begin
+pub none_may_begin : (seals : Seals) (d : Disposal) (day : ℤ) (a : Archive)
+    → numbers_meant d.numbers.items (asked_list a day []) ≡ [] → 0 < length d.numbers.items → MayBegin seals d a day
+none_may_begin seals d day a none typed = record {
+  may_go = subst (AllByRecursion (MayGo a day))
+      (sym (none_left (singles d.numbers.items)
+      (filter (is_ranged d.numbers.items) (map (λ (l : Line). l.number) (asked_list a day []))) none).0) tt;
+  unaltered = λ undamaged. subst (AllByRecursion (IsUnaltered seals a)) (sym (meant_none a day d.numbers.items none typed)) tt;
+}
 
 -- where none is meant, all is done
 pub nothing_meant : (seals : Seals) (d : Disposal) (Left : Archive → Type 0) (day : ℤ) (done : Bool) (a : Archive)
@@ -172,9 +206,13 @@ nothing_meant seals d Left day done a none typed left =
     let empty = meant_none a day d.numbers.items none typed in
     record {
       these = subst (λ l. IsDisposal Left day l done [] a) (sym empty) (whatever_comes Left day [] done [] a (none_yet Left day a left));
-      may_go = λ begun.
-          subst (AllByRecursion (MayGo a day))
-          (sym (none_left (singles d.numbers.items)
-          (filter (is_ranged d.numbers.items) (map (λ (l : Line). l.number) (asked_list a day []))) none).0) tt;
-      unaltered = λ begun undamaged. subst (AllByRecursion (IsUnaltered seals a)) (sym empty) tt;
+      may_begin = λ begun. none_may_begin seals d day a none typed;
     }
+
+-- all is done, whatever comes then
+pub done_anyhow : (seals : Seals) (d : Disposal) (Left : Archive → Type 0) (day : ℤ) (done : Bool) (cs : List Certificate) (a : Archive)
+    → IsDisposalOf seals d Left day true cs a → IsDisposalOf seals d Left day done cs a
+done_anyhow seals d Left day done cs a h = record {
+  these = whatever_comes Left day (meant_numbers a day d.numbers.items) done cs a h.these;
+  may_begin = λ begun. h.may_begin refl;
+}

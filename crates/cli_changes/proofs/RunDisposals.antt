@@ -1,9 +1,10 @@
 -- Disposals of the records of runs, and what they are for a command.
 use Rattle.std.proofs.Common.{◌≡◌, ◌∙◌, ◌<◌, ◌+◌, ℕ, ℤ, Bool, true, false, List, [], ◌∷◌, ◌++◌, length, take, drop}
-use Rattle.std.proofs.Common.{Result, Ok, Err, refl, sym, ap, subst, arith, append_assoc, true≢false}
-use Rattle.std.proofs.lemmas.List.{take-append-drop, drop_all}
+use Rattle.std.proofs.Common.{◌==◌, Result, Ok, Err, refl, sym, ap, subst, arith, append_assoc, not, true≢false}
+use Rattle.std.proofs.lemmas.Bool.Decides.{nat_tests}
+use Rattle.std.proofs.lemmas.List.{drop_all, length-append, take-append-drop}
 use Rattle.std.proofs.lemmas.List.Elements.{All-from_recursion, recursion_from_All}
-use Rattle.std.proofs.lemmas.List.Sorted.{IsPermutation-refl, IsPermutation-sym, All-permutation}
+use Rattle.std.proofs.lemmas.List.Sorted.{IsPermutation-refl, IsPermutation-sym, All-permutation, length_permutation}
 use Rattle.std.specs.Prelude.{is_err, is_ok}
 use Rattle.std.specs.List.{AllByRecursion}
 use Rattle.std.specs.List.Sorted.{IsPermutation}
@@ -17,13 +18,14 @@ use Rattle.cli_console.specs.declared.failure.Failure.{Failure}
 use Rattle.cli_history.specs.declared.seals.Seals.{Seals}
 use Rattle.cli_changes.specs.declared.altered.Damage.{Damage}
 use Rattle.cli_changes.specs.declared.runs.Run.{Run}
-use Rattle.cli_changes.specs.Destructions.{AreApproved, DisposesAsked, DisposesUnaltered, EachOnce, IsDisposal, IsSettled}
-use Rattle.cli_changes.specs.Destructions.{numbers_of}
-use Rattle.cli_changes.specs.Runs.{AreFilled, IsUnaltered, records_of}
+use Rattle.cli_changes.specs.declared.dispose.Asked.{Asked}
+use Rattle.cli_changes.specs.Destructions.{AreApproved, DisposesAsked, DisposesUnaltered, EachOnce, IsAskedFor, IsDisposal, IsSettled}
+use Rattle.cli_changes.specs.Destructions.{are_any, numbers_of}
+use Rattle.cli_changes.specs.Runs.{AreFilled, IsUnaltered, altered, records_of}
 use Rattle.cli_changes.proofs.CountLaws.{once_counted, once_moved, times, times_once}
 use Rattle.cli_changes.proofs.DueLaws.{asked_once}
 use Rattle.cli_changes.proofs.DisposalLaws.{asked_disposal, disposal_of, none_gone, then_disposal}
-use Rattle.cli_changes.proofs.RunLaws.{all_last, records_first, records_joined}
+use Rattle.cli_changes.proofs.RunLaws.{all_last, records_first, records_joined, unaltered_all}
 
 -- ---- one call
 
@@ -33,7 +35,7 @@ settled (ended.Repository f) (Ok u) s ok = absurd s
 settled (ended.Repository f) (Err e) s ok = absurd (true≢false (sym ok))
 settled (ended.Registrar f) r s ok = absurd (true≢false (sym ok ∙ ap is_ok s))
 
-pub failed : (r : Result (Unit {0}) Failure) → is_err r ≡ true → is_ok r ≡ false
+pub failed : {X : Type 0} (r : Result X Failure) → is_err r ≡ true → is_ok r ≡ false
 failed (Ok u) e = sym e
 failed (Err f) e = refl
 
@@ -95,6 +97,17 @@ next_run P Q day before after run d cs ds a filled once is h to =
 
 -- ---- what is asked for
 
+all_moved : (P : ℕ → Type 0) (these rs : List ℕ) → IsPermutation these rs → AllByRecursion P rs → AllByRecursion P these
+all_moved P these rs moved all =
+    recursion_from_All P these (All-permutation P rs these (IsPermutation-sym these rs moved) (All-from_recursion P rs all))
+
+-- where none of the records that were read was altered, none of those that are asked for was
+pub asked_unaltered : (seals : Seals) (a : Archive) (day : ℤ) (asked : List ℕ) (it : Asked) → altered it.runs.items ≡ []
+    → IsAskedFor seals a day asked it → AllByRecursion (IsUnaltered seals a) (numbers_of (asked_list a day asked))
+asked_unaltered seals a day asked it none told =
+    all_moved (IsUnaltered seals a) (numbers_of (asked_list a day asked)) (records_of it.runs.items) told.each_once
+    (unaltered_all seals a it.runs.items none told.noted)
+
 pub none_unaltered : (seals : Seals) (damage : Damage) (Left : Archive → Type 0) (day : ℤ) (asked : List ℕ) (a : Archive) → Left a
     → DisposesUnaltered seals damage Left day asked false [] a
 none_unaltered seals damage Left day asked a left =
@@ -120,8 +133,23 @@ approved_disposed seals damage Left day asked seen runs d cs a same is filled ap
     subst (λ l. AreFilled l → EachOnce (records_of l) → IsDisposal Left day (records_of l) d cs a) same h filled once in
     record {
       disposal = record { these = disposal_of Left day rs these d cs a approved.each_once disposal; may_go = λ begun. approved.may_go };
-      unaltered = λ begun refused.
-          recursion_from_All (IsUnaltered seals a) these
-          (All-permutation (IsUnaltered seals a) rs these (IsPermutation-sym these rs approved.each_once)
-          (All-from_recursion (IsUnaltered seals a) rs (approved.unaltered refused)));
+      unaltered = λ begun refused. all_moved (IsUnaltered seals a) these rs approved.each_once (approved.unaltered refused);
     }
+
+-- ---- whether there is a record
+
+some_first : (xs ys : List ℕ) → 0 < length xs → (length (xs ++ ys) == 0) ≡ false
+some_first xs ys some = let all = length-append xs ys in grind (arith, nat_tests, all, some)
+
+-- there is no record in runs only where there is no run
+filled_any : (runs : List Run) → AreFilled runs → (length runs == 0) ≡ (length (records_of runs) == 0)
+filled_any [] filled = refl
+filled_any (r ∷ rs) filled =
+    let some : (length (r ∷ rs) == 0) ≡ false = grind (arith, nat_tests) in
+    some ∙ sym (ap (λ l. length l == 0) (records_first r rs) ∙ some_first r.numbers.items (records_of rs) filled.0)
+
+pub approved_any : (seals : Seals) (damage : Damage) (a : Archive) (day : ℤ) (asked : List ℕ) (runs : List Run) → AreFilled runs
+    → AreApproved seals damage a day asked (records_of runs) → not (length runs == 0) ≡ are_any (numbers_of (asked_list a day asked))
+approved_any seals damage a day asked runs filled approved =
+    ap not (filled_any runs filled
+    ∙ ap (λ n. n == 0) (length_permutation (numbers_of (asked_list a day asked)) (records_of runs) approved.each_once))

@@ -34,9 +34,10 @@ abbrev pub IsCapturedBeside : Seals → (message : ℕ) → (octets : ℕ) → (
 IsCapturedBeside seals message octets digits c =
     IsCaptured (fidelity (known seals message) (record { octets = octets; sum = digits })) (option_map length_and_sum (known seals message)) c
 
--- WHAT IS CERTIFIED of a record: the record as it was listed, the title of its class by the history, its message with the digits of its
--- sum, the message that was captured, where its own is another one, and which record keeps that
-pub record Certifies (d : Destroyed) (seals : Seals) (digits : List ℕ) (at : ℕ) (c : Certificate) : Type 0 where
+-- WHAT IS CERTIFIED of a record: the record as it was listed, the number of its volume, if it has one, the title of its class by the
+-- history, its message with the digits of its sum, the message that was captured, where its own is another one, and which record keeps that
+pub record Certifies (of_volume : Option ℕ) (d : Destroyed) (seals : Seals) (digits : List ℕ) (at : ℕ) (c : Certificate) : Type 0 where
+  pub volume : c.volume ≡ of_volume
   pub number : c.number ≡ d.entry.number
   pub path : c.path.now ≡ d.entry.path.items
   pub title : option_map title_seen c.title ≡ title_for seals.titles d.entry
@@ -48,21 +49,22 @@ pub record Certifies (d : Destroyed) (seals : Seals) (digits : List ℕ) (at : �
   pub captured : IsCapturedBeside seals d.entry.message d.octets digits c.captured
 
 -- THE LINE OF A CERTIFICATE that is made out at some moment
-abbrev pub IsCertificateLine : Destroyed → Seals → List ℕ → Type 0
-IsCertificateLine d seals line =
-    (c : Certificate) × (text : List ℕ) × Certifies d seals (digits_of_sum d.sum) c.moment c × IsMomentText c.moment text
+abbrev pub IsCertificateLine : (volume : Option ℕ) → Destroyed → Seals → List ℕ → Type 0
+IsCertificateLine volume d seals line =
+    (c : Certificate) × (text : List ℕ) × Certifies volume d seals (digits_of_sum d.sum) c.moment c × IsMomentText c.moment text
     × (line ≡ certificate c text)
 
 -- A LINE IS THAT OF A CERTIFICATE of a record, by the seals and the titles of a history: of the record that was listed so, with this
--- length, this sum and this keeper of its message
-abbrev pub IsLineOf : Seals → choice.Certificate → List ℕ → Type 0
-IsLineOf seals c line = (d : Destroyed) × (certificate_view d ≡ c) × IsCertificateLine d seals line
+-- length, this sum and this keeper of its message; it names the volume, if there is one
+abbrev pub IsLineOf : (volume : Option ℕ) → Seals → choice.Certificate → List ℕ → Type 0
+IsLineOf volume seals c line = (d : Destroyed) × (certificate_view d ≡ c) × IsCertificateLine volume d seals line
 
--- A CERTIFICATE IS TAKEN: its line is printed, and no other; it is known then whether a message is gone; and the history by which
--- certificates are made out stays
+-- A CERTIFICATE IS TAKEN: its line is printed, and no other; it is known then whether a message is gone; and the volume and the history by
+-- which certificates are made out stay
 pub record IsTaken {P : Type 0} (prints : P → P → List ℕ → Type 0) (old new : Certificates P) (c : choice.Certificate) : Type 0 where
   pub line : List ℕ
-  pub is_of : IsLineOf old.seals.now c line
+  pub is_of : IsLineOf old.volume old.seals.now c line
   pub printed : prints old.printer new.printer line
   pub gone : new.is_any_gone ≡ (old.is_any_gone || is_none c.kept_by)
+  pub volume : new.volume ≡ old.volume
   pub seals : new.seals ≡ old.seals

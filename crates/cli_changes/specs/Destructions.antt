@@ -1,5 +1,6 @@
 -- What a disposal destroys, run by run, and how it ends.
-use Rattle.std.specs.Prelude.{◌≡◌, ◌≤◌, ◌==◌, ℕ, ℤ, Bool, true, false, List, [], ◌∷◌, ◌++◌, map, filter, count_by, is_ok, Result, Ok, Err}
+use Rattle.std.specs.Prelude.{◌≡◌, ◌≤◌, ◌==◌, ℕ, ℤ, Bool, true, false, not, List, [], ◌∷◌, ◌++◌, length, map, filter, count_by, is_ok}
+use Rattle.std.specs.Prelude.{Result, Ok, Err}
 use Rattle.std.specs.List.{AllByRecursion}
 use Rattle.std.specs.List.Sorted.{IsPermutation}
 use Rattle.sqlite.specs.Store.{Ghosts}
@@ -58,6 +59,10 @@ numbers_of lines = map (λ (l : Line). l.number) lines
 abbrev pub meant_numbers : Archive → (day : ℤ) → List TypedNumbers → List ℕ
 meant_numbers a day typed = filter (is_meant typed) (numbers_of (disposable_list a day))
 
+-- there is a record among these
+abbrev pub are_any : List ℕ → Bool
+are_any ns = not (length ns == 0)
+
 -- ---- what is destroyed
 
 -- CERTIFICATES ARE HANDED OVER, one after another, and this holds of them and of the archive that was kept, where what is read is what
@@ -112,14 +117,18 @@ pub record DisposesUnaltered (seals : Seals) (damage : Damage) (Left : Archive �
   pub unaltered : has_begun is_done cs ≡ true → damage ≡ on_damage.Refused
       → AllByRecursion (IsUnaltered seals a) (numbers_of (asked_list a day asked))
 
+-- A DISPOSAL MAY BEGIN: each number that is typed by itself may be destroyed, and no message of the records that are meant was altered,
+-- unless damage is destroyed too
+pub record MayBegin (seals : Seals) (d : Disposal) (a : Archive) (day : ℤ) : Type 0 where
+  pub may_go : AllByRecursion (MayGo a day) (singles d.numbers.items)
+  pub unaltered : d.is_damaged ≡ false → AllByRecursion (IsUnaltered seals a) (meant_numbers a day d.numbers.items)
+
 -- A DISPOSAL, as it is asked for on a command line: the records that are meant are destroyed, each with its certificate. It begins only
--- where each number that is typed by itself may be destroyed, and no message of these was altered, unless damage is destroyed too.
+-- where it may.
 pub record IsDisposalOf (seals : Seals) (d : Disposal) (Left : Archive → Type 0) (day : ℤ) (is_done : Bool) (cs : List Certificate)
     (a : Archive) : Type 0 where
   pub these : IsDisposal Left day (meant_numbers a day d.numbers.items) is_done cs a
-  pub may_go : has_begun is_done cs ≡ true → AllByRecursion (MayGo a day) (singles d.numbers.items)
-  pub unaltered : has_begun is_done cs ≡ true → d.is_damaged ≡ false
-      → AllByRecursion (IsUnaltered seals a) (meant_numbers a day d.numbers.items)
+  pub may_begin : has_begun is_done cs ≡ true → MayBegin seals d a day
 
 -- ---- the ledger
 

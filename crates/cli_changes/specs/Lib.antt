@@ -14,6 +14,7 @@ pub mod Refilings
 pub mod Certificates
 pub mod Approvals
 pub mod Destructions
+pub mod DisposalTallies
 pub mod ClassChanges
 pub mod DueToday
 pub mod PlanChanges

@@ -8,7 +8,7 @@ use Rattle.record_archive.specs.declared.fault.ArchiveRefusal.{ArchiveRefusal}
 use Rattle.record_archive.specs.declared.fault.ArchiveRefusal.TheVariants as refusal
 use Rattle.record_choice.specs.Choices.{Span}
 use Rattle.cli_texts.specs.Words.{words}
-use Rattle.cli_console.specs.Numbers.{typed_words}
+use Rattle.cli_console.specs.Numbers.{numbers_typed}
 use Rattle.cli_changes.specs.declared.passed_over.Cause.{Cause}
 use Rattle.cli_changes.specs.declared.passed_over.Cause.TheVariants as cause
 
@@ -43,6 +43,11 @@ range_spans typed = flat_map range_span typed
 
 -- ---- as it is told
 
+-- numbers, of a volume if they have one, after a blank
+abbrev pub numbers_after : (volume : Option ℕ) → TypedNumbers → List ℕ
+numbers_after volume numbers = words (codes " ") ++ numbers_typed volume numbers
+
 -- WHICH RECORDS ARE PASSED OVER, and why
-unfoldable pub passed_words : (why : List ℕ) → List TypedNumbers → List ℕ
-passed_words why numbers = words (codes "passed over, ") ++ words why ++ words (codes ":") ++ flat_map typed_words numbers
+unfoldable pub passed_words : (volume : Option ℕ) → (why : List ℕ) → List TypedNumbers → List ℕ
+passed_words volume why numbers =
+    words (codes "passed over, ") ++ words why ++ words (codes ":") ++ flat_map (numbers_after volume) numbers

@@ -6,10 +6,10 @@ ghost use Rattle.cli_changes.specs.Runs.{IsListEnd, IsRefusal, altered as altere
 
 use crate::runs::Run;
 use cli_console::{Failure, Status, tell};
-use cli_texts::captured_words;
+use cli_texts::{captured_words, put_number};
 use record_archive::Line;
 use std::alloc::{AllocError, Global};
-use tool_texts::{Shown, put};
+use tool_texts::Shown;
 
 /// What is done where the message of a record that may be destroyed is not the one that was captured.
 #[derive(Clone, Copy)]
@@ -33,20 +33,22 @@ pub fn altered_in(alloc: Global, runs: &[Run]) -> Result<Vec<u32>, AllocError>
     Ok(altered)
 }
 
-/// That the message of a record is not the one that was captured.
+/// That the message of a record, of a volume in an archive of volumes, is not the one that was captured.
 #[tactic(auto, unfolding(crate::specs::DueLines::altered_words))]
-fn altered_words(alloc: Global, number: u32) -> Result<Shown, AllocError>
-    ensures { IfOk result (λ words. words ≡ altered_words_of number) }
+fn altered_words(alloc: Global, volume: Option<u32>, number: u32) -> Result<Shown, AllocError>
+    ensures { IfOk result (λ words. words ≡ altered_words_of volume number) }
 {
     let mut words = Shown::new(alloc);
-    put!(words; "record " value(&number) ": its message is not the one that was captured")?;
+    words.words("record ")?;
+    put_number(&mut words, volume, number)?;
+    words.words(": its message is not the one that was captured")?;
     Ok(words)
 }
 
 /// Tells of each of these records that its message is not the one that was captured.
-fn tell_altered(rt: &HostRuntime, altered: &[u32]) -> Result<(), AllocError> {
+fn tell_altered(rt: &HostRuntime, volume: Option<u32>, altered: &[u32]) -> Result<(), AllocError> {
     for number in altered {
-        tell(rt, &altered_words(rt.alloc(), *number)?);
+        tell(rt, &altered_words(rt.alloc(), volume, *number)?);
     }
     Ok(())
 }
@@ -61,24 +63,30 @@ fn put_altered(text: &mut Shown, is_altered: bool) -> Result<(), AllocError>
     Ok(())
 }
 
-/// The line of a record that is due. It says where the message of the record is not the one that was captured.
-pub fn due_line(alloc: Global, line: &Line, is_altered: bool) -> Result<Shown, AllocError>
-    ensures { IfOk result (λ text. text ≡ due_line_of line.now is_altered) }
+/// The line of a record that is due, of a volume in an archive of volumes. It says where the message of the record is not the one that
+/// was captured.
+pub fn due_line(
+    alloc: Global,
+    volume: Option<u32>,
+    line: &Line,
+    is_altered: bool,
+) -> Result<Shown, AllocError>
+    ensures { IfOk result (λ text. text ≡ due_line_of volume line.now is_altered) }
 {
-    let mut text = captured_words(alloc, None, line)?;
+    let mut text = captured_words(alloc, volume, line)?;
     put_altered(&mut text, is_altered)?;
     text.end_line()?;
     Ok(text)
 }
 
 /// Ends a list of what is due in which these records were: `BadData` where there is one, and each is told.
-pub fn end_list(rt: &HostRuntime, altered: &[u32]) -> Result<(), Failure>
+pub fn end_list(rt: &HostRuntime, volume: Option<u32>, altered: &[u32]) -> Result<(), Failure>
     ensures { IsListEnd (length altered.now == 0) result }
 {
     if altered.is_empty() {
         return Ok(());
     }
-    tell_altered(rt, altered)?;
+    tell_altered(rt, volume, altered)?;
     Err(Failure::Reported(Status::BadData))
 }
 
@@ -95,11 +103,16 @@ fn is_refused(altered: &[u32], damage: Damage) -> bool
 /// Tells of each of these records that its message is not the one that was captured, before any record is destroyed. `BadData`
 /// where there is one, unless damage is destroyed too.
 #[tactic(auto, using(crate::proofs::RunLaws::without_memory))]
-pub fn judge_altered(rt: &HostRuntime, altered: &[u32], damage: Damage) -> Result<(), Failure>
+pub fn judge_altered(
+    rt: &HostRuntime,
+    volume: Option<u32>,
+    altered: &[u32],
+    damage: Damage,
+) -> Result<(), Failure>
     ensures goes_on { IfOk result (λ _. is_disposal_refused altered.now damage ≡ false) }
     ensures refused { IfErr result (IsRefusal (is_disposal_refused altered.now damage)) }
 {
-    tell_altered(rt, altered)?;
+    tell_altered(rt, volume, altered)?;
     if is_refused(altered, damage) {
         return Err(Failure::told(
             rt.alloc(),

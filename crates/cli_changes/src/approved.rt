@@ -1,15 +1,14 @@
 //! `dispose --approved`: the numbers of records that stand in a file.
 
-ghost use Rattle.std.specs.Prelude.{◌≡◌, ◌++◌, ◌<◌, map, Some, length, IfOk, IfErr, OnOk};
+ghost use Rattle.std.specs.Prelude.{◌≡◌, ◌++◌, false, map, IfOk, IfErr, OnOk};
 ghost use Rattle.std.specs.Char.{is_ascii_whitespace};
 ghost use Rattle.std.specs.List.{slice_split};
-ghost use Rattle.choice_words.specs.Numbers.{numbers_typed};
-ghost use Rattle.cli_changes.specs.Approvals.{is_line_end, line_words, file_words, IsAsTyped, IsRefused};
+ghost use Rattle.command_lines.specs.Numbers.{AreTyped};
+ghost use Rattle.cli_changes.specs.Approvals.{IsAsTyped, IsRefused, are_none, file_words, is_line_end, line_words};
 
-use choice_words::read_numbers;
 use cli_console::{Failure, Status};
 use cli_sources::{payload_of_file, read_payload};
-use command_lines::archives::{Disposal, DisposalAsked, TypedNumbers};
+use command_lines::archives::{DisposalAsked, Numbers, TypedDisposal};
 use desk_commands::Payload;
 use std::alloc::{AllocError, AllocFailed, Global};
 use std::fmt::Display;
@@ -99,27 +98,24 @@ fn words_of(alloc: Global, text: &[u8]) -> Result<Vec<&[u8]>, AllocError>
     Ok(words)
 }
 
-/// The numbers that words are. `Word` with the first one that is none.
-fn numbers_of(alloc: Global, words: &[&[u8]]) -> Result<Vec<TypedNumbers>, NoNumbers>
-    ensures numbers { IfOk result (λ v.
-        map Some v.items ≡ map numbers_typed (map (λ w. w.now) words.now)) }
+/// The numbers that words are, without a volume or with one. `Word` with the first one that is none.
+fn numbers_of(alloc: Global, words: &[&[u8]]) -> Result<Numbers, NoNumbers>
+    ensures numbers { IfOk result (AreTyped (map (λ w. w.now) words.now)) }
     ensures refused { IfErr result (IsRefused (map (λ w. w.now) words.now)) }
 {
-    let mut numbers = Vec::new(alloc);
+    let mut numbers = Numbers::none(alloc);
     for word in words {
-        match read_numbers(word) {
-            Some(read) => numbers.push(read)?,
-            None => return Err(NoNumbers::Word(Vec::from_slice(alloc, word)?)),
+        if !numbers.add(word)? {
+            return Err(NoNumbers::Word(Vec::from_slice(alloc, word)?));
         }
     }
     Ok(numbers)
 }
 
 /// The numbers in a text, of which there is one at least.
-fn numbers_in(alloc: Global, text: &[u8]) -> Result<Vec<TypedNumbers>, NoNumbers>
-    ensures any { IfOk result (λ v. 0 < length v.items) }
-    ensures numbers { IfOk result (λ v. map Some v.items ≡
-        map numbers_typed (file_words text.now)) }
+fn numbers_in(alloc: Global, text: &[u8]) -> Result<Numbers, NoNumbers>
+    ensures any { IfOk result (λ n. are_none n.alone.items n.of_volumes.items ≡ false) }
+    ensures numbers { IfOk result (AreTyped (file_words text.now)) }
     ensures refused { IfErr result (IsRefused (file_words text.now)) }
 {
     let words = words_of(alloc, text)?;
@@ -196,8 +192,8 @@ fn refused(alloc: Global, path: &str, why: NoNumbers) -> Failure {
 }
 
 /// The numbers in a file, of which there is one at least.
-fn approved_at(rt: &HostRuntime, path: &str) -> Result<Vec<TypedNumbers>, Failure>
-    ensures { IfOk result (λ v. 0 < length v.items) }
+fn approved_at(rt: &HostRuntime, path: &str) -> Result<Numbers, Failure>
+    ensures { IfOk result (λ n. are_none n.alone.items n.of_volumes.items ≡ false) }
 {
     let text = text_at(rt, path)?;
     match numbers_in(rt.alloc(), text.as_slice()) {
@@ -207,17 +203,20 @@ fn approved_at(rt: &HostRuntime, path: &str) -> Result<Vec<TypedNumbers>, Failur
 }
 
 /// A disposal of the records whose numbers are typed, or stand in the file of those that were approved: words with blanks and
-/// line ends between them, each a number or a range. What stands after a # in a line is passed over. `Usage` where a word is
-/// none, and where there is no word: an empty file never stands for all records. `NoInput` where the file cannot be read.
-pub fn with_approved(rt: &HostRuntime, asked: DisposalAsked<'_>) -> Result<Disposal, Failure>
+/// line ends between them, each a number or a range, with a volume or without. What stands after a # in a line is passed over. `Usage`
+/// where a word is none, and where there is no word: an empty file never stands for all records. `NoInput` where the file cannot be
+/// read.
+pub fn with_approved(rt: &HostRuntime, asked: DisposalAsked<'_>) -> Result<TypedDisposal, Failure>
     ensures { IfOk result (IsAsTyped asked.entry) }
 {
     let DisposalAsked { typed, approved } = asked;
     match approved {
         None => Ok(typed),
         Some(path) => {
+            let Numbers { alone, of_volumes } = approved_at(rt, path)?;
             let mut meant = typed;
-            meant.numbers = approved_at(rt, path)?;
+            meant.alone.numbers = alone;
+            meant.of_volumes = of_volumes;
             Ok(meant)
         }
     }

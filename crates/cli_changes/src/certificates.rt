@@ -6,7 +6,8 @@ ghost use Rattle.cli_history.specs.Titles.{title_seen, title_for};
 ghost use Rattle.cli_history.specs.declared.seals.Seals.{Seals};
 ghost use Rattle.cli_changes.specs.Certificates.{Certifies, IsCaptured, IsCapturedBeside, IsCertificateLine, IsLineOf, IsTaken};
 
-use cli_console::{Failure, Status, now, tell, tell_words, write_text};
+use crate::disposal_tally::DisposalTally;
+use cli_console::{Failure, Status, now, tell, write_text};
 use cli_history::{Fidelity, Seals};
 use cli_texts::{CapturedMessage, Certificate, ClassTitle, certificate_line, sum_text};
 use record_choice::{Destroyed, Registrar};
@@ -53,6 +54,8 @@ impl Printer for StandardOutput<'_> {
 #[derive(Drop)]
 pub struct Certificates<'r, P: Printer> {
     rt: &'r HostRuntime,
+    /// The number of the volume of the records, in an archive of volumes.
+    pub(crate) volume: Option<u32>,
     /// The seals of the messages and the titles of the classes, as the history has them.
     pub(crate) seals: &'r Seals,
     printer: P,
@@ -92,9 +95,10 @@ fn title_beside<'s>(seals: &'s Seals, destroyed: &Destroyed) -> Option<ClassTitl
     seals.titles().of_class(destroyed.entry.path.as_slice())
 }
 
-/// What is certified of a record that is about to be destroyed, with the title of its class, the message that was captured, where
-/// its own is another one, and the digits of its message's sum, at a moment.
+/// What is certified of a record that is about to be destroyed, with the number of its volume, if it has one, the title of its class,
+/// the message that was captured, where its own is another one, and the digits of its message's sum, at a moment.
 fn facts_of<'d>(
+    volume: Option<u32>,
     destroyed: &'d Destroyed,
     title: Option<ClassTitle<'d>>,
     captured: Option<CapturedMessage<'d>>,
@@ -105,10 +109,11 @@ fn facts_of<'d>(
         title_for seals.titles destroyed.now.entry
         → IsCapturedBeside seals destroyed.now.entry.message destroyed.now.octets sum.now
         captured.entry
-        → Certifies destroyed.now seals sum.now moment result }
+        → Certifies volume destroyed.now seals sum.now moment result }
 {
     let entry = &destroyed.entry;
     Certificate {
+        volume,
         number: entry.number,
         path: entry.path.as_slice(),
         title,
@@ -123,25 +128,36 @@ fn facts_of<'d>(
 
 /// The certificate of a record that is about to be destroyed. Where the message is not the one that was captured, it says so,
 /// and which one that was.
-fn certificate_of(rt: &HostRuntime, seals: &Seals, destroyed: &Destroyed) -> Result<Shown, Failure>
-    ensures { IfOk result (λ line. IsCertificateLine destroyed.now seals.now line) }
+fn certificate_of(
+    rt: &HostRuntime,
+    volume: Option<u32>,
+    seals: &Seals,
+    destroyed: &Destroyed,
+) -> Result<Shown, Failure>
+    ensures { IfOk result (λ line. IsCertificateLine volume destroyed.now seals.now line) }
 {
     let message = destroyed.entry.message;
     let sum = sum_text(rt.alloc(), destroyed.sum.as_slice())?;
     let fidelity = seals.fidelity(message, destroyed.octets as u64, sum.as_bytes());
     let title = title_beside(seals, destroyed);
     let captured = captured_beside(seals, message, fidelity);
-    let facts = facts_of(destroyed, title, captured, sum.as_str(), now(rt)?);
+    let facts = facts_of(volume, destroyed, title, captured, sum.as_str(), now(rt)?);
     Ok(certificate_line(rt.alloc(), &facts)?)
 }
 
 impl<'r> Certificates<'r, StandardOutput<'r>> {
-    /// Certificates on standard output, by the seals and the titles of a history.
-    pub fn on_output(rt: &'r HostRuntime, seals: &'r Seals) -> Certificates<'r, StandardOutput<'r>>
-        ensures { result.seals.now ≡ seals.now }
+    /// Certificates on standard output, by the seals and the titles of a history, for records of a volume in an archive of volumes.
+    pub fn on_output(
+        rt: &'r HostRuntime,
+        volume: Option<u32>,
+        seals: &'r Seals,
+    ) -> Certificates<'r, StandardOutput<'r>>
+        ensures seals { result.seals.now ≡ seals.now }
+        ensures volume { result.volume ≡ volume }
     {
         Certificates {
             rt,
+            volume,
             seals,
             printer: StandardOutput { rt },
             is_any_gone: false,
@@ -150,13 +166,13 @@ impl<'r> Certificates<'r, StandardOutput<'r>> {
 }
 
 impl<P: Printer> Certificates<'_, P> {
-    /// Tells, where a message is gone with a record, what is left of it.
-    pub(crate) fn tell_gone(&self) {
-        if self.is_any_gone {
-            tell_words(
-                self.rt,
-                "the messages are gone from the archive, but their octets may still lie in unused parts of its file; copy makes a store without them",
-            );
+    /// What a disposal has come to with them, by whether there was a record.
+    pub fn tally(&self, is_any: bool) -> DisposalTally
+        ensures { result ≡ record { is_any = is_any; is_any_gone = self.now.is_any_gone } }
+    {
+        DisposalTally {
+            is_any,
+            is_any_gone: self.is_any_gone,
         }
     }
 }
@@ -167,7 +183,7 @@ impl<P: Printer> Registrar for Certificates<'_, P> {
     type Draft = Draft;
 
     ghost says = { λ certificates draft certificate.
-        IsLineOf certificates.seals.now certificate draft.text
+        IsLineOf certificates.volume certificates.seals.now certificate draft.text
         × (draft.is_gone ≡ is_none certificate.kept_by) };
 
     ghost takes = { λ old new certificate. IsTaken P.prints old new certificate };
@@ -176,7 +192,7 @@ impl<P: Printer> Registrar for Certificates<'_, P> {
 
     fn draft(&self, destroyed: &Destroyed) -> Result<Draft, Failure> {
         Ok(Draft {
-            text: certificate_of(self.rt, self.seals, destroyed)?,
+            text: certificate_of(self.rt, self.volume, self.seals, destroyed)?,
             is_gone: destroyed.kept_by.is_none(),
         })
     }

@@ -8,6 +8,7 @@ ghost use Rattle.cli_changes.specs.ReasonLines.{action_of, hold_words};
 
 use class_plan::{Action, Date, Schedule};
 use cli_console::{Failure, Status};
+use cli_texts::put_number;
 use record_choice::{DisposeFault, Disposed, End, Reason, Registrar, Repository, dispose};
 use record_store::StoreFault;
 use std::alloc::{AllocError, Global};
@@ -56,9 +57,15 @@ fn put_reason(text: &mut Shown, reason: &Reason) -> Result<(), AllocError> {
 }
 
 /// That the record of a number may not be destroyed, and why.
-fn not_approved(alloc: Global, number: u32, reason: &Reason) -> Result<Shown, AllocError> {
+fn not_approved(
+    alloc: Global,
+    volume: Option<u32>,
+    number: u32,
+    reason: &Reason,
+) -> Result<Shown, AllocError> {
     let mut text = Shown::new(alloc);
-    put!(text; value(&number) ": ")?;
+    put_number(&mut text, volume, number)?;
+    text.words(": ")?;
     put_reason(&mut text, reason)?;
     Ok(text)
 }
@@ -70,15 +77,20 @@ pub(crate) fn unread(rt: &HostRuntime, fault: StoreFault) -> Failure
     Failure::of_store(rt.alloc(), "the store", fault)
 }
 
-/// The failure of a disposal that destroys nothing.
-pub(crate) fn refused(rt: &HostRuntime, fault: DisposeFault<StoreFault>) -> Failure
+/// The failure of a disposal that destroys nothing, of a volume in an archive of volumes.
+pub(crate) fn refused(
+    rt: &HostRuntime,
+    volume: Option<u32>,
+    fault: DisposeFault<StoreFault>,
+) -> Failure
     ensures { IsUndone fault result }
 {
     match fault {
         DisposeFault::Repository(fault) => unread(rt, fault),
         DisposeFault::NoMemory => Failure::NoMemory,
         DisposeFault::NotApproved(number, reason) => {
-            Failure::shown(Status::BadData, not_approved(rt.alloc(), number, &reason))
+            let words = not_approved(rt.alloc(), volume, number, &reason);
+            Failure::shown(Status::BadData, words)
         }
     }
 }
@@ -100,6 +112,7 @@ pub(crate) fn destroy_numbers<R: Repository<Fault = StoreFault>, K: Registrar<Fa
     rt: &HostRuntime,
     archive: &mut R,
     certificates: &mut K,
+    volume: Option<u32>,
     numbers: &[u32],
     day: Date,
 ) -> Result<(), Failure>
@@ -111,6 +124,6 @@ pub(crate) fn destroy_numbers<R: Repository<Fault = StoreFault>, K: Registrar<Fa
 {
     match dispose(rt.alloc(), archive, certificates, numbers, day) {
         Ok(Disposed { end, .. }) => settle(rt, end),
-        Err(fault) => Err(refused(rt, fault)),
+        Err(fault) => Err(refused(rt, volume, fault)),
     }
 }

@@ -10,13 +10,14 @@ ghost use Rattle.record_choice.specs.Reads.{OnlyReads};
 ghost use Rattle.record_choice.specs.Reasons.{MayGo};
 ghost use Rattle.record_ledger.specs.Ledgers.{KeptFor};
 ghost use Rattle.cli_choice.specs.Disposals.{IsMeant};
+ghost use Rattle.cli_changes.specs.declared.altered.Damage.TheVariants.{Refused};
 ghost use Rattle.cli_changes.specs.declared.dispose.Fate.TheVariants.{Destroyed, Listed};
 ghost use Rattle.cli_changes.specs.Certificates.{IsTaken};
 ghost use Rattle.cli_changes.specs.Destructions.{AreApproved, DisposesAsked, DisposesUnaltered, EachOnce, HandsOverFor, IsAskedFor};
-ghost use Rattle.cli_changes.specs.Destructions.{IsDisposal, IsDisposalOf};
-ghost use Rattle.cli_changes.specs.Destructions.{IsOnlyRead, IsRead, fate_asked};
+ghost use Rattle.cli_changes.specs.Destructions.{IsDisposal, IsDisposalOf, MayBegin};
+ghost use Rattle.cli_changes.specs.Destructions.{IsOnlyRead, IsRead, are_any, damage_asked, fate_asked, meant_numbers, numbers_of};
 ghost use Rattle.cli_changes.specs.DueLines.{ListsAsked, due_line as due_line_of, due_lines};
-ghost use Rattle.cli_changes.specs.Runs.{AreFilled, altered as altered_of, records_of};
+ghost use Rattle.cli_changes.specs.Runs.{AreFilled, IsUnaltered, altered as altered_of, records_of};
 
 use crate::altered::{Damage, altered_in, due_line, end_list, judge_altered};
 use crate::certificates::{Certificates, Printer};
@@ -25,7 +26,7 @@ use crate::passed_over::tell_passed_over;
 use crate::runs::{Run, runs_of};
 use class_plan::Date;
 use cli_choice::{Meant, meant_of, set_of};
-use cli_console::{Failure, Sink, StandardOutput, judge_day, tell, today};
+use cli_console::{Failure, Sink, StandardOutput, judge_day, today};
 use cli_history::{Seals, StoreLedger};
 use command_lines::archives::{Disposal, TypedNumbers};
 use record_archive::Line;
@@ -33,12 +34,12 @@ use record_choice::{Repository, asked_lines};
 use record_store::StoreFault;
 use sqlite::Alter;
 use std::alloc::Global;
-use tool_texts::{Shown, put};
 
-/// Which records a disposal by a day is about. What it passes over in ranges is told.
-fn meant_by<R: Repository<Fault = StoreFault>>(
+/// Which records a disposal by a day is about.
+fn meant_in<R: Repository<Fault = StoreFault>>(
     rt: &HostRuntime,
     archive: &mut R,
+    volume: Option<u32>,
     typed: &[TypedNumbers],
     day: Date,
 ) -> Result<Meant, Failure>
@@ -47,19 +48,27 @@ fn meant_by<R: Repository<Fault = StoreFault>>(
         → R.stands archive.old a
         → IsMeant typed.now (asked_list a (epoch_day day) []) meant) }
 {
-    tell_passed_over(rt, archive, typed, day)?;
     match asked_lines(rt.alloc(), archive, &[], day) {
         Ok(lines) => Ok(meant_of(rt.alloc(), typed, lines)?),
-        Err(fault) => Err(refused(rt, fault)),
+        Err(fault) => Err(refused(rt, volume, fault)),
     }
 }
 
-/// Tells that none of some records is due by a day and may be destroyed. `whose` are the words for these records.
-fn tell_none(rt: &HostRuntime, whose: &'static str, day: Date) -> Result<(), Failure> {
-    let mut text = Shown::new(rt.alloc());
-    put!(text; words(whose) " is due by " value(&day) " and may be destroyed")?;
-    tell(rt, &text);
-    Ok(())
+/// The same. What the disposal passes over in ranges is told.
+fn meant_by<R: Repository<Fault = StoreFault>>(
+    rt: &HostRuntime,
+    archive: &mut R,
+    volume: Option<u32>,
+    typed: &[TypedNumbers],
+    day: Date,
+) -> Result<Meant, Failure>
+    ensures reads { OnlyReads R.clean R.stands archive.old archive.new }
+    ensures told { IfOk result (λ meant. R.clean archive.new → (a : Archive)
+        → R.stands archive.old a
+        → IsMeant typed.now (asked_list a (epoch_day day) []) meant) }
+{
+    tell_passed_over(rt, archive, volume, typed, day)?;
+    meant_in(rt, archive, volume, typed, day)
 }
 
 /// Destroys the records of a run, of which there is one at least. Each gets a certificate, and an event with the notes of the run.
@@ -77,7 +86,8 @@ fn destroy_run<S: Alter, P: Printer>(
         run.now.numbers.items (is_ok result) cs a) }
 {
     archive.set_notes(run.notes());
-    let done = destroy_numbers(rt, archive, certificates, run.numbers(), day);
+    let volume = certificates.volume;
+    let done = destroy_numbers(rt, archive, certificates, volume, run.numbers(), day);
     archive.set_notes(b"");
     done
 }
@@ -118,6 +128,7 @@ struct Asked {
 fn read_asked<R: Repository<Fault = StoreFault>>(
     rt: &HostRuntime,
     archive: &mut R,
+    volume: Option<u32>,
     seals: &Seals,
     numbers: &[u32],
     day: Date,
@@ -131,7 +142,7 @@ fn read_asked<R: Repository<Fault = StoreFault>>(
 {
     let lines = match asked_lines(rt.alloc(), archive, numbers, day) {
         Ok(lines) => lines,
-        Err(fault) => return Err(refused(rt, fault)),
+        Err(fault) => return Err(refused(rt, volume, fault)),
     };
     let runs = match runs_of(rt.alloc(), archive, seals, lines.as_slice()) {
         Ok(runs) => runs,
@@ -150,6 +161,7 @@ fn read_asked<R: Repository<Fault = StoreFault>>(
 fn approved_runs<R: Repository<Fault = StoreFault>>(
     rt: &HostRuntime,
     archive: &mut R,
+    volume: Option<u32>,
     seals: &Seals,
     damage: Damage,
     numbers: &[u32],
@@ -161,13 +173,14 @@ fn approved_runs<R: Repository<Fault = StoreFault>>(
         → AreApproved seals.now damage a (epoch_day day) numbers.now (records_of runs.items)) }
     ensures filled { IfOk result (λ runs. AreFilled runs.items) }
 {
-    let Asked { runs, altered, .. } = read_asked(rt, archive, seals, numbers, day)?;
-    judge_altered(rt, altered.as_slice(), damage)?;
+    let Asked { runs, altered, .. } = read_asked(rt, archive, volume, seals, numbers, day)?;
+    judge_altered(rt, volume, altered.as_slice(), damage)?;
     Ok(runs)
 }
 
 /// Destroys the records of some numbers, all that are due where there is no number, with a certificate for each. None is
-/// destroyed unless each of them may be. Which messages are not the ones that were captured is told before.
+/// destroyed unless each of them may be. Which messages are not the ones that were captured is told before. Answers whether there
+/// is a record.
 fn destroy_asked<S: Alter, P: Printer>(
     rt: &HostRuntime,
     archive: &mut StoreLedger<'_, S>,
@@ -175,33 +188,35 @@ fn destroy_asked<S: Alter, P: Printer>(
     damage: Damage,
     numbers: &[u32],
     day: Date,
-) -> Result<(), Failure>
+) -> Result<bool, Failure>
     ensures falls { IsRead S.Store archive.new → IsRead S.Store archive.old }
+    ensures any { IfOk result (λ is_any. IsRead S.Store archive.new → (a : Archive)
+        → KeptFor S.Store archive.old.kept a
+        → is_any ≡ are_any (numbers_of (asked_list a (epoch_day day) numbers.now))) }
     ensures these { HandsOverFor (IsTaken P.prints) certificates.old certificates.new
         (IsRead S.Store archive.new) (KeptFor S.Store archive.old.kept)
         (λ cs a. DisposesUnaltered certificates.old.seals.now damage
         (KeptFor S.Store archive.new.kept) (epoch_day day) numbers.now (is_ok result) cs a) }
 {
     let seals: &Seals = certificates.seals;
-    let runs = approved_runs(rt, archive, seals, damage, numbers, day)?;
+    let volume = certificates.volume;
+    let runs = approved_runs(rt, archive, volume, seals, damage, numbers, day)?;
     destroy_runs(rt, archive, certificates, runs.as_slice(), day)?;
-    certificates.tell_gone();
-    if runs.is_empty() {
-        tell_none(rt, "no record", day)?;
-    }
-    Ok(())
+    Ok(!runs.is_empty())
 }
 
 /// Writes the line of a record that is due to a sink.
 fn write_line<K: Sink>(
     alloc: Global,
+    volume: Option<u32>,
     line: &Line,
     is_altered: bool,
     sink: &mut K,
 ) -> Result<(), Failure>
-    ensures { OnOk result (Writes K.written sink.old sink.new (due_line_of line.now is_altered)) }
+    ensures { OnOk result (Writes K.written sink.old sink.new
+        (due_line_of volume line.now is_altered)) }
 {
-    let text = due_line(alloc, line, is_altered)?;
+    let text = due_line(alloc, volume, line, is_altered)?;
     sink.write(text.as_str().as_bytes())
 }
 
@@ -209,58 +224,106 @@ fn write_line<K: Sink>(
 /// ones that were captured.
 fn write_lines<K: Sink>(
     alloc: Global,
+    volume: Option<u32>,
     lines: &[Line],
     altered: &[u32],
     sink: &mut K,
 ) -> Result<(), Failure>
-    ensures { OnOk result (Writes K.written sink.old sink.new (due_lines altered.now lines.now)) }
+    ensures { OnOk result (Writes K.written sink.old sink.new
+        (due_lines volume altered.now lines.now)) }
 {
     let set = set_of(alloc, altered)?;
     for line in lines {
-        write_line(alloc, line, set.contains(&line.number), sink)?;
+        write_line(alloc, volume, line, set.contains(&line.number), sink)?;
     }
     Ok(())
 }
 
-/// Lists the records of some numbers, all that are due where there is no number, in a sink, a line each. Answers the numbers of
-/// those whose messages are not the ones that were captured, upwards.
+/// Lists the records of some numbers, all that are due where there is no number, in a sink, a line each. Answers them.
 fn list_asked<R: Repository<Fault = StoreFault>, K: Sink>(
     rt: &HostRuntime,
     archive: &mut R,
+    volume: Option<u32>,
     seals: &Seals,
     numbers: &[u32],
     day: Date,
     sink: &mut K,
-) -> Result<Vec<u32>, Failure>
+) -> Result<Asked, Failure>
     ensures reads { OnlyReads R.clean R.stands archive.old archive.new }
-    ensures listed { IfOk result (λ altered. R.clean archive.new → (a : Archive)
+    ensures told { IfOk result (λ asked. R.clean archive.new → (a : Archive)
         → R.stands archive.old a
-        → ListsAsked K.written seals.now a (epoch_day day) numbers.now sink.old sink.new) }
+        → IsAskedFor seals.now a (epoch_day day) numbers.now asked) }
+    ensures listed { OnOk result (R.clean archive.new → (a : Archive) → R.stands archive.old a
+        → ListsAsked K.written volume seals.now a (epoch_day day) numbers.now sink.old sink.new) }
 {
-    let Asked { lines, altered, .. } = read_asked(rt, archive, seals, numbers, day)?;
-    write_lines(rt.alloc(), lines.as_slice(), altered.as_slice(), sink)?;
-    if lines.is_empty() {
-        tell_none(rt, "no record", day)?;
-    }
-    Ok(altered)
+    let asked = read_asked(rt, archive, volume, seals, numbers, day)?;
+    write_lines(
+        rt.alloc(),
+        volume,
+        asked.lines.as_slice(),
+        asked.altered.as_slice(),
+        sink,
+    )?;
+    Ok(asked)
 }
 
 /// Lists the same on standard output. `BadData` in the end where the message of one is not the one that was captured, which is
-/// told.
+/// told. Answers whether there is a record.
 fn write_asked<R: Repository<Fault = StoreFault>>(
     rt: &HostRuntime,
     archive: &mut R,
+    volume: Option<u32>,
     seals: &Seals,
+    numbers: &[u32],
+    day: Date,
+) -> Result<bool, Failure>
+    ensures reads { OnlyReads R.clean R.stands archive.old archive.new }
+    ensures any { IfOk result (λ is_any. R.clean archive.new → (a : Archive)
+        → R.stands archive.old a
+        → is_any ≡ are_any (numbers_of (asked_list a (epoch_day day) numbers.now))) }
+    ensures may_go { OnOk result (R.clean archive.new → (a : Archive) → R.stands archive.old a
+        → AllByRecursion (MayGo a (epoch_day day)) numbers.now) }
+{
+    let mut output = StandardOutput::new(rt);
+    let asked = list_asked(rt, archive, volume, seals, numbers, day, &mut output)?;
+    end_list(rt, volume, asked.altered.as_slice())?;
+    Ok(!asked.lines.is_empty())
+}
+
+/// Finds that the records of some numbers may be destroyed, all that are due where there is no number, before any is. Fails where one of
+/// these numbers may not be, and, unless damage is destroyed too, where a message is not the one that was captured, which is told.
+fn judge_asked<R: Repository<Fault = StoreFault>>(
+    rt: &HostRuntime,
+    archive: &mut R,
+    volume: Option<u32>,
+    seals: &Seals,
+    damage: Damage,
     numbers: &[u32],
     day: Date,
 ) -> Result<(), Failure>
     ensures reads { OnlyReads R.clean R.stands archive.old archive.new }
     ensures may_go { OnOk result (R.clean archive.new → (a : Archive) → R.stands archive.old a
         → AllByRecursion (MayGo a (epoch_day day)) numbers.now) }
+    ensures unaltered { OnOk result (R.clean archive.new → (a : Archive) → R.stands archive.old a
+        → damage ≡ Refused → AllByRecursion (IsUnaltered seals.now a)
+        (numbers_of (asked_list a (epoch_day day) numbers.now))) }
 {
-    let mut output = StandardOutput::new(rt);
-    let altered = list_asked(rt, archive, seals, numbers, day, &mut output)?;
-    end_list(rt, altered.as_slice())
+    let Asked { altered, .. } = read_asked(rt, archive, volume, seals, numbers, day)?;
+    match damage {
+        Damage::Refused => judge_altered(rt, volume, altered.as_slice(), damage),
+        Damage::Destroyed => Ok(()),
+    }
+}
+
+/// What is done where the message of a record that is meant is not the one that was captured.
+fn damage_of(asked: &Disposal) -> Damage
+    ensures { result ≡ damage_asked asked.now.is_damaged }
+{
+    if asked.is_damaged {
+        Damage::Destroyed
+    } else {
+        Damage::Refused
+    }
 }
 
 /// What is done with records that are due.
@@ -276,14 +339,14 @@ enum Fate {
 fn fate_of(asked: &Disposal) -> Fate
     ensures { result ≡ fate_asked asked.now.destroys asked.now.is_damaged }
 {
-    match (asked.destroys, asked.is_damaged) {
-        (false, _) => Fate::Listed,
-        (true, false) => Fate::Destroyed(Damage::Refused),
-        (true, true) => Fate::Destroyed(Damage::Destroyed),
+    if asked.destroys {
+        Fate::Destroyed(damage_of(asked))
+    } else {
+        Fate::Listed
     }
 }
 
-/// Lists or destroys the records of some numbers, all that are due where there is no number.
+/// Lists or destroys the records of some numbers, all that are due where there is no number. Answers whether there is one.
 fn dispose_of<S: Alter, P: Printer>(
     rt: &HostRuntime,
     archive: &mut StoreLedger<'_, S>,
@@ -291,8 +354,11 @@ fn dispose_of<S: Alter, P: Printer>(
     fate: Fate,
     numbers: &[u32],
     day: Date,
-) -> Result<(), Failure>
+) -> Result<bool, Failure>
     ensures falls { IsRead S.Store archive.new → IsRead S.Store archive.old }
+    ensures any { IfOk result (λ is_any. IsRead S.Store archive.new → (a : Archive)
+        → KeptFor S.Store archive.old.kept a
+        → is_any ≡ are_any (numbers_of (asked_list a (epoch_day day) numbers.now))) }
     ensures listed { fate ≡ Listed → (certificates.new ≡ certificates.old)
         × IsOnlyRead S.Store archive.old archive.new }
     ensures destroyed { (damage : Damage) → fate ≡ Destroyed damage
@@ -304,7 +370,7 @@ fn dispose_of<S: Alter, P: Printer>(
     match fate {
         Fate::Listed => {
             let seals: &Seals = certificates.seals;
-            write_asked(rt, archive, seals, numbers, day)
+            write_asked(rt, archive, certificates.volume, seals, numbers, day)
         }
         Fate::Destroyed(damage) => destroy_asked(rt, archive, certificates, damage, numbers, day),
     }
@@ -324,9 +390,34 @@ pub fn day_of_disposal(rt: &HostRuntime, asked: &Disposal) -> Result<Date, Failu
     }
 }
 
+/// Finds that a disposal by a day may begin in a store, before anything is destroyed in another one. It fails as the disposal does that
+/// destroys. What that passes over, and what it destroys of altered messages, it tells itself.
+pub fn judge_disposal<R: Repository<Fault = StoreFault>>(
+    rt: &HostRuntime,
+    archive: &mut R,
+    volume: Option<u32>,
+    seals: &Seals,
+    asked: &Disposal,
+    day: Date,
+) -> Result<(), Failure>
+    ensures reads { OnlyReads R.clean R.stands archive.old archive.new }
+    ensures may_begin { OnOk result (R.clean archive.new → (a : Archive) → R.stands archive.old a
+        → MayBegin seals.now asked.now a (epoch_day day)) }
+{
+    let damage = damage_of(asked);
+    let meant = meant_in(rt, archive, volume, asked.numbers.as_slice(), day)?;
+    match meant {
+        Meant::All => judge_asked(rt, archive, volume, seals, damage, &[], day),
+        Meant::Nothing => Ok(()),
+        Meant::Numbers(numbers) => {
+            judge_asked(rt, archive, volume, seals, damage, numbers.as_slice(), day)
+        }
+    }
+}
+
 /// Writes what is due by a day and may be destroyed, or destroys it; where numbers are typed, these records alone. A range
 /// passes over what may not be destroyed, which is told; `BadData` with the reason where that is a record whose number is
-/// typed by itself. Where there is none, this is told. By the seals of the history messages are judged: `BadData` where that of
+/// typed by itself. Answers whether there is a record. By the seals of the history messages are judged: `BadData` where that of
 /// a record is not the one that was captured, and then none is destroyed, unless damage is asked for; what is listed is listed
 /// all the same.
 pub fn dispose_by<S: Alter, P: Printer>(
@@ -335,8 +426,11 @@ pub fn dispose_by<S: Alter, P: Printer>(
     certificates: &mut Certificates<'_, P>,
     asked: &Disposal,
     day: Date,
-) -> Result<(), Failure>
+) -> Result<bool, Failure>
     ensures falls { IsRead S.Store archive.new → IsRead S.Store archive.old }
+    ensures any { IfOk result (λ is_any. IsRead S.Store archive.new → (a : Archive)
+        → KeptFor S.Store archive.old.kept a
+        → is_any ≡ are_any (meant_numbers a (epoch_day day) asked.now.numbers.items)) }
     // nothing is destroyed unless that is asked for
     ensures listed { asked.now.destroys ≡ false → (certificates.new ≡ certificates.old)
         × IsOnlyRead S.Store archive.old archive.new }
@@ -348,10 +442,11 @@ pub fn dispose_by<S: Alter, P: Printer>(
         (KeptFor S.Store archive.new.kept) (epoch_day day) (is_ok result) cs a) }
 {
     let fate = fate_of(asked);
-    let meant = meant_by(rt, archive, asked.numbers.as_slice(), day)?;
+    let volume = certificates.volume;
+    let meant = meant_by(rt, archive, volume, asked.numbers.as_slice(), day)?;
     match meant {
         Meant::All => dispose_of(rt, archive, certificates, fate, &[], day),
-        Meant::Nothing => tell_none(rt, "none of these records", day),
+        Meant::Nothing => Ok(false),
         Meant::Numbers(numbers) => {
             dispose_of(rt, archive, certificates, fate, numbers.as_slice(), day)
         }

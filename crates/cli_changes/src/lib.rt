@@ -16,9 +16,10 @@
 //! - `refile`: another class for records; `refilings`: which of them get it; `due_today`: what is due at once by a change;
 //! - `series`: how single records are changed, one after another, for `holds`, `whole_holds` and `refile`;
 //! - `titles`: titles of classes, which a file gives;
-//! - `dispose` and `destroying`: the destruction of what is due; `certificates`: what is certified of each record; `approved`: the
-//!   numbers in a file of what was approved; `passed_over`: what it passes over; `runs`: records in runs, by what is noted of
-//!   each; `altered`: those of them whose messages are not the ones that were captured.
+//! - `dispose` and `destroying`: the destruction of what is due; `disposal_tally`: what that comes to in one store after another;
+//!   `certificates`: what is certified of each record; `approved`: the numbers in a file of what was approved; `passed_over`: what it
+//!   passes over; `runs`: records in runs, by what is noted of each; `altered`: those of them whose messages are not the ones that were
+//!   captured.
 //!
 //! Each works on a store that is lent to it. What it writes, and what a Maildir or a terminal does, no contract speaks of:
 //! tests of the program show it. `specs/Moments` says when a clock is refused, `specs/Spaces` when a volume is full,
@@ -32,6 +33,7 @@ mod certificates;
 mod class_changes;
 mod deliver;
 mod destroying;
+mod disposal_tally;
 mod dispose;
 mod due_today;
 mod fault_words;
@@ -67,7 +69,8 @@ mod whole_holds;
 pub use approved::with_approved;
 pub use certificates::{Certificates, Printer, StandardOutput};
 pub use deliver::{Delivered, deliver_to, read_message, report_delivery, undecoded_in};
-pub use dispose::{day_of_disposal, dispose_by};
+pub use disposal_tally::DisposalTally;
+pub use dispose::{day_of_disposal, dispose_by, judge_disposal};
 pub use holds::{HoldChange, HoldTally, change_holds, end_holds, hold_found, is_held_by};
 pub use import::{MailImport, import_mail};
 pub use intake::{Intake, take_new};

@@ -1,7 +1,6 @@
 //! What a disposal passes over: those records in the ranges that are typed which may not be destroyed.
 
 ghost use Rattle.std.specs.Prelude.{◌≡◌, ◌++◌, ℕ, false, Some, flat_map, map, IfOk, OnOk, MatchOption};
-ghost use Rattle.cli_console.specs.Numbers.{typed_words};
 ghost use Rattle.jiff.specs.Words.{epoch_day};
 ghost use Rattle.record_archive.specs.Archive.{Archive, Record, record_at};
 ghost use Rattle.record_choice.specs.Choices.{anyone};
@@ -10,11 +9,11 @@ ghost use Rattle.record_choice.specs.Reads.{OnlyReads};
 ghost use Rattle.record_choice.specs.Reasons.{MayGo};
 ghost use Rattle.record_choice.specs.Views.{shows_hold, span_view};
 ghost use Rattle.cli_changes.specs.declared.passed_over.Cause.TheVariants.{Held, NotForDestruction, NotDue};
-ghost use Rattle.cli_changes.specs.PassedOver.{IsCause, IsWith, is_for, passed_words as passed_words_of, range_span, range_spans};
+ghost use Rattle.cli_changes.specs.PassedOver.{IsCause, IsWith, is_for, numbers_after, passed_words as passed_words_of, range_span, range_spans};
 
 use choice_words::add_number;
 use class_plan::{Date, Plan};
-use cli_console::{Failure, Walk, is_by, put_numbers, tell};
+use cli_console::{Failure, Walk, is_by, put_typed, tell};
 use command_lines::archives::TypedNumbers;
 use record_choice::{Choice, Repository, Span, destroys};
 use record_store::{RecordEntry, StoreFault};
@@ -149,12 +148,24 @@ fn passed_of<R: Repository<Fault = StoreFault>>(
     Ok(passed)
 }
 
+/// Adds numbers of records as they are typed, of a volume if they have one, after a blank.
+fn put_after(text: &mut Shown, volume: Option<u32>, numbers: TypedNumbers) -> Result<(), AllocError>
+    ensures { OnOk result (text.new ≡ text.old ++ numbers_after volume numbers) }
+{
+    text.words(" ")?;
+    put_typed(text, volume, numbers)
+}
+
 /// Adds numbers of records as they are typed, each after a blank.
-fn put_all(text: &mut Shown, numbers: &[TypedNumbers]) -> Result<(), AllocError>
-    ensures { OnOk result (text.new ≡ text.old ++ flat_map typed_words numbers.now) }
+fn put_all(
+    text: &mut Shown,
+    volume: Option<u32>,
+    numbers: &[TypedNumbers],
+) -> Result<(), AllocError>
+    ensures { OnOk result (text.new ≡ text.old ++ flat_map (numbers_after volume) numbers.now) }
 {
     for typed in numbers {
-        put_numbers(text, *typed)?;
+        put_after(text, volume, *typed)?;
     }
     Ok(())
 }
@@ -163,34 +174,37 @@ fn put_all(text: &mut Shown, numbers: &[TypedNumbers]) -> Result<(), AllocError>
 #[tactic(auto, unfolding(crate::specs::PassedOver::passed_words))]
 fn passed_words(
     alloc: Global,
+    volume: Option<u32>,
     why: &'static str,
     numbers: &[TypedNumbers],
 ) -> Result<Shown, AllocError>
-    ensures { IfOk result (λ text. text ≡ passed_words_of why.now numbers.now) }
+    ensures { IfOk result (λ text. text ≡ passed_words_of volume why.now numbers.now) }
 {
     let mut text = Shown::new(alloc);
     put!(text; "passed over, " words(why) ":")?;
-    put_all(&mut text, numbers)?;
+    put_all(&mut text, volume, numbers)?;
     Ok(text)
 }
 
 /// Tells that records are passed over, and why, if there are any.
 fn tell_numbers(
     rt: &HostRuntime,
+    volume: Option<u32>,
     why: &'static str,
     numbers: &[TypedNumbers],
 ) -> Result<(), AllocError> {
     if !numbers.is_empty() {
-        tell(rt, &passed_words(rt.alloc(), why, numbers)?);
+        tell(rt, &passed_words(rt.alloc(), volume, why, numbers)?);
     }
     Ok(())
 }
 
-/// Tells which live records in the ranges that are typed may not be destroyed by a day, and why. A failure is that of the
-/// store, or no memory.
+/// Tells which live records in the ranges that are typed, of a volume in an archive of volumes, may not be destroyed by a day, and
+/// why. A failure is that of the store, or no memory.
 pub(crate) fn tell_passed_over<R: Repository<Fault = StoreFault>>(
     rt: &HostRuntime,
     archive: &mut R,
+    volume: Option<u32>,
     typed: &[TypedNumbers],
     day: Date,
 ) -> Result<(), Failure>
@@ -203,9 +217,9 @@ pub(crate) fn tell_passed_over<R: Repository<Fault = StoreFault>>(
     let mut choice = Choice::live();
     choice.numbers = Some(ranges);
     let passed = passed_of(rt, archive, &choice, day)?;
-    tell_numbers(rt, "held", passed.held.as_slice())?;
+    tell_numbers(rt, volume, "held", passed.held.as_slice())?;
     let why = "not for destruction by the schedule of the class";
-    tell_numbers(rt, why, passed.not_for_destruction.as_slice())?;
-    tell_numbers(rt, "not due", passed.not_due.as_slice())?;
+    tell_numbers(rt, volume, why, passed.not_for_destruction.as_slice())?;
+    tell_numbers(rt, volume, "not due", passed.not_due.as_slice())?;
     Ok(())
 }

@@ -11,9 +11,7 @@ ghost use Rattle.cli_readings.specs.Twice.{AddsBeside, AddsGroups, AreCapturedTw
 
 use crate::groups::{Group, Groups, SealKey, Sealed};
 use crate::list::{ListText, headers_of_record};
-use cli_console::{
-    Failure, Reader, Sink, StandardOutput, message_of, read_chosen, text_between,
-};
+use cli_console::{Failure, Reader, Sink, StandardOutput, message_of, read_chosen, text_between};
 use cli_history::Seals;
 use cli_texts::{Headers, LIST_HEADER, LIST_HEADER_WITH_TEXTS, ListedHeaders, sum_of};
 use command_lines::archives::{Format, Listing};

@@ -1,5 +1,5 @@
 -- A change of an archive by an author, from what its calls say.
-use Rattle.std.specs.Prelude.{Option, None, Result, Ok, Err, OnOk, List, true, false, is_ok}
+use Rattle.std.specs.Prelude.{Bool, Option, None, Result, Ok, Err, OnOk, List, true, false}
 use Rattle.std.specs.Option.{unwrap_or}
 use Rattle.std.proofs.Common.{◌≡◌, ◌∙◌, ap, subst}
 use Rattle.std.specs.declared.prelude.LibcRuntime.{LibcRuntime}
@@ -77,13 +77,13 @@ changes_weaker g purpose author before Made Other after to d = record {
 }
 
 -- WHAT IS DUE IS DISPOSED OF, by the seals of the certificates
-pub disposes : {S K : Type 0} (g : Ghosts S) (old new : Ledger S K) (result : Result (Unit {0}) Failure) (asked : Disposal) (day : Date)
+pub disposes : {S K : Type 0} (g : Ghosts S) (old new : Ledger S K) (is_done : Bool) (asked : Disposal) (day : Date)
     (seals used : Seals) → used ≡ seals → (IsRead g new → IsRead g old) → (asked.destroys ≡ false → IsOnlyRead g old new)
     → (asked.destroys ≡ true → (cs : List Certificate) × (IsRead g new → (a : Archive) → KeptFor g old.kept a
-    → IsDisposalOf used asked (KeptFor g new.kept) (epoch_day day) (is_ok result) cs a)) → Disposes g old new result asked day seals
-disposes g old new result asked day seals used same falls listed destroyed = record {
+    → IsDisposalOf used asked (KeptFor g new.kept) (epoch_day day) is_done cs a)) → Disposes g old new is_done asked day seals
+disposes g old new is_done asked day seals used same falls listed destroyed = record {
   falls = falls;
   listed = listed;
   destroyed = λ yes. subst (λ s. (cs : List Certificate) × (IsRead g new → (a : Archive) → KeptFor g old.kept a
-      → IsDisposalOf s asked (KeptFor g new.kept) (epoch_day day) (is_ok result) cs a)) same (destroyed yes);
+      → IsDisposalOf s asked (KeptFor g new.kept) (epoch_day day) is_done cs a)) same (destroyed yes);
 }

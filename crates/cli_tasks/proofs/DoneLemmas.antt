@@ -1,8 +1,8 @@
 -- What a work has made of an archive, in the words of a command.
-use Rattle.std.specs.Prelude.{Result, Ok, Err, OnOk, IfOk, IfSome, Option, None}
+use Rattle.std.specs.Prelude.{Result, Ok, Err, OnOk, IfOk, IfSome, Option, None, Some, is_ok, option_map, string_bytes}
 use Rattle.std.specs.Borrow.{Bor}
 use Rattle.std.specs.declared.prelude.LibcRuntime.{LibcRuntime}
-use Rattle.std.proofs.Common.{◌≡◌, ℕ, List, Bool, subst}
+use Rattle.std.proofs.Common.{◌≡◌, ◌∙◌, ℕ, List, [], Bool, ap, subst, sym, true, true≢false}
 use Rattle.jiff_core.specs.declared.civil.date.Date.{Date}
 use Rattle.class_plan.specs.Plans.{Listing}
 use Rattle.sqlite.specs.Store.{Ghosts}
@@ -18,13 +18,14 @@ use Rattle.command_lines.specs.declared.archives.ChosenTask.{ChosenTask}
 use Rattle.command_lines.specs.declared.archives.ChosenTask.TheVariants as task
 use Rattle.command_lines.specs.declared.archives.Disposal.{Disposal}
 use Rattle.command_lines.specs.declared.archives.approvals.DisposalAsked.{DisposalAsked}
+use Rattle.command_lines.specs.declared.archives.approvals.TypedDisposal.{TypedDisposal}
 use Rattle.command_lines.specs.declared.archives.histories.Attribution.{Attribution}
 use Rattle.cli_history.specs.declared.author.Author.{Author}
 use Rattle.cli_history.specs.declared.opening.Purpose.{Purpose}
 use Rattle.cli_history.specs.declared.seals.Seals.{Seals}
 use Rattle.cli_changes.specs.Approvals.{IsAsTyped}
 use Rattle.cli_tasks.specs.Changes.{Changes, Disposes, Makes}
-use Rattle.cli_tasks.specs.Commands.{AreAsked, ChangesAsTold, ChangesBy, ChangesChosenBy, DisposesAsTyped, DoesAsTyped, DoesWith, IsTold}
+use Rattle.cli_tasks.specs.Commands.{AreAsked, ChangesAsTold, ChangesBy, ChangesChosenBy, DisposesAsTyped, DisposesBy, DoesAsTyped, DoesWith, IsTold}
 use Rattle.cli_tasks.specs.Commands.{ReplacesPlan}
 use Rattle.cli_tasks.specs.Purposes.{for_disposal, purpose_of}
 use Rattle.cli_tasks.specs.Works.{IsDone}
@@ -36,6 +37,23 @@ use Rattle.cli_tasks.specs.declared.changes.Changing.TheVariants.{ReplacePlan, C
 pub nothing_said : {X F : Type 0} (result : Result X F) → OnOk result (Unit {0})
 nothing_said (Ok x) = tt
 nothing_said (Err failure) = tt
+
+-- where nothing more can fail
+pub on_any : {X F P : Type 0} (result : Result X F) → P → OnOk result P
+on_any (Ok x) p = p
+on_any (Err failure) p = tt
+
+-- where it ended well
+pub on_done : {X F P : Type 0} (result : Result X F) → is_ok result ≡ true → OnOk result P → P
+on_done (Ok x) well p = p
+on_done (Err failure) well p = absurd (true≢false (sym well))
+
+-- an author with the name and the reason that are told
+pub told_both : {F : Type 0} (told : Attribution) (r : Result Author F)
+    → IfOk r (λ (a : Author). IfSome told.by (λ n. option_map string_bytes a.name ≡ Some n.now))
+    → IfOk r (λ (a : Author). a.reason.now ≡ told.reason.now) → IfOk r (IsTold told)
+told_both told (Ok a) name reason = record { name = name; reason = reason }
+told_both told (Err failure) name reason = tt
 
 -- what was done with an answer was done with what it is, where it is taken
 pub settled_as : {S X : Type 0} (WasThere : Store S → Type 0) (Made : Store S → Result X Failure → Held S → Type 0)
@@ -79,8 +97,8 @@ module _ {S : Type 0} (g : Ghosts S) (WasThere : Store S → Type 0) (told : Att
   }
   told_as author (Err failure) purpose Made is d = tt
 
-  -- the same where nothing is answered
-  pub told_well : (author : Author) (result : Result (Unit {0}) Failure) (purpose : Purpose)
+  -- the same, whatever is answered
+  pub told_well : {X : Type 0} (author : Author) (result : Result X Failure) (purpose : Purpose)
       (Made : (old new : Ledger S LibcRuntime) → Seals → Type 0) → IsTold told author
       → IfOk result (λ x. IsDone WasThere (λ before after. Changes g purpose author before Made after))
       → OnOk result (IsDone WasThere (λ before after. ChangesAsTold g told before after purpose Made))
@@ -138,26 +156,23 @@ module _ {S : Type 0} (g : Ghosts S) (WasThere : Store S → Type 0) (told : Att
   planned_as plan path is_agreed (Err failure) d = tt
 
   -- a disposal as it is typed
-  pub disposed_as : (author : Author) (asked : DisposalAsked) (d : Disposal) (day : Date) (result : Result (Unit {0}) Failure)
-      → IsTold told author → IsAsTyped asked d → IfSome d.day (λ typed. day ≡ typed)
+  pub disposed_as : (author : Author) (asked : DisposalAsked) (typed : TypedDisposal) (d : Disposal) (day : Date)
+      (result : Result (Unit {0}) Failure) → IsTold told author → IsAsTyped asked typed → typed.of_volumes.items ≡ [] → d ≡ typed.alone
+      → IfSome d.day (λ t. day ≡ t)
       → IfOk result (λ x. IsDone WasThere (λ before after. Changes g (for_disposal d.destroys) author before
-      (λ old new seals. Disposes g old new (Ok x) d day seals) after))
+      (λ old new seals. Disposes g old new true d day seals) after))
       → OnOk result (IsDone WasThere (λ before after. DisposesAsTyped g told before after asked))
-  disposed_as author asked d day (Ok x) is typed by done = record {
+  disposed_as author asked typed d day (Ok x) is typed_is none alone by done = record {
     before = done.before;
     after = done.after;
     was_there = done.was_there;
     made = (
-      d,
-      day,
       typed,
-      subst (λ (o : Option Date). IfSome o (λ t. day ≡ t)) typed.day by,
-      (
-        author,
-        is,
-        subst (λ b. Changes g (for_disposal b) author done.before (λ old new seals. Disposes g old new (Ok x) d day seals) done.after)
-            typed.destroys done.made,
-      ),
+      day,
+      typed_is,
+      none,
+      subst (λ (o : Option Date). IfSome o (λ t. day ≡ t)) (ap (λ (k : Disposal). k.day) alone ∙ typed_is.day) by,
+      subst (λ (k : Disposal). DisposesBy g told done.before done.after k day) alone (author, is, done.made),
     );
   }
-  disposed_as author asked d day (Err failure) is typed by done = tt
+  disposed_as author asked typed d day (Err failure) is typed_is none alone by done = tt

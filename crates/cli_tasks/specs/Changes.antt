@@ -27,7 +27,7 @@ use Rattle.cli_history.specs.Walks.{Glances}
 use Rattle.cli_history.specs.declared.author.Author.{Author}
 use Rattle.cli_history.specs.declared.opening.Purpose.{Purpose}
 use Rattle.cli_history.specs.declared.seals.Seals.{Seals}
-use Rattle.cli_changes.specs.Destructions.{IsDisposalOf, IsOnlyRead, IsRead}
+use Rattle.cli_changes.specs.Destructions.{IsDisposalOf, IsOnlyRead, IsRead, MayBegin}
 use Rattle.cli_changes.specs.declared.holds.HoldTally.{HoldTally}
 use Rattle.cli_changes.specs.Holdings.{HoldsAs, HoldsWell, changed_numbers, changed_on, held_by, is_any_of}
 use Rattle.cli_changes.specs.Moves.{RefilesListed, RefilesWell, moved_to, moving_numbers}
@@ -40,6 +40,20 @@ use Rattle.cli_tasks.specs.declared.changes.Changing.{Changing}
 use Rattle.cli_tasks.specs.declared.changes.Changing.TheVariants.{ReplacePlan, Dispose, Chosen, ReleaseAll}
 
 -- ---- in a ledger
+
+module _ {S K : Type 0} (g : Ghosts S) (old new : Ledger S K) (is_done : Bool) where
+  -- WHAT IS DUE BY A DAY IS DISPOSED OF, by these seals: nothing is destroyed unless that is asked for, and then the records that are
+  -- meant, and no other
+  pub record Disposes (asked : Disposal) (day : Date) (seals : Seals) : Type 0 where
+    pub falls : IsRead g new → IsRead g old
+    pub listed : asked.destroys ≡ false → IsOnlyRead g old new
+    pub destroyed : asked.destroys ≡ true → (cs : List Certificate) × (IsRead g new → (a : Archive) → KeptFor g old.kept a
+        → IsDisposalOf seals asked (KeptFor g new.kept) (epoch_day day) is_done cs a)
+
+  -- A DISPOSAL BY A DAY IS JUDGED, by these seals: nothing is destroyed, and it is found that it may begin
+  pub record JudgesDisposal (asked : Disposal) (day : Date) (seals : Seals) : Type 0 where
+    pub reads : IsOnlyRead g old new
+    pub may_begin : is_done ≡ true → IsRead g new → (a : Archive) → KeptFor g old.kept a → MayBegin seals asked a (epoch_day day)
 
 module _ {S K : Type 0} (g : Ghosts S) (old new : Ledger S K) (result : Result (Unit {0}) Failure) where
   -- THE RECORDS THAT ARE MEANT ARE CHANGED so: all of them where it succeeds, and else the first so many
@@ -75,14 +89,6 @@ module _ {S K : Type 0} (g : Ghosts S) (old new : Ledger S K) (result : Result (
     pub moved : ChangesThese (moved_to to) (λ a. moving_numbers to (found_in choice questions a))
         (λ a. RefilesListed to listed (found_in choice questions a) a)
 
-  -- WHAT IS DUE BY A DAY IS DISPOSED OF, by these seals: nothing is destroyed unless that is asked for, and then the records that are
-  -- meant, and no other
-  pub record Disposes (asked : Disposal) (day : Date) (seals : Seals) : Type 0 where
-    pub falls : IsRead g new → IsRead g old
-    pub listed : asked.destroys ≡ false → IsOnlyRead g old new
-    pub destroyed : asked.destroys ≡ true → (cs : List Certificate) × (IsRead g new → (a : Archive) → KeptFor g old.kept a
-        → IsDisposalOf seals asked (KeptFor g new.kept) (epoch_day day) (is_ok result) cs a)
-
   -- THE PLAN IS REPLACED by this one, and nothing else changes; nothing changes where it fails
   pub record ReplacesBy (plan : Listing) : Type 0 where
     pub falls : WasClean (keeper_of g) old new
@@ -96,7 +102,7 @@ module _ {S K : Type 0} (g : Ghosts S) (old new : Ledger S K) (result : Result (
   -- WHAT IS ASKED FOR IS MADE of the archive of a ledger
   abbrev pub Makes : Changing → Seals → Type 0
   Makes (ReplacePlan plan path is_agreed) seals = ReplacesBy plan
-  Makes (Dispose asked day) seals = Disposes asked day seals
+  Makes (Dispose asked day) seals = Disposes g old new (is_ok result) asked day seals
   Makes (Chosen change choice questions) seals = ChangesChosen change choice.now questions
   Makes (ReleaseAll name is_agreed) seals = EndsHold name.now
 

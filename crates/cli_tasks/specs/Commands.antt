@@ -1,5 +1,5 @@
 -- What a command line makes of its archive, where it ends well.
-use Rattle.std.specs.Prelude.{◌≡◌, ℕ, List, Some, None, option_map, string_bytes, IfSome, Result, Ok}
+use Rattle.std.specs.Prelude.{◌≡◌, ℕ, true, List, [], Some, None, option_map, string_bytes, IfSome, Result, Ok}
 use Rattle.std.specs.declared.prelude.LibcRuntime.{LibcRuntime}
 use Rattle.jiff_core.specs.declared.civil.date.Date.{Date}
 use Rattle.class_plan.specs.Plans.{Listing}
@@ -19,6 +19,7 @@ use Rattle.command_lines.specs.declared.archives.ChosenTask.{ChosenTask}
 use Rattle.command_lines.specs.declared.archives.ChosenTask.TheVariants as task
 use Rattle.command_lines.specs.declared.archives.Disposal.{Disposal}
 use Rattle.command_lines.specs.declared.archives.approvals.DisposalAsked.{DisposalAsked}
+use Rattle.command_lines.specs.declared.archives.approvals.TypedDisposal.{TypedDisposal}
 use Rattle.command_lines.specs.declared.archives.histories.Attribution.{Attribution}
 use Rattle.cli_history.specs.declared.author.Author.{Author}
 use Rattle.cli_history.specs.declared.opening.Purpose.{Purpose}
@@ -71,10 +72,14 @@ module _ {S : Type 0} (g : Ghosts S) (told : Attribution) (before : Store S) (af
   RefilesChosen to choice = (questions : Questions) × AreAsked choice questions
       × ChangesAsTold Ending (λ old new seals. Refiles g old new well to choice questions)
 
-  -- WHAT IS DUE IS DISPOSED OF as it is typed, by the day that is typed, if one is; nothing is destroyed unless that is typed
+  -- WHAT IS DUE BY A DAY IS DISPOSED OF, by an author whom the command line tells, in a ledger that is opened for that
+  abbrev pub DisposesBy : Disposal → Date → Type 0
+  DisposesBy d day = ChangesAsTold (for_disposal d.destroys) (λ old new seals. Disposes g old new true d day seals)
+
+  -- THE SAME AS IT IS TYPED, by the day that is typed, if one is; nothing is destroyed unless that is typed, and no number has a volume
   abbrev pub DisposesAsTyped : DisposalAsked → Type 0
-  DisposesAsTyped asked = (d : Disposal) × (day : Date) × IsAsTyped asked d × IfSome asked.typed.day (λ typed. day ≡ typed)
-      × ChangesAsTold (for_disposal asked.typed.destroys) (λ old new seals. Disposes g old new well d day seals)
+  DisposesAsTyped asked = (typed : TypedDisposal) × (day : Date) × IsAsTyped asked typed × (typed.of_volumes.items ≡ [])
+      × IfSome asked.typed.alone.day (λ t. day ≡ t) × DisposesBy typed.alone day
 
   -- THE PLAN IS REPLACED by another one, for what that makes of keeping; that it is the one of the file at the path is not said here
   abbrev pub ReplacesPlan : Type 0

@@ -3,7 +3,9 @@ pub mod Numbers
 pub mod Purposes
 pub mod Changes
 pub mod Commands
+pub mod Plans
 pub mod Releases
 pub mod Refiles
+pub mod Disposals
 pub mod Volumes
 pub mod Days

@@ -1,7 +1,6 @@
 -- Another class for records of an archive of volumes.
 use Rattle.std.specs.Prelude.{◌≡◌, ℕ, true, false, List, [], All, map, Option, Some, None, IfSome}
 use Rattle.sqlite.specs.Store.{Ghosts}
-use Rattle.class_plan.specs.Plans.{Listing}
 use Rattle.choice_words.specs.Typed.{first_above, first_alone}
 use Rattle.choice_words.specs.declared.choice.Choice.{Choice}
 use Rattle.choice_words.specs.declared.typed.TypedChoice.{TypedChoice}
@@ -15,14 +14,11 @@ use Rattle.record_volumes.specs.Rows.{numbers_to}
 use Rattle.cli_tasks.specs.Changes.{RefilesFound, ShowsMoves}
 use Rattle.cli_tasks.specs.Commands.{AreAsked, ChangesAsTold, well}
 use Rattle.cli_tasks.specs.Numbers.{IsChoiceTyped}
+use Rattle.cli_tasks.specs.Plans.{HaveOnePlan}
 use Rattle.cli_tasks.specs.Releases.{is_any_in}
-use Rattle.cli_tasks.specs.Works.{EachVolume, InVolume}
+use Rattle.cli_tasks.specs.Works.{InVolume}
 use Rattle.cli_tasks.specs.declared.volume_changes.Listed.{Listed}
 use Rattle.cli_tasks.specs.declared.volume_refilings.Moved.{Moved}
-
--- ALL VOLUMES HAVE ONE PLAN
-abbrev pub HaveOnePlan : {S : Type 0} (IsAt : (path : List ℕ) → Store S → Type 0) (folder : List ℕ) (last : ℕ) → Type 0
-HaveOnePlan IsAt folder last = (plan : Listing) × EachVolume last (λ v. InVolume IsAt folder v (λ before after. before.plan ≡ plan))
 
 -- ---- what is found
 

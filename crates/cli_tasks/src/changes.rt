@@ -1,6 +1,6 @@
 //! What is changed in an archive, by whom and for what reason.
 
-ghost use Rattle.std.specs.Prelude.{◌≡◌, None, true, false, IfOk, OnOk, Result};
+ghost use Rattle.std.specs.Prelude.{◌≡◌, None, true, false, is_ok, IfOk, OnOk, Result};
 ghost use Rattle.std.specs.declared.prelude.LibcRuntime.{LibcRuntime};
 ghost use Rattle.class_plan.specs.Plans.{Listing};
 ghost use Rattle.sqlite.specs.Store.{Ghosts};
@@ -10,8 +10,9 @@ ghost use Rattle.cli_history.specs.Reasons.{changes as is_changed_for};
 ghost use Rattle.cli_history.specs.Walks.{Glances};
 ghost use Rattle.cli_history.specs.declared.opening.Purpose.{Purpose};
 ghost use Rattle.cli_history.specs.declared.seals.Seals.{Seals};
-ghost use Rattle.cli_tasks.specs.Changes.{Changes, ChangesChosen, Makes};
-ghost use Rattle.cli_tasks.specs.Purposes.{for_hold, for_plan, purpose_of as purpose_of_change};
+ghost use Rattle.cli_tasks.specs.Changes.{Changes, ChangesChosen, Disposes, Makes};
+ghost use Rattle.cli_tasks.specs.Commands.{IsTold};
+ghost use Rattle.cli_tasks.specs.Purposes.{for_disposal, for_hold, for_plan, purpose_of as purpose_of_change};
 
 use crate::archives::{Archives, Work};
 use crate::volume_days::Earlier;
@@ -24,7 +25,7 @@ use cli_changes::{
 use cli_choice::{Change, Questions};
 use cli_console::Failure;
 use cli_history::{Author, Purpose, Seals, StoreLedger, open_ledger, open_with_seals};
-use command_lines::archives::{Choice, Disposal, Refiling};
+use command_lines::archives::{Attribution, Choice, Disposal, Refiling};
 use desk_commands::Payload;
 use record_history::Filing;
 use record_store::Store;
@@ -111,6 +112,49 @@ pub fn purpose_of_hold(change: Change) -> Purpose
     }
 }
 
+/// For what a ledger is opened in which records are listed that are due, or destroyed.
+pub fn purpose_of_disposal(destroys: bool) -> Purpose
+    ensures { result ≡ for_disposal destroys }
+{
+    if destroys {
+        Purpose::Ending
+    } else {
+        Purpose::Listing
+    }
+}
+
+/// Who lists the records that are due, or destroys them, as the command line tells: where it names nobody, the program lists them.
+pub fn author_of_disposal<'a>(
+    rt: &HostRuntime,
+    destroys: bool,
+    told: &Attribution<'a>,
+) -> Result<Author<'a>, AllocError>
+    ensures { IfOk result (IsTold told.now) }
+{
+    if destroys {
+        Author::of(rt, told)
+    } else {
+        Author::or_program(rt, told)
+    }
+}
+
+/// Lists the records of a store that are due by a day, or destroys them, and tells what that came to.
+fn dispose_due<S: Alter>(
+    rt: &HostRuntime,
+    ledger: &mut StoreLedger<'_, S>,
+    asked: &Disposal,
+    day: Date,
+    seals: &Seals,
+) -> Result<(), Failure>
+    ensures { Disposes S.Store ledger.old ledger.new (is_ok result) asked.now day seals.now }
+{
+    let mut certificates = Certificates::on_output(rt, None, seals);
+    let is_any = dispose_by(rt, ledger, &mut certificates, asked, day)?;
+    let tally = certificates.tally(is_any);
+    tally.tell_gone(rt);
+    tally.tell_none(rt, !asked.numbers.is_empty(), day)
+}
+
 /// Changes the records of a choice.
 fn change_chosen<S: Alter>(
     rt: &HostRuntime,
@@ -140,14 +184,12 @@ impl LedgerWork for Changing<'_, '_> {
     fn purpose(&self, alloc: Global, present: &Plan) -> Result<Purpose, AllocError> {
         match self {
             Changing::ReplacePlan { plan, .. } => purpose_of(alloc, present, plan),
-            Changing::Dispose(asked, _) if !asked.destroys => Ok(Purpose::Listing),
+            Changing::Dispose(asked, _) => Ok(purpose_of_disposal(asked.destroys)),
             Changing::Chosen {
                 change: ChosenChange::Hold(change, _),
                 ..
             } => Ok(purpose_of_hold(*change)),
-            Changing::Dispose(..) | Changing::Chosen { .. } | Changing::ReleaseAll { .. } => Ok(
-                Purpose::Ending,
-            ),
+            Changing::Chosen { .. } | Changing::ReleaseAll { .. } => Ok(Purpose::Ending),
         }
     }
 
@@ -163,10 +205,7 @@ impl LedgerWork for Changing<'_, '_> {
                 path,
                 is_agreed,
             } => replace_plan(rt, ledger, plan, path, is_agreed),
-            Changing::Dispose(asked, day) => {
-                let mut certificates = Certificates::on_output(rt, seals);
-                dispose_by(rt, ledger, &mut certificates, &asked, day)
-            }
+            Changing::Dispose(asked, day) => dispose_due(rt, ledger, &asked, day, seals),
             Changing::Chosen {
                 change,
                 choice,

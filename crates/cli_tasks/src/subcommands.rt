@@ -7,7 +7,7 @@ ghost use Rattle.cli_tasks.specs.Works.{IsDone};
 
 use crate::archives::{Archives, Work, lend, settled};
 use crate::beginnings::{accept_found, begin, require_reasons};
-use crate::changes::{ChangeBy, Changing, ChosenChange, DeliverOne, TakeNew};
+use crate::changes::{ChangeBy, Changing, ChosenChange, DeliverOne, TakeNew, author_of_disposal};
 use crate::copy::{Paths, copy_to};
 use crate::drafts::make;
 use crate::histories::{CheckAll, ReadHistory};
@@ -15,7 +15,9 @@ use crate::imports::import;
 use crate::rolling::{Capturing, create_volumes, place_for_capture, place_for_intake};
 use crate::titles::give_titles;
 use crate::volume_days::Earlier;
-use crate::volume_numbers::{choice_in_file, history_in_file, number_in_file, numbers_in_file};
+use crate::volume_numbers::{
+    choice_in_file, disposal_in_file, history_in_file, number_in_file, numbers_in_file,
+};
 use crate::volumes::{execute_over, is_over_volumes};
 use choice_words::TypedChoice;
 use class_plan::Date;
@@ -413,13 +415,10 @@ fn dispose<A: Archives>(
     ensures { OnOk result (IsDone (A.is_at archives.now store.now) (λ before after.
         DisposesAsTyped A.Kept.Store told.now before after asked.entry)) }
 {
-    let asked = with_approved(rt, asked)?;
+    let typed = with_approved(rt, asked)?;
+    let asked = disposal_in_file(rt, typed)?;
     let day = day_of_disposal(rt, &asked)?;
-    let author = if asked.destroys {
-        Author::of(rt, told)?
-    } else {
-        Author::or_program(rt, told)?
-    };
+    let author = author_of_disposal(rt, asked.destroys, told)?;
     let change = Changing::Dispose(asked, day);
     lend(rt, archives, store, ChangeBy { author, change })
 }

@@ -10,7 +10,7 @@ ghost use Rattle.cli_tasks.specs.Numbers.{IsRefusedIn};
 use choice_words::{TypedChoice, VolumeNumbers, above_in};
 use cli_console::{Failure, Status, put_typed};
 use command_lines::archives::{
-    Choice, HistoryAsked, Numbers, TypedHistory, TypedNumber, TypedNumbers,
+    Choice, Disposal, HistoryAsked, Numbers, TypedDisposal, TypedHistory, TypedNumber, TypedNumbers,
 };
 use std::alloc::{AllocError, Global};
 use tool_texts::{Shown, put};
@@ -113,6 +113,17 @@ pub fn number_in_file<'a>(
     Err(Failure::shown(Status::Usage, no_volumes_words(rt.alloc(), numbers)))
 }
 
+/// A disposal that is typed, in a store that is one file. `Usage` where a number is typed with a volume.
+pub fn disposal_in_file(rt: &HostRuntime, typed: TypedDisposal) -> Result<Disposal, Failure>
+    ensures alone { IfOk result (λ d. d ≡ typed.alone) }
+    ensures none { OnOk result (typed.of_volumes.items ≡ []) }
+    ensures refused { IfErr result (IsToldAs Usage) }
+{
+    judge_alone(rt, typed.of_volumes.as_slice())?;
+    let TypedDisposal { alone, .. } = typed;
+    Ok(alone)
+}
+
 /// The first of some numbers.
 fn first_of(numbers: &[TypedNumbers]) -> Option<TypedNumbers>
     ensures { result ≡ first_or None numbers.now }
@@ -168,6 +179,20 @@ pub fn judge_typed(
     ensures refused { IfErr result (IsRefusedIn (first_or None alone.now)) }
 {
     judge_found(rt, last, first_of(alone), above_in(of_volumes, last))
+}
+
+/// The same of the numbers of a disposal that is typed.
+pub fn judge_disposed(rt: &HostRuntime, last: u32, typed: &TypedDisposal) -> Result<(), Failure>
+    ensures none { OnOk result (typed.now.alone.numbers.items ≡ []) }
+    ensures within { OnOk result (find (is_above last) typed.now.of_volumes.items ≡ None) }
+    ensures refused { IfErr result (IsRefusedIn (first_or None typed.now.alone.numbers.items)) }
+{
+    judge_typed(
+        rt,
+        last,
+        typed.alone.numbers.as_slice(),
+        typed.of_volumes.as_slice(),
+    )
 }
 
 /// The volume of a record, which is none after the last one of an archive. `Usage` where its number is typed without one, and

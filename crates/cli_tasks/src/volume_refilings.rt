@@ -1,10 +1,9 @@
 //! `refile` over an archive of volumes.
 
-ghost use Rattle.std.specs.Prelude.{◌≡◌, All, true, IfOk, IsTrue, OnOk, ◌↔◌};
+ghost use Rattle.std.specs.Prelude.{◌≡◌, All, true, IfOk, OnOk};
 ghost use Rattle.cli_history.specs.declared.opening.Purpose.TheVariants.{Ending};
 ghost use Rattle.cli_tasks.specs.Changes.{RefilesFound, ShowsMoves};
 ghost use Rattle.cli_tasks.specs.Refiles.{
-  HaveOnePlan,
   MovesEach,
   MovesIn,
   RefilesIn,
@@ -15,8 +14,8 @@ ghost use Rattle.cli_tasks.specs.Refiles.{
 use crate::archives::{Archives, Work};
 use crate::changes::{ChangeBy, LedgerWork};
 use crate::volume_changes::Listed;
-use crate::volume_checks::behind_words;
 use crate::volume_numbers::judge_numbers;
+use crate::volume_plans::judge_plans;
 use crate::volume_row::{Volumes, author_in};
 use choice_words::TypedChoice;
 use class_plan::Plan;
@@ -24,62 +23,13 @@ use cli_changes::{
     MoveTally, RefilingTo, judge_moves, judge_refiling, judge_refused, moves_shown, refile_listed,
 };
 use cli_choice::{Questions, choice_in_volume};
-use cli_console::{Failure, Status};
-use cli_history::{Purpose, Seals, StoreLedger, is_same_plan};
+use cli_console::Failure;
+use cli_history::{Purpose, Seals, StoreLedger};
 use cli_readings::judge_choice;
 use command_lines::archives::{Attribution, Choice, Refiling};
 use record_store::{EventLayout, Store};
 use sqlite::{Alter, Connection};
 use std::alloc::{AllocError, Global};
-
-/// Whether a store has a plan. The only refusal is no memory.
-fn has_plan<S: Alter>(alloc: Global, archive: &Store<S>, plan: &Plan) -> Result<bool, Failure>
-    ensures { IfOk result (λ b. IsTrue b ↔ (archive.now.plan ≡ plan.now)) }
-{
-    Ok(is_same_plan(alloc, archive.plan(), plan)?)
-}
-
-/// Looks whether a store has a plan.
-#[derive(Drop)]
-struct LookForPlan<'p> {
-    plan: &'p Plan,
-}
-
-impl Work for LookForPlan<'_> {
-    type Answer = bool;
-
-    ghost does = { λ S g it before done after. IfOk done
-        (λ b. IsTrue b ↔ (before.plan ≡ it.plan.now)) };
-
-    fn work<S: Alter>(
-        self,
-        rt: &HostRuntime,
-        archive: Store<S>,
-    ) -> (Connection<S>, Result<bool, Failure>) {
-        let is_same = has_plan(rt.alloc(), &archive, self.plan);
-        (archive.into_connection(), is_same)
-    }
-}
-
-/// Finds that each volume has the plan of the archive, which is that of the last. Else `BadData`.
-fn judge_plans<A: Archives>(
-    rt: &HostRuntime,
-    archives: &A,
-    volumes: Volumes<'_>,
-) -> Result<(), Failure>
-    ensures { OnOk result (HaveOnePlan (A.is_at archives.now) volumes.entry.folder.now
-        volumes.entry.last) }
-{
-    let plan = volumes.plan(rt, archives)?;
-    for below in 0..volumes.last {
-        let volume = below + 1;
-        let is_same = volumes.lend(rt, archives, volume, LookForPlan { plan: &plan })?;
-        if !is_same {
-            return Err(Failure::shown(Status::BadData, behind_words(rt.alloc(), volume)));
-        }
-    }
-    Ok(())
-}
 
 /// Which records of a volume are to get which class.
 #[derive(Clone, Copy)]

@@ -7,6 +7,7 @@ use crate::archives::{Archives, lend};
 use crate::subcommands::{CheckRules, Survey, WritePlan, show, why};
 use crate::volume_changes::{change_holds, release_all};
 use crate::volume_checks::check;
+use crate::volume_disposals::dispose;
 use crate::volume_histories::{print_certificates, print_histories, write_holds};
 use crate::volume_lists::list;
 use crate::volume_refilings::refile;
@@ -128,13 +129,13 @@ pub fn execute_over<A: Archives>(
         Command::ReleaseAll { name, is_agreed } => {
             release_all(rt, archives, volumes, name, is_agreed, told)
         }
+        Command::Dispose(asked) => dispose(rt, archives, volumes, asked, told),
         Command::Create { .. }
         | Command::ReplacePlan { .. }
         | Command::Deliver { .. }
         | Command::Intake { .. }
         | Command::Import(_)
         | Command::Copy { .. }
-        | Command::Dispose(_)
         | Command::Twice(_)
         | Command::SetTitles { .. } => Err(not_over(rt, folder)),
     }

@@ -79,8 +79,8 @@ titled_class t = words (codes "class ") ++ name t.path.now ++ title_and_basis t.
 -- the record with its class, and the message that it had
 unfoldable pub destroyed_record : Certificate → List ℕ
 destroyed_record c =
-    words (codes "destroyed record ") ++ number c.number ++ words (codes " class ") ++ name c.path.now ++ title_words c.title
-    ++ words (codes " due ") ++ due_words c.due
+    words (codes "destroyed record ") ++ record_number c.volume c.number ++ words (codes " class ") ++ name c.path.now
+    ++ title_words c.title ++ words (codes " due ") ++ due_words c.due
 
 unfoldable pub destroyed_message : Certificate → List ℕ
 destroyed_message c = words (codes " octets ") ++ number c.octets ++ words (codes " sha256 ") ++ words c.sum.now
@@ -113,7 +113,7 @@ altered_words is_altered =
 -- A CERTIFICATE, with the text of its moment
 abbrev pub certificate : Certificate → (moment : List ℕ) → List ℕ
 certificate c moment =
-    destroyed_record c ++ destroyed_message c ++ words (codes " at ") ++ words moment ++ kept_words None c.kept_by
+    destroyed_record c ++ destroyed_message c ++ words (codes " at ") ++ words moment ++ kept_words c.volume c.kept_by
     ++ replaced_words c.captured ++ 10 ∷ []
 
 -- ---- a certificate from a history

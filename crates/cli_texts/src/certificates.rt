@@ -17,6 +17,8 @@ use tool_texts::{Shown, put};
 /// A record that was destroyed, and the message that it had.
 #[derive(Clone, Copy)]
 pub struct Certificate<'a> {
+    /// The number of its volume, in an archive of volumes.
+    pub volume: Option<u32>,
     pub number: u32,
     pub path: &'a [u8],
     /// The title of its class, where it has a title or a legal basis.
@@ -108,7 +110,9 @@ pub fn moment_text(alloc: Global, moment: u64) -> Result<String, AllocError>
 fn put_record(line: &mut Shown, it: &Certificate<'_>) -> Result<(), AllocError>
     ensures { OnOk result (line.new ≡ line.old ++ destroyed_record it.now) }
 {
-    put!(line; "destroyed record " value(&it.number) " class " named(it.path))?;
+    line.words("destroyed record ")?;
+    put_number(line, it.volume, it.number)?;
+    put!(line; " class " named(it.path))?;
     put_title(line, it.title)?;
     put!(line; " due ")?;
     put_due(line, it.due)
@@ -187,14 +191,15 @@ fn line_with(alloc: Global, it: &Certificate<'_>, moment: &String) -> Result<Sho
     put_record(&mut line, it)?;
     put_message(&mut line, it)?;
     put!(line; " at " value(moment))?;
-    put_keeper(&mut line, None, it.kept_by)?;
+    put_keeper(&mut line, it.volume, it.kept_by)?;
     put_replaced(&mut line, it)?;
     line.end_line()?;
     Ok(line)
 }
 
 /// The line of a record that was destroyed: `destroyed record 7 class finance due 2030-11-14 octets 83 sha256 SUM at
-/// 2030-12-01T09:00:00Z`. The title and the legal basis of its class come after the path, as `title_line` has them.
+/// 2030-12-01T09:00:00Z`, in a volume `destroyed record 3/7 ..`. The title and the legal basis of its class come after the path, as
+/// `title_line` has them.
 ///
 /// The only refusal is no memory (99).
 pub fn certificate_line(alloc: Global, it: &Certificate<'_>) -> Result<Shown, AllocError>

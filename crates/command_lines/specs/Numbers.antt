@@ -58,7 +58,7 @@ pub record AddsWord (word : List ℕ) (old new : Numbers) (is_any : Bool) : Type
   pub any : is_any ≡ are_numbers word
 
 -- THE NUMBERS OF ALL WORDS, each of which is some
-pub record AreTyped (words : List (Bor (List ℕ))) (numbers : Numbers) : Type 0 where
-  pub alone : numbers.alone.items ≡ flat_map alone_in (map (λ w. w.now) words)
-  pub of_volumes : numbers.of_volumes.items ≡ flat_map of_volumes_in (map (λ w. w.now) words)
-  pub each : list_all are_numbers (map (λ w. w.now) words) ≡ true
+pub record AreTyped (words : List (List ℕ)) (numbers : Numbers) : Type 0 where
+  pub alone : numbers.alone.items ≡ flat_map alone_in words
+  pub of_volumes : numbers.of_volumes.items ≡ flat_map of_volumes_in words
+  pub each : list_all are_numbers words ≡ true

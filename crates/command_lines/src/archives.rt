@@ -19,8 +19,8 @@ mod words;
 
 use crate::reading::{NoCommand, has_flag, read_words, required, value_of};
 use crate::table::Word;
-pub use approvals::DisposalAsked;
 use approvals::approved_asked;
+pub use approvals::{DisposalAsked, TypedDisposal};
 use captures::{filing_asked, intake_asked};
 use choice_words::reads_as_numbers;
 pub use choice_words::{Choice, TypedChoice, TypedNumbers};
@@ -397,12 +397,18 @@ fn titles_asked<'a>(asked: &ArgMatches<'a>) -> Command<'a> {
 }
 
 /// What is to be destroyed.
-fn disposal_asked(alloc: Global, asked: &ArgMatches<'_>) -> Result<Disposal, NoCommand> {
-    Ok(Disposal {
-        day: day_asked(alloc, asked, &words::DAY)?,
-        destroys: has_flag(asked, words::YES),
-        is_damaged: damage_asked(alloc, asked)?,
-        numbers: numbers_alone_asked(alloc, asked)?,
+fn disposal_asked(alloc: Global, asked: &ArgMatches<'_>) -> Result<TypedDisposal, NoCommand> {
+    let day = day_asked(alloc, asked, &words::DAY)?;
+    let is_damaged = damage_asked(alloc, asked)?;
+    let Numbers { alone, of_volumes } = numbers_asked(alloc, asked)?;
+    Ok(TypedDisposal {
+        alone: Disposal {
+            day,
+            destroys: has_flag(asked, words::YES),
+            is_damaged,
+            numbers: alone,
+        },
+        of_volumes,
     })
 }
 

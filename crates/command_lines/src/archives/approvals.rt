@@ -3,6 +3,7 @@
 use super::Disposal;
 use crate::reading::{NoCommand, value_of};
 use crate::table::{OPTION, Stray, StrayKind, Word};
+use choice_words::VolumeNumbers;
 use clap::ArgMatches;
 use std::alloc::Global;
 
@@ -30,11 +31,27 @@ pub const STRAYS: &[Stray] = &[
     },
 ];
 
+/// The destruction of what is due, as it is typed. Numbers of an archive in one file have no volume, and those of an archive of
+/// volumes have one; which of the two is right, the archive says.
+#[derive(Drop)]
+pub struct TypedDisposal {
+    /// What is typed, and the numbers without a volume.
+    pub alone: Disposal,
+    /// The numbers with a volume.
+    pub of_volumes: Vec<VolumeNumbers>,
+}
+
+impl TypedDisposal {
+    /// Whether no number is typed, with a volume or without.
+    fn is_of_all(&self) -> bool {
+        self.alone.numbers.is_empty() && self.of_volumes.is_empty()
+    }
+}
+
 /// What is asked of the destruction of what is due.
 #[derive(Drop)]
 pub struct DisposalAsked<'a> {
-    /// What is typed.
-    pub typed: Disposal,
+    pub typed: TypedDisposal,
     /// The path of the file of the numbers that are meant, `-` for standard input. Where there is one, no number is typed.
     pub approved: Option<&'a str>,
 }
@@ -43,10 +60,10 @@ pub struct DisposalAsked<'a> {
 pub(super) fn approved_asked<'a>(
     alloc: Global,
     asked: &ArgMatches<'a>,
-    typed: Disposal,
+    typed: TypedDisposal,
 ) -> Result<DisposalAsked<'a>, NoCommand> {
     let approved = value_of(asked, APPROVED);
-    if approved.is_some() && !typed.numbers.is_empty() {
+    if approved.is_some() && !typed.is_of_all() {
         let reason = "--approved takes the numbers from its file; type none beside it";
         return Err(NoCommand::Wrong(String::from_str(alloc, reason)?));
     }

@@ -1,6 +1,6 @@
 //! The numbers of records that a command line has, with the number of their volume or without.
 
-ghost use Rattle.std.specs.Prelude.{◌≡◌, IfOk};
+ghost use Rattle.std.specs.Prelude.{◌≡◌, [], map, IfOk};
 ghost use Rattle.command_lines.specs.Numbers.{AddsWord, AreOfVolume, AreTyped, number_typed};
 
 use super::{TypedNumber, question_words as words};
@@ -115,6 +115,17 @@ pub struct Numbers {
 }
 
 impl Numbers {
+    /// No numbers.
+    pub fn none(alloc: Global) -> Numbers
+        ensures alone { result.alone.items ≡ [] }
+        ensures of_volumes { result.of_volumes.items ≡ [] }
+    {
+        Numbers {
+            alone: Vec::new(alloc),
+            of_volumes: Vec::new(alloc),
+        }
+    }
+
     /// Those of a volume alone. `None` where nothing of it is asked for. Numbers without a volume count for nothing here.
     pub fn in_volume(
         &self,
@@ -127,7 +138,7 @@ impl Numbers {
     }
 
     /// Adds the numbers that a word is. Answers whether it is any.
-    fn add(&mut self, word: &[u8]) -> Result<bool, AllocError>
+    pub fn add(&mut self, word: &[u8]) -> Result<bool, AllocError>
         ensures { IfOk result (λ is_any. AddsWord word.now self.old self.new is_any) }
     {
         if let Some(numbers) = read_volume_numbers(word) {
@@ -144,12 +155,9 @@ impl Numbers {
 
 /// The numbers that words are. A word that is none is refused.
 fn numbers_of(alloc: Global, typed: &[&str]) -> Result<Numbers, NoCommand>
-    ensures { IfOk result (AreTyped typed.now) }
+    ensures { IfOk result (AreTyped (map (λ w. w.now) typed.now)) }
 {
-    let mut numbers = Numbers {
-        alone: Vec::new(alloc),
-        of_volumes: Vec::new(alloc),
-    };
+    let mut numbers = Numbers::none(alloc);
     for word in typed {
         if !numbers.add(word.as_bytes())? {
             return Err(NoCommand::Wrong(no_numbers_of_volumes(alloc, *word)?));

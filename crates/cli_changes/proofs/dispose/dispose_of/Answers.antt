@@ -12,6 +12,7 @@ use Rattle.cli_changes.proofs.dispose.dispose_of.Goals as goal
 pub returns-in-Listed : goal.returns-in-Listed
 returns-in-Listed g c = record {
   falls = λ clean. c.write_asked.ensures.reads.falls clean;
+  any = c.write_asked.ensures.any;
   listed = λ e. (refl, c.write_asked.ensures.reads);
   destroyed = λ (damage : Damage) e. absurd cc;
 }
@@ -19,6 +20,7 @@ returns-in-Listed g c = record {
 pub returns-in-Destroyed : goal.returns-in-Destroyed
 returns-in-Destroyed g c = record {
   falls = λ clean. c.destroy_asked.ensures.falls clean;
+  any = c.destroy_asked.ensures.any;
   listed = λ e. absurd cc;
   destroyed = λ (damage : Damage) e.
       let same : c.in-Destroyed.damage ≡ damage = cc in

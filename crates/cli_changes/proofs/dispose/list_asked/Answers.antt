@@ -7,12 +7,12 @@ use Rattle.cli_changes.proofs.dispose.list_asked.Goals as goal
 
 pub returns-clause-listed : goal.returns-clause-listed
 returns-clause-listed g c = λ clean (a : Archive) s.
-    let asked = c.in_ok-lines.field-0 in
+    let asked = c.in_ok-asked.asked in
     let writes = Writes g.K.Sink.written c.args.sink.now c.write_lines.new.sink in
     record {
       these = asked;
-      are = c.in_ok-lines.ensures.told clean a s;
-      listed = subst (λ lines. writes (due_lines (altered asked.runs.items) lines)) c.as_slice.ensures.value
-          (subst (λ ns. writes (due_lines ns c.as_slice.result.now)) (c.as_slice-2.ensures.value ∙ c.in_ok-lines.ensures.altered)
+      are = c.in_ok-asked.ensures.told clean a s;
+      listed = subst (λ lines. writes (due_lines c.args.volume (altered asked.runs.items) lines)) c.as_slice.ensures.value
+          (subst (λ ns. writes (due_lines c.args.volume ns c.as_slice.result.now)) (c.as_slice-2.ensures.value ∙ c.in_ok-asked.ensures.altered)
           c.in_ok-write_lines.ensures);
     }

@@ -2,6 +2,7 @@ use Rattle.std.proofs.Common.{List, subst, sym, ℕ}
 use Rattle.std.proofs.lemmas.Result.{on_ok_weaker}
 use Rattle.command_lines.specs.declared.archives.Command.{Command}
 use Rattle.cli_tasks.specs.Releases.{ReleasesOver}
+use Rattle.cli_tasks.specs.Disposals.{DisposesOver}
 use Rattle.cli_tasks.specs.Volumes.{DoesOver, DoesWithEach}
 use Rattle.cli_tasks.proofs.volumes.execute_over.Goals as goal
 
@@ -33,3 +34,17 @@ returns-in-ReleaseAll g c =
       c.in_ok-volumes.ensures.some,
       subst (λ (f : List ℕ). ReleasesOver store IsAt f told c.in-ReleaseAll.name.now volumes.last) c.in_ok-volumes.ensures.folder done,
     )) c.release_all.ensures
+
+pub returns-in-Dispose : goal.returns-in-Dispose
+returns-in-Dispose g c =
+    let store = g.A.Kept.Store in
+    let IsAt = g.A.Archives.is_at c.args.archives.now in
+    let folder = c.args.folder.now in
+    let told = c.args.told.now in
+    let volumes = c.in_ok-volumes.volumes in
+    on_ok_weaker c.dispose.result (λ done.
+    subst (λ (k : Command). DoesOver store IsAt folder told k) (sym c.in-Dispose.is) (
+      volumes.last,
+      c.in_ok-volumes.ensures.some,
+      subst (λ (f : List ℕ). DisposesOver store IsAt f told c.in-Dispose.asked volumes.last) c.in_ok-volumes.ensures.folder done,
+    )) c.dispose.ensures

@@ -1,5 +1,5 @@
 use Rattle.std.proofs.Common.{◌∙◌, sym}
-use Rattle.cli_tasks.proofs.volume_refilings.has_plan.Goals as goal
+use Rattle.cli_tasks.proofs.volume_plans.has_plan.Goals as goal
 
 pub returns : goal.returns
 returns g c = (
