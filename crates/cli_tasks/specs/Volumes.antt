@@ -2,6 +2,7 @@
 use Rattle.std.specs.Prelude.{◌≡◌, ◌⊎◌, ℕ, true, false, List, Option, Some, None, IfSome, Ok}
 use Rattle.sqlite.specs.Store.{Ghosts}
 use Rattle.choice_words.specs.Typed.{first_above, first_alone}
+use Rattle.choice_words.specs.Volumes.{volume_numbers}
 use Rattle.choice_words.specs.declared.choice.Choice.{Choice}
 use Rattle.choice_words.specs.declared.numbers.TypedNumbers.{TypedNumbers}
 use Rattle.choice_words.specs.declared.typed.TypedChoice.{TypedChoice}
@@ -92,8 +93,9 @@ module _ {S : Type 0} (g : Ghosts S) (IsAt : (path : List ℕ) → Store S → T
   IsHeldIn hold.End name last = SomeVolume last (λ v. EndsOnOne name v ⊎ ShowsIn g IsAt folder name v)
 
   -- THE HOLD OF A NAME IS PLACED, OR ENDED, on the records of a choice in each volume, by what is asked of their messages. Each number is
-  -- typed with its volume, of which there is none after the last.
+  -- typed with its volume, of which there is none after the last. A name that is numbers of a volume is given to no record.
   pub record HoldsOver (change : Change) (name : List ℕ) (typed : TypedChoice) (last : ℕ) : Type 0 where
+    pub named : change ≡ hold.Place → volume_numbers name ≡ None
     pub none : first_alone typed ≡ None
     pub within : first_above last typed ≡ None
     pub questions : Questions

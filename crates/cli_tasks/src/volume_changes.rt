@@ -1,6 +1,7 @@
 //! What is changed in an archive of volumes: in each of them, by a ledger of its own.
 
-ghost use Rattle.std.specs.Prelude.{◌≡◌, All, true, false, IfOk, OnOk};
+ghost use Rattle.std.specs.Prelude.{◌≡◌, All, true, false, IfOk, None, OnOk};
+ghost use Rattle.choice_words.specs.Volumes.{volume_numbers};
 ghost use Rattle.cli_history.specs.declared.opening.Purpose.TheVariants.{Ending};
 ghost use Rattle.cli_tasks.specs.Changes.{EndsListed, HoldsFound, ListsHeld, ShowsHold};
 ghost use Rattle.cli_tasks.specs.Purposes.{for_hold};
@@ -10,7 +11,7 @@ ghost use Rattle.cli_tasks.specs.Works.{SomeVolume};
 
 use crate::archives::{Archives, Work};
 use crate::changes::{ChangeBy, LedgerWork, purpose_of_hold};
-use crate::volume_numbers::judge_numbers;
+use crate::volume_numbers::{judge_hold_name, judge_numbers};
 use crate::volume_row::{Volumes, author_in};
 use choice_words::TypedChoice;
 use class_plan::Plan;
@@ -189,9 +190,20 @@ fn may_be_held<A: Archives>(
     }
 }
 
+/// Finds that a hold that is to be placed is not named like numbers of a volume. `Usage` where it is. One that is to end has its name.
+fn judge_name(rt: &HostRuntime, change: Change, name: &str) -> Result<(), Failure>
+    ensures { OnOk result (change ≡ Change.Place → volume_numbers name.now ≡ None) }
+{
+    match change {
+        Change::Place => judge_hold_name(rt, name),
+        Change::End => Ok(()),
+    }
+}
+
 /// Places or ends the hold of a name on the records of a choice, volume by volume, each in its own ledger. It fails as in a single store,
 /// at the first volume that does, and those before it are done. What is told once is told of all volumes. `Usage` where a number is typed
-/// without its volume, and `BadData` where there is no such volume.
+/// without its volume, or where numbers of a volume stand in the place of the name of a hold that is to be placed, and `BadData` where
+/// there is no such volume.
 pub fn change_holds<A: Archives>(
     rt: &HostRuntime,
     archives: &A,
@@ -204,6 +216,7 @@ pub fn change_holds<A: Archives>(
     ensures { OnOk result (HoldsOver A.Kept.Store (A.is_at archives.now) volumes.entry.folder.now
         told.now change name.now typed.now volumes.entry.last) }
 {
+    judge_name(rt, change, name)?;
     judge_numbers(rt, volumes.last, typed)?;
     let questions = judge_choice(rt, &typed.alone)?;
     let hold = HoldChange {

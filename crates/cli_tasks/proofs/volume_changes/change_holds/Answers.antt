@@ -16,6 +16,7 @@ returns g c =
     let tally = c.in_ok-tally.tally in
     let last = c.args.volumes.last in
     on_ok_both c.end_holds.result c.end_holds.ensures.held c.end_holds.ensures.accepted (λ seen well. record {
+      named = c.in_ok-judge_name.ensures;
       none = c.in_ok-judge_numbers.ensures.none;
       within = c.in_ok-judge_numbers.ensures.within;
       questions = questions;
