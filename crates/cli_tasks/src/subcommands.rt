@@ -576,7 +576,8 @@ pub fn execute<A: Archives>(
         attribution,
         command,
     } = line;
-    if is_over_volumes(rt, store, &command)? {
+    let is_over = is_over_volumes(rt, store, &command)?;
+    if is_over {
         return execute_over(rt, archives, store, command, &attribution);
     }
     execute_at(rt, archives, store, command, &attribution)
