@@ -3,7 +3,8 @@ use Rattle.std.proofs.Common.{◌≡◌, ℕ, List, [], ◌∷◌, map, codes, O
 use Rattle.session_words.specs.Words.{digits_up_to, number_up_to}
 use Rattle.choice_words.specs.declared.numbers.TypedNumbers.{TypedNumbers}
 use Rattle.choice_words.specs.declared.numbers.TypedNumbers.TheVariants.{One, Range}
-use Rattle.choice_words.specs.Numbers.{numbers_typed, reads_as_numbers, reversed_typed}
+use Rattle.choice_words.specs.Numbers.{numbers_typed, reversed_typed}
+use Rattle.choice_words.specs.Readings.{reads_as_any_numbers, reads_as_numbers}
 
 -- each word, and the numbers that it is
 abbrev rows : List (List ℕ × Option TypedNumbers)
@@ -47,7 +48,7 @@ reversed_are : map (λ r. reversed_typed r.0) reversed_rows ≡ map (λ r. r.1) 
 unfolding digits_up_to number_up_to
 reversed_are = refl
 
--- each word, and whether it reads as numbers
+-- each word, and whether it reads as numbers without a volume
 abbrev reading_rows : List (List ℕ × Bool)
 reading_rows =
     (codes "3", true) ∷
@@ -56,6 +57,8 @@ reading_rows =
     (codes "1,3", true) ∷
     (codes "1,9-5,", true) ∷
     (codes "./3", false) ∷
+    (codes "3/17", false) ∷
+    (codes "1,3/17", false) ∷
     (codes "1,audit", false) ∷
     (codes "1,03", false) ∷
     (codes "2024-03", false) ∷
@@ -66,3 +69,28 @@ reading_rows =
 reading_is : map (λ r. reads_as_numbers r.0) reading_rows ≡ map (λ r. r.1) reading_rows
 unfolding digits_up_to number_up_to
 reading_is = refl
+
+-- each word, and whether it reads as numbers with a volume or without
+abbrev any_reading_rows : List (List ℕ × Bool)
+any_reading_rows =
+    (codes "3", true) ∷
+    (codes "9-5", true) ∷
+    (codes "3/17", true) ∷
+    (codes "3/5-9", true) ∷
+    (codes "3/9-5", true) ∷
+    (codes "3/", true) ∷
+    (codes "3/,4/1", true) ∷
+    (codes "1,3/17,", true) ∷
+    (codes "./3", false) ∷
+    (codes "3/audit", false) ∷
+    (codes "2024/03", false) ∷
+    (codes "audit/3", false) ∷
+    (codes "3/4/5", false) ∷
+    (codes "10000/1", false) ∷
+    (codes ",", false) ∷
+    (codes "", false) ∷
+    []
+
+any_reading_is : map (λ r. reads_as_any_numbers r.0) any_reading_rows ≡ map (λ r. r.1) any_reading_rows
+unfolding digits_up_to number_up_to
+any_reading_is = refl

@@ -1,7 +1,7 @@
 -- The words that are numbers of records.
-use Rattle.std.specs.Prelude.{ℕ, ◌+◌, ◌==◌, ◌&&◌, ◌||◌, nat_le, Bool, false, if◌then◌else◌, List, length, take, drop}
+use Rattle.std.specs.Prelude.{ℕ, ◌+◌, ◌==◌, ◌&&◌, ◌||◌, nat_le, Bool, false, if◌then◌else◌, List, take, drop}
 use Rattle.std.specs.Prelude.{Option, Some, None, is_some, option_map}
-use Rattle.std.specs.List.{position, slice_split, list_any, list_all}
+use Rattle.std.specs.List.{position}
 use Rattle.session_words.specs.Words.{number_up_to}
 use Rattle.choice_words.specs.declared.numbers.TypedNumbers.{TypedNumbers}
 use Rattle.choice_words.specs.declared.numbers.TypedNumbers.TheVariants.{One, Range}
@@ -50,11 +50,3 @@ is_all (Range first last) = (first == 1) && (last == 4294967295)
 -- numbers of records, or a range of them backwards
 abbrev pub is_numbers : List ℕ → Bool
 is_numbers word = is_some (numbers_typed word) || is_some (reversed_typed word)
-
-abbrev pub is_comma : ℕ → Bool
-is_comma o = o == 44
-
--- A WORD READS AS NUMBERS: such parts alone, and at least one, with commas between or after them
-abbrev pub reads_as_numbers : List ℕ → Bool
-reads_as_numbers word = list_any is_numbers (slice_split is_comma word)
-    && list_all (λ part. (length part == 0) || is_numbers part) (slice_split is_comma word)

@@ -1,5 +1,5 @@
 -- The words that are numbers of records of a volume.
-use Rattle.std.specs.Prelude.{ℕ, ◌+◌, ◌==◌, Bool, List, [], ◌∷◌, take, drop, Option, Some, None}
+use Rattle.std.specs.Prelude.{ℕ, ◌+◌, ◌==◌, ◌||◌, Bool, List, [], ◌∷◌, take, drop, Option, Some, None, is_some}
 use Rattle.std.specs.List.{position}
 use Rattle.session_words.specs.Words.{number_up_to}
 use Rattle.choice_words.specs.declared.numbers.TypedNumbers.{TypedNumbers}
@@ -46,3 +46,7 @@ volume_number word = round_slash number_in record_number (position is_slash word
 -- the range of a volume that a word is once its two numbers have changed places
 abbrev pub reversed_in_volume : List ℕ → Option VolumeNumbers
 reversed_in_volume word = round_slash numbers_in reversed_typed (position is_slash word) word
+
+-- numbers of records of a volume, or a range of them backwards
+abbrev pub is_numbers_of_volume : List ℕ → Bool
+is_numbers_of_volume word = is_some (volume_numbers word) || is_some (reversed_in_volume word)

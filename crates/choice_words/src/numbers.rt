@@ -1,8 +1,8 @@
 //! The numbers of records that a word is.
 
-ghost use Rattle.std.specs.Prelude.{◌≡◌, ◌==◌, ◌||◌, length};
-ghost use Rattle.std.specs.List.{position, list_any, list_all, slice_split};
-ghost use Rattle.choice_words.specs.Numbers.{is_comma, is_all, is_hyphen, is_numbers, record_number, numbers_typed, range_typed, reads_as_numbers, reversed_typed};
+ghost use Rattle.std.specs.Prelude.{◌≡◌};
+ghost use Rattle.std.specs.List.{position};
+ghost use Rattle.choice_words.specs.Numbers.{is_all, is_hyphen, is_numbers, record_number, numbers_typed, range_typed, reversed_typed};
 
 use session_words::read_number;
 
@@ -90,33 +90,8 @@ pub fn reversed_range(word: &[u8]) -> Option<TypedNumbers>
 }
 
 /// Whether a word is numbers of records, be it a range that goes backwards.
-fn is_numbers(word: &[u8]) -> bool
+pub(crate) fn is_numbers(word: &[u8]) -> bool
     ensures { result ≡ is_numbers word.now }
 {
     read_numbers(word).is_some() || reversed_range(word).is_some()
-}
-
-/// Whether a part of a word between commas is numbers.
-fn has_numbers(word: &[u8]) -> bool
-    ensures { result ≡ list_any is_numbers (slice_split is_comma word.now) }
-{
-    word.split(|octet| *octet == b',')
-        .any(|part| is_numbers(part))
-}
-
-/// Whether each part of a word between commas is numbers, or empty.
-fn has_numbers_alone(word: &[u8]) -> bool
-    ensures { result ≡ list_all (λ part. (length part == 0) || is_numbers part)
-        (slice_split is_comma word.now) }
-{
-    word.split(|octet| *octet == b',')
-        .all(|part| part.is_empty() || is_numbers(part))
-}
-
-/// Whether a word reads as numbers of records, and so is more likely these than a name: numbers and ranges, also backwards
-/// ones, with commas between or after them, as `3`, `5-9`, `9-5` and `1,3`.
-pub fn reads_as_numbers(word: &[u8]) -> bool
-    ensures { result ≡ reads_as_numbers word.now }
-{
-    has_numbers(word) && has_numbers_alone(word)
 }

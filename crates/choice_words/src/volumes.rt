@@ -2,7 +2,7 @@
 
 ghost use Rattle.std.specs.Prelude.{◌≡◌};
 ghost use Rattle.std.specs.List.{position};
-ghost use Rattle.choice_words.specs.Volumes.{is_slash, number_in, numbers_behind, numbers_in, reversed_in_volume, volume_of, volume_number, volume_numbers};
+ghost use Rattle.choice_words.specs.Volumes.{is_numbers_of_volume, is_slash, number_in, numbers_behind, numbers_in, reversed_in_volume, volume_of, volume_number, volume_numbers};
 
 use crate::numbers::{TypedNumbers, read_numbers, read_record_number, reversed_range};
 use session_words::read_number;
@@ -104,4 +104,11 @@ pub fn reversed_volume_range(word: &[u8]) -> Option<VolumeNumbers>
 {
     let at = first_slash(word)?;
     numbers_in(volume_of(&word[..at]), reversed_range(&word[at + 1..]))
+}
+
+/// Whether a word is numbers of records of a volume, be it a range that goes backwards.
+pub(crate) fn is_numbers_of_volume(word: &[u8]) -> bool
+    ensures { result ≡ is_numbers_of_volume word.now }
+{
+    read_volume_numbers(word).is_some() || reversed_volume_range(word).is_some()
 }

@@ -2,7 +2,6 @@
 use Rattle.std.specs.Prelude.{◌≡◌, ℕ, ◌++◌, ◌||◌, Bool, true, List, [], ◌∷◌, map, flat_map, Option, Some, None, is_some, option_map}
 use Rattle.std.specs.Prelude.{IfSome, Vec}
 use Rattle.std.specs.declared.alloc.Global.{Global}
-use Rattle.std.specs.Borrow.{Bor}
 use Rattle.std.specs.List.{list_all}
 use Rattle.session_words.specs.Words.{number_up_to}
 use Rattle.choice_words.specs.Numbers.{numbers_typed}

@@ -33,7 +33,7 @@ use imports::import_asked;
 pub use imports::{Dating, Import};
 use jiff::civil::Date;
 pub use numbers::Numbers;
-use numbers::{numbers_alone_asked, numbers_asked, record_asked};
+use numbers::{numbers_asked, record_asked};
 use questions::{choice_asked, conditions_asked, day_asked};
 pub use refilings::Refiling;
 use refilings::refile_asked;

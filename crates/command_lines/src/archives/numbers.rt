@@ -170,29 +170,3 @@ fn numbers_of(alloc: Global, typed: &[&str]) -> Result<Numbers, NoCommand>
 pub(super) fn numbers_asked(alloc: Global, asked: &ArgMatches<'_>) -> Result<Numbers, NoCommand> {
     numbers_of(alloc, values_of(asked, words::NUMBERS).unwrap_or(&[]))
 }
-
-/// Why a word is no numbers without a volume.
-fn not_alone(alloc: Global, word: &str) -> Result<String, AllocError> {
-    if read_volume_numbers(word.as_bytes()).is_none() {
-        return no_numbers(alloc, word);
-    }
-    format!(in alloc;
-        "{word}: a number with a volume, which is not taken here; name the volume by --store, as 0001.db in its folder, and type the number alone"
-    )
-}
-
-/// The numbers of records that are given, and the ranges of them, where a volume is not taken.
-pub(super) fn numbers_alone_asked(
-    alloc: Global,
-    asked: &ArgMatches<'_>,
-) -> Result<Vec<TypedNumbers>, NoCommand> {
-    let typed = values_of(asked, words::NUMBERS).unwrap_or(&[]);
-    let mut numbers = Vec::with_capacity(alloc, typed.len())?;
-    for word in typed {
-        let Some(read) = read_numbers(word.as_bytes()) else {
-            return Err(NoCommand::Wrong(not_alone(alloc, *word)?));
-        };
-        numbers.push(read)?;
-    }
-    Ok(numbers)
-}

@@ -1,11 +1,11 @@
-use Rattle.std.proofs.Common.{rules, tests, ◌==◌, ◌||◌, length}
+use Rattle.std.proofs.Common.{rules, tests}
 use Rattle.std.proofs.lemmas.Iterator.Search.{all_from_yields_List}
 use Rattle.std.proofs.lemmas.Iterator.Splits.{YieldsList-from_slice_split}
-use Rattle.choice_words.specs.Numbers.{is_comma, is_numbers}
-use Rattle.choice_words.proofs.numbers.has_numbers_alone.Goals as goal
+use Rattle.choice_words.specs.Readings.{is_comma, is_counted_or_empty}
+use Rattle.choice_words.proofs.readings.has_numbers_alone.Goals as goal
 
 pub returns : goal.returns
 returns c =
-    all_from_yields_List (λ part. (length part == 0) || is_numbers part) _ _ _ c.all.ensures.ran
+    all_from_yields_List (is_counted_or_empty c.args.with_volumes) _ _ _ c.all.ensures.ran
     (YieldsList-from_slice_split _ is_comma c.args.word.now c.split.ensures.rest c.split.ensures.done c.split.ensures.closure
     (λ x r q k. search (rules, tests))) (λ x b q k. search (rules, tests))
