@@ -19,7 +19,7 @@ there_words volume n to = record_number volume n ++ words (codes ": the record i
 
 -- HOW MANY GET IT, and how many are due at once by that, in three lines
 unfoldable pub moves_lines : MoveTally → List ℕ
-moves_lines t = words (codes "records that get another class: ") ++ number t.count ++ 10 ∷ due_today_lines t.before t.after
+moves_lines t = words (codes "records that get another class: ") ++ number t.count ++ (10 ∷ []) ++ due_today_lines t.before t.after
 
 -- one that has got it
 unfoldable pub refiled_line : (volume : Option ℕ) → (number : ℕ) → (to : List ℕ) → List ℕ

@@ -252,7 +252,7 @@ impl Moves<'_> {
 
     /// The numbers of the records that get the class.
     pub fn into_numbers(self) -> Vec<u32>
-        ensures { result.items ≡ self.numbers.items }
+        ensures { result.items ≡ self.entry.numbers.items }
     {
         let Moves { numbers, .. } = self;
         numbers

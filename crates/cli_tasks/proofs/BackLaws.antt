@@ -1,12 +1,18 @@
 -- A day that is looked for in volumes, from the last one down.
-use Rattle.std.proofs.Common.{◌≡◌, ◌<◌, ◌≤◌, ◌+◌, ℕ, Bool, true, false, List, arith, refl, subst}
-use Rattle.std.specs.Prelude.{nat_lt}
+use Rattle.std.proofs.Common.{◌≡◌, ◌<◌, ◌≤◌, ◌+◌, ◌-◌, ℕ, Bool, true, false, List, None, Some, arith, refl, subst}
+use Rattle.std.specs.Prelude.{Option, nat_lt}
+use Rattle.std.specs.Option.{unwrap_or}
 use Rattle.std.proofs.lemmas.Bool.Decides.{nat_tests}
 use Rattle.sqlite.specs.Store.{Ghosts}
 use Rattle.record_store.specs.declared.store.Store.{Store}
 use Rattle.cli_changes.specs.Moments.{needs_day}
 use Rattle.cli_changes.specs.declared.moments.Timing.{Timing}
-use Rattle.cli_tasks.specs.Days.{LooksBack, ShowsDayIn, ShowsNone}
+use Rattle.cli_tasks.specs.Days.{LooksBack, ShowsDayIn, ShowsNone, volumes_before}
+
+-- the number of a volume, less one, is how many come before it
+pub before_number : (volume : Option ℕ) → unwrap_or volume 0 - 1 ≡ volumes_before volume
+before_number None = refl
+before_number (Some v) = refl
 
 module _ {S : Type 0} (g : Ghosts S) (IsAt : (path : List ℕ) → Store S → Type 0) (folder : List ℕ) (known : Timing) where
   -- so many volumes show none, up to the last one

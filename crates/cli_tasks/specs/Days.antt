@@ -1,5 +1,5 @@
 -- By which days the clock is judged where the volume in which mail is captured has no record.
-use Rattle.std.specs.Prelude.{◌≡◌, ◌<◌, ◌≤◌, ◌-◌, ◌&&◌, ℕ, Bool, true, false, not, List, Option, Some, None, nat_lt}
+use Rattle.std.specs.Prelude.{◌≡◌, ◌<◌, ◌≤◌, ◌-◌, ◌&&◌, ℕ, Bool, true, false, List, Option, Some, None, nat_le}
 use Rattle.sqlite.specs.State.{HasCleanDisk}
 use Rattle.sqlite.specs.Store.{Ghosts}
 use Rattle.sqlite.specs.Held.{Held, state}
@@ -17,7 +17,7 @@ volumes_before (Some volume) = volume - 1
 
 -- whether a day is to be looked for in the volumes before a store, of which this is the next number: it has no record, and no day is known
 abbrev pub looks_back : (next : ℕ) → Timing → Bool
-looks_back next known = not (nat_lt 1 next) && needs_day known
+looks_back next known = nat_le next 1 && needs_day known
 
 -- THE LAST DAY OF A STORE is looked for, beside what is known
 pub record ShowsDay {S : Type 0} (g : Ghosts S) (known : Timing) (before : Store S) (after : Held S) (looked : Timing) : Type 0 where

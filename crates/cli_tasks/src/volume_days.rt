@@ -36,6 +36,13 @@ impl Work for LookForDay {
     }
 }
 
+/// Whether a day is looked for in the volumes before a store, of which this is the next number.
+fn looks_back(next: u64, timing: Timing) -> bool
+    ensures { result ≡ looks_back next timing }
+{
+    next <= 1 && timing.needs_day()
+}
+
 /// The volumes before one in which mail is captured; none before the first, and before a store that is no volume.
 #[derive(Drop)]
 pub struct Earlier<'a, A> {
@@ -89,9 +96,9 @@ impl<'a, A: Archives> Earlier<'a, A> {
         ensures same { IfOk result (λ looked. looks_back archive.now.next timing ≡ false
             → looked ≡ timing) }
     {
-        if archive.next_number() > 1 || !timing.needs_day() {
-            return Ok(timing);
+        if looks_back(archive.next_number(), timing) {
+            return self.looked_back(rt, timing);
         }
-        self.looked_back(rt, timing)
+        Ok(timing)
     }
 }

@@ -1,5 +1,5 @@
 use Rattle.std.proofs.Common.{◌≡◌, ◌∙◌, ap, false, subst, true}
-use Rattle.std.proofs.lemmas.Result.{on_err_weaker, on_ok_weaker}
+use Rattle.std.proofs.lemmas.Result.{on_ok_weaker}
 use Rattle.class_plan.specs.Plans.{Listing, has}
 use Rattle.record_archive.specs.Archive.{Archive}
 use Rattle.record_archive.specs.Refiling.{refile}

@@ -1,6 +1,6 @@
-use Rattle.std.proofs.Common.{◌∙◌, sym}
-use Rattle.std.proofs.lemmas.Slice.Eq.{bytes_eq-Decides}
+use Rattle.std.proofs.lemmas.Bool.Decides.{Decides-eqb}
+use Rattle.std.proofs.lemmas.Slice.Eq.{slice_eq-Decides}
 use Rattle.cli_changes.proofs.series.judge_listed.Goals as goal
 
-pub returns-then-numbers-listed : goal.returns-then-numbers-listed
-returns-then-numbers-listed c = (bytes_eq-Decides c.args.numbers.now c.args.listed.now).0 (sym c.eq.ensures ∙ c.if-numbers-listed.true)
+pub returns-then-eq : goal.returns-then-eq
+returns-then-eq c = (slice_eq-Decides Decides-eqb _ _ _ c.eq.ensures).0 c.if-eq.true

@@ -1,4 +1,4 @@
-use Rattle.std.proofs.Common.{◌≡◌, ◌∙◌, ◌++◌, ap, false, refl, rules, sym, tests, true}
+use Rattle.std.proofs.Common.{◌≡◌, ◌∙◌, ◌++◌, ap, false, refl, sym, true}
 use Rattle.std.proofs.lemmas.List.{append-nil}
 use Rattle.record_choice.specs.Entries.{entry_view}
 use Rattle.cli_changes.specs.Refilings.{moves}
