@@ -1,7 +1,7 @@
 //! What is written for people and programs. A text for people is a [`Shown`] one, or words of the program.
 
 ghost use Rattle.std.specs.Prelude.{◌≡◌, ◌++◌, IfOk, OnOk, string_bytes};
-ghost use Rattle.cli_console.specs.Numbers.{numbers_typed, range_in, typed_words};
+ghost use Rattle.cli_console.specs.Numbers.{from_to, numbers_typed, range_in, typed_words};
 ghost use Rattle.cli_console.specs.Sequences.{between};
 
 use crate::failure::{Failure, Status};
@@ -11,18 +11,31 @@ use std::alloc::{AllocError, Global};
 use std::io::{Error, ErrorKind, IsTerminal, Write};
 use tool_texts::{Shown, put};
 
-/// Adds the numbers from one to another as they are typed; those of a volume after its number, as `3/5-9`, and all of it as `3/`.
+/// Adds the numbers from one to another, as `5-9`; those of a volume after its number, as `3/5-9`.
+fn put_from_to(
+    text: &mut Shown,
+    volume: Option<u32>,
+    first: u32,
+    last: u32,
+) -> Result<(), AllocError>
+    ensures { OnOk result (text.new ≡ text.old ++ from_to volume first last) }
+{
+    put_number(text, volume, first)?;
+    put!(text; "-" value(&last))
+}
+
+/// The same, and all numbers of a volume as `3/`.
 fn put_range(text: &mut Shown, volume: Option<u32>, first: u32, last: u32) -> Result<(), AllocError>
     ensures { OnOk result (text.new ≡ text.old ++ range_in volume first last) }
 {
-    let is_all = TypedNumbers::Range { first, last }.is_all();
-    match volume {
-        Some(volume) if is_all => put!(text; value(&volume) "/"),
-        _ => {
-            put_number(text, volume, first)?;
-            put!(text; "-" value(&last))
-        }
+    let Some(volume) = volume else {
+        return put_from_to(text, None, first, last);
+    };
+    let numbers = TypedNumbers::Range { first, last };
+    if numbers.is_all() {
+        return put!(text; value(&volume) "/");
     }
+    put_from_to(text, Some(volume), first, last)
 }
 
 /// Adds numbers of records as they are typed; those of a volume after its number, as `3/5-9`, and all of it as `3/`.

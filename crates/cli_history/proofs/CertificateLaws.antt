@@ -5,10 +5,14 @@ use Rattle.std.proofs.lemmas.List.{append_assoc, append-nil}
 use Rattle.std.specs.Borrow.{Bor}
 use Rattle.std.specs.Prelude.{is_some}
 use Rattle.choice_words.specs.declared.numbers.TypedNumbers.{TypedNumbers}
+use Rattle.class_plan.specs.declared.schedules.Schedule.{Schedule}
 use Rattle.record_tables.specs.Events.{Event as Row}
 use Rattle.record_reads.specs.Events.{event_of}
 use Rattle.record_reads.specs.declared.events.EventRow.{EventRow}
 use Rattle.record_history.specs.Events.{Event}
+use Rattle.record_history.specs.Views.{deed_view}
+use Rattle.record_history.specs.declared.events.Deed.{Deed}
+use Rattle.record_history.specs.declared.events.Deed.TheVariants.{Destroyed}
 use Rattle.cli_console.specs.Sequences.{AreTexts, first_after, one_text, only, texts_joined}
 use Rattle.cli_console.specs.Sinks.{Writes, more_written, nothing_written}
 use Rattle.cli_history.specs.Certified.{Certifies, IsCertificateOf, IsLineOf, WritesCertificates, certified, certified_at, certified_rows, destroyed_by}
@@ -25,6 +29,11 @@ certified_is words e n is = go (is_about words e.deed) is
     go : (b : Bool) → cond b (destroyed_by e.deed) None ≡ Some n → destroyed_by e.deed ≡ Some n
     go true same = same
     go false same = absurd cc
+
+-- a deed that is no destruction destroys no record
+pub none_destroyed : (d : Deed) → ((n day : ℕ) (schedule : Schedule) → d ≡ Destroyed n day schedule → ⊥) → destroyed_by (deed_view d) ≡ None
+none_destroyed (Destroyed n day schedule) other = absurd (other n day schedule refl)
+none_destroyed d other = refl
 
 -- which line is that of an event does not depend on whether it is the first one
 any_first : (volume : Option ℕ) (b : Bool) (xs : List (Row × Event)) (text : List ℕ) → AreTexts (IsLineOf volume) true xs text

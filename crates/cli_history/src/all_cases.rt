@@ -57,11 +57,10 @@ fn first_of(one: Option<Began>, other: Option<Began>) -> Option<Began>
     let Some(other) = other else {
         return Some(one);
     };
-    Some(if other.moment < one.moment {
-        other
-    } else {
-        one
-    })
+    if other.moment < one.moment {
+        return Some(other);
+    }
+    Some(one)
 }
 
 /// A case in a store, or in several together.
@@ -184,11 +183,10 @@ impl AllCases {
             ≡ with_case n.items (named_view next) (case_of self.old n)) }
     {
         let NamedCase { name, kept } = next;
-        let whole = match self.take(name.as_slice()) {
-            Some(before) => before.joined(kept),
-            None => kept,
-        };
-        self.keep(name, whole)
+        match self.take(name.as_slice()) {
+            Some(before) => self.keep(name, before.joined(kept)),
+            None => self.keep(name, kept),
+        }
     }
 
     /// Adds the cases of the next store to those of the stores before it.

@@ -31,18 +31,12 @@ use command_lines::archives::{Attribution, Disposal, DisposalAsked, TypedDisposa
 use sqlite::Alter;
 use std::alloc::{AllocError, Global};
 
-/// What is asked of the records of a volume that are due by a day.
-#[derive(Clone, Copy)]
-struct DueIn<'t> {
-    volume: u32,
-    asked: &'t Disposal,
-    day: Date,
-}
-
 /// Finds that the disposal in a volume may begin.
 #[derive(Drop)]
 struct JudgeDue<'t> {
-    due: DueIn<'t>,
+    volume: u32,
+    asked: &'t Disposal,
+    day: Date,
 }
 
 impl LedgerWork for JudgeDue<'_> {
@@ -51,7 +45,7 @@ impl LedgerWork for JudgeDue<'_> {
     ghost purpose_by = { λ it present. Ending };
 
     ghost makes = { λ S g it old new done seals. JudgesDisposal g old new (is_ok done)
-        it.due.asked.now it.due.day seals };
+        it.asked.now it.day seals };
 
     fn purpose(&self, _alloc: Global, _present: &Plan) -> Result<Purpose, AllocError> {
         Ok(Purpose::Ending)
@@ -63,7 +57,7 @@ impl LedgerWork for JudgeDue<'_> {
         ledger: &mut StoreLedger<'_, S>,
         seals: &Seals,
     ) -> Result<(), Failure> {
-        let DueIn { volume, asked, day } = self.due;
+        let JudgeDue { volume, asked, day } = self;
         judge_disposal(rt, ledger, Some(volume), seals, asked, day)
     }
 }
@@ -71,19 +65,22 @@ impl LedgerWork for JudgeDue<'_> {
 /// Lists what is due in a volume, or destroys it.
 #[derive(Drop)]
 struct DisposeDue<'t> {
-    due: DueIn<'t>,
+    volume: u32,
+    asked: &'t Disposal,
+    day: Date,
 }
 
 impl LedgerWork for DisposeDue<'_> {
     type Answer = DisposalTally;
 
-    ghost purpose_by = { λ it present. for_disposal it.due.asked.now.destroys };
+    ghost purpose_by = { λ it present. for_disposal it.asked.now.destroys };
 
-    ghost makes = { λ S g it old new done seals. Disposes g old new (is_ok done)
-        it.due.asked.now it.due.day seals };
+    ghost makes = { λ S g it old new done seals. Disposes g old new (is_ok done) it.asked.now
+        it.day seals };
 
     fn purpose(&self, _alloc: Global, _present: &Plan) -> Result<Purpose, AllocError> {
-        Ok(purpose_of_disposal(self.due.asked.destroys))
+        let asked = self.asked;
+        Ok(purpose_of_disposal(asked.destroys))
     }
 
     fn perform<S: Alter>(
@@ -92,7 +89,7 @@ impl LedgerWork for DisposeDue<'_> {
         ledger: &mut StoreLedger<'_, S>,
         seals: &Seals,
     ) -> Result<DisposalTally, Failure> {
-        let DueIn { volume, asked, day } = self.due;
+        let DisposeDue { volume, asked, day } = self;
         let mut certificates = Certificates::on_output(rt, Some(volume), seals);
         let is_any = dispose_by(rt, ledger, &mut certificates, asked, day)?;
         Ok(certificates.tally(is_any))
@@ -125,15 +122,17 @@ fn judge_in<A: Archives>(
     rt: &HostRuntime,
     archives: &A,
     volumes: Volumes<'_>,
-    due: DueIn<'_>,
+    volume: u32,
+    asked: &Disposal,
+    day: Date,
     told: &Attribution<'_>,
 ) -> Result<(), Failure>
     ensures { OnOk result (JudgesIn A.Kept.Store (A.is_at archives.now)
-        volumes.entry.folder.now told.now due.entry.day due.entry.volume due.entry.asked.now) }
+        volumes.entry.folder.now told.now day volume asked.now) }
 {
-    let author = author_in(rt, told, due.volume)?;
-    let change = JudgeDue { due };
-    volumes.lend(rt, archives, due.volume, ChangeBy { author, change })
+    let author = author_in(rt, told, volume)?;
+    let change = JudgeDue { volume, asked, day };
+    volumes.lend(rt, archives, volume, ChangeBy { author, change })
 }
 
 /// The same by what is typed of all volumes. One of which nothing is asked is not opened.
@@ -150,14 +149,7 @@ fn judge_typed<A: Archives>(
         (A.is_at archives.now) volumes.entry.folder.now told.now day volume)) }
 {
     match disposal_in(rt.alloc(), typed, volume)? {
-        Some(asked) => {
-            let due = DueIn {
-                volume,
-                asked: &asked,
-                day,
-            };
-            judge_in(rt, archives, volumes, due, told)
-        }
+        Some(asked) => judge_in(rt, archives, volumes, volume, &asked, day, told),
         None => Ok(()),
     }
 }
@@ -206,15 +198,17 @@ fn dispose_in<A: Archives>(
     rt: &HostRuntime,
     archives: &A,
     volumes: Volumes<'_>,
-    due: DueIn<'_>,
+    volume: u32,
+    asked: &Disposal,
+    day: Date,
     told: &Attribution<'_>,
 ) -> Result<DisposalTally, Failure>
     ensures { OnOk result (DisposesIn A.Kept.Store (A.is_at archives.now)
-        volumes.entry.folder.now told.now due.entry.day due.entry.volume due.entry.asked.now) }
+        volumes.entry.folder.now told.now day volume asked.now) }
 {
-    let author = author_of_disposal(rt, due.asked.destroys, told)?.in_volume(Some(due.volume));
-    let change = DisposeDue { due };
-    volumes.lend(rt, archives, due.volume, ChangeBy { author, change })
+    let author = author_of_disposal(rt, asked.destroys, told)?.in_volume(Some(volume));
+    let change = DisposeDue { volume, asked, day };
+    volumes.lend(rt, archives, volume, ChangeBy { author, change })
 }
 
 /// The same by what is typed of all volumes. One of which nothing is asked is not opened.
@@ -231,14 +225,7 @@ fn dispose_typed<A: Archives>(
         (A.is_at archives.now) volumes.entry.folder.now told.now day volume)) }
 {
     match disposal_in(rt.alloc(), typed, volume)? {
-        Some(asked) => {
-            let due = DueIn {
-                volume,
-                asked: &asked,
-                day,
-            };
-            dispose_in(rt, archives, volumes, due, told)
-        }
+        Some(asked) => dispose_in(rt, archives, volumes, volume, &asked, day, told),
         None => Ok(DisposalTally::none()),
     }
 }

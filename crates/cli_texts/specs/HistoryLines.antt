@@ -1,5 +1,5 @@
 -- The lines of events, as a history is printed.
-use Rattle.std.specs.Prelude.{ℕ, zero, suc, ◌+◌, ◌==◌, ◌||◌, Bool, true, false, List, [], ◌∷◌, ◌++◌, Option, Some, None, codes, decimal}
+use Rattle.std.specs.Prelude.{ℕ, ◌+◌, ◌==◌, ◌||◌, Bool, true, false, if◌then◌else◌, List, [], ◌∷◌, ◌++◌, Option, Some, None, codes, decimal}
 use Rattle.std.specs.List.{slice_split}
 use Rattle.cli_texts.specs.Words.{free_words}
 use Rattle.cli_texts.specs.declared.history_lines.NumberPlaces.{NumberPlaces}
@@ -17,8 +17,7 @@ is_blank octet = octet == 32
 
 -- what stands before the word at a place: a blank, but before the first
 abbrev pub blank_before : ℕ → List ℕ
-blank_before zero = []
-blank_before (suc n) = 32 ∷ []
+blank_before at = if at == 0 then [] else 32 ∷ []
 
 -- what stands right before a word that is a number: that of the volume
 abbrev pub volume_before : (volume : List ℕ) → (is_number : Bool) → List ℕ

@@ -1,4 +1,4 @@
-use Rattle.std.proofs.Common.{◌≡◌, ◌∙◌, ◌<◌, List, [], length, sym, ap, refl, subst, true}
+use Rattle.std.proofs.Common.{◌≡◌, ◌∙◌, ◌<◌, Bool, List, [], length, sym, ap, refl, subst, true}
 use Rattle.std.proofs.lemmas.Result.{IfOk-weaker}
 use Rattle.std.specs.Prelude.{is_ok}
 use Rattle.jiff.specs.Words.{epoch_day}
@@ -76,7 +76,7 @@ returns-in-Numbers-clause-destroyed g c = λ yes.
 
 pub returns-in-All-clause-any : goal.returns-in-All-clause-any
 returns-in-All-clause-any g c =
-    IfOk-weaker c.dispose_of.result _ _ (λ is_any told clean (a : Archive) s.
+    IfOk-weaker c.dispose_of.result _ _ (λ (is_any : Bool) told clean (a : Archive) s.
     let day = epoch_day c.args.day in
     let read = c.in_ok-meant.ensures.told (c.dispose_of.ensures.falls clean) a s in
     let none = sym c.as_slice.ensures.value ∙ meant_as c.as_slice.result.now (asked_list a day []) _ _ c.in-All.is read in
@@ -93,7 +93,7 @@ returns-in-Nothing-clause-any g c = λ clean (a : Archive) s.
 
 pub returns-in-Numbers-clause-any : goal.returns-in-Numbers-clause-any
 returns-in-Numbers-clause-any g c =
-    IfOk-weaker c.dispose_of-in-Numbers.result _ _ (λ is_any told clean (a : Archive) s.
+    IfOk-weaker c.dispose_of-in-Numbers.result _ _ (λ (is_any : Bool) told clean (a : Archive) s.
     let asked = c.args.asked.now in
     let day = epoch_day c.args.day in
     let read = c.in_ok-meant.ensures.told (c.dispose_of-in-Numbers.ensures.falls clean) a s in

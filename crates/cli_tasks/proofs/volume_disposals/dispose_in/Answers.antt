@@ -12,10 +12,9 @@ use Rattle.cli_tasks.proofs.volume_disposals.dispose_in.Goals as goal
 
 pub returns : goal.returns
 returns g c =
-    let due = c.args.due in
     let author = c.in_ok-author_of_disposal.ensures in
-    told_well g.A.Kept.Store (g.A.Archives.is_at c.args.archives.now (path_of c.args.volumes.folder.now due.volume)) c.args.told.now
-    c.in_volume-author.result c.lend.result (for_disposal due.asked.now.destroys)
-    (λ (old new : Ledger g.row.A-Kept.Denot LibcRuntime) (seals : Seals). Disposes g.A.Kept.Store old new true due.asked.now due.day seals)
+    told_well g.A.Kept.Store (g.A.Archives.is_at c.args.archives.now (path_of c.args.volumes.folder.now c.args.volume)) c.args.told.now
+    c.in_volume-author.result c.lend.result (for_disposal c.args.asked.now.destroys)
+    (λ (old new : Ledger g.row.A-Kept.Denot LibcRuntime) (seals : Seals). Disposes g.A.Kept.Store old new true c.args.asked.now c.args.day seals)
     (subst (λ (a : Author). IsTold c.args.told.now a) (sym c.in_volume-author.ensures) (record { name = author.name; reason = author.reason }))
     c.lend.ensures

@@ -10,9 +10,8 @@ use Rattle.cli_tasks.proofs.volume_disposals.judge_in.Goals as goal
 
 pub returns : goal.returns
 returns g c =
-    let due = c.args.due in
-    told_well g.A.Kept.Store (g.A.Archives.is_at c.args.archives.now (path_of c.args.volumes.folder.now due.volume)) c.args.told.now
+    told_well g.A.Kept.Store (g.A.Archives.is_at c.args.archives.now (path_of c.args.volumes.folder.now c.args.volume)) c.args.told.now
     c.in_ok-author.author c.lend.result Ending
     (λ (old new : Ledger g.row.A-Kept.Denot LibcRuntime) (seals : Seals).
-    JudgesDisposal g.A.Kept.Store old new true due.asked.now due.day seals)
+    JudgesDisposal g.A.Kept.Store old new true c.args.asked.now c.args.day seals)
     c.in_ok-author.ensures c.lend.ensures
