@@ -21,6 +21,7 @@ pub mod DueListLaws
 pub mod ApprovalLaws
 mod ChangeRows
 mod ImportRows
+mod MoveRows
 mod RoundRows
 mod SpaceRows
 mod ApprovalRows

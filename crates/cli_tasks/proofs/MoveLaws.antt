@@ -1,5 +1,5 @@
 -- Records that get another class, as they are found in volumes, one after another.
-use Rattle.std.proofs.Common.{◌≡◌, ◌+◌, ◌++◌, ◌∷◌, ◌||◌, [], ℕ, List, ap, false, refl, subst, sym}
+use Rattle.std.proofs.Common.{◌≡◌, ◌+◌, ◌++◌, ◌∷◌, [], ℕ, List, refl, subst, sym}
 use Rattle.std.proofs.lemmas.List.Elements.{All-nil, All-push, All-weaker}
 use Rattle.sqlite.specs.Store.{Ghosts}
 use Rattle.choice_words.specs.declared.typed.TypedChoice.{TypedChoice}

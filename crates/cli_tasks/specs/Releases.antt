@@ -1,5 +1,5 @@
 -- The end of a hold on all records of an archive of volumes that have it.
-use Rattle.std.specs.Prelude.{◌≡◌, ◌==◌, ℕ, Bool, true, false, not, List, All, length, map}
+use Rattle.std.specs.Prelude.{◌≡◌, ◌==◌, ℕ, Bool, true, not, List, All, length, map}
 use Rattle.std.specs.List.{list_any}
 use Rattle.sqlite.specs.Store.{Ghosts}
 use Rattle.command_lines.specs.declared.archives.histories.Attribution.{Attribution}

@@ -1,4 +1,4 @@
-use Rattle.std.proofs.Common.{◌≡◌, ◌∙◌, All, ap, subst, sym}
+use Rattle.std.proofs.Common.{◌∙◌, All, ap, subst, sym}
 use Rattle.std.proofs.lemmas.Result.{on_ok_weaker}
 use Rattle.cli_tasks.specs.Releases.{EndsWhereAny, is_any_listed}
 use Rattle.cli_tasks.proofs.volume_changes.release_all.Goals as goal

@@ -1,4 +1,4 @@
-use Rattle.std.proofs.Common.{◌≡◌, ◌==◌, ◌∙◌, List, ℕ, ap, length, not, subst, sym, true}
+use Rattle.std.proofs.Common.{◌==◌, ◌∙◌, List, ap, length, subst, sym, ℕ}
 use Rattle.std.proofs.lemmas.Result.{on_ok_weaker}
 use Rattle.cli_tasks.specs.Releases.{EndsIn}
 use Rattle.cli_tasks.proofs.ReleaseLaws.{none_in}

@@ -12,11 +12,11 @@ loop-below-init g c =
 pub loop-below-preserved : goal.loop-below-preserved
 loop-below-preserved g c =
     let below = c.loop-below.below in
-    let moved = c.in_ok-moves_in.val in
+    let moved = c.in_ok-next.field-0 in
     let l : Listed = record { volume = below + 1; numbers = moved.numbers } in
     moved_in_next g.A.Kept.Store (g.A.Archives.is_at c.args.archives.now) c.args.volumes.folder.now c.args.asked.to.now
     c.args.asked.typed.now c.args.asked.questions.now below c.loop-below.tally c.loop-below.listed.items moved l c.joined-tally.result
-    c.push.new.self.items c.joined-tally.ensures c.in_ok-push.ensures.items refl refl c.loop-below.invariant c.in_ok-moves_in.ensures
+    c.push.new.self.items c.joined-tally.ensures c.in_ok-push.ensures.items refl refl c.loop-below.invariant c.in_ok-next.ensures
 
 pub returns : goal.returns
 returns g c =

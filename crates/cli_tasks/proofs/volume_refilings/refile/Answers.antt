@@ -19,12 +19,12 @@ returns g c =
       questions = questions;
       asked = record { test = c.in_ok-questions.ensures.test; fields = c.in_ok-questions.ensures.fields };
       planned = c.in_ok-judge_plans.ensures;
-      tally = c.in_ok-moves_in_each.val.tally;
+      tally = c.in_ok-tally.field-0.tally;
       accepted = well;
-      listed = c.in_ok-moves_in_each.val.listed.items;
-      shown = subst (λ to. MovesEach store IsAt folder to typed questions last c.in_ok-moves_in_each.val.tally
-          c.in_ok-moves_in_each.val.listed.items) same c.in_ok-moves_in_each.ensures;
-      refiled = subst (λ to. All (RefilesWhereAny store IsAt folder told to typed questions) c.in_ok-moves_in_each.val.listed.items) same
+      listed = c.in_ok-tally.field-0.listed.items;
+      shown = subst (λ to. MovesEach store IsAt folder to typed questions last c.in_ok-tally.field-0.tally
+          c.in_ok-tally.field-0.listed.items) same c.in_ok-tally.ensures;
+      refiled = subst (λ to. All (RefilesWhereAny store IsAt folder told to typed questions) c.in_ok-tally.field-0.listed.items) same
           (subst (λ ls. All (RefilesWhereAny store IsAt folder told c.as_bytes.result.now typed questions) ls) c.as_slice.ensures.value
           c.in_ok-refile_each.ensures);
     }) c.judge_refused.ensures
