@@ -46,7 +46,8 @@ fn no_volume_words(alloc: Global, typed: VolumeNumbers, last: u32) -> Result<Sho
 
 /// That numbers of a volume stand where the name of a hold belongs.
 fn name_forgotten_words(alloc: Global, typed: VolumeNumbers) -> Result<Shown, AllocError> {
-    let mut text = typed_in(alloc, typed)?;
+    let mut text = Shown::new(alloc);
+    put_typed(&mut text, Some(typed.volume), typed.numbers)?;
     text.words(
         ": numbers of records, where the name of the hold belongs; type it before them, as audit 3/17",
     )?;

@@ -15,4 +15,4 @@ word_added volume places at word rest a b c d blank number own =
     ap (λ l. l ++ behind) (own ∙ ap (λ l. l ++ word) (number ∙ ap (λ l. l ++ front) blank))
     ∙ append_assoc ((a ++ blanks) ++ front) word behind ∙ append_assoc (a ++ blanks) front (word ++ behind)
     ∙ append_assoc a blanks (front ++ (word ++ behind))
-    ∙ sym (ap (λ l. a ++ l) (append_assoc blanks (front ++ word) behind ∙ ap (λ l. blanks ++ l) (append_assoc front word behind)))
+    ∙ sym (ap (λ l. a ++ l) (append_assoc (blanks ++ front) word behind ∙ append_assoc blanks front (word ++ behind)))

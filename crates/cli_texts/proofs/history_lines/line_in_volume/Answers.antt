@@ -8,5 +8,5 @@ returns c =
     let now = map (λ (w : Bor (List ℕ)). w.now) in
     c.in_ok-push_words.ensures
     ∙ ap (λ l. l ++ words_in c.as_str.result.now c.args.places 0 (now c.as_slice.result.now)) c.new-named.ensures.items
-    ∙ ap₂ (λ v ws. words_in v c.args.places 0 ws) (c.as_str.ensures.value ∙ c.in_ok-volume.ensures)
+    ∙ ap₂ (λ v ws. words_in v c.args.places 0 ws) (c.as_str.ensures.value ∙ c.in_ok-volume.ensures.ok)
     (ap now c.as_slice.ensures.value ∙ c.in_ok-words.ensures)
