@@ -9,14 +9,12 @@ pub loop-at-preserved : goal.loop-at-preserved
 loop-at-preserved c =
     let words = c.args.words.now in
     let at = c.loop-at.at in
-    let word = c.index-words-at.result in
     let text = λ (ws : List (Bor (List ℕ))). words_in c.args.volume.now c.args.places at (map (λ w. w.now) ws) in
-    let next = at_drop_more text words at word (omega arith) ∙ ap (λ w. text (w ∷ drop (at + 1) words)) (sym c.index-words-at.is) in
-    word_added c.args.volume.now c.args.places at word.now (map (λ w. w.now) (drop (at + 1) words)) c.loop-at.line.items
+    word_added c.args.volume.now c.args.places at _ (map (λ w. w.now) (drop (at + 1) words)) c.loop-at.line.items
     c.push_blank.new.line.items c.push_volume.new.line.items c.extend_from_slice.new.self.items c.in_ok-push_blank.ensures
     (c.in_ok-push_volume.ensures ∙ ap (λ b. c.push_blank.new.line.items ++ volume_before c.args.volume.now b) c.has.ensures)
     c.in_ok-extend_from_slice.ensures.items
-    ∙ ap (λ t. c.loop-at.line.items ++ t) (sym next) ∙ c.loop-at.invariant
+    ∙ ap (λ t. c.loop-at.line.items ++ t) (sym (at_drop_more text words at _ (omega arith))) ∙ c.loop-at.invariant
 
 pub returns : goal.returns
 returns c =
