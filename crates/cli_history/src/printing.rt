@@ -62,7 +62,7 @@ fn unmet_words(asked: &HistoryAsked<'_>) -> &'static str {
 }
 
 /// The number of a record at a place in the line of an event, and no other.
-fn at_word(place: usize) -> NumberPlaces
+pub(crate) fn at_word(place: usize) -> NumberPlaces
     ensures { result ≡ record { of_record = Some place; of_message = None } }
 {
     NumberPlaces {

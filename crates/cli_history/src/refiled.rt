@@ -2,12 +2,18 @@
 
 use crate::cases::page_from;
 use crate::pages::PAGE;
+use crate::printing::at_word;
 use crate::seals::deed_of;
 use cli_console::Failure;
+use cli_texts::history_line;
 use record_history::Deed;
 use record_store::{EventLayout, EventRow, Store};
 use sqlite::Alter;
 use std::alloc::{AllocError, Global};
+use tool_texts::Shown;
+
+/// Which word of the line of a refiling is the number of the record, counted from 0.
+const RECORD: usize = 4;
 
 /// Whether an event gives the record of a number another class. One whose line cannot be read does not.
 fn refiles(alloc: Global, row: &EventRow, record: u32) -> Result<bool, AllocError> {
@@ -33,13 +39,26 @@ fn last_line(
     Ok(last)
 }
 
-/// The line of the last event that gives a record another class, as it is hashed; none where no event does, or where the store keeps
-/// no history. A failure is that of the store.
+/// The line of a refiling as `history` prints it; none where there is none.
+fn shown_refiling(
+    alloc: Global,
+    volume: Option<u32>,
+    line: Option<Vec<u8>>,
+) -> Result<Option<Shown>, AllocError> {
+    match line {
+        Some(line) => history_line(alloc, volume, at_word(RECORD), line.as_slice()).map(Some),
+        None => Ok(None),
+    }
+}
+
+/// The line of the last event that gives a record another class, as `history` prints it: in an archive of volumes, with the number of
+/// the volume. None where no event does, or where the store keeps no history. A failure is that of the store.
 pub fn last_refiling<S: Alter>(
     rt: &HostRuntime,
     archive: &mut Store<S>,
+    volume: Option<u32>,
     record: u32,
-) -> Result<Option<Vec<u8>>, Failure> {
+) -> Result<Option<Shown>, Failure> {
     let mut line = None;
     let mut from = match archive.event_layout() {
         EventLayout::Present => Some(1),
@@ -56,5 +75,5 @@ pub fn last_refiling<S: Alter>(
         from = last.number.checked_add(1);
         line = last_line(rt.alloc(), page.as_slice(), record, line)?;
     }
-    Ok(line)
+    Ok(shown_refiling(rt.alloc(), volume, line)?)
 }

@@ -6,7 +6,7 @@ use class_plan::{Date, Plan, day_number};
 use cli_console::{Failure, Status, write_data, write_text};
 use cli_history::last_refiling;
 use cli_sources::{Script, read_rules};
-use cli_texts::{ListedHeaders, history_line, listed_line, plan_text, undecoded_lines};
+use cli_texts::{ListedHeaders, listed_line, plan_text, undecoded_lines};
 use command_lines::archives::{TypedNumber, Why};
 use desk_commands::Payload;
 use record_store::{RecordEntry, Store};
@@ -35,7 +35,7 @@ pub struct Captured {
     message: Option<Vec<u8>>,
     plan: Plan,
     /// The line of the event by which it got its class, where that is not the one of its capture.
-    refiling: Option<Vec<u8>>,
+    refiling: Option<Shown>,
 }
 
 /// The failure of an inquiry.
@@ -122,7 +122,7 @@ pub fn read_captured<S: Alter>(
     } else {
         Some(message_of_entry(rt, archive, record, &entry)?)
     };
-    let refiling = last_refiling(rt, archive, entry.number)?;
+    let refiling = last_refiling(rt, archive, record.volume, entry.number)?;
     Ok(Captured {
         volume: record.volume,
         entry,
@@ -243,7 +243,7 @@ fn write_record(rt: &HostRuntime, captured: &Captured) -> Result<(), Failure> {
     };
     let mut text = Shown::new(rt.alloc());
     text.words("event ")?;
-    text.text(&history_line(rt.alloc(), line.as_slice())?)?;
+    text.text(line)?;
     write_text(rt, &text)
 }
 

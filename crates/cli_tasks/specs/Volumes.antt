@@ -2,7 +2,7 @@
 use Rattle.std.specs.Prelude.{◌≡◌, ◌⊎◌, ℕ, true, false, List, Option, Some, None, IfSome, Ok}
 use Rattle.sqlite.specs.Store.{Ghosts}
 use Rattle.choice_words.specs.Typed.{first_above, first_alone}
-use Rattle.choice_words.specs.Volumes.{volume_numbers}
+use Rattle.choice_words.specs.Readings.{reads_as_any_numbers}
 use Rattle.choice_words.specs.declared.choice.Choice.{Choice}
 use Rattle.choice_words.specs.declared.numbers.TypedNumbers.{TypedNumbers}
 use Rattle.choice_words.specs.declared.typed.TypedChoice.{TypedChoice}
@@ -93,9 +93,9 @@ module _ {S : Type 0} (g : Ghosts S) (IsAt : (path : List ℕ) → Store S → T
   IsHeldIn hold.End name last = SomeVolume last (λ v. EndsOnOne name v ⊎ ShowsIn g IsAt folder name v)
 
   -- THE HOLD OF A NAME IS PLACED, OR ENDED, on the records of a choice in each volume, by what is asked of their messages. Each number is
-  -- typed with its volume, of which there is none after the last. A name that is numbers of a volume is given to no record.
+  -- typed with its volume, of which there is none after the last. A name that reads as numbers is given to no record.
   pub record HoldsOver (change : Change) (name : List ℕ) (typed : TypedChoice) (last : ℕ) : Type 0 where
-    pub named : change ≡ hold.Place → volume_numbers name ≡ None
+    pub named : change ≡ hold.Place → reads_as_any_numbers name ≡ false
     pub none : first_alone typed ≡ None
     pub within : first_above last typed ≡ None
     pub questions : Questions

@@ -1,7 +1,7 @@
 //! What is changed in an archive of volumes: in each of them, by a ledger of its own.
 
 ghost use Rattle.std.specs.Prelude.{◌≡◌, All, true, false, IfOk, None, OnOk};
-ghost use Rattle.choice_words.specs.Volumes.{volume_numbers};
+ghost use Rattle.choice_words.specs.Readings.{reads_as_any_numbers};
 ghost use Rattle.cli_history.specs.declared.opening.Purpose.TheVariants.{Ending};
 ghost use Rattle.cli_tasks.specs.Changes.{EndsListed, HoldsFound, ListsHeld, ShowsHold};
 ghost use Rattle.cli_tasks.specs.Purposes.{for_hold};
@@ -190,9 +190,9 @@ fn may_be_held<A: Archives>(
     }
 }
 
-/// Finds that a hold that is to be placed is not named like numbers of a volume. `Usage` where it is. One that is to end has its name.
+/// Finds that a hold that is to be placed is not named like numbers of records. `Usage` where it is. One that is to end has its name.
 fn judge_name(rt: &HostRuntime, change: Change, name: &str) -> Result<(), Failure>
-    ensures { OnOk result (change ≡ Change.Place → volume_numbers name.now ≡ None) }
+    ensures { OnOk result (change ≡ Change.Place → reads_as_any_numbers name.now ≡ false) }
 {
     match change {
         Change::Place => judge_hold_name(rt, name),
@@ -202,7 +202,7 @@ fn judge_name(rt: &HostRuntime, change: Change, name: &str) -> Result<(), Failur
 
 /// Places or ends the hold of a name on the records of a choice, volume by volume, each in its own ledger. It fails as in a single store,
 /// at the first volume that does, and those before it are done. What is told once is told of all volumes. `Usage` where a number is typed
-/// without its volume, or where numbers of a volume stand in the place of the name of a hold that is to be placed, and `BadData` where
+/// without its volume, or where numbers of records stand in the place of the name of a hold that is to be placed, and `BadData` where
 /// there is no such volume.
 pub fn change_holds<A: Archives>(
     rt: &HostRuntime,

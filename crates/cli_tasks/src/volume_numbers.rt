@@ -1,14 +1,14 @@
 //! Numbers of records that are typed with a volume, or without: which of the two is right, the archive says.
 
-ghost use Rattle.std.specs.Prelude.{◌≡◌, ◌≤◌, [], ℕ, IfErr, IfOk, None, OnOk, Some};
+ghost use Rattle.std.specs.Prelude.{◌≡◌, ◌≤◌, [], ℕ, IfErr, IfOk, None, OnOk, Some, false};
 ghost use Rattle.std.specs.List.{find};
+ghost use Rattle.choice_words.specs.Readings.{reads_as_any_numbers};
 ghost use Rattle.choice_words.specs.Typed.{first_above, first_alone, first_of_volumes, first_or, is_above};
-ghost use Rattle.choice_words.specs.Volumes.{volume_numbers};
 ghost use Rattle.cli_console.specs.Failures.{IsToldAs};
 ghost use Rattle.cli_console.specs.declared.failure.Status.TheVariants.{BadData, Usage};
 ghost use Rattle.cli_tasks.specs.Numbers.{IsRefusedIn};
 
-use choice_words::{TypedChoice, VolumeNumbers, above_in, read_volume_numbers};
+use choice_words::{TypedChoice, VolumeNumbers, above_in, reads_as_any_numbers};
 use cli_console::{Failure, Status, put_typed};
 use command_lines::archives::{
     Choice, Disposal, HistoryAsked, Numbers, TypedDisposal, TypedHistory, TypedNumber, TypedNumbers,
@@ -44,28 +44,25 @@ fn no_volume_words(alloc: Global, typed: VolumeNumbers, last: u32) -> Result<Sho
     Ok(text)
 }
 
-/// That numbers of a volume stand where the name of a hold belongs.
-fn name_forgotten_words(alloc: Global, typed: VolumeNumbers) -> Result<Shown, AllocError> {
+/// That numbers of records stand where the name of a hold belongs.
+fn name_forgotten_words(alloc: Global, word: &str) -> Result<Shown, AllocError> {
     let mut text = Shown::new(alloc);
-    put_typed(&mut text, Some(typed.volume), typed.numbers)?;
-    text.words(
-        ": numbers of records, where the name of the hold belongs; type it before them, as audit 3/17",
-    )?;
+    put!(text; named(word.as_bytes())
+        ": numbers of records, where the name of the hold belongs; type it before them, as audit 3/17")?;
     Ok(text)
 }
 
-/// Finds that the name of a hold is not the numbers of a volume, before which it was more likely forgotten. `Usage` where it is.
+/// Finds that the name of a hold does not read as numbers of records, with a volume or without, before which it was more likely
+/// forgotten. `Usage` where it does.
 pub fn judge_hold_name(rt: &HostRuntime, name: &str) -> Result<(), Failure>
-    ensures named { OnOk result (volume_numbers name.now ≡ None) }
+    ensures named { OnOk result (reads_as_any_numbers name.now ≡ false) }
     ensures refused { IfErr result (IsToldAs Usage) }
 {
-    match read_volume_numbers(name.as_bytes()) {
-        Some(numbers) => Err(Failure::shown(
-            Status::Usage,
-            name_forgotten_words(rt.alloc(), numbers),
-        )),
-        None => Ok(()),
+    if reads_as_any_numbers(name.as_bytes()) {
+        let words = name_forgotten_words(rt.alloc(), name);
+        return Err(Failure::shown(Status::Usage, words));
     }
+    Ok(())
 }
 
 /// A choice that is typed, in a store that is one file. `Usage` where a number is typed with a volume.
