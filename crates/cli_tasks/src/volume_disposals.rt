@@ -242,7 +242,7 @@ fn dispose_in_each<A: Archives>(
     tally: &mut DisposalTally,
 ) -> Result<(), Failure>
     requires { typed.now.alone.destroys ≡ true → JudgesAll A.Kept.Store (A.is_at archives.now)
-        volumes.entry.folder.now told.now typed.now day volumes.entry.last }
+        volumes.folder.now told.now typed.now day volumes.last }
     ensures { OnOk result (EachVolume volumes.entry.last (λ v. WhereAsked typed.now v
         (DisposesIn A.Kept.Store (A.is_at archives.now) volumes.entry.folder.now told.now day
         v))) }
