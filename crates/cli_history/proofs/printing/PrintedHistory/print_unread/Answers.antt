@@ -18,7 +18,7 @@ returns-clause-printed g c =
     let row = event_of c.args.row.now in
     let asked = sym c.prints_unread.ensures ∙ c.if-not-prints_unread.false in
     let is_text = unread_text was.volume (asks_for_all was.asked.now) text.is_json (text.count == 0) row c.as_str.result.now asked
-    (c.as_str.ensures.value ∙ c.in_ok-line.ensures) in
+    (c.as_str.ensures.exact ∙ c.in_ok-line.ensures) in
     on_ok_weaker c.push.result (λ added.
     row_printed g.K.Sink.written was (record was { is_any_unread = true }) text c.push.new.self row None c.as_str.result.now asked is_text
     added.added added.rest refl (record { asked = refl; volume = refl })) c.push.ensures
