@@ -1,7 +1,7 @@
 -- Certificates that are written, a row at a time and a page at a time.
 use Rattle.std.proofs.Common.{◌≡◌, ◌+◌, ◌<◌, ◌≤◌, ◌++◌, ◌∷◌, ◌∙◌, [], ℕ, List, Bool, true, false, Option, Some, None, cond, map, take, get_or}
 use Rattle.std.proofs.Common.{length, refl, ap, sym, subst}
-use Rattle.std.proofs.lemmas.List.{append_assoc, append-nil}
+use Rattle.std.proofs.lemmas.List.{append_assoc}
 use Rattle.std.specs.Borrow.{Bor}
 use Rattle.std.specs.Prelude.{is_some}
 use Rattle.choice_words.specs.declared.numbers.TypedNumbers.{TypedNumbers}

@@ -1,4 +1,4 @@
-use Rattle.std.proofs.Common.{◌≡◌, ◌∙◌, List, [], rules, string_bytes, subst, sym, true}
+use Rattle.std.proofs.Common.{◌≡◌, ◌∙◌, List, rules, string_bytes, subst, sym, true}
 use Rattle.std.proofs.lemmas.Map.Iter.{rest_all, rest_more}
 use Rattle.std.specs.Map.Iter.{deref_pair}
 use Rattle.cli_console.specs.Sinks.{Writes}
@@ -9,12 +9,12 @@ use Rattle.cli_history.proofs.all_cases.AllCases.write_to.Goals as goal
 pub loop-name-init : goal.loop-name-init
 loop-name-init g c =
     let written = g.K.Sink.written in
+    let gives : c.into_iter-name-iterator.result ≡ c.args.self.now.cases.entries = c.into_iter-name-iterator.ensures.into_iter_gives.0 in
     record {
       can = search rules;
       finite = search rules;
       so_far = subst (λ (left : List Entry). AreBegun written c.args.is_json c.args.self.now.cases.entries left c.args.sink c.write.new.self true)
-          (sym c.into_iter-name-iterator.ensures.into_iter_gives)
-          (none_written written c.args.is_json c.args.self.now.cases.entries c.args.sink c.write.new.self
+          (sym gives) (none_written written c.args.is_json c.args.self.now.cases.entries c.args.sink c.write.new.self
           (subst (λ t. Writes written c.args.sink c.write.new.self t) (c.as_bytes.ensures.value ∙ c.text_ahead.ensures) c.in_ok-write.ensures));
     }
 
