@@ -6,4 +6,5 @@ pub mod DownLaws
 pub mod BackLaws
 pub mod ReleaseLaws
 pub mod MoveLaws
+pub mod SettingLaws
 mod PurposeRows
