@@ -82,7 +82,8 @@ impl LedgerWork for JudgePlan<'_> {
     ghost makes = { λ S g it old new done seals. JudgesPlan g old new done it.plan.now };
 
     fn purpose(&self, alloc: Global, present: &Plan) -> Result<Purpose, AllocError> {
-        purpose_of_plan(alloc, present, self.plan)
+        let plan = self.plan;
+        purpose_of_plan(alloc, present, plan)
     }
 
     fn perform<S: Alter>(
@@ -91,7 +92,8 @@ impl LedgerWork for JudgePlan<'_> {
         ledger: &mut StoreLedger<'_, S>,
         _seals: &Seals,
     ) -> Result<(), Failure> {
-        judge_plan(rt, ledger, self.plan, self.path)
+        let JudgePlan { plan, path } = self;
+        judge_plan(rt, ledger, plan, path)
     }
 }
 
