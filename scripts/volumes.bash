@@ -1,8 +1,8 @@
 #!/usr/bin/env bash
 # shellcheck disable=SC2317,SC2015,SC2154 # count calls its checks by their names, `|| shows_run` only reports, and store.bash sets keeper
 # Tests what ./mailfile-store does with an archive of volumes where no transcript can say it: where it is killed, or a call of the system
-# fails, at each moment while a volume is begun or a folder is made; where several programs begin volumes at once; on a disk that is full;
-# without permissions; and by a wrong clock. ./test sources this file after store.bash; run by itself, it plays these tests.
+# fails, at each moment while a volume is begun, a folder is made or a plan is set; where several programs begin volumes at once; on a disk
+# that is full; without permissions; and by a wrong clock. ./test sources this file after store.bash; run by itself, it plays these tests.
 
 : "${root:=$(dirname -- "$(dirname -- "$(readlink -f -- "$0")")")}" "${work:=$(mktemp -d)}" "${self:=volumes}"
 
@@ -128,6 +128,41 @@ folders_end_early() {
         create --store "$here/made" --roll 1M --plan "$here/plan.toml"
 }
 
+# Makes an archive of two volumes in `two`, and another plan for it.
+make_two_volumes() {
+    take_copy && deliver_to kept mail/bill.eml && ((status == 0)) && rm -rf -- "${here:?}/two" && cp -a -- "$here/kept" "$here/two" &&
+        sed 's/7 years/9 years/' "$here/plan.toml" > "$here/new.toml" || shows_run
+}
+
+# Takes a new copy of it.
+take_two_volumes() {
+    rm -rf -- "${here:?}/kept" && cp -a -- "$here/two" "$here/kept"
+}
+
+# Whether a volume has the new plan.
+has_new_plan() {
+    run_once_free plan --store "$here/kept/$1"
+    grep -q '9 years' "$work/said"
+}
+
+# Where a plan was not set to its end, the first volume has it only if the last one has it, and the next run sets it in both.
+goes_on_after_a_plan() {
+    if has_new_plan 0001.db; then
+        has_new_plan 0002.db || shows_run || return
+    fi
+    run_once_free plan --store "$here/kept" --by ann --set "$here/new.toml" --yes
+    ((status == 0)) || shows_run || return
+    is_whole_archive kept 2 && has_new_plan 0001.db && has_new_plan 0002.db
+}
+
+plans_end_early() {
+    local set=(plan --store "$here/kept" --by ann --set "$here/new.toml" --yes)
+    make_two_volumes || return
+    ends_at_each "$CHANGING" signal=KILL take_two_volumes goes_on_after_a_plan "a plan of volumes that is not set to its end" "${set[@]}"
+    ends_at_each "$FAILING" error=EIO take_two_volumes goes_on_after_a_plan "a plan of volumes on a disk that fails" "${set[@]}"
+    ends_at_each "$FAILING" error=ENOSPC take_two_volumes goes_on_after_a_plan "a plan of volumes on a full disk" "${set[@]}"
+}
+
 # How many programs capture at once.
 readonly AT_ONCE=8
 
@@ -194,6 +229,7 @@ volumes() {
     if strace -o "$work/error" true > "$work/said" 2>&1; then
         rolls_end_early
         folders_end_early
+        plans_end_early
     fi
     count "an archive whose volume is over its size" make_full_archive
     count "programs that capture at once in a new volume" capture_at_once mail/bill.eml 2

@@ -1,13 +1,13 @@
 -- A day that is looked for in volumes, from the last one down.
-use Rattle.std.proofs.Common.{◌≡◌, ◌<◌, ◌≤◌, ◌+◌, ◌-◌, ℕ, Bool, true, false, List, None, Some, arith, refl, subst}
-use Rattle.std.specs.Prelude.{Option, nat_lt}
+use Rattle.std.proofs.Common.{◌≡◌, ◌≤◌, ◌+◌, ◌-◌, ℕ, false, List, None, Some, arith, refl}
+use Rattle.std.specs.Prelude.{Option}
 use Rattle.std.specs.Option.{unwrap_or}
-use Rattle.std.proofs.lemmas.Bool.Decides.{nat_tests}
 use Rattle.sqlite.specs.Store.{Ghosts}
 use Rattle.record_store.specs.declared.store.Store.{Store}
 use Rattle.cli_changes.specs.Moments.{needs_day}
 use Rattle.cli_changes.specs.declared.moments.Timing.{Timing}
 use Rattle.cli_tasks.specs.Days.{LooksBack, ShowsDayIn, ShowsNone, volumes_before}
+use Rattle.cli_tasks.proofs.DownLaws.{FromLast}
 
 -- the number of a volume, less one, is how many come before it
 pub before_number : (volume : Option ℕ) → unwrap_or volume 0 - 1 ≡ volumes_before volume
@@ -17,21 +17,7 @@ before_number (Some v) = refl
 module _ {S : Type 0} (g : Ghosts S) (IsAt : (path : List ℕ) → Store S → Type 0) (folder : List ℕ) (known : Timing) where
   -- so many volumes show none, up to the last one
   abbrev pub EmptyAbove : (last later : ℕ) → Type 0
-  EmptyAbove last later = (v : ℕ) → last < v + later → v ≤ last → ShowsNone g IsAt folder known v
-
-  pub none_above : (last : ℕ) → EmptyAbove last 0
-  none_above last v less within = let no : ⊥ = omega (arith, less, within) in absurd no
-
-  pub one_more : (last later volume : ℕ) → volume + later ≡ last → ShowsNone g IsAt folder known volume → EmptyAbove last later
-      → EmptyAbove last (later + 1)
-  one_more last later volume at shows above v less within = go (nat_lt last (v + later)) refl
-    where
-      go : (b : Bool) → nat_lt last (v + later) ≡ b → ShowsNone g IsAt folder known v
-      go true is = above v (grind (arith, nat_tests, is)) within
-      go false is =
-          let high : v + later ≤ last = grind (arith, nat_tests, is) in
-          let same : volume ≡ v = omega (arith, at, less, high) in
-          subst (ShowsNone g IsAt folder known) same shows
+  EmptyAbove last later = FromLast (ShowsNone g IsAt folder known) last later
 
   pub found_back : (last later volume : ℕ) (looked : Timing) → volume + later ≡ last → 1 ≤ volume → EmptyAbove last later
       → needs_day looked ≡ false → ShowsDayIn g IsAt folder known volume looked → LooksBack g IsAt folder last known looked

@@ -105,6 +105,19 @@ module _ {S : Type 0} (g : Ghosts S) (WasThere : Store S → Type 0) (told : Att
   told_well author (Ok x) purpose Made is d = told_as author (Ok x) purpose (λ y. Made) is d
   told_well author (Err failure) purpose Made is d = tt
 
+  -- the same for a purpose that is told by the store
+  pub told_for : {X : Type 0} (author : Author) (result : Result X Failure) (purpose : Store S → Purpose)
+      (Made : (old new : Ledger S LibcRuntime) → Seals → Type 0) → IsTold told author
+      → IfOk result (λ x. IsDone WasThere (λ before after. Changes g (purpose before) author before Made after))
+      → OnOk result (IsDone WasThere (λ before after. ChangesAsTold g told before after (purpose before) Made))
+  told_for author (Ok x) purpose Made is d = record {
+    before = d.before;
+    after = d.after;
+    was_there = d.was_there;
+    made = (author, is, d.made);
+  }
+  told_for author (Err failure) purpose Made is d = tt
+
   -- a change by an author whom the command line tells
   pub changed_as : (author : Author) (change : Changing) (result : Result (Unit {0}) Failure) → IsTold told author
       → IfOk result (λ x. IsDone WasThere (λ before after. Changes g (purpose_of change before.plan) author before

@@ -2,7 +2,9 @@ pub mod DoneLemmas
 pub mod ChangeLemmas
 pub mod VolumeLaws
 pub mod DisposalLaws
+pub mod DownLaws
 pub mod BackLaws
 pub mod ReleaseLaws
 pub mod MoveLaws
+pub mod SettingLaws
 mod PurposeRows

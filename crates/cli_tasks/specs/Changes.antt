@@ -6,7 +6,7 @@ use Rattle.jiff_core.specs.declared.civil.date.Date.{Date}
 use Rattle.sqlite.specs.State.{HasCleanDisk}
 use Rattle.sqlite.specs.Store.{Ghosts}
 use Rattle.sqlite.specs.Held.{Held, state}
-use Rattle.class_plan.specs.Plans.{Listing}
+use Rattle.class_plan.specs.Plans.{Listing, keeps}
 use Rattle.choice_words.specs.declared.choice.Choice.{Choice}
 use Rattle.cli_choice.specs.declared.holds.Change.{Change}
 use Rattle.cli_choice.specs.declared.holds.Change.TheVariants as hold
@@ -18,6 +18,8 @@ use Rattle.record_archive.specs.Archive.{Archive}
 use Rattle.record_choice.specs.Disposals.{Certificate}
 use Rattle.record_ledger.specs.Ledgers.{KeptFor, keeper_of, keeps_history, store_of}
 use Rattle.record_ledger.specs.declared.ledger.Ledger.{Ledger}
+use Rattle.record_noted.specs.Openings.{OpensHistory}
+use Rattle.record_noted.specs.declared.store.NotedStore.{NotedStore}
 use Rattle.record_store.specs.Stores.{StandsFor}
 use Rattle.record_store.specs.declared.store.Store.{Store}
 use Rattle.cli_history.specs.Authors.{IsOccasionOf}
@@ -32,7 +34,7 @@ use Rattle.cli_changes.specs.declared.holds.HoldTally.{HoldTally}
 use Rattle.cli_changes.specs.Holdings.{HoldsAs, HoldsWell, changed_numbers, changed_on, held_by, is_any_of}
 use Rattle.cli_changes.specs.Moves.{RefilesListed, RefilesWell, moved_to, moving_numbers}
 use Rattle.cli_changes.specs.Replacements.{Replaces}
-use Rattle.cli_changes.specs.Series.{ChangesAll, ChangesFirst, KeepsAll, WasClean}
+use Rattle.cli_changes.specs.Series.{ChangesAll, ChangesFirst, IsSoOf, KeepsAll, WasClean}
 use Rattle.cli_tasks.specs.declared.volume_refilings.Moved.{Moved}
 use Rattle.cli_tasks.specs.declared.changes.ChosenChange.{ChosenChange}
 use Rattle.cli_tasks.specs.declared.changes.ChosenChange.TheVariants.{Hold, Refile}
@@ -54,6 +56,10 @@ module _ {S K : Type 0} (g : Ghosts S) (old new : Ledger S K) (is_done : Bool) w
   pub record JudgesDisposal (asked : Disposal) (day : Date) (seals : Seals) : Type 0 where
     pub reads : IsOnlyRead g old new
     pub may_begin : is_done ≡ true → IsRead g new → (a : Archive) → KeptFor g old.kept a → MayBegin seals asked a (epoch_day day)
+
+-- A PLAN MAY REPLACE THE PRESENT ONE, of which it has each class; nothing changes
+abbrev pub MayReplace : {S K : Type 0} → Ghosts S → (old new : Ledger S K) → Listing → Type 0
+MayReplace g old new plan = IsSoOf (keeper_of g) old new (λ a. KeptFor g new.kept a × (keeps a.plan plan ≡ true))
 
 module _ {S K : Type 0} (g : Ghosts S) (old new : Ledger S K) (result : Result (Unit {0}) Failure) where
   -- THE RECORDS THAT ARE MEANT ARE CHANGED so: all of them where it succeeds, and else the first so many
@@ -93,6 +99,12 @@ module _ {S K : Type 0} (g : Ghosts S) (old new : Ledger S K) (result : Result (
   pub record ReplacesBy (plan : Listing) : Type 0 where
     pub falls : WasClean (keeper_of g) old new
     pub done : OnOk result (Replaces (keeper_of g) old new plan)
+    pub failed : OnErr result (KeepsAll (keeper_of g) old new)
+
+  -- A PLAN IS JUDGED before it replaces the present one; nothing changes where that fails either
+  pub record JudgesPlan (plan : Listing) : Type 0 where
+    pub falls : WasClean (keeper_of g) old new
+    pub done : OnOk result (MayReplace g old new plan)
     pub failed : OnErr result (KeepsAll (keeper_of g) old new)
 
   abbrev pub ChangesChosen : ChosenChange → Choice → Questions → Type 0
@@ -138,6 +150,11 @@ pub record ShowsMoves {S : Type 0} (g : Ghosts S) (to : List ℕ) (choice : Choi
   pub counted : moved.tally.count ≡ length moved.numbers.items
   pub well : moved.tally.is_refused ≡ false → HasCleanDisk (state g after) → (a : Archive) → StandsFor g before a
       → RefilesWell to choice.numbers.items (found_in choice questions a) a
+
+module _ {S : Type 0} (g : Ghosts S) where
+  -- THE HISTORY OF A STORE IS OPENED, and this is left of it
+  abbrev pub OpensItsHistory : (before : Store S) → (after : Held S) → Type 0
+  OpensItsHistory before after = (noted : NotedStore S) × OpensHistory g before noted × (after ≡ noted.store.conn)
 
 -- AN AUTHOR CHANGES AN ARCHIVE: its ledger is opened for this purpose, and this is made of it, on the occasion of that author; the
 -- connection of its store is what is left. Where the archive is only listed, its seals were read before.

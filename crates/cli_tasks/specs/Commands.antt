@@ -81,9 +81,13 @@ module _ {S : Type 0} (g : Ghosts S) (told : Attribution) (before : Store S) (af
   DisposesAsTyped asked = (typed : TypedDisposal) × (day : Date) × IsAsTyped asked typed × (typed.of_volumes.items ≡ [])
       × IfSome asked.typed.alone.day (λ t. day ≡ t) × DisposesBy typed.alone day
 
-  -- THE PLAN IS REPLACED by another one, for what that makes of keeping; that it is the one of the file at the path is not said here
+  -- THE PLAN IS REPLACED by this one, for what that makes of keeping
+  abbrev pub ReplacesPlanBy : Listing → Type 0
+  ReplacesPlanBy plan = ChangesAsTold (for_plan before.plan plan) (λ old new seals. ReplacesBy g old new well plan)
+
+  -- the same by some plan; that it is the one of the file at the path is not said here
   abbrev pub ReplacesPlan : Type 0
-  ReplacesPlan = (plan : Listing) × ChangesAsTold (for_plan before.plan plan) (λ old new seals. ReplacesBy g old new well plan)
+  ReplacesPlan = (plan : Listing) × ReplacesPlanBy plan
 
 -- ---- command lines
 

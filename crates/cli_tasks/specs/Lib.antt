@@ -7,5 +7,6 @@ pub mod Plans
 pub mod Releases
 pub mod Refiles
 pub mod Disposals
+pub mod Settings
 pub mod Volumes
 pub mod Days

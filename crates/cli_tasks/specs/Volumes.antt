@@ -29,6 +29,7 @@ use Rattle.cli_tasks.specs.Disposals.{DisposesOver}
 use Rattle.cli_tasks.specs.Purposes.{for_hold}
 use Rattle.cli_tasks.specs.Refiles.{RefilesOver}
 use Rattle.cli_tasks.specs.Releases.{ReleasesOver}
+use Rattle.cli_tasks.specs.Settings.{GivesTitlesOver, ReplacesPlanOver}
 use Rattle.cli_tasks.specs.Works.{EachVolume, InVolume, OverVolumes, SomeVolume}
 
 -- each number that is typed by itself is found, and the archive refuses none of these
@@ -112,12 +113,13 @@ module _ {S : Type 0} (g : Ghosts S) (IsAt : (path : List ℕ) → Store S → T
   DoesWithEach typed last (task.Refile refiling) = RefilesOver g IsAt folder told refiling.to.now typed last
   DoesWithEach typed last t = Unit {0}
 
-  -- WHAT A COMMAND LINE MAKES of the volumes in a folder, where it changes records, holds or the plan: of these it is done with holds,
-  -- classes of records and what is due. Nothing is said here of the others.
+  -- WHAT A COMMAND LINE MAKES of the volumes in a folder, where it changes records, holds, the plan or titles. Nothing is said here of the
+  -- others.
   abbrev pub DoesOver : Command → Type 0
   DoesOver (command.Chosen typed chosen) = OverVolumes (λ last. DoesWithEach typed last chosen)
   DoesOver (command.ReleaseAll name is_agreed) = OverVolumes (ReleasesOver g IsAt folder told name.now)
-  DoesOver (command.ReplacePlan path is_agreed) = ⊥
+  DoesOver (command.ReplacePlan path is_agreed) = OverVolumes (ReplacesPlanOver g IsAt folder told)
+  DoesOver (command.SetTitles titles) = OverVolumes (GivesTitlesOver g IsAt folder)
   DoesOver (command.Dispose asked) = OverVolumes (DisposesOver g IsAt folder told asked)
   DoesOver c = Unit {0}
 

@@ -12,7 +12,7 @@ ghost use Rattle.cli_history.specs.declared.opening.Purpose.{Purpose};
 ghost use Rattle.cli_history.specs.declared.seals.Seals.{Seals};
 ghost use Rattle.cli_tasks.specs.Changes.{Changes, ChangesChosen, Disposes, Makes};
 ghost use Rattle.cli_tasks.specs.Commands.{IsTold};
-ghost use Rattle.cli_tasks.specs.Purposes.{for_disposal, for_hold, for_plan, purpose_of as purpose_of_change};
+ghost use Rattle.cli_tasks.specs.Purposes.{for_disposal, for_hold, for_plan, purpose_of};
 
 use crate::archives::{Archives, Work};
 use crate::volume_days::Earlier;
@@ -92,7 +92,7 @@ pub enum Changing<'a, 't> {
 }
 
 /// For what a ledger is opened in which a plan replaces the present one.
-fn purpose_of(alloc: Global, present: &Plan, new: &Plan) -> Result<Purpose, AllocError>
+pub fn purpose_of_plan(alloc: Global, present: &Plan, new: &Plan) -> Result<Purpose, AllocError>
     ensures { IfOk result (λ p. p ≡ for_plan present.now new.now) }
 {
     if keeps_less(alloc, present, new)? {
@@ -177,13 +177,13 @@ fn change_chosen<S: Alter>(
 impl LedgerWork for Changing<'_, '_> {
     type Answer = ();
 
-    ghost purpose_by = { purpose_of_change };
+    ghost purpose_by = { purpose_of };
 
     ghost makes = { λ S g it old new done seals. Makes g old new done it seals };
 
     fn purpose(&self, alloc: Global, present: &Plan) -> Result<Purpose, AllocError> {
         match self {
-            Changing::ReplacePlan { plan, .. } => purpose_of(alloc, present, plan),
+            Changing::ReplacePlan { plan, .. } => purpose_of_plan(alloc, present, plan),
             Changing::Dispose(asked, _) => Ok(purpose_of_disposal(asked.destroys)),
             Changing::Chosen {
                 change: ChosenChange::Hold(change, _),

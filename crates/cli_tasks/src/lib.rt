@@ -8,16 +8,16 @@
 //! - `drafts`: new archives, which get their places once they are found whole;
 //! - `volumes`: what is done over an archive of volumes; `volume_row`: these, one after another; `volume_numbers`: numbers that are
 //!   typed with a volume, or without; `volume_plans`: the plan that each has; `volume_lists`, `volume_histories`, `volume_checks`,
-//!   `volume_changes`, `volume_refilings` and `volume_disposals`: subcommands over them; `volume_days`: by which days the clock is judged
-//!   where the last one has no record; `rolling`: archives of volumes, and volumes, that begin;
+//!   `volume_changes`, `volume_refilings`, `volume_disposals` and `volume_settings`: subcommands over them; `volume_days`: by which days the
+//!   clock is judged where the last one has no record; `rolling`: archives of volumes, and volumes, that begin;
 //! - `copy`: a new archive with all that another one has;
 //! - `reports`: why something was not done, for a person and as a status;
 //! - `program`: the command line, and what it asks for.
 //!
 //! It knows nothing of files, so it is proved beside what opens them. In `specs/`, `Commands` says what a command line that
-//! changes records, holds or the plan makes of its archive, `Volumes` what it makes of an archive of volumes, with `Releases`, `Refiles`
-//! and `Disposals`, `Plans` what plan it has, `Numbers` how numbers are refused there, and what is asked of a volume, `Days` by which
-//! days the clock is judged there, `Changes` what a person changes, `Purposes` for what its ledger is opened, and `Works` what is done
+//! changes records, holds or the plan makes of its archive, `Volumes` what it makes of an archive of volumes, with `Releases`, `Refiles`,
+//! `Disposals` and `Settings`, `Plans` what plan it has, `Numbers` how numbers are refused there, and what is asked of a volume, `Days` by
+//! which days the clock is judged there, `Changes` what a person changes, `Purposes` for what its ledger is opened, and `Works` what is done
 //! with an archive that is lent. Of the other commands, and of a terminal, no contract speaks: they are proved to be safe, and tests of
 //! the program show what they do.
 #![tactic(auto)]
@@ -44,6 +44,7 @@ mod volume_numbers;
 mod volume_plans;
 mod volume_refilings;
 mod volume_row;
+mod volume_settings;
 mod volumes;
 
 pub use archives::{Archives, Closed, Work};

@@ -10,14 +10,14 @@ use tool_texts::Shown;
 
 /// Gives classes the titles of a file. Answers a line for each that has another one now.
 #[derive(Drop)]
-struct SetTitles<'a> {
-    author: Author<'a>,
+pub struct SetTitles<'a, 't> {
+    pub author: Author<'a>,
     /// The path of the file, and what it has.
-    path: &'a str,
-    text: Vec<u8>,
+    pub path: &'t str,
+    pub text: &'t [u8],
 }
 
-impl Work for SetTitles<'_> {
+impl Work for SetTitles<'_, '_> {
     type Answer = Shown;
 
     fn work<S: Alter>(
@@ -25,14 +25,18 @@ impl Work for SetTitles<'_> {
         rt: &HostRuntime,
         archive: Store<S>,
     ) -> (Connection<S>, Result<Shown, Failure>) {
-        let (archive, done) = set_titles(
-            rt,
-            archive,
-            &self.author,
-            self.path,
-            self.text.as_slice(),
-        );
+        let (archive, done) = set_titles(rt, archive, &self.author, self.path, self.text);
         (archive.into_connection(), done)
+    }
+}
+
+/// Says that no class has another title now, where that is so.
+pub fn tell_none(rt: &HostRuntime, is_any: bool) {
+    if !is_any {
+        tell_words(
+            rt,
+            "each of these classes has this title and this basis already",
+        );
     }
 }
 
@@ -47,12 +51,12 @@ pub fn give_titles<A: Archives>(
 ) -> Result<(), Failure> {
     author.named(rt)?;
     let text = read_titles(rt, path)?;
-    let lines = lend(rt, archives, store, SetTitles { author, path, text })?;
-    if lines.as_str().is_empty() {
-        tell_words(
-            rt,
-            "each of these classes has this title and this basis already",
-        );
-    }
+    let work = SetTitles {
+        author,
+        path,
+        text: text.as_slice(),
+    };
+    let lines = lend(rt, archives, store, work)?;
+    tell_none(rt, !lines.as_str().is_empty());
     write_text(rt, &lines)
 }

@@ -12,6 +12,7 @@ use crate::volume_histories::{print_certificates, print_histories, write_holds};
 use crate::volume_lists::list;
 use crate::volume_refilings::refile;
 use crate::volume_row::Volumes;
+use crate::volume_settings::{set_plan, set_titles};
 use choice_words::TypedChoice;
 use cli_choice::Change;
 use cli_console::{Failure, Status};
@@ -130,13 +131,15 @@ pub fn execute_over<A: Archives>(
             release_all(rt, archives, volumes, name, is_agreed, told)
         }
         Command::Dispose(asked) => dispose(rt, archives, volumes, asked, told),
+        Command::ReplacePlan { plan, is_agreed } => {
+            set_plan(rt, archives, folder, plan, is_agreed, told)
+        }
+        Command::SetTitles { titles } => set_titles(rt, archives, folder, titles, told),
         Command::Create { .. }
-        | Command::ReplacePlan { .. }
         | Command::Deliver { .. }
         | Command::Intake { .. }
         | Command::Import(_)
         | Command::Copy { .. }
-        | Command::Twice(_)
-        | Command::SetTitles { .. } => Err(not_over(rt, folder)),
+        | Command::Twice(_) => Err(not_over(rt, folder)),
     }
 }

@@ -48,3 +48,17 @@ returns-in-Dispose g c =
       c.in_ok-volumes.ensures.some,
       subst (λ (f : List ℕ). DisposesOver store IsAt f told c.in-Dispose.asked volumes.last) c.in_ok-volumes.ensures.folder done,
     )) c.dispose.ensures
+
+pub returns-in-ReplacePlan : goal.returns-in-ReplacePlan
+returns-in-ReplacePlan g c =
+    let IsAt = g.A.Archives.is_at c.args.archives.now in
+    on_ok_weaker c.set_plan.result
+    (λ done. subst (λ (k : Command). DoesOver g.A.Kept.Store IsAt c.args.folder.now c.args.told.now k) (sym c.in-ReplacePlan.is) done)
+    c.set_plan.ensures
+
+pub returns-in-SetTitles : goal.returns-in-SetTitles
+returns-in-SetTitles g c =
+    let IsAt = g.A.Archives.is_at c.args.archives.now in
+    on_ok_weaker c.set_titles.result
+    (λ done. subst (λ (k : Command). DoesOver g.A.Kept.Store IsAt c.args.folder.now c.args.told.now k) (sym c.in-SetTitles.is) done)
+    c.set_titles.ensures

@@ -1,11 +1,13 @@
 use Rattle.std.proofs.Common.{◌≡◌, ◌∙◌, ◌+◌, ◌-◌, ◌<◌, arith, subst, sym}
-use Rattle.cli_tasks.proofs.BackLaws.{EmptyAbove, found_back, none_above, none_back, one_more}
+use Rattle.cli_tasks.specs.Days.{ShowsNone}
+use Rattle.cli_tasks.proofs.BackLaws.{EmptyAbove, found_back, none_back}
+use Rattle.cli_tasks.proofs.DownLaws.{more_from_last, none_from_last}
 use Rattle.cli_tasks.proofs.volume_days.Earlier.looked_back.Goals as goal
 
 pub loop-later-init : goal.loop-later-init
 loop-later-init g c =
     let volumes = c.args.self.now.volumes in
-    none_above g.A.Kept.Store (g.A.Archives.is_at c.args.self.now.archives.now) volumes.folder.now c.args.timing volumes.last
+    none_from_last (ShowsNone g.A.Kept.Store (g.A.Archives.is_at c.args.self.now.archives.now) volumes.folder.now c.args.timing) volumes.last
 
 pub loop-later-preserved : goal.loop-later-preserved
 loop-later-preserved g c =
@@ -13,8 +15,8 @@ loop-later-preserved g c =
     let later = c.loop-later.later in
     let less : later < volumes.last = c.loop-later-test.true in
     let at : (volumes.last - later) + later ≡ volumes.last = omega (arith, less) in
-    one_more g.A.Kept.Store (g.A.Archives.is_at c.args.self.now.archives.now) volumes.folder.now c.args.timing volumes.last later
-    (volumes.last - later) at
+    more_from_last (ShowsNone g.A.Kept.Store (g.A.Archives.is_at c.args.self.now.archives.now) volumes.folder.now c.args.timing)
+    volumes.last later (volumes.last - later) at
     (c.in_ok-looked.looked, sym c.needs_day.ensures ∙ c.if-not-needs_day.false, c.in_ok-looked.ensures) c.loop-later.invariant
 
 pub returns-then-not-needs_day : goal.returns-then-not-needs_day

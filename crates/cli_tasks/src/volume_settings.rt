@@ -1,0 +1,301 @@
+//! Another plan for an archive of volumes, and titles of its classes: `plan --set` and `titles --set`.
+//!
+//! Both have the lock of the folder, so no volume is begun meanwhile that would take over what there was before. What is set is judged in all
+//! volumes first, and then set from the last one down. So the last volume has it first, whose plan and titles are those of the archive and of
+//! each volume that is begun. After a kill the last volume has each class of all others, so a plan that may replace that of the archive may
+//! replace that of each.
+
+ghost use Rattle.std.specs.Prelude.{◌≡◌, IfOk, OnErr, OnOk};
+ghost use Rattle.class_plan.specs.Plans.{keeps};
+ghost use Rattle.record_ledger.specs.Ledgers.{keeper_of};
+ghost use Rattle.cli_changes.specs.Series.{KeepsAll, WasClean};
+ghost use Rattle.cli_tasks.specs.Changes.{JudgesPlan, MayReplace, OpensItsHistory};
+ghost use Rattle.cli_tasks.specs.Purposes.{for_plan};
+ghost use Rattle.cli_tasks.specs.Settings.{
+  ChangesIn,
+  GivesTitlesOver,
+  JudgesPlanIn,
+  OpensHistoryIn,
+  ReplacesPlanIn,
+  ReplacesPlanOver,
+};
+ghost use Rattle.cli_tasks.specs.Works.{EachVolume, OverVolumes};
+
+use crate::archives::{Archives, Work};
+use crate::changes::{ChangeBy, Changing, LedgerWork, purpose_of_plan};
+use crate::rolling::no_volumes;
+use crate::titles::{SetTitles, tell_none};
+use crate::volume_plans::judge_plans;
+use crate::volume_row::{Volumes, author_in, volume_line};
+use class_plan::Plan;
+use cli_changes::{read_plan, read_titles, replace_plan};
+use cli_console::{Failure, write_text};
+use cli_history::{Author, Purpose, Seals, StoreLedger, open_noted};
+use cli_volumes::lock_folder;
+use command_lines::archives::Attribution;
+use record_store::Store;
+use sqlite::{Alter, Connection};
+use std::alloc::{AllocError, Global};
+
+/// Whether a plan has each class of a present one. The only refusal is no memory.
+fn has_classes_of(plan: &Plan, present: &Plan) -> Result<bool, AllocError>
+    ensures { IfOk result (λ b. b ≡ keeps present.now plan.now) }
+{
+    let mut revised = present.copy()?;
+    let copied = plan.copy()?;
+    Ok(revised.revise(copied).is_ok())
+}
+
+/// Finds that a plan may replace that of a ledger. Where it leaves out a class, it is refused as in a single store, before anything is
+/// printed.
+fn judge_plan<S: Alter>(
+    rt: &HostRuntime,
+    ledger: &mut StoreLedger<'_, S>,
+    plan: &Plan,
+    path: &str,
+) -> Result<(), Failure>
+    ensures falls { WasClean (keeper_of S.Store) ledger.old ledger.new }
+    ensures done { OnOk result (MayReplace S.Store ledger.old ledger.new plan.now) }
+    ensures failed { OnErr result (KeepsAll (keeper_of S.Store) ledger.old ledger.new) }
+{
+    let has_classes = has_classes_of(plan, ledger.plan_kept())?;
+    if has_classes {
+        return Ok(());
+    }
+    let copied = plan.copy()?;
+    replace_plan(rt, ledger, copied, path, false)
+}
+
+/// Finds that a plan may replace that of a volume.
+#[derive(Drop)]
+struct JudgePlan<'p> {
+    plan: &'p Plan,
+    /// The path of the file from which it was read.
+    path: &'p str,
+}
+
+impl LedgerWork for JudgePlan<'_> {
+    type Answer = ();
+
+    ghost purpose_by = { λ it present. for_plan present it.plan.now };
+
+    ghost makes = { λ S g it old new done seals. JudgesPlan g old new done it.plan.now };
+
+    fn purpose(&self, alloc: Global, present: &Plan) -> Result<Purpose, AllocError> {
+        let plan = self.plan;
+        purpose_of_plan(alloc, present, plan)
+    }
+
+    fn perform<S: Alter>(
+        self,
+        rt: &HostRuntime,
+        ledger: &mut StoreLedger<'_, S>,
+        _seals: &Seals,
+    ) -> Result<(), Failure> {
+        let JudgePlan { plan, path } = self;
+        judge_plan(rt, ledger, plan, path)
+    }
+}
+
+/// Finds that a plan may replace that of a volume, whose ledger is opened as for that.
+fn judge_plan_in<A: Archives>(
+    rt: &HostRuntime,
+    archives: &A,
+    volumes: Volumes<'_>,
+    volume: u32,
+    plan: &Plan,
+    path: &str,
+    told: &Attribution<'_>,
+) -> Result<(), Failure>
+    ensures { OnOk result (JudgesPlanIn A.Kept.Store (A.is_at archives.now)
+        volumes.entry.folder.now told.now plan.now volume) }
+{
+    let author = author_in(rt, told, volume)?;
+    let change = JudgePlan { plan, path };
+    volumes.lend(rt, archives, volume, ChangeBy { author, change })
+}
+
+/// Finds that a plan may replace that of each volume.
+fn judge_plan_in_each<A: Archives>(
+    rt: &HostRuntime,
+    archives: &A,
+    volumes: Volumes<'_>,
+    plan: &Plan,
+    path: &str,
+    told: &Attribution<'_>,
+) -> Result<(), Failure>
+    ensures { OnOk result (EachVolume volumes.entry.last (JudgesPlanIn A.Kept.Store
+        (A.is_at archives.now) volumes.entry.folder.now told.now plan.now)) }
+{
+    for below in 0..volumes.last {
+        judge_plan_in(rt, archives, volumes, below + 1, plan, path, told)?;
+    }
+    Ok(())
+}
+
+/// Makes a change in a volume, behind a line with its number.
+fn change_in<A: Archives>(
+    rt: &HostRuntime,
+    archives: &A,
+    volumes: Volumes<'_>,
+    volume: u32,
+    change: Changing<'_, '_>,
+    told: &Attribution<'_>,
+) -> Result<(), Failure>
+    ensures { OnOk result (ChangesIn A.Kept.Store (A.is_at archives.now)
+        volumes.entry.folder.now told.now change.entry volume) }
+{
+    write_text(rt, &volume_line(rt.alloc(), volume)?)?;
+    let author = author_in(rt, told, volume)?;
+    volumes.lend(rt, archives, volume, ChangeBy { author, change })
+}
+
+/// Replaces the plan of each volume, from the last one down, once it was printed of each what that changes in it. Who agrees in the last one
+/// has agreed for all.
+fn replace_in_each<A: Archives>(
+    rt: &HostRuntime,
+    archives: &A,
+    volumes: Volumes<'_>,
+    plan: &Plan,
+    path: &str,
+    is_agreed: bool,
+    told: &Attribution<'_>,
+) -> Result<(), Failure>
+    ensures { OnOk result (EachVolume volumes.entry.last (ReplacesPlanIn A.Kept.Store
+        (A.is_at archives.now) volumes.entry.folder.now told.now plan.now)) }
+{
+    for later in 0..volumes.last {
+        let volume = volumes.last - later;
+        let copied = plan.copy()?;
+        let change = Changing::ReplacePlan {
+            plan: copied,
+            path,
+            is_agreed: is_agreed || later > 0,
+        };
+        change_in(rt, archives, volumes, volume, change, told)?;
+    }
+    Ok(())
+}
+
+/// Replaces the plan of each volume of the archive in a folder by that of the file at a path. It is asked once, behind what that changes in
+/// the last volume; what it changes in each other one is printed before it is set there. `BadData` where the new plan leaves out a class of a
+/// volume, and `Usage` where nobody agrees, or a volume requires a reason and none is given: then it is set in none. `TryAgain` where another
+/// program begins a volume, or sets a plan or titles. Another program may change a volume once it was judged; where the plan is refused there
+/// then, the volumes after it have the new plan.
+pub fn set_plan<A: Archives>(
+    rt: &HostRuntime,
+    archives: &A,
+    folder: &str,
+    path: &str,
+    is_agreed: bool,
+    told: &Attribution<'_>,
+) -> Result<(), Failure>
+    ensures { OnOk result (OverVolumes (ReplacesPlanOver A.Kept.Store (A.is_at archives.now)
+        folder.now told.now)) }
+{
+    let plan = read_plan(rt, path)?;
+    let _lock = lock_folder(rt, folder).map_err(|cause| no_volumes(rt, folder, cause))?;
+    let volumes = Volumes::of(rt, folder)?;
+    judge_plan_in_each(rt, archives, volumes, &plan, path, told)?;
+    replace_in_each(rt, archives, volumes, &plan, path, is_agreed, told)
+}
+
+/// Opens the history of a store. `BadData` where it has none, or where it is damaged.
+#[derive(Drop)]
+struct OpenHistory;
+
+impl Work for OpenHistory {
+    type Answer = ();
+
+    ghost does = { λ S g it before done after. OnOk done (OpensItsHistory g before after) };
+
+    fn work<S: Alter>(
+        self,
+        rt: &HostRuntime,
+        archive: Store<S>,
+    ) -> (Connection<S>, Result<(), Failure>) {
+        match open_noted(rt, archive) {
+            Ok(noted) => (noted.into_store().into_connection(), Ok(())),
+            Err((archive, failure)) => (archive.into_connection(), Err(failure)),
+        }
+    }
+}
+
+/// Finds that each volume has a history. Else `BadData`.
+fn judge_histories<A: Archives>(
+    rt: &HostRuntime,
+    archives: &A,
+    volumes: Volumes<'_>,
+) -> Result<(), Failure>
+    ensures { OnOk result (EachVolume volumes.entry.last (OpensHistoryIn A.Kept.Store
+        (A.is_at archives.now) volumes.entry.folder.now)) }
+{
+    for below in 0..volumes.last {
+        volumes.lend(rt, archives, below + 1, OpenHistory)?;
+    }
+    Ok(())
+}
+
+/// Gives classes the titles of a text in a volume, and writes which have another one now, behind a line with its number. Answers whether
+/// one has.
+fn give_titles_in<A: Archives>(
+    rt: &HostRuntime,
+    archives: &A,
+    volumes: Volumes<'_>,
+    volume: u32,
+    path: &str,
+    text: &[u8],
+    told: &Attribution<'_>,
+) -> Result<bool, Failure> {
+    let author = author_in(rt, told, volume)?;
+    let lines = volumes.lend(rt, archives, volume, SetTitles { author, path, text })?;
+    if lines.as_str().is_empty() {
+        return Ok(false);
+    }
+    write_text(rt, &volume_line(rt.alloc(), volume)?)?;
+    write_text(rt, &lines)?;
+    Ok(true)
+}
+
+/// Gives classes the titles of a text in each volume, from the last one down. Answers whether one has another title now.
+fn give_titles_in_each<A: Archives>(
+    rt: &HostRuntime,
+    archives: &A,
+    volumes: Volumes<'_>,
+    path: &str,
+    text: &[u8],
+    told: &Attribution<'_>,
+) -> Result<bool, Failure> {
+    let mut is_any = false;
+    for later in 0..volumes.last {
+        let volume = volumes.last - later;
+        let is_new = give_titles_in(rt, archives, volumes, volume, path, text, told)?;
+        is_any |= is_new;
+    }
+    Ok(is_any)
+}
+
+/// Gives classes the titles of the file at a path, in each volume of the archive in a folder, and writes which have another one now.
+/// `BadData` where a volume has not the plan of the archive, or has no history, and where the file gives no titles: then nothing is noted in
+/// any. `TryAgain` where another program begins a volume, or sets a plan or titles.
+pub fn set_titles<A: Archives>(
+    rt: &HostRuntime,
+    archives: &A,
+    folder: &str,
+    path: &str,
+    told: &Attribution<'_>,
+) -> Result<(), Failure>
+    ensures { OnOk result (OverVolumes (GivesTitlesOver A.Kept.Store (A.is_at archives.now)
+        folder.now)) }
+{
+    let author = Author::of(rt, told)?;
+    author.named(rt)?;
+    let text = read_titles(rt, path)?;
+    let _lock = lock_folder(rt, folder).map_err(|cause| no_volumes(rt, folder, cause))?;
+    let volumes = Volumes::of(rt, folder)?;
+    judge_plans(rt, archives, volumes)?;
+    judge_histories(rt, archives, volumes)?;
+    let is_any = give_titles_in_each(rt, archives, volumes, path, text.as_slice(), told)?;
+    tell_none(rt, is_any);
+    Ok(())
+}
