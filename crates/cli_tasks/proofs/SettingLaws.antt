@@ -12,10 +12,10 @@ use Rattle.cli_console.specs.declared.failure.Failure.{Failure}
 use Rattle.cli_tasks.specs.Changes.{MayReplace}
 
 -- a call that succeeds exactly where this is true
-pub succeeds_if : {X Y : Type 0} (b : Bool) (P : X → Type 0) (Q : Y → Type 0) (r : Result X Y)
-    → MatchResult r (λ x. (b ≡ true) × P x) (λ y. (b ≡ false) × Q y) → is_ok r ≡ b
-succeeds_if b P Q (Ok x) m = sym m.0
-succeeds_if b P Q (Err y) m = sym m.0
+pub succeeds_if : {X Y : Type 0} {P : X → Type 0} {Q : Y → Type 0} (b : Bool) (r : Result X Y) → MatchResult r P Q
+    → ((x : X) → P x → b ≡ true) → ((y : Y) → Q y → b ≡ false) → is_ok r ≡ b
+succeeds_if b (Ok x) m yes no = sym (yes x m)
+succeeds_if b (Err y) m yes no = sym (no y m)
 
 module _ {S K : Type 0} (g : Ghosts S) where
   pub kept_as_it_is : (ledger : Ledger S K) → KeepsAll (keeper_of g) ledger ledger
