@@ -14,8 +14,8 @@ use Rattle.cli_tasks.specs.Changes.{MayReplace}
 -- a call that succeeds exactly where this is true
 pub succeeds_if : {X Y : Type 0} {P : X → Type 0} {Q : Y → Type 0} (b : Bool) (r : Result X Y) → MatchResult r P Q
     → ((x : X) → P x → b ≡ true) → ((y : Y) → Q y → b ≡ false) → is_ok r ≡ b
-succeeds_if b (Ok x) m yes no = sym (yes x m)
-succeeds_if b (Err y) m yes no = sym (no y m)
+succeeds_if b (Ok x) m well bad = sym (well x m)
+succeeds_if b (Err y) m well bad = sym (bad y m)
 
 module _ {S K : Type 0} (g : Ghosts S) where
   pub kept_as_it_is : (ledger : Ledger S K) → KeepsAll (keeper_of g) ledger ledger
