@@ -106,7 +106,8 @@ impl Work for AddCases<'_> {
         archive: Store<S>,
     ) -> (Connection<S>, Result<(), Failure>) {
         let mut archive = archive;
-        let added = self.cases.add_store(rt, &mut archive, Some(self.volume));
+        let AddCases { volume, cases } = self;
+        let added = cases.add_store(rt, &mut archive, Some(volume));
         (archive.into_connection(), added)
     }
 }
