@@ -42,61 +42,63 @@ one_boxed path number x xs (s ∷ []) ts h k = (h, k)
 one_boxed path number x xs (s ∷ t ∷ ss) ts h k = absurd h
 
 -- the messages that were found, and then one, and then others
-boxed_split : (path : List ℕ) (found : List (Option (List ℕ))) (x : Option (List ℕ)) (xs : List (Option (List ℕ))) (seen ss ts : List Finding)
-    → AreOfBox path 1 found seen → IsOne (IsOfBox path (1 + length found) x) ss → AreOfBox path (1 + length found + 1) xs ts
-    → AreOfBox path 1 (found ++ x ∷ xs) (seen ++ (ss ++ ts))
-boxed_split path found x xs seen ss ts h is k =
-    boxed_then path 1 found (x ∷ xs) seen (ss ++ ts) h (one_boxed path (1 + length found) x xs ss ts is k)
+boxed_split : (path : List ℕ) (number : ℕ) (found : List (Option (List ℕ))) (x : Option (List ℕ)) (xs : List (Option (List ℕ)))
+    (seen ss ts : List Finding) → AreOfBox path number found seen → IsOne (IsOfBox path (number + length found) x) ss
+    → AreOfBox path (number + length found + 1) xs ts → AreOfBox path number (found ++ x ∷ xs) (seen ++ (ss ++ ts))
+boxed_split path number found x xs seen ss ts h is k =
+    boxed_then path number found (x ∷ xs) seen (ss ++ ts) h (one_boxed path (number + length found) x xs ss ts is k)
 
-pub boxed_none : (path : List ℕ) → AreOfBox path 1 [] []
+pub boxed_none : (path : List ℕ) (number : ℕ) → AreOfBox path number [] []
 unfolding AreOfBox
-boxed_none path = tt
+boxed_none path number = tt
 
-boxed_more : (path : List ℕ) (found : List (Option (List ℕ))) (x : Option (List ℕ)) (seen ss : List Finding) → AreOfBox path 1 found seen
-    → IsOne (IsOfBox path (1 + length found) x) ss → AreOfBox path 1 (found ++ x ∷ []) (seen ++ ss)
+boxed_more : (path : List ℕ) (number : ℕ) (found : List (Option (List ℕ))) (x : Option (List ℕ)) (seen ss : List Finding)
+    → AreOfBox path number found seen → IsOne (IsOfBox path (number + length found) x) ss → AreOfBox path number (found ++ x ∷ []) (seen ++ ss)
 unfolding AreOfBox
-boxed_more path found x seen ss h is =
-    subst (λ l. AreOfBox path 1 (found ++ x ∷ []) (seen ++ l)) (append-nil ss) (boxed_split path found x [] seen ss [] h is tt)
+boxed_more path number found x seen ss h is =
+    subst (λ l. AreOfBox path number (found ++ x ∷ []) (seen ++ l)) (append-nil ss) (boxed_split path number found x [] seen ss [] h is tt)
 
 -- where an import of an mbox ends before its end: after some messages
-mbox_from : (m : Mail) (path : List ℕ) (found rest : List (Option (List ℕ))) (seen : List Finding) → AreOfBox path 1 found seen
+mbox_from : (m : Mail) (path : List ℕ) (found rest : List (Option (List ℕ))) (seen : List Finding) → AreOfBox path (m.first path) found seen
     → m.messages path ≡ found ++ rest → (later : List Finding) × AreOfMbox path m (seen ++ later)
 mbox_from m path found rest seen h is =
-    let unseen = unseen_of_box path (1 + length found) rest in
+    let unseen = unseen_of_box path (m.first path + length found) rest in
     let last = undated_of path (m.undated path) in (
       unseen.0 ++ last,
       (
         seen ++ unseen.0,
-        subst (λ l. AreOfBox path 1 l (seen ++ unseen.0)) (sym is) (boxed_then path 1 found rest seen unseen.0 h unseen.1),
+        subst (λ l. AreOfBox path (m.first path) l (seen ++ unseen.0)) (sym is)
+            (boxed_then path (m.first path) found rest seen unseen.0 h unseen.1),
         sym (append_assoc seen unseen.0 last),
       ),
     )
 
 pub unseen_of_mbox : (path : List ℕ) (m : Mail) → (later : List Finding) × AreOfMbox path m later
-unseen_of_mbox path m = mbox_from m path [] (m.messages path) [] (boxed_none path) refl
+unseen_of_mbox path m = mbox_from m path [] (m.messages path) [] (boxed_none path (m.first path)) refl
 
 -- or at the one after these
 mbox_at : (m : Mail) (path : List ℕ) (found : List (Option (List ℕ))) (x : Option (List ℕ)) (rest : List (Option (List ℕ)))
-    (seen ss : List Finding) → AreOfBox path 1 found seen → m.messages path ≡ found ++ x ∷ rest → IsBoxed path (1 + length found) x m ss
+    (seen ss : List Finding) → AreOfBox path (m.first path) found seen → m.messages path ≡ found ++ x ∷ rest
+    → IsBoxed path (m.first path + length found) x m ss
     → (later : List Finding) × AreOfMbox path m (seen ++ (ss ++ later))
 mbox_at m path found x rest seen ss h is one =
-    let unseen = unseen_of_box path (1 + length found + 1) rest in
+    let unseen = unseen_of_box path (m.first path + length found + 1) rest in
     let last = undated_of path (m.undated path) in (
       unseen.0 ++ last,
       (
         seen ++ (ss ++ unseen.0),
-        subst (λ l. AreOfBox path 1 l (seen ++ (ss ++ unseen.0))) (sym is)
-            (boxed_split path found x rest seen ss unseen.0 h one unseen.1),
+        subst (λ l. AreOfBox path (m.first path) l (seen ++ (ss ++ unseen.0))) (sym is)
+            (boxed_split path (m.first path) found x rest seen ss unseen.0 h one unseen.1),
         ap (λ l. seen ++ l) (sym (append_assoc ss unseen.0 last)) ∙ sym (append_assoc seen (ss ++ unseen.0) last),
       ),
     )
 
 -- an mbox whose messages were all found
-mbox_whole : (m : Mail) (path : List ℕ) (found : List (Option (List ℕ))) (seen last : List Finding) → AreOfBox path 1 found seen
+mbox_whole : (m : Mail) (path : List ℕ) (found : List (Option (List ℕ))) (seen last : List Finding) → AreOfBox path (m.first path) found seen
     → m.messages path ≡ found ++ [] → last ≡ undated_of path (m.undated path) → AreOfMbox path m (seen ++ last)
 mbox_whole m path found seen last h is lines = (
   seen,
-  subst (λ l. AreOfBox path 1 l seen) (sym (is ∙ append-nil found)) h,
+  subst (λ l. AreOfBox path (m.first path) l seen) (sym (is ∙ append-nil found)) h,
   ap (λ l. seen ++ l) lines,
 )
 
@@ -107,8 +109,8 @@ pub record IsFound {B : Type 0} (left : B → List ℕ → List (Option (List �
     (m : Mail) : Type 0 where
   pub found : List (Option (List ℕ))
   pub rest : List (Option (List ℕ))
-  pub are : AreOfBox path 1 found seen
-  pub counted : number ≡ 1 + length found
+  pub are : AreOfBox path (m.first path) found seen
+  pub counted : number ≡ m.first path + length found
   pub messages : m.messages path ≡ found ++ rest
   pub to_come : left mbox path rest
 
@@ -150,7 +152,7 @@ module _ {B : Type 0} (left : B → List ℕ → List (Option (List ℕ)) → Ty
         let next = next_some found box now.rest (left after path) is (to_next now.rest now.to_come) in record {
           found = now.found ++ message_view box ∷ [];
           rest = next.0;
-          are = boxed_more path now.found (message_view box) seen ss now.are
+          are = boxed_more path (m.first path) now.found (message_view box) seen ss now.are
               (subst (λ n. IsBoxed path n (message_view box) m ss) now.counted one);
           counted = omega (arith, length-append now.found (message_view box ∷ []), now.counted);
           messages = now.messages ∙ ap (λ l. now.found ++ l) next.1 ∙ sym (append_assoc now.found (message_view box ∷ []) next.0);

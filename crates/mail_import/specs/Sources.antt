@@ -9,8 +9,10 @@ use Rattle.mail_import.specs.Calls.{Call}
 
 -- old mail in files
 pub record Mail : Type 0 where
-  -- the messages of the mbox at a path, in order; none for one that is too long
+  -- the messages of the mbox at a path that are to be taken, in order; none for one that is too long
   pub messages : (path : List ℕ) → List (Option (List ℕ))
+  -- the number of the first one of these
+  pub first : (path : List ℕ) → ℕ
   -- the numbers of those of its lines that look like separators and have no date, in order
   pub undated : (path : List ℕ) → List ℕ
   -- the paths of the files of a folder or Maildir that have a message each, in order
