@@ -14,6 +14,7 @@ use Rattle.cli_changes.specs.Deliveries.{IsDelivered, IsLeft}
 use Rattle.cli_changes.specs.Endings.{IsAnswer, IsOfMaildir, taken_of}
 use Rattle.cli_changes.specs.Moments.{IsMomentNow}
 use Rattle.cli_changes.specs.Spaces.{with_message}
+use Rattle.cli_changes.specs.declared.intake.Intake.{Intake}
 use Rattle.cli_changes.specs.declared.intake_room.Room.{Room}
 use Rattle.cli_changes.specs.declared.rounds.Round.{Round}
 use Rattle.cli_changes.specs.declared.rounds.Rounds.{Rounds}
@@ -58,7 +59,7 @@ pub record EndsRound {A : Type 0} (before : Room A) (name : List ℕ) (answer : 
   pub next : GoesOnWith name failure after.next
 
 -- how a round ended: as the last one, or with a next one, which goes on with the same intake and with what the rounds came to
-abbrev pub round_of : {A : Type 0} → Room A → (begun : ℕ) → (next : Option (String Global)) → Round
+abbrev pub round_of : {A : Type 0} → Room A → (begun : ℕ) → (next : Option (String Global)) → Round Intake Rounds
 round_of room begun None = Done
 round_of room begun (Some next) = NextVolume room.job (record {
   begun = Some begun;

@@ -156,7 +156,7 @@ fn take_mail<'j, A: Records>(
     place: Place,
     mail: NewMail,
     moment: u64,
-) -> (A, Result<Round<'j>, Failure>) {
+) -> (A, Result<Round<Intake<'j>, Rounds>, Failure>) {
     let is_told = rounds.begun.is_some();
     let begun = rounds.begun.unwrap_or(moment);
     let plan = archive.plan().copy().ok();
@@ -178,7 +178,7 @@ fn take_timed<'j, A: Records>(
     rounds: Rounds,
     timing: Timing,
     place: Place,
-) -> (A, Result<Round<'j>, Failure>) {
+) -> (A, Result<Round<Intake<'j>, Rounds>, Failure>) {
     let (mail, moment) = match mail_now(rt, job.maildir, &rounds) {
         Ok(found) => found,
         Err(failure) => return (archive, Err(failure)),
@@ -200,7 +200,10 @@ pub fn take_new<'a, 'j, S: Alter>(
     job: Intake<'j>,
     rounds: Rounds,
     place: Place,
-) -> (StoreLedger<'a, S>, Result<Round<'j>, Failure>) {
+) -> (
+    StoreLedger<'a, S>,
+    Result<Round<Intake<'j>, Rounds>, Failure>,
+) {
     let mut archive = archive;
     let mut timing = job.timing;
     match timing

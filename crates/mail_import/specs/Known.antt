@@ -1,5 +1,5 @@
 -- Which messages are captured already: in stores, and since what these have was read.
-use Rattle.std.specs.Prelude.{ℕ, Bool, true, not, ◌==◌, List, [], ◌∷◌, Option, Some, None, is_some, option_map}
+use Rattle.std.specs.Prelude.{◌≡◌, ℕ, Bool, true, not, ◌==◌, List, [], ◌∷◌, ◌++◌, filter, Option, Some, None, is_some, option_map}
 use Rattle.std.specs.BTreeMap.{get}
 use Rattle.std.specs.Option.{option_or}
 use Rattle.record_known.specs.Known.{Key, key_cmp, record_of}
@@ -29,3 +29,13 @@ is_another (Some v) (Some own) = not (own == v)
 -- what is known of a store is of another volume than this one
 abbrev pub is_of_another : (volume : Option ℕ) → StoreKnown → Bool
 is_of_another volume s = is_another volume s.volume
+
+-- NO MESSAGE IS KNOWN to be captured
+pub record KnowsNone (known : AllKnown) : Type 0 where
+  pub stores : known.stores.items ≡ []
+  pub captured : (k : Key) → get key_cmp known.captured k ≡ None
+
+-- WHAT A STORE HAS IS KNOWN TOO, in the place of what was known of that store before
+pub record Puts (store : StoreKnown) (before after : AllKnown) : Type 0 where
+  pub stores : after.stores.items ≡ filter (is_of_another store.volume) before.stores.items ++ store ∷ []
+  pub captured : after.captured ≡ before.captured

@@ -1,9 +1,16 @@
 //! Which messages are captured already: in a store, or in the volumes of an archive.
 
-ghost use Rattle.std.specs.Prelude.{◌≡◌, ◌∷◌, ◌++◌, [], None, Some, OnOk, filter, if◌then◌else◌};
+ghost use Rattle.std.specs.Prelude.{◌≡◌, None, Some, OnOk, filter, if◌then◌else◌};
 ghost use Rattle.std.specs.BTreeMap.{get};
 ghost use Rattle.record_known.specs.Known.{Key, is_key, key_cmp};
-ghost use Rattle.mail_import.specs.Known.{first_record, is_of_another, record_among, record_in};
+ghost use Rattle.mail_import.specs.Known.{
+  KnowsNone,
+  Puts,
+  first_record,
+  is_of_another,
+  record_among,
+  record_in,
+};
 
 use record_known::{Known, SealKey};
 use std::alloc::{AllocError, Global};
@@ -81,8 +88,7 @@ pub struct AllKnown {
 impl AllKnown {
     /// No messages.
     pub fn none(alloc: Global) -> AllKnown
-        ensures stores { result.stores.items ≡ [] }
-        ensures captured { (k : Key) → get key_cmp result.captured k ≡ None }
+        ensures { KnowsNone result }
     {
         AllKnown {
             stores: Vec::new(alloc),
@@ -110,9 +116,7 @@ impl AllKnown {
 
     /// Adds what a store has, in the place of what was known of that store before. The only refusal is no memory (99).
     pub fn put(&mut self, store: StoreKnown) -> Result<(), AllocError>
-        ensures stores { OnOk result (self.new.stores.items ≡
-            filter (is_of_another store.volume) self.old.stores.items ++ store ∷ []) }
-        ensures captured { self.new.captured ≡ self.old.captured }
+        ensures { OnOk result (Puts store self.old self.new) }
     {
         leave_out(&mut self.stores, store.volume);
         self.stores.push(store)
