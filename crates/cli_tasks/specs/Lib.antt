@@ -2,6 +2,7 @@ pub mod Works
 pub mod Numbers
 pub mod Purposes
 pub mod Changes
+pub mod Captured
 pub mod Commands
 pub mod Plans
 pub mod Releases
