@@ -5,4 +5,5 @@ pub mod DisposalLaws
 pub mod BackLaws
 pub mod ReleaseLaws
 pub mod MoveLaws
+mod PlaceRows
 mod PurposeRows

@@ -1,5 +1,6 @@
 pub mod Works
 pub mod Numbers
+pub mod Places
 pub mod Purposes
 pub mod Changes
 pub mod Captured

@@ -1,5 +1,9 @@
 //! Archives of volumes that begin, and volumes that do.
 
+ghost use Rattle.std.specs.Prelude.{◌≡◌, ℕ, Some, IfOk};
+ghost use Rattle.cli_changes.specs.Spaces.{space_of};
+ghost use Rattle.cli_tasks.specs.Places.{IsIn, IsPlaceIn};
+
 use crate::archives::{Archives, Work, lend, not_made};
 use crate::drafts::{begin, begin_history, read_back};
 use crate::volume_days::Earlier;
@@ -454,7 +458,9 @@ pub fn place_for_capture<A: Archives>(
     store: &str,
     told: &Attribution<'_>,
     timing: Timing,
-) -> Result<Capturing, Failure> {
+) -> Result<Capturing, Failure>
+    ensures { IfOk result (IsIn store.now) }
+{
     if !has_volumes(rt, store)? {
         return Ok(Capturing {
             path: String::from_str(rt.alloc(), store)?,
@@ -477,7 +483,9 @@ pub fn place_for_capture<A: Archives>(
 }
 
 /// The last volume of an archive.
-fn place_of_last(rt: &HostRuntime, folder: &str) -> Result<Capturing, Failure> {
+fn place_of_last(rt: &HostRuntime, folder: &str) -> Result<Capturing, Failure>
+    ensures { IfOk result (IsIn folder.now) }
+{
     let row = row_in(rt, folder).map_err(|cause| no_volumes(rt, folder, cause))?;
     Ok(Capturing {
         path: path_of(rt.alloc(), folder, row.last)?,
@@ -492,7 +500,9 @@ pub fn place_for_intake<A: Archives>(
     store: &str,
     told: &Attribution<'_>,
     job: &Intake<'_>,
-) -> Result<Capturing, Failure> {
+) -> Result<Capturing, Failure>
+    ensures { IfOk result (IsIn store.now) }
+{
     if has_volumes(rt, store)? && !job.has_mail()? {
         return place_of_last(rt, store);
     }
@@ -500,24 +510,36 @@ pub fn place_for_intake<A: Archives>(
 }
 
 /// The space that is left in a volume.
-fn space_in(rt: &HostRuntime, folder: &str, volume: u32) -> Result<Space, NoVolumes> {
+fn space_in(rt: &HostRuntime, folder: &str, volume: u32) -> Result<Space, NoVolumes>
+    ensures { IfOk result (λ space. (octets : ℕ) × (size : ℕ) × (space ≡ space_of octets size)) }
+{
     let row = row_in(rt, folder)?;
     let octets = octets_of(rt, folder, volume)?;
     Ok(Space::of(octets, row.sheet.size))
 }
 
+/// The place of captures in a volume of the archive in a folder, with the space that is left.
+fn place_in(rt: &HostRuntime, folder: &str, volume: u32) -> Result<Place, Failure>
+    ensures { IfOk result (IsPlaceIn (Some volume)) }
+{
+    let space = space_in(rt, folder, volume).map_err(|cause| no_volumes(rt, folder, cause))?;
+    Ok(Place {
+        volume: Some(volume),
+        space,
+    })
+}
+
 impl Capturing {
     /// The place of captures in a store at a path, or in a volume of the archive there, with the space that is left.
-    pub fn place(&self, rt: &HostRuntime, store: &str) -> Result<Place, Failure> {
-        let space = match self.volume {
-            Some(volume) => {
-                space_in(rt, store, volume).map_err(|cause| no_volumes(rt, store, cause))?
-            }
-            None => Space::unbounded(),
-        };
-        Ok(Place {
-            volume: self.volume,
-            space,
-        })
+    pub fn place(&self, rt: &HostRuntime, store: &str) -> Result<Place, Failure>
+        ensures { IfOk result (IsPlaceIn self.now.volume) }
+    {
+        match self.volume {
+            Some(volume) => place_in(rt, store, volume),
+            None => Ok(Place {
+                volume: None,
+                space: Space::unbounded(),
+            }),
+        }
     }
 }

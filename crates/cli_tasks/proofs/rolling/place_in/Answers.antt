@@ -1,0 +1,8 @@
+use Rattle.std.proofs.Common.{ap, Some}
+use Rattle.cli_changes.specs.declared.space.Space.{Space}
+use Rattle.cli_tasks.proofs.rolling.place_in.Goals as goal
+
+pub returns : goal.returns
+returns c =
+    let space = c.in_ok-space.ensures in
+    (space.0, space.1, ap (λ (s : Space). record { volume = Some c.args.volume; space = s }) space.2)
