@@ -1,6 +1,6 @@
 -- Where messages are captured, where a record of a volume is, and how a failure names a volume.
-use Rattle.std.specs.Prelude.{◌≡◌, ◌≤◌, ℕ, Bool, true, false, List, string_bytes, Option, Some, None}
-use Rattle.cli_changes.specs.Spaces.{no_end, space_of}
+use Rattle.std.specs.Prelude.{◌≡◌, ◌≤◌, ◌⊎◌, ℕ, Bool, true, false, List, string_bytes, Option, Some, None}
+use Rattle.cli_changes.specs.Spaces.{no_end, space_as_it_is, space_of}
 use Rattle.cli_changes.specs.declared.space.Place.{Place}
 use Rattle.cli_console.specs.declared.failure.Failure.{Failure}
 use Rattle.cli_console.specs.declared.failure.Failure.TheVariants.{Closed, NoMemory, Reported, Told}
@@ -23,6 +23,16 @@ IsIn store capturing = string_bytes capturing.path ≡ path_at store capturing.v
 abbrev pub IsPlaceIn : (volume : Option ℕ) → Place → Type 0
 IsPlaceIn None place = place ≡ record { volume = None; space = no_end }
 IsPlaceIn (Some v) place = (octets : ℕ) × (size : ℕ) × (place ≡ record { volume = Some v; space = space_of octets size })
+
+-- the same of a volume as it is, before which none was begun: nothing is left where it is over its size
+abbrev pub IsPlaceAsItIs : (volume : Option ℕ) → Place → Type 0
+IsPlaceAsItIs None place = place ≡ record { volume = None; space = no_end }
+IsPlaceAsItIs (Some v) place = (octets : ℕ) × (size : ℕ) × (place ≡ record { volume = Some v; space = space_as_it_is octets size })
+
+-- A ROUND OF AN IMPORT has a place in the store at this path, or in a volume of the archive there: as it is, or as it is found for a capture
+pub record IsForImport (store : List ℕ) (capturing : Capturing) (place : Place) : Type 0 where
+  pub is_in : IsIn store capturing
+  pub place_is : IsPlaceIn capturing.volume place ⊎ IsPlaceAsItIs capturing.volume place
 
 -- THE PATH OF A RECORD that is typed is that of its volume, which is none after the last one
 pub record IsPathOf (folder : List ℕ) (last : ℕ) (typed : TypedNumber) (path : List ℕ) : Type 0 where

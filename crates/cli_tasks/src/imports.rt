@@ -5,12 +5,11 @@ ghost use Rattle.cli_tasks.specs.Captured.{KnowsVolumes, ShowsCaptured};
 
 use crate::archives::{Archives, Work, lend};
 use crate::changes::filing_of;
-use crate::rolling::{Capturing, place_for_capture};
+use crate::rolling::{Capturing, place_for_import};
 use crate::volume_row::Volumes;
 use cli_changes::{ImportRounds, MailImport, NamedRules, Place, Round, import_mail};
 use cli_console::{Failure, Status};
 use cli_history::{Author, Purpose, captured_for, open_ledger};
-use cli_volumes::has_volumes;
 use command_lines::archives::{Attribution, Import};
 use record_known::Known;
 use record_store::Store;
@@ -136,49 +135,49 @@ impl<'a> Work for ImportOld<'a> {
     }
 }
 
-/// Where the messages of a round are captured, as the next message is. Where the rules are at fault, no volume is begun.
-fn place_for_import<A: Archives>(
+/// Notes which messages are captured already in the volumes before one, from this one on; none are before a store that is no volume.
+fn know_before<A: Archives>(
     rt: &HostRuntime,
     archives: &A,
     store: &str,
-    told: &Attribution<'_>,
     job: &MailImport<'_>,
-) -> Result<Capturing, Failure> {
-    if has_volumes(rt, store)? {
-        named_rules(rt, job)?;
+    from: u32,
+    volume: Option<u32>,
+    rounds: ImportRounds,
+) -> Result<ImportRounds, Failure> {
+    match volume {
+        Some(volume) => {
+            let named = named_rules(rt, job)?;
+            let officer = named.officer.as_str();
+            know_volumes(rt, archives, store, officer, from, volume, rounds)
+        }
+        None => Ok(rounds),
     }
-    place_for_capture(rt, archives, store, told, job.timing())
 }
 
-/// Captures old mail in a round: in a store, or in the last volume of an archive until that is full. What the volumes before have is
-/// noted of those from one on.
+/// Captures old mail in a round, in a place of a store or of a volume. What the volumes before have is noted of those from one on.
 fn import_round<'a, A: Archives>(
     rt: &HostRuntime,
     archives: &A,
     store: &str,
-    job: MailImport<'a>,
-    rounds: ImportRounds,
+    work: ImportOld<'a>,
+    path: &str,
     from: u32,
-    capturing: &Capturing,
-    told: &Attribution<'a>,
 ) -> Result<Round<MailImport<'a>, ImportRounds>, Failure> {
-    let author = Author::or_program(rt, told)?;
-    let place = capturing.place(rt, store)?;
-    let rounds = match place.volume {
-        Some(volume) => {
-            let named = named_rules(rt, &job)?;
-            let officer = named.officer.as_str();
-            know_volumes(rt, archives, store, officer, from, volume, rounds)?
-        }
-        None => rounds,
-    };
+    let ImportOld {
+        author,
+        job,
+        rounds,
+        place,
+    } = work;
+    let rounds = know_before(rt, archives, store, &job, from, place.volume, rounds)?;
     let work = ImportOld {
-        author: author.in_volume(place.volume),
+        author,
         job,
         rounds,
         place,
     };
-    lend(rt, archives, capturing.path.as_str(), work)
+    lend(rt, archives, path, work)
 }
 
 /// Captures old mail in a store that keeps a history, or in one volume after another of an archive whose volumes do.
@@ -192,14 +191,29 @@ pub fn import<'a, A: Archives>(
     let mut job = MailImport::read(rt, asked)?;
     let mut rounds = ImportRounds::none(rt.alloc());
     let mut from = 1;
-    for _ in 0..u64::MAX {
-        let capturing = place_for_import(rt, archives, store, told, &job)?;
-        match import_round(rt, archives, store, job, rounds, from, &capturing, told)? {
+    for round in 0..u64::MAX {
+        let is_first = round == 0;
+        let (capturing, place) = place_for_import(
+            rt,
+            archives,
+            store,
+            told,
+            job.timing(),
+            is_first,
+        )?;
+        let author = Author::or_program(rt, told)?.in_volume(place.volume);
+        let work = ImportOld {
+            author,
+            job,
+            rounds,
+            place,
+        };
+        match import_round(rt, archives, store, work, capturing.path.as_str(), from)? {
             Round::Done => return Ok(()),
             Round::NextVolume(rest, so_far) => {
                 job = rest;
                 rounds = so_far;
-                from = capturing.volume.unwrap_or(from);
+                from = place.volume.unwrap_or(from);
             }
         }
     }

@@ -1,8 +1,7 @@
 //! Archives of volumes that begin, and volumes that do.
 
-ghost use Rattle.std.specs.Prelude.{◌≡◌, ℕ, Some, IfOk};
-ghost use Rattle.cli_changes.specs.Spaces.{space_of};
-ghost use Rattle.cli_tasks.specs.Places.{IsIn, IsPlaceIn};
+ghost use Rattle.std.specs.Prelude.{Some, IfOk};
+ghost use Rattle.cli_tasks.specs.Places.{IsForImport, IsIn, IsPlaceAsItIs, IsPlaceIn};
 
 use crate::archives::{Archives, Work, lend, not_made};
 use crate::drafts::{begin, begin_history, read_back};
@@ -509,23 +508,32 @@ pub fn place_for_intake<A: Archives>(
     place_for_capture(rt, archives, store, told, job.timing())
 }
 
-/// The space that is left in a volume.
-fn space_in(rt: &HostRuntime, folder: &str, volume: u32) -> Result<Space, NoVolumes>
-    ensures { IfOk result (λ space. (octets : ℕ) × (size : ℕ) × (space ≡ space_of octets size)) }
-{
-    let row = row_in(rt, folder)?;
-    let octets = octets_of(rt, folder, volume)?;
-    Ok(Space::of(octets, row.sheet.size))
+/// How many octets a volume has, and over how many a volume is over its size.
+fn measure(rt: &HostRuntime, folder: &str, volume: u32) -> Result<(u64, u64), Failure> {
+    let row = row_in(rt, folder).map_err(|cause| no_volumes(rt, folder, cause))?;
+    let octets = octets_of(rt, folder, volume).map_err(|cause| no_volumes(rt, folder, cause))?;
+    Ok((octets, row.sheet.size))
 }
 
 /// The place of captures in a volume of the archive in a folder, with the space that is left.
 fn place_in(rt: &HostRuntime, folder: &str, volume: u32) -> Result<Place, Failure>
     ensures { IfOk result (IsPlaceIn (Some volume)) }
 {
-    let space = space_in(rt, folder, volume).map_err(|cause| no_volumes(rt, folder, cause))?;
+    let measured = measure(rt, folder, volume)?;
     Ok(Place {
         volume: Some(volume),
-        space,
+        space: Space::of(measured.0, measured.1),
+    })
+}
+
+/// The same in a volume as it is.
+fn place_as_it_is(rt: &HostRuntime, folder: &str, volume: u32) -> Result<Place, Failure>
+    ensures { IfOk result (IsPlaceAsItIs (Some volume)) }
+{
+    let measured = measure(rt, folder, volume)?;
+    Ok(Place {
+        volume: Some(volume),
+        space: Space::as_it_is(measured.0, measured.1),
     })
 }
 
@@ -542,4 +550,60 @@ impl Capturing {
             }),
         }
     }
+
+    /// The same before a volume is begun: nothing is left in one that is over its size.
+    fn place_before(&self, rt: &HostRuntime, store: &str) -> Result<Place, Failure>
+        ensures { IfOk result (IsPlaceAsItIs self.now.volume) }
+    {
+        match self.volume {
+            Some(volume) => place_as_it_is(rt, store, volume),
+            None => Ok(Place {
+                volume: None,
+                space: Space::unbounded(),
+            }),
+        }
+    }
+}
+
+/// The last volume of an archive as it is, and the place there.
+fn place_at_first(rt: &HostRuntime, folder: &str) -> Result<(Capturing, Place), Failure>
+    ensures { IfOk result (λ found. IsForImport folder.now found.0 found.1) }
+{
+    let last = place_of_last(rt, folder)?;
+    let before = last.place_before(rt, folder)?;
+    Ok((last, before))
+}
+
+/// Where the next message is captured, and the place there.
+fn place_next<A: Archives>(
+    rt: &HostRuntime,
+    archives: &A,
+    store: &str,
+    told: &Attribution<'_>,
+    timing: Timing,
+) -> Result<(Capturing, Place), Failure>
+    ensures { IfOk result (λ found. IsForImport store.now found.0 found.1) }
+{
+    let capturing = place_for_capture(rt, archives, store, told, timing)?;
+    let place = capturing.place(rt, store)?;
+    Ok((capturing, place))
+}
+
+/// Where a round of an import captures. In an archive of volumes the first one is made in the last volume as it is, so that none is begun
+/// before there is a message for it; each later one where the next message is captured.
+pub fn place_for_import<A: Archives>(
+    rt: &HostRuntime,
+    archives: &A,
+    store: &str,
+    told: &Attribution<'_>,
+    timing: Timing,
+    is_first: bool,
+) -> Result<(Capturing, Place), Failure>
+    ensures { IfOk result (λ found. IsForImport store.now found.0 found.1) }
+{
+    let is_archive = has_volumes(rt, store)?;
+    if is_first && is_archive {
+        return place_at_first(rt, store);
+    }
+    place_next(rt, archives, store, told, timing)
 }

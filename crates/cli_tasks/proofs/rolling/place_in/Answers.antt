@@ -4,5 +4,5 @@ use Rattle.cli_tasks.proofs.rolling.place_in.Goals as goal
 
 pub returns : goal.returns
 returns c =
-    let space = c.in_ok-space.ensures in
-    (space.0, space.1, ap (λ (s : Space). record { volume = Some c.args.volume; space = s }) space.2)
+    let measured = c.in_ok-measured.measured in
+    (measured.0, measured.1, ap (λ (s : Space). record { volume = Some c.args.volume; space = s }) c.of.ensures.space)
