@@ -21,32 +21,6 @@ use Rattle.cli_changes.specs.declared.import_room.ImportRoom.{ImportRoom}
 use Rattle.cli_changes.specs.declared.import_rounds.Reached.{Reached}
 use Rattle.cli_changes.specs.declared.space.Place.{Place}
 
--- one call, by what it does at the desk
-pub makes_one : {A : Type 0} (keeper : Keeper A Archive) (before after : ImportRoom A) (c : Call) → after.job ≡ before.job
-    → after.place.volume ≡ before.place.volume → after.reached.messages ≡ done_by c before.reached.messages
-    → AtDesk keeper before.job.filing.officer.now before.job.filing.on_fault before.place.volume c before.desk after.desk
-    → OnlyMakes (Goes keeper) (λ _ _. ⊥) before after (c ∷ [])
-makes_one keeper before after c job volume messages desk =
-    record { made = record { job = job; volume = volume; messages = messages; desk = desk }; kept = λ m h. h }
-
--- a call after which a message is done, by what was said of it
-pub says_one : {A : Type 0} (keeper : Keeper A Archive) (before said after : ImportRoom A) (c : Call) → IsQuiet before said
-    → after.job ≡ said.job → after.place ≡ said.place → after.desk ≡ said.desk → after.reached.messages ≡ done_by c said.reached.messages
-    → (after.desk ≡ before.desk → AtDesk keeper before.job.filing.officer.now before.job.filing.on_fault before.place.volume c before.desk after.desk)
-    → OnlyMakes (Goes keeper) (λ _ _. ⊥) before after (c ∷ [])
-says_one keeper before said after c quiet job place desk messages at_desk =
-    makes_one keeper before after c (job ∙ quiet.job) (ap (λ (p : Place). p.volume) (place ∙ quiet.place.place))
-    (messages ∙ ap (λ (r : Reached). done_by c r.messages) quiet.place.reached) (at_desk (desk ∙ quiet.desk))
-
--- one after which no message is done
-pub quiet_one : {A : Type 0} (keeper : Keeper A Archive) (before after : ImportRoom A) (c : Call) → IsQuiet before after
-    → done_by c before.reached.messages ≡ before.reached.messages
-    → (after.desk ≡ before.desk → AtDesk keeper before.job.filing.officer.now before.job.filing.on_fault before.place.volume c before.desk after.desk)
-    → OnlyMakes (Goes keeper) (λ _ _. ⊥) before after (c ∷ [])
-quiet_one keeper before after c quiet same at_desk =
-    makes_one keeper before after c quiet.job (ap (λ (p : Place). p.volume) quiet.place.place)
-    (ap (λ (r : Reached). r.messages) quiet.place.reached ∙ sym same) (at_desk quiet.desk)
-
 -- a message that was handed over is done where the archive took it
 done_by_capture : (name : List ℕ) (moment : ℕ) (octets : List ℕ) (answer : Answered) (n : ℕ)
     → done_by (capture name moment octets (answer_of answer)) n ≡ done_with answer n
@@ -54,28 +28,60 @@ done_by_capture name moment octets (Ok first) n = refl
 done_by_capture name moment octets (Err (Stays why)) n = refl
 done_by_capture name moment octets (Err (Ends failure)) n = refl
 
-undelivered_where_full : {A : Type 0} (before after : ImportRoom A) (answer : Answered) → StopsFull before answer after → IsUndelivered answer
-undelivered_where_full before after answer h = subst (λ (a : Answered). IsUndelivered a) (sym h.answered) tt
+module _ {A : Type 0} (keeper : Keeper A Archive) (before : ImportRoom A) where
+  -- what a call does at the desk, by where it is afterwards
+  abbrev pub AtDeskOf : Call → (after : ImportRoom A) → Type 0
+  AtDeskOf c after =
+      AtDesk keeper before.job.filing.officer.now before.job.filing.on_fault before.place.volume c before.desk after.desk
 
-none_done_where_full : {A : Type 0} (before after : ImportRoom A) (answer : Answered) → StopsFull before answer after → (n : ℕ)
-    → n ≡ done_with answer n
-none_done_where_full before after answer h n = ap (λ (a : Answered). done_with a n) (sym h.answered)
+  -- one call, by what it does at the desk
+  pub makes_one : (after : ImportRoom A) (c : Call) → after.job ≡ before.job → after.place.volume ≡ before.place.volume
+      → after.reached.messages ≡ done_by c before.reached.messages → AtDeskOf c after
+      → OnlyMakes (Goes keeper) (λ _ _. ⊥) before after (c ∷ [])
+  makes_one after c job volume messages desk =
+      record { made = record { job = job; volume = volume; messages = messages; desk = desk }; kept = λ m h. h }
 
--- a capture, by whether the volume was full
-pub captures_one : {A : Type 0} (keeper : Keeper A Archive) (before after : ImportRoom A) (name : List ℕ) (moment : ℕ) (octets : List ℕ)
-    (answer : Answered) (full : Bool) → (full ≡ true → StopsFull before answer after)
-    → (full ≡ false → TakesOne keeper before moment octets answer after)
-    → OnlyMakes (Goes keeper) (λ _ _. ⊥) before after (capture name moment octets (answer_of answer) ∷ [])
-captures_one keeper before after name moment octets answer true stops takes =
-    let h = stops refl in
-    makes_one keeper before after _ (ap (λ (r : ImportRoom _). r.job) h.room) (ap (λ (r : ImportRoom _). r.place.volume) h.room)
-    (ap (λ (r : ImportRoom _). r.reached.messages) h.room ∙ none_done_where_full before after answer h before.reached.messages
-    ∙ sym (done_by_capture name moment octets answer before.reached.messages))
-    (answer, refl, inr (undelivered_where_full before after answer h, ap (λ (r : ImportRoom _). r.desk) h.room))
-captures_one keeper before after name moment octets answer false stops takes =
-    let h = takes refl in
-    makes_one keeper before after _ h.job (ap (λ (p : Place). p.volume) h.place)
-    (h.messages ∙ sym (done_by_capture name moment octets answer before.reached.messages)) (answer, refl, h.handed_over)
+  -- a call after which no message more is done
+  pub quiet_one : (after : ImportRoom A) (c : Call) → IsQuiet before after
+      → done_by c before.reached.messages ≡ before.reached.messages → (after.desk ≡ before.desk → AtDeskOf c after)
+      → OnlyMakes (Goes keeper) (λ _ _. ⊥) before after (c ∷ [])
+  quiet_one after c quiet same at_desk =
+      makes_one after c quiet.job (ap (λ (p : Place). p.volume) quiet.place.place)
+      (ap (λ (r : Reached). r.messages) quiet.place.reached ∙ sym same) (at_desk quiet.desk)
+
+  -- a call after which a message is done, by what was said of it before
+  pub says_one : (said after : ImportRoom A) (c : Call) → IsQuiet before said → after.job ≡ said.job → after.place ≡ said.place
+      → after.desk ≡ said.desk → after.reached.messages ≡ done_by c said.reached.messages → (after.desk ≡ before.desk → AtDeskOf c after)
+      → OnlyMakes (Goes keeper) (λ _ _. ⊥) before after (c ∷ [])
+  says_one said after c quiet job place desk messages at_desk =
+      makes_one after c (job ∙ quiet.job) (ap (λ (p : Place). p.volume) (place ∙ quiet.place.place))
+      (messages ∙ ap (λ (r : Reached). done_by c r.messages) quiet.place.reached) (at_desk (desk ∙ quiet.desk))
+
+  -- a message that is not handed over, since the volume is full
+  stops_one : (after : ImportRoom A) (name : List ℕ) (moment : ℕ) (octets : List ℕ) (answer : Answered) → StopsFull before answer after
+      → OnlyMakes (Goes keeper) (λ _ _. ⊥) before after (capture name moment octets (answer_of answer) ∷ [])
+  stops_one after name moment octets answer h =
+      let n = before.reached.messages in
+      let none : n ≡ done_with answer n = ap (λ (a : Answered). done_with a n) (sym h.answered) in
+      let undelivered : IsUndelivered answer = subst (λ (a : Answered). IsUndelivered a) (sym h.answered) tt in
+      makes_one after (capture name moment octets (answer_of answer)) (ap (λ (r : ImportRoom A). r.job) h.room)
+      (ap (λ (r : ImportRoom A). r.place.volume) h.room)
+      (ap (λ (r : ImportRoom A). r.reached.messages) h.room ∙ none ∙ sym (done_by_capture name moment octets answer n))
+      (answer, refl, inr (undelivered, ap (λ (r : ImportRoom A). r.desk) h.room))
+
+  takes_one : (after : ImportRoom A) (name : List ℕ) (moment : ℕ) (octets : List ℕ) (answer : Answered)
+      → TakesOne keeper before moment octets answer after
+      → OnlyMakes (Goes keeper) (λ _ _. ⊥) before after (capture name moment octets (answer_of answer) ∷ [])
+  takes_one after name moment octets answer h =
+      makes_one after (capture name moment octets (answer_of answer)) h.job h.volume
+      (h.messages ∙ sym (done_by_capture name moment octets answer before.reached.messages)) (answer, refl, h.handed_over)
+
+  -- a capture, by whether the volume was full
+  pub captures_one : (after : ImportRoom A) (name : List ℕ) (moment : ℕ) (octets : List ℕ) (answer : Answered) (full : Bool)
+      → (full ≡ true → StopsFull before answer after) → (full ≡ false → TakesOne keeper before moment octets answer after)
+      → OnlyMakes (Goes keeper) (λ _ _. ⊥) before after (capture name moment octets (answer_of answer) ∷ [])
+  captures_one after name moment octets answer true stops takes = stops_one after name moment octets answer (stops refl)
+  captures_one after name moment octets answer false stops takes = takes_one after name moment octets answer (takes refl)
 
 module _ {A : Type 0} (keeper : Keeper A Archive) (terms : Terms) where
   -- nothing was found where no call was made

@@ -155,7 +155,8 @@ pub record Counts {A : Type 0} (octets : ℕ) (answer : Answered) (before after 
   pub job : after.job ≡ before.job
   pub desk : after.desk ≡ before.desk
   pub is_full : after.is_full ≡ before.is_full
-  pub place : after.place ≡ record before.place { space = space_after answer octets before.place.space }
+  pub volume : after.place.volume ≡ before.place.volume
+  pub space : after.place.space ≡ space_after answer octets before.place.space
   pub messages : after.reached.messages ≡ done_with answer before.reached.messages
 
 -- THE ROUND ENDS AT A MESSAGE where the volume is full: it is not delivered, and the next round begins with it
@@ -170,7 +171,8 @@ pub record TakesOne {A : Type 0} (keeper : Keeper A Archive) (before : ImportRoo
   pub handed_over : IsHandedOver keeper before.job.filing.officer.now before.job.filing.on_fault before.place.volume moment octets answer
       before.desk after.desk
   pub is_full : after.is_full ≡ before.is_full
-  pub place : after.place ≡ record before.place { space = space_after answer (length octets) before.place.space }
+  pub volume : after.place.volume ≡ before.place.volume
+  pub space : after.place.space ≡ space_after answer (length octets) before.place.space
   pub messages : after.reached.messages ≡ done_with answer before.reached.messages
 
 -- ---- a round

@@ -172,7 +172,7 @@ impl<'a, A: Records> ImportRoom<'a, A> {
         done: Result<bool, Failure>,
     ) -> (A, Result<Round<MailImport<'a>, ImportRounds>, Failure>)
         ensures archive { result.0 ≡ self.entry.desk.store }
-        ensures round { result.1 ≡ round_by self.entry sources progress done }
+        ensures round { result.1 ≡ round_by self.entry sources.entry progress done }
     {
         let ImportRoom {
             job,

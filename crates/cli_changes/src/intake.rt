@@ -159,7 +159,7 @@ fn ended_by<'j>(
     done: Result<(), Failure>,
     round: Round<Intake<'j>, Rounds>,
 ) -> Result<Round<Intake<'j>, Rounds>, Failure>
-    ensures { IfOk result (λ r. r ≡ round) }
+    ensures { IfOk result (λ r. r ≡ round.entry) }
 {
     match done {
         Ok(()) => Ok(round),

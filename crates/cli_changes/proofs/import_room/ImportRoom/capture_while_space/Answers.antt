@@ -13,8 +13,9 @@ returns-clause-taken g c = λ space.
       handed_over = subst (IsHandedOver g.A.Records.keeper before.job.filing.officer.now before.job.filing.on_fault before.place.volume
           c.args.moment c.args.octets.items handed.result before.desk) (sym counted.desk) handed.ensures.desk;
       is_full = counted.is_full ∙ handed.ensures.place.is_full;
-      place = counted.place
-          ∙ ap (λ (p : Place). record p { space = space_after handed.result c.len-length.result p.space }) handed.ensures.place.place
-          ∙ ap (λ n. record before.place { space = space_after handed.result n before.place.space }) (c.len-length.ensures ∙ c.args.octets.ok.0);
+      volume = counted.volume ∙ ap (λ (p : Place). p.volume) handed.ensures.place.place;
+      space = counted.space
+          ∙ ap (λ (p : Place). space_after handed.result c.len-length.result p.space) handed.ensures.place.place
+          ∙ ap (λ n. space_after handed.result n before.place.space) (c.len-length.ensures ∙ c.args.octets.ok.0);
       messages = counted.messages ∙ ap (λ (r : Reached). done_with handed.result r.messages) handed.ensures.place.reached;
     }
