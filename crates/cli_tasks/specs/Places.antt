@@ -2,6 +2,7 @@
 use Rattle.std.specs.Prelude.{◌≡◌, ◌≤◌, ◌⊎◌, ℕ, Bool, true, false, List, string_bytes, Option, Some, None}
 use Rattle.cli_changes.specs.Spaces.{no_end, space_as_it_is, space_of}
 use Rattle.cli_changes.specs.declared.space.Place.{Place}
+use Rattle.cli_changes.specs.declared.space.Space.{Space}
 use Rattle.cli_console.specs.declared.failure.Failure.{Failure}
 use Rattle.cli_console.specs.declared.failure.Failure.TheVariants.{Closed, NoMemory, Reported, Told}
 use Rattle.cli_console.specs.declared.failure.Status.{Status}
@@ -19,15 +20,19 @@ path_at store (Some v) = path_of store v
 abbrev pub IsIn : (store : List ℕ) → Capturing → Type 0
 IsIn store capturing = string_bytes capturing.path ≡ path_at store capturing.volume
 
+-- a place with this space in a volume, if it is one
+abbrev pub place_with : (volume : Option ℕ) → Space → Place
+place_with volume space = record { volume = volume; space = space }
+
 -- THE PLACE OF CAPTURES: in a store which is no volume there is space without end, and in a volume as much as its octets leave of a size
 abbrev pub IsPlaceIn : (volume : Option ℕ) → Place → Type 0
-IsPlaceIn None place = place ≡ record { volume = None; space = no_end }
-IsPlaceIn (Some v) place = (octets : ℕ) × (size : ℕ) × (place ≡ record { volume = Some v; space = space_of octets size })
+IsPlaceIn None place = place ≡ place_with None no_end
+IsPlaceIn (Some v) place = (octets : ℕ) × (size : ℕ) × (place ≡ place_with (Some v) (space_of octets size))
 
 -- the same of a volume as it is, before which none was begun: nothing is left where it is over its size
 abbrev pub IsPlaceAsItIs : (volume : Option ℕ) → Place → Type 0
-IsPlaceAsItIs None place = place ≡ record { volume = None; space = no_end }
-IsPlaceAsItIs (Some v) place = (octets : ℕ) × (size : ℕ) × (place ≡ record { volume = Some v; space = space_as_it_is octets size })
+IsPlaceAsItIs None place = place ≡ place_with None no_end
+IsPlaceAsItIs (Some v) place = (octets : ℕ) × (size : ℕ) × (place ≡ place_with (Some v) (space_as_it_is octets size))
 
 -- A ROUND OF AN IMPORT has a place in the store at this path, or in a volume of the archive there: as it is, or as it is found for a capture
 pub record IsForImport (store : List ℕ) (capturing : Capturing) (place : Place) : Type 0 where
