@@ -44,7 +44,7 @@ pub record IsPathOf (folder : List ℕ) (last : ℕ) (typed : TypedNumber) (path
   pub volume : ℕ
   pub typed_so : typed.volume ≡ Some volume
   pub within : volume ≤ last
-  pub at : path ≡ path_of folder volume
+  pub path_is : path ≡ path_of folder volume
 
 -- ---- failures
 

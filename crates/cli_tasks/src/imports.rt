@@ -5,7 +5,7 @@ ghost use Rattle.cli_tasks.specs.Captured.{KnowsVolumes, ShowsCaptured};
 
 use crate::archives::{Archives, Work, lend};
 use crate::changes::filing_of;
-use crate::rolling::{Capturing, place_for_import};
+use crate::rolling::place_for_import;
 use crate::volume_row::Volumes;
 use cli_changes::{ImportRounds, MailImport, NamedRules, Place, Round, import_mail};
 use cli_console::{Failure, Status};

@@ -7,7 +7,7 @@ returns-clause-found c = record {
   volume = c.in_ok-volume.volume;
   typed_so = c.in_ok-volume.ensures.typed;
   within = c.in_ok-volume.ensures.within;
-  at = c.in_ok-found.ensures;
+  path_is = c.in_ok-found.ensures;
 }
 
 pub returns-in_err-found-clause-without : goal.returns-in_err-found-clause-without
