@@ -1,6 +1,7 @@
 -- What an intake does with a message, by what its room is afterwards.
-use Rattle.std.proofs.Common.{◌≡◌, ◌∙◌, ℕ, List, Option, Some, None, String, Result, Ok, Err, IfErr, IsErrAnd, refl, sym, subst, inl, inr}
+use Rattle.std.proofs.Common.{◌≡◌, ◌∙◌, ℕ, List, Option, Some, None, Result, Ok, Err, IfErr, IsErrAnd, refl, sym, subst, inl, inr}
 use Rattle.std.specs.Option.{unwrap_or}
+use Rattle.std.specs.Prelude.{String}
 use Rattle.std.specs.declared.alloc.Global.{Global}
 use Rattle.std.specs.declared.io.ErrorKind.TheVariants.{OutOfMemory}
 use Rattle.cli_console.specs.declared.failure.Failure.{Failure}
