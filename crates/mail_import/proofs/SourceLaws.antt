@@ -1,7 +1,7 @@
 -- The messages of mboxes, of files and of sources: some of them, and then others.
-use Rattle.std.proofs.Common.{◌≡◌, ◌<◌, ℕ, suc, ◌+◌, List, [], ◌∷◌, ◌++◌, Option, Some, None, take, drop, get_or, length, refl, sym, ap, ◌∙◌}
+use Rattle.std.proofs.Common.{◌≡◌, ◌<◌, ◌≤◌, ℕ, suc, ◌+◌, List, [], ◌∷◌, ◌++◌, Option, Some, None, take, drop, get_or, length, refl, sym, ap, ◌∙◌}
 use Rattle.std.proofs.Common.{subst, append_assoc, append-nil, length-append, arith}
-use Rattle.std.proofs.lemmas.List.{take_more}
+use Rattle.std.proofs.lemmas.List.{length-take-le, take-append-drop, take_more}
 use Rattle.std.proofs.Math.Seq.{split_at}
 use Rattle.mail_boxes.specs.Boxes.{message_view}
 use Rattle.mail_boxes.specs.Undated.{first_of}
@@ -13,7 +13,7 @@ use Rattle.mail_import.specs.Fates.{too_long}
 use Rattle.mail_import.specs.Findings.{AreOfBox, AreOfFiles, AreOfFolder, AreOfMbox, AreOfSource, AreOfSources, IsBoxed, IsFiled, IsOfBox}
 use Rattle.mail_import.specs.Findings.{IsOfFile, IsOne}
 use Rattle.mail_import.specs.Findings.{Finding, beside, boxed_name, end_of, filed, found_of, message, rest_of, stays, undated_lines, undated_of}
-use Rattle.mail_import.specs.Sources.{Mail, count_of}
+use Rattle.mail_import.specs.Sources.{IsWithout, Mail, count_of}
 
 -- ---- of an mbox
 
@@ -101,6 +101,23 @@ mbox_whole m path found seen last h is lines = (
   subst (λ l. AreOfBox path (m.first path) l seen) (sym (is ∙ append-nil found)) h,
   ap (λ l. seen ++ l) lines,
 )
+
+-- what was found of its first messages, and then of those that are left, is what is found of all
+pub mbox_joined : (path : List ℕ) (count : ℕ) (whole left : Mail) (xs ys : List Finding) → count ≤ length (whole.messages path)
+    → IsWithout path count whole left → AreOfBox path (whole.first path) (take count (whole.messages path)) xs → AreOfMbox path left ys
+    → AreOfMbox path whole (xs ++ ys)
+mbox_joined path count whole left xs ys low h found rest =
+    let all = whole.messages path in
+    let number = whole.first path in
+    let next : left.first path ≡ number + length (take count all) = h.first ∙ ap (λ n. number + n) (sym (length-take-le count all low)) in
+    let last = undated_of path (whole.undated path) in (
+      xs ++ rest.0,
+      subst (λ l. AreOfBox path number l (xs ++ rest.0)) (take-append-drop count all)
+          (boxed_then path number (take count all) (drop count all) xs rest.0 found
+          (subst (λ n. AreOfBox path n (drop count all) rest.0) next
+          (subst (λ l. AreOfBox path (left.first path) l rest.0) h.messages rest.1))),
+      ap (λ l. xs ++ l) (rest.2 ∙ ap (λ l. rest.0 ++ undated_of path l) h.undated) ∙ sym (append_assoc xs rest.0 last),
+    )
 
 -- ---- an mbox that is read
 
@@ -202,6 +219,12 @@ pub filed_more : (m : Mail) (xs : List (List ℕ)) (x : List ℕ) (seen ss : Lis
 filed_more m xs x seen ss h is =
     subst (λ l. AreOfFiles (xs ++ x ∷ []) m (seen ++ l)) (append-nil ss)
     (filed_then m xs (x ∷ []) seen (ss ++ []) h (one_filed m x [] ss [] is (filed_none m)))
+
+-- what was found of the first files, and then of the others, is what is found of all
+pub files_joined : (paths : List (List ℕ)) (count : ℕ) (m : Mail) (xs ys : List Finding) → AreOfFiles (take count paths) m xs
+    → AreOfFiles (drop count paths) m ys → AreOfFiles paths m (xs ++ ys)
+files_joined paths count m xs ys h k =
+    subst (λ l. AreOfFiles l m (xs ++ ys)) (take-append-drop count paths) (filed_then m (take count paths) (drop count paths) xs ys h k)
 
 -- where an import of files ends before its end: at one of them
 pub files_at : (m : Mail) (all xs : List (List ℕ)) (x : List ℕ) (rest : List (List ℕ)) (seen ss : List Finding) → AreOfFiles xs m seen

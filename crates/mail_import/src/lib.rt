@@ -5,7 +5,8 @@
 //! - `fate`: what becomes of a message, by what is known;
 //! - `tally`: how many messages were taken, and how many not;
 //! - `message`: what is done with a message;
-//! - `import`: what is done with the messages of all sources.
+//! - `import`: what is done with the messages of all sources;
+//! - `rounds`: what an import finds that is gone on with.
 //!
 //! In `specs/`, `Known` says which record a message has already, `Fates` what becomes of a message, `Calls` names the calls, `Findings`
 //! says what is done with all, in order, and `Sources` which messages the sources have. There is no file here, no archive and no clock.
@@ -16,6 +17,7 @@ mod import;
 mod known;
 mod message;
 mod room;
+mod rounds;
 mod tally;
 
 pub use fate::Stay;
@@ -23,4 +25,5 @@ pub use import::import_sources;
 pub use known::{AllKnown, FirstRecord, StoreKnown};
 pub use message::{Progress, Terms};
 pub use room::OldMailroom;
+pub use rounds::rounds_find_each_once;
 pub use tally::ImportTally;
