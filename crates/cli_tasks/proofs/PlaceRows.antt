@@ -1,9 +1,8 @@
 -- Where messages are captured, and which failures are of standard output, on worked rows.
-use Rattle.std.proofs.Common.{◌≡◌, ℕ, List, [], ◌∷◌, map, codes, Option, Some, None, true, false, refl}
+use Rattle.std.proofs.Common.{◌≡◌, [], ◌∷◌, map, codes, Some, None, true, false, refl}
 use Rattle.std.specs.Fmt.{digits}
-use Rattle.cli_console.specs.declared.failure.Failure.{Failure}
 use Rattle.cli_console.specs.declared.failure.Failure.TheVariants.{Closed, NoMemory, Reported, Told}
-use Rattle.cli_console.specs.declared.failure.Status.TheVariants.{BadData, NotWritten, TryAgain}
+use Rattle.cli_console.specs.declared.failure.Status.TheVariants.{NotWritten, TryAgain}
 use Rattle.tool_texts.specs.declared.shown.Shown.{Shown}
 use Rattle.cli_tasks.specs.Places.{is_of_output, path_at}
 

@@ -1,5 +1,4 @@
 use Rattle.std.proofs.Common.{◌≡◌, ◌+◌, ◌-◌, ℕ, arith, refl, subst, suc}
-use Rattle.cli_changes.specs.declared.import_rounds.ImportRounds.{ImportRounds}
 use Rattle.cli_tasks.specs.Captured.{KnowsVolumes}
 use Rattle.cli_tasks.proofs.imports.know_volumes.Goals as goal
 
