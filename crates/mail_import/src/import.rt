@@ -178,9 +178,8 @@ fn take_source<M: OldMailroom>(
 {
     match source {
         Source::Mbox(path) => take_mbox(alloc, room, terms, progress, path),
-        Source::Folder(path) | Source::Maildir(path) => {
-            take_folder(alloc, room, terms, progress, source, path)
-        }
+        Source::Folder(path) => take_folder(alloc, room, terms, progress, source, path),
+        Source::Maildir(path) => take_folder(alloc, room, terms, progress, source, path),
     }
 }
 

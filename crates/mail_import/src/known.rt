@@ -119,7 +119,8 @@ impl AllKnown {
         ensures { OnOk result (Puts store self.old self.new) }
     {
         leave_out(&mut self.stores, store.volume);
-        self.stores.push(store)
+        self.stores.push(store)?;
+        Ok(())
     }
 
     /// Notes that a message with this seal is captured, and its first record. The only refusal is no memory (99).
