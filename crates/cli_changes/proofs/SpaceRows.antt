@@ -1,7 +1,7 @@
 -- When a volume is full, on worked rows.
 use Rattle.std.proofs.Common.{◌≡◌, ℕ, List, [], ◌∷◌, map, true, false, refl}
 use Rattle.std.specs.Prelude.{fold}
-use Rattle.cli_changes.specs.Spaces.{is_full, no_end, space_of, with_message}
+use Rattle.cli_changes.specs.Spaces.{is_full, no_end, space_as_it_is, space_of, with_message}
 
 -- a volume of 1,000,000 octets may get 48,576 more; none, once it has its size
 volumes_are_full : map (λ (messages : List ℕ). is_full (fold (λ s octets. with_message octets s) (space_of 1000000 1048576) messages))
@@ -16,3 +16,8 @@ whole_volumes_are_full = refl
 
 stores_are_never_full : is_full (with_message 8388608 (with_message 8388608 no_end)) ≡ false
 stores_are_never_full = refl
+
+-- a volume as it is gets no message where it is over its size
+volumes_are_full_as_they_are : map (λ (octets : ℕ). is_full (space_as_it_is octets 1048576)) (0 ∷ 1048576 ∷ 1048577 ∷ [])
+    ≡ false ∷ false ∷ true ∷ []
+volumes_are_full_as_they_are = refl

@@ -1,5 +1,5 @@
 -- What an intake does at its desk with a message.
-use Rattle.std.specs.Prelude.{◌≡◌, ◌⊎◌, ℕ, List, length, String, string_bytes, Option, Some, None, Result, Ok, Err}
+use Rattle.std.specs.Prelude.{◌≡◌, ◌⊎◌, ℕ, true, List, length, String, string_bytes, Option, Some, None, is_some, Result, Ok, Err}
 use Rattle.std.specs.declared.alloc.Global.{Global}
 use Rattle.cli_console.specs.declared.failure.Failure.{Failure}
 use Rattle.desk_commands.specs.declared.fault.DeskFault.{DeskFault}
@@ -12,9 +12,12 @@ use Rattle.record_archive.specs.Archive.{Archive}
 use Rattle.record_archive.specs.Calls.{Keeper}
 use Rattle.cli_changes.specs.Deliveries.{IsDelivered, IsLeft}
 use Rattle.cli_changes.specs.Endings.{IsAnswer, IsOfMaildir, taken_of}
-use Rattle.cli_changes.specs.Moments.{IsMomentNow}
+use Rattle.cli_changes.specs.Moments.{IsMomentIn, IsMomentNow}
+use Rattle.cli_changes.specs.Series.{KeepsAll}
 use Rattle.cli_changes.specs.Spaces.{with_message}
+use Rattle.cli_changes.specs.declared.intake.Intake.{Intake}
 use Rattle.cli_changes.specs.declared.intake_room.Room.{Room}
+use Rattle.cli_changes.specs.declared.moments.Timing.{Timing}
 use Rattle.cli_changes.specs.declared.rounds.Round.{Round}
 use Rattle.cli_changes.specs.declared.rounds.Rounds.{Rounds}
 use Rattle.cli_changes.specs.declared.rounds.Round.TheVariants.{Done, NextVolume}
@@ -58,7 +61,7 @@ pub record EndsRound {A : Type 0} (before : Room A) (name : List ℕ) (answer : 
   pub next : GoesOnWith name failure after.next
 
 -- how a round ended: as the last one, or with a next one, which goes on with the same intake and with what the rounds came to
-abbrev pub round_of : {A : Type 0} → Room A → (begun : ℕ) → (next : Option (String Global)) → Round
+abbrev pub round_of : {A : Type 0} → Room A → (begun : ℕ) → (next : Option (String Global)) → Round Intake Rounds
 round_of room begun None = Done
 round_of room begun (Some next) = NextVolume room.job (record {
   begun = Some begun;
@@ -87,3 +90,26 @@ module _ {A : Type 0} (keeper : Keeper A Archive) where
     pub handed_over : IsHandedOver before octets answer after
     pub space : after.place.space ≡ space_after answer (length octets) before.place.space
     pub next : after.next ≡ before.next
+
+-- ---- rounds
+
+-- an intake began at this moment: at the one that is known from the rounds before, if it is
+abbrev pub IsBegun : (before : Option ℕ) → (begun : ℕ) → Type 0
+IsBegun None begun = Unit {0}
+IsBegun (Some moment) begun = begun ≡ moment
+
+-- A NEXT ROUND GOES ON in the intake that began with the first one, from a message on at which a round ended
+abbrev pub GoesOnAfter : Rounds → Round Intake Rounds → Type 0
+GoesOnAfter rounds Done = Unit {0}
+GoesOnAfter rounds (NextVolume rest next) =
+    (begun : ℕ) × (next.begun ≡ Some begun) × IsBegun rounds.begun begun × (is_some next.next ≡ true)
+
+-- A ROUND IS MADE only at a moment that is judged by the days of the archive, of which no more was read before; it is the last one, or a next
+-- one goes on
+pub record TakesRound {A : Type 0} (keeper : Keeper A Archive) (timing : Timing) (rounds : Rounds) (store : A) (round : Round Intake Rounds)
+    : Type 0 where
+  pub looked : A
+  pub reads : KeepsAll keeper store looked
+  pub moment : ℕ
+  pub judged : IsMomentIn keeper timing store looked moment
+  pub goes_on : GoesOnAfter rounds round

@@ -1,5 +1,6 @@
 pub mod Deliveries
 pub mod Imports
+pub mod ImportRounds
 pub mod Datings
 pub mod Desks
 pub mod Intakes

@@ -10,6 +10,10 @@ no_end = record { left = None; captured = 0 }
 abbrev pub space_of : (octets size : ℕ) → Space
 space_of octets size = record { left = Some (size - octets); captured = 0 }
 
+-- A VOLUME AS IT IS may have as many octets as its size, and has these
+abbrev pub space_as_it_is : (octets size : ℕ) → Space
+space_as_it_is octets size = record { left = Some size; captured = octets }
+
 abbrev pub is_more_than : (captured : ℕ) → (left : Option ℕ) → Bool
 is_more_than captured None = false
 is_more_than captured (Some left) = nat_lt left captured

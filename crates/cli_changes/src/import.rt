@@ -1,24 +1,45 @@
 //! `import`: old mail, from mboxes, folders of `.eml` files and Maildirs.
 
-ghost use Rattle.std.specs.Prelude.{◌≡◌, ◌<◌, ◌*◌, ◌^◌, ℕ, pos, IfOk};
+ghost use Rattle.std.specs.Prelude.{
+  ◌≡◌,
+  ◌<◌,
+  ◌*◌,
+  ◌^◌,
+  ℕ,
+  pos,
+  drop,
+  false,
+  true,
+  is_ok,
+  IfOk,
+  OnErr,
+  OnOk,
+};
 ghost use Rattle.jiff.specs.Words.{epoch_day};
+ghost use Rattle.command_lines.specs.declared.archives.Moment.TheVariants as moment;
 ghost use Rattle.cli_changes.specs.Datings.{AreTermsOf, IsBeginning, IsDating};
 ghost use Rattle.cli_changes.specs.Endings.{EndsWith};
 ghost use Rattle.record_ledger.specs.Ledgers.{keeper_of};
 ghost use Rattle.cli_changes.specs.Imports.{
+  Finds,
   ImportsNoting,
   IsImport,
   IsImportOf,
+  Stops,
+  ended_so,
   notes_of,
   status_of,
 };
 
 use crate::import_log::{end_of, tell_passed, write_tally};
 use crate::import_room::ImportRoom;
+use crate::import_rounds::ImportRounds;
 use crate::intake::maildir_failure;
 use crate::intake_log::IntakeLog;
 use crate::moments::{Timing, small_day};
+use crate::rounds::Round;
 use crate::rules::FilingRules;
+use crate::space::Place;
 use class_plan::{Date, day_number};
 use cli_console::{Failure, Status};
 use cli_history::StoreLedger;
@@ -27,10 +48,9 @@ use mail_dates::Dating;
 use mail_import::{ImportTally, Progress, Terms, import_sources};
 use mail_sources::{Source, SourceFault, source_at};
 use record_archive::Records;
-use record_known::Known;
 use sqlite::Alter;
 use std::alloc::{AllocError, Global};
-use std::{io, mem};
+use std::{io, mem, slice};
 use tool_texts::{Shown, put};
 
 /// How many seconds a day has.
@@ -40,9 +60,11 @@ const DAY: u64 = 86_400;
 #[derive(Drop)]
 pub struct MailImport<'a> {
     pub(crate) rt: &'a HostRuntime,
-    sources: Vec<Source<'a>>,
+    pub(crate) sources: Vec<Source<'a>>,
     pub(crate) filing: FilingRules<'a>,
     asked: AskedDating,
+    /// When a next volume is begun.
+    timing: Timing,
     pub(crate) terms: Terms,
     /// Whether nothing is told of what is captured and passed over.
     pub(crate) is_quiet: bool,
@@ -127,6 +149,7 @@ impl<'a> MailImport<'a> {
     pub fn read(rt: &'a HostRuntime, asked: &Import<'a>) -> Result<MailImport<'a>, Failure>
         ensures terms { IfOk result (λ job. AreTermsOf asked.now job.terms) }
         ensures asked { IfOk result (λ job. job.asked ≡ asked.now.dating) }
+        ensures timing { IfOk result (λ job. job.timing.asked ≡ moment.Now) }
     {
         let mut timing = Timing::new(rt, Moment::Now)?;
         let now = timing.moment(rt)?;
@@ -140,6 +163,7 @@ impl<'a> MailImport<'a> {
             sources: sources_at(rt, asked.sources.as_slice())?,
             filing: FilingRules::read(rt, &asked.filing, false)?,
             asked: asked.dating,
+            timing,
             terms: Terms {
                 dating,
                 clock: now,
@@ -155,6 +179,13 @@ impl<'a> MailImport<'a> {
     pub fn rules(&self) -> &FilingRules<'a> {
         &self.filing
     }
+
+    /// When a next volume is begun: at the moment of the clock, by which no day of the archive is judged.
+    pub fn timing(&self) -> Timing
+        ensures { result ≡ self.now.timing }
+    {
+        self.timing
+    }
 }
 
 /// What the history notes of each capture: what gave its moment.
@@ -169,72 +200,138 @@ fn notes_of(asked: AskedDating) -> &'static [u8]
     }
 }
 
-/// Says what became of all messages of an import that came to its end, and answers how it ended.
-fn close(rt: &HostRuntime, tally: &ImportTally, is_quiet: bool) -> Result<(), Failure>
-    ensures { EndsWith (status_of tally.now) result }
+/// Says what became of all messages of an import that came to its end, and answers how it ended: no message is left.
+fn close(rt: &HostRuntime, tally: &ImportTally, is_quiet: bool) -> Result<bool, Failure>
+    ensures none_left { IfOk result (λ is_left. is_left ≡ false) }
+    ensures ended { EndsWith (status_of tally.now) (ended_so result) }
 {
     if !is_quiet {
         write_tally(rt, tally);
         tell_passed(rt, tally);
     }
-    end_of(tally)
+    match end_of(tally) {
+        Ok(()) => Ok(false),
+        Err(failure) => Err(failure),
+    }
 }
 
-/// Takes the messages of sources, and says what became of them.
+/// How a round ends that broke off with a failure: messages are left for the next one where the volume is full.
+fn broken_off(failure: Failure, is_full: bool) -> Result<bool, Failure>
+    ensures left { IfOk result (λ is_left. is_left ≡ true) }
+    ensures ended { is_ok result ≡ is_full }
+{
+    if is_full { Ok(true) } else { Err(failure) }
+}
+
+/// Takes the messages of a source, or those that are left of it.
+fn take_source<A: Records>(
+    alloc: Global,
+    room: &mut ImportRoom<'_, A>,
+    terms: &Terms,
+    progress: &mut Progress,
+    source: Source<'_>,
+) -> Result<(), Failure>
+    ensures taken { OnOk result
+        (Finds A.keeper terms.now room.old progress.old room.new progress.new) }
+    ensures ended { OnErr result
+        (Stops A.keeper terms.now room.old progress.old room.new progress.new) }
+{
+    room.begin_source(source)?;
+    import_sources(alloc, room, terms, progress, slice::from_ref(&source))?;
+    room.end_source();
+    Ok(())
+}
+
+/// Takes the messages of sources, one after the other.
+fn take_each<A: Records>(
+    alloc: Global,
+    room: &mut ImportRoom<'_, A>,
+    terms: &Terms,
+    progress: &mut Progress,
+    sources: &[Source<'_>],
+) -> Result<(), Failure>
+    ensures taken { OnOk result
+        (Finds A.keeper terms.now room.old progress.old room.new progress.new) }
+    ensures ended { OnErr result
+        (Stops A.keeper terms.now room.old progress.old room.new progress.new) }
+{
+    for source in sources {
+        take_source(alloc, room, terms, progress, *source)?;
+    }
+    Ok(())
+}
+
+/// Takes the messages of sources in a round, and says what became of all of them, unless messages are left for the next one.
 fn take_sources<A: Records>(
     rt: &HostRuntime,
     room: &mut ImportRoom<'_, A>,
     terms: &Terms,
-    known: Known,
+    progress: &mut Progress,
     sources: &[Source<'_>],
     is_quiet: bool,
-) -> Result<(), Failure>
-    ensures { IsImport A.keeper terms.now known room.old room.new result }
+) -> Result<bool, Failure>
+    ensures { IsImport A.keeper terms.now progress.old room.old room.new progress.new result }
 {
-    let mut progress = Progress {
-        known,
-        tally: ImportTally::none(),
-    };
-    import_sources(rt.alloc(), room, terms, &mut progress, sources)?;
-    close(rt, &progress.tally, is_quiet)
+    match take_each(rt.alloc(), room, terms, progress, sources) {
+        Ok(()) => close(rt, &progress.tally, is_quiet),
+        Err(failure) => broken_off(failure, room.is_full()),
+    }
 }
 
-/// Captures old mail in an archive, without the messages that are known to be captured.
-fn import_into<A: Records>(
+/// The sources that are left where so many are done.
+fn left_of<'s, 'a>(sources: &'s [Source<'a>], done: usize) -> &'s [Source<'a>]
+    ensures { result.now ≡ drop done sources.now }
+{
+    let most = done.min(sources.len());
+    let (_, left) = sources.split_at(most);
+    left
+}
+
+/// Captures old mail in an archive, in a round, without the messages that are known to be captured.
+fn import_into<'a, A: Records>(
     archive: A,
-    job: MailImport<'_>,
-    known: Known,
-) -> (A, Result<(), Failure>)
-    ensures { IsImportOf A.keeper job.entry.filing job.entry.terms known archive result }
+    job: MailImport<'a>,
+    rounds: ImportRounds,
+    place: Place,
+) -> (A, Result<Round<MailImport<'a>, ImportRounds>, Failure>)
+    ensures { IsImportOf A.keeper job.entry rounds place archive result }
 {
     let mut job = job;
     let rt = job.rt;
     let terms = job.terms;
     let is_quiet = job.is_quiet;
+    let is_told = rounds.has_begun;
+    let reached = rounds.reached;
     let sources = mem::replace(&mut job.sources, Vec::new(rt.alloc()));
     let plan = archive.plan().copy().ok();
-    let desk = match job.filing.desk(rt, archive, false) {
+    let desk = match job.filing.desk(rt, archive, is_told) {
         Ok(desk) => desk,
         Err((archive, failure)) => return (archive, Err(failure)),
     };
-    let mut room = ImportRoom::new(job, desk, plan);
-    let done = take_sources(rt, &mut room, &terms, known, sources.as_slice(), is_quiet);
-    (room.into_archive(), done)
+    let left = left_of(sources.as_slice(), reached.sources);
+    let begun = ImportRoom::new(job, rounds, place, desk, plan);
+    let (mut room, mut progress) = begun;
+    let done = take_sources(rt, &mut room, &terms, &mut progress, left, is_quiet);
+    room.into_round(sources, progress, done)
 }
 
 /// Captures old mail in a store: each message once, in the order of the sources, of the messages of an mbox, and of the names of
-/// files. A message that is captured already is passed over, and one without a moment stays, which is told. The others are
-/// captured all the same. What lies beside the messages of a folder is told in the end. `BadData` where messages stay, and where a folder
-/// has none; where some were given up they may be taken later, `TryAgain`.
-pub fn import_mail<'a, S: Alter>(
+/// files; in a volume until it is full, so that what is left is for a round in the next one. A message that is captured already is passed
+/// over, and one without a moment stays, which is told. The others are captured all the same. What lies beside the messages of a folder is
+/// told in the end. `BadData` where messages stay, and where a folder has none; where some were given up they may be taken later,
+/// `TryAgain`.
+pub fn import_mail<'a, 'j, S: Alter>(
     archive: StoreLedger<'a, S>,
-    job: MailImport<'_>,
-    known: Known,
-) -> (StoreLedger<'a, S>, Result<(), Failure>)
-    ensures { ImportsNoting (keeper_of S.Store) job.entry.asked job.entry.filing job.entry.terms
-        known archive.entry result }
+    job: MailImport<'j>,
+    rounds: ImportRounds,
+    place: Place,
+) -> (
+    StoreLedger<'a, S>,
+    Result<Round<MailImport<'j>, ImportRounds>, Failure>,
+)
+    ensures { ImportsNoting (keeper_of S.Store) job.entry rounds place archive.entry result }
 {
     let mut archive = archive;
     archive.set_notes(notes_of(job.asked));
-    import_into(archive, job, known)
+    import_into(archive, job, rounds, place)
 }

@@ -5,8 +5,9 @@ ghost use Rattle.cli_changes.specs.Imports.{status_of};
 
 use crate::no_mail::imported_words;
 use cli_console::{Failure, Status, tell, write_text};
+use cli_texts::put_number;
 use mail_dates::{Dated, Dating};
-use mail_import::{ImportTally, Stay};
+use mail_import::{FirstRecord, ImportTally, Stay};
 use mail_sources::{PassedOver, maildir_around};
 use std::alloc::{AllocError, Global};
 use tool_texts::{Shown, put};
@@ -79,14 +80,15 @@ pub(crate) fn end_of(tally: &ImportTally) -> Result<(), Failure>
 }
 
 /// What is told of a message that is captured already.
-fn known_words(alloc: Global, name: &str, first: u32) -> Result<Shown, AllocError> {
+fn known_words(alloc: Global, name: &str, first: FirstRecord) -> Result<Shown, AllocError> {
     let mut text = Shown::new(alloc);
-    put!(text; named(name.as_bytes()) " is captured already, as record " value(&first))?;
+    put!(text; named(name.as_bytes()) " is captured already, as record ")?;
+    put_number(&mut text, first.volume, first.number)?;
     Ok(text)
 }
 
 /// Tells that a message is captured already, and its first record.
-pub(crate) fn tell_known(rt: &HostRuntime, name: &str, first: u32) {
+pub(crate) fn tell_known(rt: &HostRuntime, name: &str, first: FirstRecord) {
     if let Ok(text) = known_words(rt.alloc(), name, first) {
         tell(rt, &text);
     }

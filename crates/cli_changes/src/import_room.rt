@@ -1,45 +1,106 @@
 //! The room in which an import is made: files with old mail, a desk over an archive, and a log.
 
-ghost use Rattle.std.specs.Prelude.{◌≡◌, ℕ, List, IfErr, IfOk};
+ghost use Rattle.std.specs.Prelude.{◌≡◌, ℕ, List, false, true, IfErr, IfOk};
 ghost use Rattle.desk_commands.specs.Limits.{greatest_message};
 ghost use Rattle.desk_commands.specs.Payloads.{IsOf};
 ghost use Rattle.mail_intake.specs.declared.mailroom.Refusal.TheVariants.{Stays};
 ghost use Rattle.cli_changes.specs.Deliveries.{IsDelivered, IsDropped, IsLeft, IsLeftBy};
 ghost use Rattle.cli_changes.specs.Endings.{IsAnswer, IsGivenUp, IsRefusal};
-ghost use Rattle.cli_changes.specs.Imports.{Goes, IsHandedOver, IsQuiet, first_of};
+ghost use Rattle.cli_changes.specs.Imports.{
+  BeginsAfter,
+  Counts,
+  EndsSource,
+  Goes,
+  IsAtPlace,
+  IsHandedOver,
+  IsQuiet,
+  StopsFull,
+  TakesOne,
+  first_of,
+  round_by,
+};
 ghost use Rattle.cli_changes.specs.Rooms.{goes_none, goes_then};
+ghost use Rattle.cli_changes.specs.Spaces.{is_full as is_full_space};
 
 use crate::deliver::{desk_status, undecoded_in};
 use crate::fault_words::given_up_words;
 use crate::import::{MailImport, source_failure};
 use crate::import_log::{stay_words, tell_empty, tell_known, tell_maildirs, tell_undated};
+use crate::import_rounds::{ImportRounds, Reached};
 use crate::intake::maildir_failure;
 use crate::intake_room::{given_up, unfit, unread, words_of};
+use crate::rounds::Round;
+use crate::space::Place;
 use crate::time_limit::{TimeLimit, too_slow_reason};
 use class_plan::Plan;
-use cli_console::Failure;
+use cli_console::{Failure, Status};
 use cli_sources::payload_of_no_link;
 use desk_commands::{Capture, DeskFault, MAX_MESSAGE_OCTETS, Payload};
 use filing_desk::{Delivery, Desk, deliver};
 use mail_boxes::{BoxMessage, UndatedLines};
-use mail_import::{OldMailroom, Stay};
+use mail_import::{FirstRecord, OldMailroom, Progress, Stay};
 use mail_intake::{Reason, Refusal};
 use mail_sources::{BoxReader, MailFiles, PassedOver, Source, SourceFault};
 use record_archive::Records;
 use sieve_meaning::RunFault;
+use std::alloc::{AllocError, Global};
 use tool_texts::Shown;
 
 /// Files with old mail, the desk that captures it, and what is said of it.
 #[derive(Drop)]
 pub(crate) struct ImportRoom<'a, A> {
     job: MailImport<'a>,
+    /// Where it captures.
+    place: Place,
+    /// Whether the round ended since the volume is full.
+    is_full: bool,
     desk: Desk<A>,
     /// The plan of the archive; none where there is no memory for it.
     plan: Option<Plan>,
     /// How many messages are taken.
     taken: u64,
+    reached: Reached,
+    /// The files of the source, in an archive of volumes, where each round goes on with them.
+    files: Option<MailFiles>,
     /// Whether anything was said of a message.
     has_spoken: bool,
+}
+
+/// The files of a folder or a Maildir. The failure is that of the source.
+fn files_in(rt: &HostRuntime, source: Source<'_>) -> Result<MailFiles, Failure> {
+    let (path, files) = match source {
+        Source::Mbox(path) | Source::Folder(path) => (path, MailFiles::of_folder(rt, path)),
+        Source::Maildir(path) => (path, MailFiles::of_maildir(rt, path)),
+    };
+    files.map_err(|error| maildir_failure(rt, path, error))
+}
+
+/// Files of a source without the first so many.
+fn without_first(alloc: Global, files: &MailFiles, count: usize) -> Result<MailFiles, AllocError> {
+    let all = files.paths.as_slice();
+    let (_, left) = all.split_at(count.min(all.len()));
+    let mut paths = Vec::with_capacity(alloc, left.len())?;
+    for path in left {
+        paths.push(path.clone()?)?;
+    }
+    Ok(MailFiles {
+        paths,
+        nameless: files.nameless,
+    })
+}
+
+/// Passes over so many messages of the mbox at a path. The failure is that of the source.
+fn pass_messages(
+    rt: &HostRuntime,
+    mbox: &mut BoxReader,
+    path: &str,
+    count: usize,
+) -> Result<(), Failure> {
+    for _ in 0..count {
+        mbox.next_message()
+            .map_err(|error| maildir_failure(rt, path, error))?;
+    }
+    Ok(())
 }
 
 /// The octets of the file at a path.
@@ -52,37 +113,130 @@ fn octets_at(rt: &HostRuntime, path: &str) -> Result<Vec<u8>, Reason> {
     }
 }
 
-/// The number of the first record of a capture; none where the message was discarded.
-fn first_of(capture: &Capture) -> Option<u32>
-    ensures { result ≡ first_of capture.now }
+/// The first record of a capture in a volume, in an archive of volumes; none where the message was discarded.
+fn first_of(volume: Option<u32>, capture: &Capture) -> Option<FirstRecord>
+    ensures { result ≡ first_of volume capture.now }
 {
     match capture.lines.as_slice().first() {
-        Some(first) => Some(first.number),
+        Some(first) => Some(FirstRecord {
+            volume,
+            number: first.number,
+        }),
         None => None,
     }
 }
 
 impl<'a, A: Records> ImportRoom<'a, A> {
-    /// A room for old mail, in which nothing was done.
-    pub fn new(job: MailImport<'a>, desk: Desk<A>, plan: Option<Plan>) -> ImportRoom<'a, A>
-        ensures desk { result.desk ≡ desk }
-        ensures job { result.job ≡ job.entry }
+    /// A room for old mail, in which nothing was done but what was done in the rounds before, and what is known and counted by them.
+    pub fn new(
+        job: MailImport<'a>,
+        rounds: ImportRounds,
+        place: Place,
+        desk: Desk<A>,
+        plan: Option<Plan>,
+    ) -> (ImportRoom<'a, A>, Progress)
+        ensures desk { result.0.desk ≡ desk }
+        ensures job { result.0.job ≡ job.entry }
+        ensures place { result.0.place ≡ place }
+        ensures rounds { BeginsAfter rounds result.0 }
+        ensures progress { result.1 ≡ rounds.progress }
     {
-        ImportRoom {
+        let ImportRounds {
+            progress,
+            reached,
+            files,
+            has_spoken,
+            ..
+        } = rounds;
+        let taken = progress.tally.taken;
+        let room = ImportRoom {
             job,
+            place,
+            is_full: false,
             desk,
             plan,
-            taken: 0,
-            has_spoken: false,
+            taken,
+            reached,
+            files,
+            has_spoken,
+        };
+        (room, progress)
+    }
+
+    /// Gives the archive back, and says how a round over these sources ended that knows and counted so much: whether messages are left
+    /// for a next one, unless it failed.
+    pub fn into_round(
+        self,
+        sources: Vec<Source<'a>>,
+        progress: Progress,
+        done: Result<bool, Failure>,
+    ) -> (A, Result<Round<MailImport<'a>, ImportRounds>, Failure>)
+        ensures archive { result.0 ≡ self.entry.desk.store }
+        ensures round { result.1 ≡ round_by self.entry sources.entry progress done }
+    {
+        let ImportRoom {
+            job,
+            desk,
+            reached,
+            files,
+            has_spoken,
+            ..
+        } = self;
+        let archive = desk.into_store();
+        match done {
+            Err(failure) => (archive, Err(failure)),
+            Ok(is_left) => {
+                if !is_left {
+                    return (archive, Ok(Round::Done));
+                }
+                let mut job = job;
+                job.sources = sources;
+                let rounds = ImportRounds {
+                    progress,
+                    has_begun: true,
+                    reached,
+                    files,
+                    has_spoken,
+                };
+                (archive, Ok(Round::NextVolume(job, rounds)))
+            }
         }
     }
 
-    /// Gives the archive back.
-    pub fn into_archive(self) -> A
-        ensures { result ≡ self.entry.desk.store }
+    /// Whether the round ended since the volume is full.
+    pub fn is_full(&self) -> bool
+        ensures { result ≡ self.now.is_full }
     {
-        let ImportRoom { desk, .. } = self;
-        desk.into_store()
+        self.is_full
+    }
+
+    /// Lists the files of a source that the import begins with, or goes on with. In an archive of volumes each round has the same ones.
+    pub fn begin_source(&mut self, source: Source<'_>) -> Result<(), Failure>
+        ensures { IsQuiet self.old self.new }
+    {
+        match source {
+            Source::Mbox(_) => Ok(()),
+            Source::Folder(_) | Source::Maildir(_) => self.list_files(source),
+        }
+    }
+
+    /// Lists the files of a folder or a Maildir, in an archive of volumes, where they were not listed in a round before.
+    fn list_files(&mut self, source: Source<'_>) -> Result<(), Failure>
+        ensures { IsQuiet self.old self.new }
+    {
+        if self.place.volume.is_some() && self.files.is_none() {
+            let files = files_in(self.job.rt, source)?;
+            self.files = Some(files);
+        }
+        Ok(())
+    }
+
+    /// Goes on with the next source.
+    pub fn end_source(&mut self)
+        ensures { EndsSource self.old self.new }
+    {
+        self.reached.pass_source();
+        self.files = None;
     }
 
     /// Tells of scripts that are not used, before anything else is said.
@@ -108,6 +262,7 @@ impl<'a, A: Records> ImportRoom<'a, A> {
             self.old.job.filing.on_fault done self.new.desk) }
         ensures undelivered { IfErr result (λ e. self.new.desk ≡ self.old.desk) }
         ensures job { self.new.job ≡ self.old.job }
+        ensures place { IsAtPlace self.old self.new }
     {
         let mut time = TimeLimit::from_now(self.job.rt, self.job.filing.limit)?;
         let officer = self.job.filing.officer.as_bytes();
@@ -134,9 +289,10 @@ impl<'a, A: Records> ImportRoom<'a, A> {
             }
             _ => None,
         };
+        let volume = self.place.volume;
         self.job
             .log
-            .report(name, None, capture, undecoded, cause.as_ref());
+            .report(name, volume, capture, undecoded, cause.as_ref());
         self.taken = self.taken.saturating_add(1);
         self.job.log.show_progress(self.taken);
     }
@@ -158,6 +314,7 @@ impl<'a, A: Records> ImportRoom<'a, A> {
         ensures reason { result ≡ Stays reason }
         ensures dropped { IsDropped A.keeper self.old.desk self.new.desk }
         ensures job { self.new.job ≡ self.old.job }
+        ensures place { IsAtPlace self.old self.new }
     {
         self.desk.drop_flights();
         Refusal::Stays(reason)
@@ -168,6 +325,7 @@ impl<'a, A: Records> ImportRoom<'a, A> {
         ensures refusal { IsRefusal fault result }
         ensures left { IsLeftBy A.keeper result self.old.desk self.new.desk }
         ensures job { self.new.job ≡ self.old.job }
+        ensures place { IsAtPlace self.old self.new }
     {
         match desk_status(fault) {
             None => self.refused(Reason::NoMemory),
@@ -185,15 +343,17 @@ impl<'a, A: Records> ImportRoom<'a, A> {
         done: Result<Delivery, DeskFault>,
         octets: &[u8],
         undecoded: &[Shown],
-    ) -> Result<Option<u32>, Refusal<Failure>>
-        ensures answer { IsAnswer first_of done result }
+    ) -> Result<Option<FirstRecord>, Refusal<Failure>>
+        ensures answer { IsAnswer (first_of self.old.place.volume) done result }
         ensures left { IsLeft A.keeper result self.old.desk self.new.desk }
         ensures job { self.new.job ≡ self.old.job }
+        ensures place { IsAtPlace self.old self.new }
     {
         match done {
             Ok(Delivery::Captured(capture)) => {
+                let volume = self.place.volume;
                 self.report(name, &capture, octets, undecoded);
-                Ok(first_of(&capture))
+                Ok(first_of(volume, &capture))
             }
             Ok(Delivery::GivenUp(fault)) => {
                 let reason = self.faulty(octets, fault);
@@ -213,11 +373,12 @@ impl<'a, A: Records> ImportRoom<'a, A> {
         name: &str,
         moment: u64,
         octets: Vec<u8>,
-    ) -> Result<Option<u32>, Refusal<Failure>>
+    ) -> Result<Option<FirstRecord>, Refusal<Failure>>
         ensures desk { IsHandedOver A.keeper self.old.job.filing.officer.now
-            self.old.job.filing.on_fault moment octets.items result
+            self.old.job.filing.on_fault self.old.place.volume moment octets.items result
             self.old.desk self.new.desk }
         ensures job { self.new.job ≡ self.old.job }
+        ensures place { IsAtPlace self.old self.new }
     {
         let alloc = self.job.rt.alloc();
         let Ok(copy) = octets.clone() else {
@@ -228,6 +389,52 @@ impl<'a, A: Records> ImportRoom<'a, A> {
         match self.deliver_at(moment, message) {
             Ok(done) => self.answer_to(name, done, copy.as_slice(), undecoded.as_slice()),
             Err(failure) => Err(Refusal::Ends(failure)),
+        }
+    }
+
+    /// Counts a message of so many octets that was handed to the desk, with this answer.
+    fn count(&mut self, octets: usize, answer: &Result<Option<FirstRecord>, Refusal<Failure>>)
+        ensures { Counts octets answer.now self.old self.new }
+    {
+        match answer {
+            Ok(Some(_)) => {
+                self.reached.pass();
+                self.place.space.count(octets);
+            }
+            Ok(None) => self.reached.pass(),
+            Err(_) => {}
+        }
+    }
+
+    /// Hands a message to the desk, to be captured at a moment, while there is space in the volume. Else the round ends at it.
+    fn capture_while_space(
+        &mut self,
+        name: &str,
+        moment: u64,
+        octets: Vec<u8>,
+    ) -> Result<Option<FirstRecord>, Refusal<Failure>>
+        ensures full { is_full_space self.old.place.space ≡ true
+            → StopsFull self.old result self.new }
+        ensures taken { is_full_space self.old.place.space ≡ false
+            → TakesOne A.keeper self.old moment octets.items result self.new }
+    {
+        if self.place.space.is_full() {
+            self.is_full = true;
+            return Err(Refusal::Ends(Failure::Reported(Status::TryAgain)));
+        }
+        let length = octets.len();
+        let answer = self.hand_over(name, moment, octets);
+        self.count(length, &answer);
+        answer
+    }
+
+    /// Tells that a message is captured already, and its first record, where that is asked for.
+    fn say_known(&mut self, name: &str, first: FirstRecord)
+        ensures { IsQuiet self.old self.new }
+    {
+        if self.job.is_verbose {
+            self.speak();
+            tell_known(self.job.rt, name, first);
         }
     }
 }
@@ -246,11 +453,17 @@ impl<'a, A: Records> OldMailroom for ImportRoom<'a, A> {
 
     fn open(&self, path: &str) -> Result<BoxReader, Failure> {
         let rt = self.job.rt;
-        BoxReader::open(rt, path).map_err(|fault| source_failure(
+        let mut mbox = BoxReader::open(rt, path).map_err(|fault| source_failure(
             rt,
             path,
             SourceFault::from(fault),
-        ))
+        ))?;
+        pass_messages(rt, &mut mbox, path, self.reached.in_source())?;
+        Ok(mbox)
+    }
+
+    fn first_number(&self, _mbox: &BoxReader, _path: &str) -> u64 {
+        (self.reached.in_source() as u64).saturating_add(1)
     }
 
     fn next_message(
@@ -268,11 +481,10 @@ impl<'a, A: Records> OldMailroom for ImportRoom<'a, A> {
 
     fn files(&self, source: Source<'_>) -> Result<MailFiles, Failure> {
         let rt = self.job.rt;
-        let (path, files) = match source {
-            Source::Mbox(path) | Source::Folder(path) => (path, MailFiles::of_folder(rt, path)),
-            Source::Maildir(path) => (path, MailFiles::of_maildir(rt, path)),
-        };
-        files.map_err(|error| maildir_failure(rt, path, error))
+        match &self.files {
+            Some(files) => Ok(without_first(rt.alloc(), files, self.reached.in_source())?),
+            None => files_in(rt, source),
+        }
     }
 
     fn beside(&self, source: Source<'_>) -> Result<PassedOver, Failure> {
@@ -294,21 +506,20 @@ impl<'a, A: Records> OldMailroom for ImportRoom<'a, A> {
         name: &str,
         moment: u64,
         octets: Vec<u8>,
-    ) -> Result<Option<u32>, Refusal<Failure>> {
-        self.hand_over(name, moment, octets)
+    ) -> Result<Option<FirstRecord>, Refusal<Failure>> {
+        self.capture_while_space(name, moment, octets)
     }
 
     fn tell(&mut self, name: &str, why: &Stay) {
         self.speak();
+        self.reached.pass();
         let words = stay_words(self.job.terms.dating, why);
         self.job.log.name_one(name, words);
     }
 
-    fn tell_known(&mut self, name: &str, first: u32) {
-        if self.job.is_verbose {
-            self.speak();
-            tell_known(self.job.rt, name, first);
-        }
+    fn tell_known(&mut self, name: &str, first: FirstRecord) {
+        self.say_known(name, first);
+        self.reached.pass();
     }
 
     fn tell_nameless(&mut self, count: usize) {

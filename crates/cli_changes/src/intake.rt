@@ -1,14 +1,22 @@
 //! `intake`: the new messages of a Maildir.
 
-ghost use Rattle.std.specs.Prelude.{◌≡◌};
+ghost use Rattle.std.specs.Prelude.{◌≡◌, ◌==◌, length, not, IfErr, IfOk};
 ghost use Rattle.std.specs.IoError.{error_kind};
-ghost use Rattle.cli_changes.specs.Endings.{maildir_status, status_after as status_after_of, EndsWith, IsFailureOf};
+ghost use Rattle.record_ledger.specs.Ledgers.{keeper_of};
+ghost use Rattle.cli_changes.specs.Endings.{
+  EndsWith,
+  IsFailureOf,
+  IsOfMaildir,
+  maildir_status,
+  status_after as status_after_of,
+};
+ghost use Rattle.cli_changes.specs.Intakes.{GoesOnAfter, TakesRound};
 ghost use Rattle.cli_changes.specs.Rounds.{IsEndAfter};
 
 use crate::intake_log::IntakeLog;
 use crate::intake_memory::{forget, recall, renew};
 use crate::intake_room::Room;
-use crate::moments::{Timing, day_of_moment};
+use crate::moments::{Timing, day_of_moment, timing_in};
 use crate::rounds::{Round, Rounds, left_of, together};
 use crate::rules::FilingRules;
 use crate::space::Place;
@@ -146,6 +154,19 @@ fn mail_now(rt: &HostRuntime, maildir: &str, rounds: &Rounds) -> Result<(NewMail
     Ok((mail, moment))
 }
 
+/// How a round ended, unless it failed.
+fn ended_by<'j>(
+    done: Result<(), Failure>,
+    round: Round<Intake<'j>, Rounds>,
+) -> Result<Round<Intake<'j>, Rounds>, Failure>
+    ensures { IfOk result (λ r. r ≡ round.entry) }
+{
+    match done {
+        Ok(()) => Ok(round),
+        Err(failure) => Err(failure),
+    }
+}
+
 /// Takes messages over at a desk over an archive, in a round that begins at a moment.
 fn take_mail<'j, A: Records>(
     rt: &HostRuntime,
@@ -156,7 +177,9 @@ fn take_mail<'j, A: Records>(
     place: Place,
     mail: NewMail,
     moment: u64,
-) -> (A, Result<Round<'j>, Failure>) {
+) -> (A, Result<Round<Intake<'j>, Rounds>, Failure>)
+    ensures { IfOk result.1 (GoesOnAfter rounds) }
+{
     let is_told = rounds.begun.is_some();
     let begun = rounds.begun.unwrap_or(moment);
     let plan = archive.plan().copy().ok();
@@ -166,8 +189,9 @@ fn take_mail<'j, A: Records>(
     };
     let mut room = Room::new(job, rounds, place, desk, plan, timing, mail);
     let done = take_over(rt, &mut room, begun);
-    let (archive, round) = room.into_round(begun);
-    (archive, done.map(|()| round))
+    let ended = room.into_round(begun);
+    let (archive, round) = ended;
+    (archive, ended_by(done, round))
 }
 
 /// Takes the new messages over at a desk over an archive. Where there is none, no desk is made.
@@ -178,7 +202,9 @@ fn take_timed<'j, A: Records>(
     rounds: Rounds,
     timing: Timing,
     place: Place,
-) -> (A, Result<Round<'j>, Failure>) {
+) -> (A, Result<Round<Intake<'j>, Rounds>, Failure>)
+    ensures { IfOk result.1 (GoesOnAfter rounds) }
+{
     let (mail, moment) = match mail_now(rt, job.maildir, &rounds) {
         Ok(found) => found,
         Err(failure) => return (archive, Err(failure)),
@@ -200,16 +226,25 @@ pub fn take_new<'a, 'j, S: Alter>(
     job: Intake<'j>,
     rounds: Rounds,
     place: Place,
-) -> (StoreLedger<'a, S>, Result<Round<'j>, Failure>) {
+) -> (
+    StoreLedger<'a, S>,
+    Result<Round<Intake<'j>, Rounds>, Failure>,
+)
+    ensures { IfOk result.1
+        (TakesRound (keeper_of S.Store) job.entry.timing rounds archive.entry) }
+{
     let mut archive = archive;
-    let mut timing = job.timing;
-    match timing
-        .look(rt, &mut archive)
-        .and_then(|()| timing.moment(rt))
-    {
-        Ok(_) => take_timed(rt, archive, job, rounds, timing, place),
+    match timing_in(rt, &mut archive, job.timing) {
+        Ok(timing) => take_timed(rt, archive, job, rounds, timing, place),
         Err(failure) => (archive, Err(failure)),
     }
+}
+
+/// Whether messages have names among those that were listed.
+fn has_names(mail: &NewMail) -> bool
+    ensures { result ≡ not (length mail.now.names.items == 0) }
+{
+    !mail.names.is_empty()
 }
 
 /// Finds that a folder is a Maildir.
@@ -249,13 +284,13 @@ impl<'a> Intake<'a> {
     }
 
     /// Whether there is a new message. The failure is that of the Maildir.
-    pub fn has_mail(&self) -> Result<bool, Failure> {
-        let mail = new_mail(self.rt, self.maildir).map_err(|error| maildir_failure(
-            self.rt,
-            self.maildir,
-            error,
-        ))?;
-        Ok(!mail.names.is_empty())
+    pub fn has_mail(&self) -> Result<bool, Failure>
+        ensures { IfErr result IsOfMaildir }
+    {
+        match new_mail(self.rt, self.maildir) {
+            Ok(mail) => Ok(has_names(&mail)),
+            Err(error) => Err(maildir_failure(self.rt, self.maildir, error)),
+        }
     }
 
     /// A Maildir, how its messages are filed, and what is said of them. `Usage` where their moment is named and has not come;

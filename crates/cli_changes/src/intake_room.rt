@@ -222,7 +222,7 @@ impl<'a, A: Records> Room<'a, A> {
     }
 
     /// Gives the archive back, and says how the round ended, in an intake that began at a moment.
-    pub fn into_round(self, begun: u64) -> (A, Round<'a>)
+    pub fn into_round(self, begun: u64) -> (A, Round<Intake<'a>, Rounds>)
         ensures archive { result.0 ≡ self.entry.desk.store }
         ensures round { result.1 ≡ round_of self.entry begun self.entry.next }
     {

@@ -10,7 +10,7 @@
 //!   as the calls of `mail_intake`; `intake_log`: what is said of its messages; `intake_memory`: what was said on a day;
 //! - `rounds`: the rounds of an intake, one for each volume of an archive of volumes; `space`: what is left in a volume;
 //! - `import`: old mail; `import_room`: the files, the desk and the log of an import, as the calls of `mail_import`;
-//!   `import_log`: what is said of its messages; `no_mail`: what looks like no message;
+//!   `import_rounds`: its rounds; `import_log`: what is said of its messages; `no_mail`: what looks like no message;
 //! - `holds` and `whole_holds`: records that must not be destroyed, and the end of a hold on all of them; `keeping`: whether a
 //!   new plan keeps less;
 //! - `refile`: another class for records; `refilings`: which of them get it; `due_today`: what is due at once by a change;
@@ -41,6 +41,7 @@ mod holds;
 mod import;
 mod import_log;
 mod import_room;
+mod import_rounds;
 mod intake;
 mod intake_log;
 mod intake_memory;
@@ -73,6 +74,7 @@ pub use disposal_tally::DisposalTally;
 pub use dispose::{day_of_disposal, dispose_by, judge_disposal};
 pub use holds::{HoldChange, HoldTally, change_holds, end_holds, hold_found, is_held_by};
 pub use import::{MailImport, import_mail};
+pub use import_rounds::ImportRounds;
 pub use intake::{Intake, take_new};
 pub use keeping::keeps_less;
 pub use moments::{MomentFault, Timing, judge_moment, moment_in};

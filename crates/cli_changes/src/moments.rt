@@ -324,3 +324,19 @@ pub fn moment_in<R: Repository<Fault = StoreFault>>(
     timing.look(rt, archive)?;
     timing.moment(rt)
 }
+
+/// The same; answers by what the next moments are judged.
+pub(crate) fn timing_in<R: Repository<Fault = StoreFault>>(
+    rt: &HostRuntime,
+    archive: &mut R,
+    timing: Timing,
+) -> Result<Timing, Failure>
+    ensures reads { OnlyReads R.clean R.stands archive.old archive.new }
+    ensures judged { IfOk result (λ looked. (moment : ℕ)
+        × IsMomentBy R.clean R.stands timing archive.old archive.new moment) }
+{
+    let mut looked = timing;
+    looked.look(rt, archive)?;
+    looked.moment(rt)?;
+    Ok(looked)
+}

@@ -1,4 +1,4 @@
-//! The rounds of an intake: one for each volume into which it captures.
+//! The rounds of an intake, and of an import: one for each volume into which it captures.
 
 ghost use Rattle.std.specs.Prelude.{◌≡◌};
 ghost use Rattle.cli_changes.specs.Rounds.{
@@ -9,18 +9,17 @@ ghost use Rattle.cli_changes.specs.Rounds.{
   together,
 };
 
-use crate::intake::Intake;
 use mail_intake::{Tally, Told};
 use std::alloc::Global;
 use std::cmp::Ordering;
 
-/// How a round of an intake ended.
+/// How a round of an intake or an import ended.
 #[derive(Drop)]
-pub enum Round<'a> {
+pub enum Round<J, R> {
     /// Each message is taken, or stays.
     Done,
-    /// The volume is full, and what is left is for a round in the next one.
-    NextVolume(Intake<'a>, Rounds),
+    /// The volume is full, and what is left of a job is for a round in the next one, by what the rounds came to so far.
+    NextVolume(J, R),
 }
 
 /// What the rounds of an intake came to so far.

@@ -1,7 +1,13 @@
 //! The space that is left in a volume, into which mail is captured until the next one begins.
 
-ghost use Rattle.std.specs.Prelude.{◌≡◌, false};
-ghost use Rattle.cli_changes.specs.Spaces.{is_full as is_full_space, no_end, space_of, with_message};
+ghost use Rattle.std.specs.Prelude.{◌≡◌, false, nat_lt};
+ghost use Rattle.cli_changes.specs.Spaces.{
+  is_full as is_full_space,
+  no_end,
+  space_as_it_is,
+  space_of,
+  with_message,
+};
 
 /// How many octets are counted for what stands beside a message in the store. It is more than most need: where a round ends too early,
 /// the next one goes on in the same volume.
@@ -12,7 +18,7 @@ const BESIDE: u64 = 1_024;
 pub struct Space {
     /// How many octets a volume may get before it is over its size; none where the store is no volume.
     left: Option<u64>,
-    /// How many octets the messages have that were captured, with what stands beside them.
+    /// How many it has got: the octets of the messages that were captured, with what stands beside them.
     captured: u64,
 }
 
@@ -35,6 +41,17 @@ impl Space {
         Space {
             left: Some(size.saturating_sub(octets)),
             captured: 0,
+        }
+    }
+
+    /// That of a volume as it is, before which none is begun: none is left where it is over its size.
+    pub fn as_it_is(octets: u64, size: u64) -> Space
+        ensures space { result ≡ space_as_it_is octets size }
+        ensures full { is_full_space result ≡ nat_lt size octets }
+    {
+        Space {
+            left: Some(size),
+            captured: octets,
         }
     }
 

@@ -1,5 +1,5 @@
 -- What a work has made of an archive, in the words of a command.
-use Rattle.std.specs.Prelude.{Result, Ok, Err, OnOk, IfOk, IfSome, Option, None, Some, is_ok, option_map, string_bytes}
+use Rattle.std.specs.Prelude.{Result, Ok, Err, OnOk, IfOk, IfErr, IsErrAnd, IfSome, Option, None, Some, is_ok, option_map, string_bytes}
 use Rattle.std.specs.Borrow.{Bor}
 use Rattle.std.specs.declared.prelude.LibcRuntime.{LibcRuntime}
 use Rattle.std.proofs.Common.{◌≡◌, ◌∙◌, ℕ, List, [], Bool, ap, subst, sym, true, true≢false}
@@ -13,7 +13,10 @@ use Rattle.choice_words.specs.declared.typed.TypedChoice.{TypedChoice}
 use Rattle.record_ledger.specs.declared.ledger.Ledger.{Ledger}
 use Rattle.record_store.specs.declared.store.Store.{Store}
 use Rattle.cli_choice.specs.declared.questions.Questions.{Questions}
+use Rattle.cli_console.specs.Failures.{IsToldAs}
 use Rattle.cli_console.specs.declared.failure.Failure.{Failure}
+use Rattle.cli_console.specs.declared.failure.Failure.TheVariants.{NoMemory}
+use Rattle.cli_console.specs.declared.failure.Status.{Status}
 use Rattle.command_lines.specs.declared.archives.ChosenTask.{ChosenTask}
 use Rattle.command_lines.specs.declared.archives.ChosenTask.TheVariants as task
 use Rattle.command_lines.specs.declared.archives.Disposal.{Disposal}
@@ -47,6 +50,11 @@ on_any (Err failure) p = tt
 pub on_done : {X F P : Type 0} (result : Result X F) → is_ok result ≡ true → OnOk result P → P
 on_done (Ok x) well p = p
 on_done (Err failure) well p = absurd (true≢false (sym well))
+
+-- want of memory is told with any status
+pub told_of_memory : {T : Type 0} (r : Result T Failure) (status : Status) → IsErrAnd r (λ f. f ≡ NoMemory) → IfErr r (IsToldAs status)
+told_of_memory (Ok t) status is = tt
+told_of_memory (Err f) status is = subst (IsToldAs status) (sym is) tt
 
 -- an author with the name and the reason that are told
 pub told_both : {F : Type 0} (told : Attribution) (r : Result Author F)

@@ -7,4 +7,5 @@ pub mod BackLaws
 pub mod ReleaseLaws
 pub mod MoveLaws
 pub mod SettingLaws
+mod PlaceRows
 mod PurposeRows

@@ -1,7 +1,9 @@
 pub mod Works
 pub mod Numbers
+pub mod Places
 pub mod Purposes
 pub mod Changes
+pub mod Captured
 pub mod Commands
 pub mod Plans
 pub mod Releases

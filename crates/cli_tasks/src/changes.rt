@@ -343,13 +343,13 @@ pub struct TakeNew<'a, 'e, A> {
 }
 
 impl<'a, A: Archives> Work for TakeNew<'a, '_, A> {
-    type Answer = Round<'a>;
+    type Answer = Round<Intake<'a>, Rounds>;
 
     fn work<S: Alter>(
         self,
         rt: &HostRuntime,
         archive: Store<S>,
-    ) -> (Connection<S>, Result<Round<'a>, Failure>) {
+    ) -> (Connection<S>, Result<Round<Intake<'a>, Rounds>, Failure>) {
         let TakeNew {
             author,
             job,

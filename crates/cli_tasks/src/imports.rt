@@ -1,8 +1,13 @@
 //! Old mail that is captured.
 
+ghost use Rattle.std.specs.Prelude.{◌-◌, IfOk};
+ghost use Rattle.cli_tasks.specs.Captured.{KnowsVolumes, ShowsCaptured};
+
 use crate::archives::{Archives, Work, lend};
 use crate::changes::filing_of;
-use cli_changes::{MailImport, NamedRules, import_mail};
+use crate::rolling::place_for_import;
+use crate::volume_row::Volumes;
+use cli_changes::{ImportRounds, MailImport, NamedRules, Place, Round, import_mail};
 use cli_console::{Failure, Status};
 use cli_history::{Author, Purpose, captured_for, open_ledger};
 use command_lines::archives::{Attribution, Import};
@@ -10,61 +15,172 @@ use record_known::Known;
 use record_store::Store;
 use sqlite::{Alter, Connection};
 
-/// Captures old mail.
+/// The rules of an import, by which the history names the officer of each capture. Where they are at fault, which was told, nothing
+/// would be known of the captures later, so none is made: `TryAgain`.
+fn named_rules(rt: &HostRuntime, job: &MailImport<'_>) -> Result<NamedRules, Failure> {
+    match job.rules().named(rt.alloc())? {
+        Some(named) => Ok(named),
+        None => Err(Failure::Reported(Status::TryAgain)),
+    }
+}
+
+/// Looks which messages are captured for an officer already.
 #[derive(Drop)]
-struct ImportOld<'a> {
-    author: Author<'a>,
-    job: MailImport<'a>,
+struct LookForCaptured<'o> {
+    officer: &'o str,
 }
 
-impl ImportOld<'_> {
-    /// The rules, by which the history names the officer of each capture. Where they are at fault, which was told, nothing
-    /// would be known of the captures later, so none is made: `TryAgain`.
-    fn named(&self, rt: &HostRuntime) -> Result<NamedRules, Failure> {
-        match self.job.rules().named(rt.alloc())? {
-            Some(named) => Ok(named),
-            None => Err(Failure::Reported(Status::TryAgain)),
-        }
-    }
+impl Work for LookForCaptured<'_> {
+    type Answer = Known;
 
-    /// The rules, and what is captured by them already.
-    fn prepared<S: Alter>(
-        &self,
-        rt: &HostRuntime,
-        archive: &mut Store<S>,
-    ) -> Result<(NamedRules, Known), Failure> {
-        let named = self.named(rt)?;
-        let known = captured_for(rt, archive, named.officer.as_str())?;
-        Ok((named, known))
-    }
-}
-
-impl Work for ImportOld<'_> {
-    type Answer = ();
+    ghost does = { λ S g it before done after. IfOk done
+        (ShowsCaptured g it.officer.now before after) };
 
     fn work<S: Alter>(
         self,
         rt: &HostRuntime,
         archive: Store<S>,
-    ) -> (Connection<S>, Result<(), Failure>) {
+    ) -> (Connection<S>, Result<Known, Failure>) {
         let mut archive = archive;
-        let (named, known) = match self.prepared(rt, &mut archive) {
-            Ok(prepared) => prepared,
-            Err(failure) => return (archive.into_connection(), Err(failure)),
+        match captured_for(rt, &mut archive, self.officer) {
+            Ok(known) => (archive.into_connection(), Ok(known)),
+            Err(failure) => (archive.into_connection(), Err(failure)),
+        }
+    }
+}
+
+/// Notes which messages are captured for an officer already in the volumes of an archive from one on, up to the one before another.
+fn know_volumes<A: Archives>(
+    rt: &HostRuntime,
+    archives: &A,
+    folder: &str,
+    officer: &str,
+    from: u32,
+    to: u32,
+    rounds: ImportRounds,
+) -> Result<ImportRounds, Failure>
+    ensures { IfOk result (KnowsVolumes A.Kept.Store (A.is_at archives.now) folder.now officer.now
+        from (to - from) rounds) }
+{
+    let volumes = Volumes { folder, last: to };
+    let count = to.saturating_sub(from);
+    let mut rounds = rounds;
+    for done in 0..count {
+        let volume = from + done;
+        let known = volumes.lend(rt, archives, volume, LookForCaptured { officer })?;
+        rounds.know(Some(volume), known)?;
+    }
+    Ok(rounds)
+}
+
+/// Captures old mail, in a volume until it is full.
+#[derive(Drop)]
+struct ImportOld<'a> {
+    author: Author<'a>,
+    job: MailImport<'a>,
+    rounds: ImportRounds,
+    place: Place,
+}
+
+impl ImportOld<'_> {
+    /// The rules, once it is noted what is captured by them already.
+    fn prepared<S: Alter>(
+        &mut self,
+        rt: &HostRuntime,
+        archive: &mut Store<S>,
+    ) -> Result<NamedRules, Failure> {
+        let named = named_rules(rt, &self.job)?;
+        let known = captured_for(rt, archive, named.officer.as_str())?;
+        self.rounds.know(self.place.volume, known)?;
+        Ok(named)
+    }
+}
+
+impl<'a> Work for ImportOld<'a> {
+    type Answer = Round<MailImport<'a>, ImportRounds>;
+
+    fn work<S: Alter>(
+        self,
+        rt: &HostRuntime,
+        archive: Store<S>,
+    ) -> (
+        Connection<S>,
+        Result<Round<MailImport<'a>, ImportRounds>, Failure>,
+    ) {
+        let mut import = self;
+        let mut archive = archive;
+        let named = match import.prepared(rt, &mut archive) {
+            Ok(named) => Some(named),
+            Err(failure) => {
+                let failure = failure.in_volume(rt.alloc(), import.place.volume);
+                return (archive.into_connection(), Err(failure));
+            }
         };
-        let ImportOld { author, job } = self;
-        let named = Some(named);
+        let ImportOld {
+            author,
+            job,
+            rounds,
+            place,
+        } = import;
         let filing = filing_of(&named);
         let ledger = match open_ledger(rt, archive, &author, filing, Purpose::Capturing) {
             Ok(ledger) => ledger,
-            Err((archive, failure)) => return (archive.into_connection(), Err(failure)),
+            Err((archive, failure)) => {
+                let failure = failure.in_volume(rt.alloc(), author.volume());
+                return (archive.into_connection(), Err(failure));
+            }
         };
-        let (ledger, done) = import_mail(ledger, job, known);
+        let (ledger, done) = import_mail(ledger, job, rounds, place);
         (ledger.into_store().into_connection(), done)
     }
 }
 
-/// Captures old mail in a store that keeps a history.
+/// Notes which messages are captured already in the volumes before one, from this one on; none are before a store that is no volume.
+fn know_before<A: Archives>(
+    rt: &HostRuntime,
+    archives: &A,
+    store: &str,
+    job: &MailImport<'_>,
+    from: u32,
+    volume: Option<u32>,
+    rounds: ImportRounds,
+) -> Result<ImportRounds, Failure> {
+    match volume {
+        Some(volume) => {
+            let named = named_rules(rt, job)?;
+            let officer = named.officer.as_str();
+            know_volumes(rt, archives, store, officer, from, volume, rounds)
+        }
+        None => Ok(rounds),
+    }
+}
+
+/// Captures old mail in a round, in a place of a store or of a volume. What the volumes before have is noted of those from one on.
+fn import_round<'a, A: Archives>(
+    rt: &HostRuntime,
+    archives: &A,
+    store: &str,
+    work: ImportOld<'a>,
+    path: &str,
+    from: u32,
+) -> Result<Round<MailImport<'a>, ImportRounds>, Failure> {
+    let ImportOld {
+        author,
+        job,
+        rounds,
+        place,
+    } = work;
+    let rounds = know_before(rt, archives, store, &job, from, place.volume, rounds)?;
+    let work = ImportOld {
+        author,
+        job,
+        rounds,
+        place,
+    };
+    lend(rt, archives, path, work)
+}
+
+/// Captures old mail in a store that keeps a history, or in one volume after another of an archive whose volumes do.
 pub fn import<'a, A: Archives>(
     rt: &'a HostRuntime,
     archives: &A,
@@ -72,7 +188,34 @@ pub fn import<'a, A: Archives>(
     asked: &Import<'a>,
     told: &Attribution<'a>,
 ) -> Result<(), Failure> {
-    let author = Author::or_program(rt, told)?;
-    let job = MailImport::read(rt, asked)?;
-    lend(rt, archives, store, ImportOld { author, job })
+    let mut job = MailImport::read(rt, asked)?;
+    let mut rounds = ImportRounds::none(rt.alloc());
+    let mut from = 1;
+    for round in 0..u64::MAX {
+        let is_first = round == 0;
+        let (capturing, place) = place_for_import(
+            rt,
+            archives,
+            store,
+            told,
+            job.timing(),
+            is_first,
+        )?;
+        let author = Author::or_program(rt, told)?.in_volume(place.volume);
+        let work = ImportOld {
+            author,
+            job,
+            rounds,
+            place,
+        };
+        match import_round(rt, archives, store, work, capturing.path.as_str(), from)? {
+            Round::Done => return Ok(()),
+            Round::NextVolume(rest, so_far) => {
+                job = rest;
+                rounds = so_far;
+                from = place.volume.unwrap_or(from);
+            }
+        }
+    }
+    Ok(())
 }

@@ -17,9 +17,9 @@
 //! It knows nothing of files, so it is proved beside what opens them. In `specs/`, `Commands` says what a command line that
 //! changes records, holds or the plan makes of its archive, `Volumes` what it makes of an archive of volumes, with `Releases`, `Refiles`,
 //! `Disposals` and `Settings`, `Plans` what plan it has, `Numbers` how numbers are refused there, and what is asked of a volume, `Days` by
-//! which days the clock is judged there, `Changes` what a person changes, `Purposes` for what its ledger is opened, and `Works` what is done
-//! with an archive that is lent. Of the other commands, and of a terminal, no contract speaks: they are proved to be safe, and tests of
-//! the program show what they do.
+//! which days the clock is judged there, `Places` where messages are captured, `Captured` which messages its volumes have already,
+//! `Changes` what a person changes, `Purposes` for what its ledger is opened, and `Works` what is done with an archive that is lent. Of the
+//! other commands, and of a terminal, no contract speaks: they are proved to be safe, and tests of the program show what they do.
 #![tactic(auto)]
 
 mod archives;

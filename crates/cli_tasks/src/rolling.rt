@@ -1,5 +1,8 @@
 //! Archives of volumes that begin, and volumes that do.
 
+ghost use Rattle.std.specs.Prelude.{Some, IfOk};
+ghost use Rattle.cli_tasks.specs.Places.{IsForImport, IsIn, IsPlaceAsItIs, IsPlaceIn};
+
 use crate::archives::{Archives, Work, lend, not_made};
 use crate::drafts::{begin, begin_history, read_back};
 use crate::volume_days::Earlier;
@@ -454,7 +457,9 @@ pub fn place_for_capture<A: Archives>(
     store: &str,
     told: &Attribution<'_>,
     timing: Timing,
-) -> Result<Capturing, Failure> {
+) -> Result<Capturing, Failure>
+    ensures { IfOk result (IsIn store.now) }
+{
     if !has_volumes(rt, store)? {
         return Ok(Capturing {
             path: String::from_str(rt.alloc(), store)?,
@@ -477,7 +482,9 @@ pub fn place_for_capture<A: Archives>(
 }
 
 /// The last volume of an archive.
-fn place_of_last(rt: &HostRuntime, folder: &str) -> Result<Capturing, Failure> {
+fn place_of_last(rt: &HostRuntime, folder: &str) -> Result<Capturing, Failure>
+    ensures { IfOk result (IsIn folder.now) }
+{
     let row = row_in(rt, folder).map_err(|cause| no_volumes(rt, folder, cause))?;
     Ok(Capturing {
         path: path_of(rt.alloc(), folder, row.last)?,
@@ -492,32 +499,111 @@ pub fn place_for_intake<A: Archives>(
     store: &str,
     told: &Attribution<'_>,
     job: &Intake<'_>,
-) -> Result<Capturing, Failure> {
+) -> Result<Capturing, Failure>
+    ensures { IfOk result (IsIn store.now) }
+{
     if has_volumes(rt, store)? && !job.has_mail()? {
         return place_of_last(rt, store);
     }
     place_for_capture(rt, archives, store, told, job.timing())
 }
 
-/// The space that is left in a volume.
-fn space_in(rt: &HostRuntime, folder: &str, volume: u32) -> Result<Space, NoVolumes> {
-    let row = row_in(rt, folder)?;
-    let octets = octets_of(rt, folder, volume)?;
-    Ok(Space::of(octets, row.sheet.size))
+/// How many octets a volume has, and over how many a volume is over its size.
+fn measure(rt: &HostRuntime, folder: &str, volume: u32) -> Result<(u64, u64), Failure> {
+    let row = row_in(rt, folder).map_err(|cause| no_volumes(rt, folder, cause))?;
+    let octets = octets_of(rt, folder, volume).map_err(|cause| no_volumes(rt, folder, cause))?;
+    Ok((octets, row.sheet.size))
+}
+
+/// The place of captures in a volume of the archive in a folder, with the space that is left.
+fn place_in(rt: &HostRuntime, folder: &str, volume: u32) -> Result<Place, Failure>
+    ensures { IfOk result (IsPlaceIn (Some volume)) }
+{
+    let measured = measure(rt, folder, volume)?;
+    Ok(Place {
+        volume: Some(volume),
+        space: Space::of(measured.0, measured.1),
+    })
+}
+
+/// The same in a volume as it is.
+fn place_as_it_is(rt: &HostRuntime, folder: &str, volume: u32) -> Result<Place, Failure>
+    ensures { IfOk result (IsPlaceAsItIs (Some volume)) }
+{
+    let measured = measure(rt, folder, volume)?;
+    Ok(Place {
+        volume: Some(volume),
+        space: Space::as_it_is(measured.0, measured.1),
+    })
 }
 
 impl Capturing {
     /// The place of captures in a store at a path, or in a volume of the archive there, with the space that is left.
-    pub fn place(&self, rt: &HostRuntime, store: &str) -> Result<Place, Failure> {
-        let space = match self.volume {
-            Some(volume) => {
-                space_in(rt, store, volume).map_err(|cause| no_volumes(rt, store, cause))?
-            }
-            None => Space::unbounded(),
-        };
-        Ok(Place {
-            volume: self.volume,
-            space,
-        })
+    pub fn place(&self, rt: &HostRuntime, store: &str) -> Result<Place, Failure>
+        ensures { IfOk result (IsPlaceIn self.now.volume) }
+    {
+        match self.volume {
+            Some(volume) => place_in(rt, store, volume),
+            None => Ok(Place {
+                volume: None,
+                space: Space::unbounded(),
+            }),
+        }
     }
+
+    /// The same before a volume is begun: nothing is left in one that is over its size.
+    fn place_before(&self, rt: &HostRuntime, store: &str) -> Result<Place, Failure>
+        ensures { IfOk result (IsPlaceAsItIs self.now.volume) }
+    {
+        match self.volume {
+            Some(volume) => place_as_it_is(rt, store, volume),
+            None => Ok(Place {
+                volume: None,
+                space: Space::unbounded(),
+            }),
+        }
+    }
+}
+
+/// The last volume of an archive as it is, and the place there.
+fn place_at_first(rt: &HostRuntime, folder: &str) -> Result<(Capturing, Place), Failure>
+    ensures { IfOk result (λ found. IsForImport folder.now found.0 found.1) }
+{
+    let last = place_of_last(rt, folder)?;
+    let before = last.place_before(rt, folder)?;
+    Ok((last, before))
+}
+
+/// Where the next message is captured, and the place there.
+fn place_next<A: Archives>(
+    rt: &HostRuntime,
+    archives: &A,
+    store: &str,
+    told: &Attribution<'_>,
+    timing: Timing,
+) -> Result<(Capturing, Place), Failure>
+    ensures { IfOk result (λ found. IsForImport store.now found.0 found.1) }
+{
+    let capturing = place_for_capture(rt, archives, store, told, timing)?;
+    let place = capturing.place(rt, store)?;
+    Ok((capturing, place))
+}
+
+/// Where a round of an import captures. In an archive of volumes the first one is made in the last volume as it is, so that none is begun
+/// before there is a message for it; each later one where the next message is captured.
+pub fn place_for_import<A: Archives>(
+    rt: &HostRuntime,
+    archives: &A,
+    store: &str,
+    told: &Attribution<'_>,
+    timing: Timing,
+    is_first: bool,
+) -> Result<(Capturing, Place), Failure>
+    ensures { IfOk result (λ found. IsForImport store.now found.0 found.1) }
+{
+    let is_archive = has_volumes(rt, store)?;
+    if is_first && is_archive {
+        return place_at_first(rt, store);
+    }
+    place_next(rt, archives, store, told, timing)
 }

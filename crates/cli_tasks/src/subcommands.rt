@@ -234,7 +234,7 @@ fn take_round<'a, A: Archives>(
     job: Intake<'a>,
     rounds: Rounds,
     told: &Attribution<'a>,
-) -> Result<Round<'a>, Failure> {
+) -> Result<Round<Intake<'a>, Rounds>, Failure> {
     let author = Author::or_program(rt, told)?;
     let capturing = place_for_intake(rt, archives, store, told, &job)?;
     let place = capturing.place(rt, store)?;

@@ -1,7 +1,10 @@
 //! The volumes of an archive that a command is done over, one after another.
 
-ghost use Rattle.std.specs.Prelude.{◌≡◌, ◌≤◌, Ok, IfOk};
+ghost use Rattle.std.specs.Prelude.{◌≡◌, ◌≤◌, ℕ, false, true, string_bytes, None, Ok, Some, IfErr, IfOk};
+ghost use Rattle.cli_console.specs.Failures.{IsInVolume, IsToldAs};
+ghost use Rattle.cli_console.specs.declared.failure.Status.TheVariants.{BadData, Usage};
 ghost use Rattle.cli_tasks.specs.Commands.{IsTold};
+ghost use Rattle.cli_tasks.specs.Places.{IsPathOf, is_of_output};
 ghost use Rattle.cli_tasks.specs.Works.{InVolume};
 
 use crate::archives::{Archives, Work, settled};
@@ -34,12 +37,25 @@ pub fn author_in<'a>(
     Ok(Author::of(rt, told)?.in_volume(Some(volume)))
 }
 
-/// The same failure, which names the volume where it is told, unless it is one of standard output.
-pub fn failure_in(rt: &HostRuntime, failure: Failure, volume: u32) -> Failure {
+/// Whether a failure is one of standard output.
+fn is_of_output(failure: &Failure) -> bool
+    ensures { result ≡ is_of_output failure.now }
+{
     match failure {
-        Failure::Told(Status::NotWritten, text) => Failure::Told(Status::NotWritten, text),
-        failure => failure.in_volume(rt.alloc(), Some(volume)),
+        Failure::Told(status, _) => matches!(status, Status::NotWritten),
+        Failure::Closed | Failure::NoMemory | Failure::Reported(_) => false,
     }
+}
+
+/// The same failure, which names the volume where it is told, unless it is one of standard output.
+pub fn failure_in(rt: &HostRuntime, failure: Failure, volume: u32) -> Failure
+    ensures same { is_of_output failure ≡ true → result ≡ failure }
+    ensures named { is_of_output failure ≡ false → IsInVolume (Some volume) failure result }
+{
+    if is_of_output(&failure) {
+        return failure;
+    }
+    failure.in_volume(rt.alloc(), Some(volume))
 }
 
 /// What was done with a volume. A failure names it, as `failure_in` says.
@@ -93,9 +109,16 @@ impl<'a> Volumes<'a> {
         &self,
         rt: &HostRuntime,
         record: TypedNumber<'_>,
-    ) -> Result<String, Failure> {
+    ) -> Result<String, Failure>
+        ensures found { IfOk result (λ path. IsPathOf self.now.folder.now self.now.last
+            record.entry (string_bytes path)) }
+        ensures without { record.entry.volume ≡ None → IfErr result (IsToldAs Usage) }
+        ensures above { (v : ℕ) → record.entry.volume ≡ Some v
+            → IfErr result (IsToldAs BadData) }
+    {
         let volume = volume_of_record(rt, self.last, record)?;
-        Ok(path_of(rt.alloc(), self.folder, volume)?)
+        let found = path_of(rt.alloc(), self.folder, volume)?;
+        Ok(found)
     }
 
     /// The plan of the archive, which is that of its last volume.

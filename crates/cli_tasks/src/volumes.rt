@@ -38,7 +38,10 @@ pub fn is_over_volumes(
     command: &Command<'_>,
 ) -> Result<bool, AllocError> {
     match command {
-        Command::Create { .. } | Command::Deliver { .. } | Command::Intake { .. } => Ok(false),
+        Command::Create { .. }
+        | Command::Deliver { .. }
+        | Command::Intake { .. }
+        | Command::Import(_) => Ok(false),
         _ => has_volumes(rt, store),
     }
 }

@@ -87,12 +87,13 @@ module _ {M : Type 0} (goes : M → List Call → M → Type 0) (has : M → Mai
 
   -- an end between two findings, after what was done
   pub done_breaks : (Whole : Mail → List Finding → Type 0) (a b : M) (p q : Progress) (xs : List Finding) → Does goes has terms a p xs b q
-      → ((m : Mail) → has a m → (later : List Finding) × Whole m (xs ++ later)) → Breaks goes has terms Whole a p b
+      → ((m : Mail) → has a m → (later : List Finding) × Whole m (xs ++ later)) → Breaks goes has terms Whole a p b q
   done_breaks Whole a b p q xs h rest = record {
     findings = xs;
     between_room = b;
     between_progress = q;
     ending = between;
+    ends = refl;
     does = h;
     calls = only_none goes has none one_then b;
     right = λ first known. tt;
@@ -101,19 +102,20 @@ module _ {M : Type 0} (goes : M → List Call → M → Type 0) (has : M → Mai
 
   -- an end before anything was found
   pub breaks_at_once : (Whole : Mail → List Finding → Type 0) (a : M) (p : Progress) → ((m : Mail) → (later : List Finding) × Whole m later)
-      → Breaks goes has terms Whole a p a
+      → Breaks goes has terms Whole a p a p
   breaks_at_once Whole a p rest = done_breaks Whole a a p p [] (does_none a p) (λ m has_it. rest m)
 
   -- an end of what comes after what was done
-  pub then_breaks : (Part Whole : Mail → List Finding → Type 0) (a b c : M) (p q : Progress) (xs : List Finding)
-      → Does goes has terms a p xs b q → Breaks goes has terms Part b q c
+  pub then_breaks : (Part Whole : Mail → List Finding → Type 0) (a b c : M) (p q r : Progress) (xs : List Finding)
+      → Does goes has terms a p xs b q → Breaks goes has terms Part b q c r
       → ((m : Mail) → has a m → (ys : List Finding) → Part m ys → (later : List Finding) × Whole m (xs ++ (ys ++ later)))
-      → Breaks goes has terms Whole a p c
-  then_breaks Part Whole a b c p q xs h k rest = record {
+      → Breaks goes has terms Whole a p c r
+  then_breaks Part Whole a b c p q r xs h k rest = record {
     findings = xs ++ k.findings;
     between_room = k.between_room;
     between_progress = k.between_progress;
     ending = k.ending;
+    ends = k.ends;
     does = does_then a b k.between_room p q k.between_progress xs k.findings h k.does;
     calls = k.calls;
     right = k.right;
@@ -126,9 +128,9 @@ module _ {M : Type 0} (goes : M → List Call → M → Type 0) (has : M → Mai
         );
   }
 
-  pub takes_break : (Are Part Whole : Mail → List Finding → Type 0) (a b c : M) (p q : Progress) → TakesAll goes has terms Are a p b q
-      → Breaks goes has terms Part b q c
+  pub takes_break : (Are Part Whole : Mail → List Finding → Type 0) (a b c : M) (p q r : Progress) → TakesAll goes has terms Are a p b q
+      → Breaks goes has terms Part b q c r
       → ((m : Mail) (xs ys : List Finding) → Are m xs → Part m ys → (later : List Finding) × Whole m (xs ++ (ys ++ later)))
-      → Breaks goes has terms Whole a p c
-  takes_break Are Part Whole a b c p q h k rest =
-      then_breaks Part Whole a b c p q h.findings h.does k (λ m has_it ys. rest m h.findings ys (h.all m has_it))
+      → Breaks goes has terms Whole a p c r
+  takes_break Are Part Whole a b c p q r h k rest =
+      then_breaks Part Whole a b c p q r h.findings h.does k (λ m has_it ys. rest m h.findings ys (h.all m has_it))

@@ -1,3 +1,4 @@
+pub mod KnownLaws
 pub mod FindingLaws
 pub mod SourceLaws
 pub mod Taken

@@ -7,6 +7,7 @@ use Rattle.mail_dates.specs.declared.dating.Dated.TheVariants as moment
 use Rattle.mail_intake.specs.Calls.{given_up, unfit}
 use Rattle.mail_sources.specs.declared.sources.Source.{Source}
 use Rattle.record_history.specs.Events.{Seal}
+use Rattle.mail_import.specs.declared.known.FirstRecord.{FirstRecord}
 use Rattle.mail_import.specs.Calls.{capture, ended, read, refused, taken, tell, tell_empty, tell_known, tell_nameless, tell_undated}
 use Rattle.mail_import.specs.Fates.{because, fate_by, too_long, with_known}
 use Rattle.mail_import.specs.Findings.{AreOfBox, AreOfFiles, AreOfFolder, AreOfMbox, Finding, beside, boxed, boxed_name, captured, course}
@@ -17,20 +18,25 @@ use Rattle.mail_import.specs.Sources.{Mail}
 use Rattle.mail_import.specs.Tallies.{no_messages}
 use Rattle.mail_import.specs.declared.fate.Fate.TheVariants as fate
 
+-- a record of the second volume
+abbrev at : ℕ → FirstRecord
+at number = record { volume = Some 2; number = number }
+
 -- what becomes of a message, by its first record, whether messages are captured again, and its moment
-fates_are : map (λ (r : Option ℕ × Bool × Dated). fate_by r.0 r.1 r.2)
-    ((None, false, moment.Moment 7) ∷ (Some 3, false, moment.Moment 7) ∷ (Some 3, true, moment.Moment 7)
-    ∷ (None, false, moment.NoField) ∷ (Some 3, false, moment.NoField) ∷ (Some 3, true, moment.ToCome 9) ∷ [])
-    ≡ fate.Taken 7 ∷ fate.Known 3 ∷ fate.Taken 7
-    ∷ fate.Undated moment.NoField ∷ fate.Known 3 ∷ fate.Undated (moment.ToCome 9) ∷ []
+fates_are : map (λ (r : Option FirstRecord × Bool × Dated). fate_by r.0 r.1 r.2)
+    ((None, false, moment.Moment 7) ∷ (Some (at 3), false, moment.Moment 7) ∷ (Some (at 3), true, moment.Moment 7)
+    ∷ (None, false, moment.NoField) ∷ (Some (at 3), false, moment.NoField) ∷ (Some (at 3), true, moment.ToCome 9) ∷ [])
+    ≡ fate.Taken 7 ∷ fate.Known (at 3) ∷ fate.Taken 7
+    ∷ fate.Undated moment.NoField ∷ fate.Known (at 3) ∷ fate.Undated (moment.ToCome 9) ∷ []
 fates_are = refl
 
 abbrev tax : Seal
 tax = record { octets = 3; sum = codes "ab" }
 
 -- a message is known by its length and its sum
-known_are : map (with_known tax 7 (λ seal. None)) (tax ∷ record { octets = 4; sum = codes "ab" } ∷ record { octets = 3; sum = codes "ac" } ∷ [])
-    ≡ Some 7 ∷ None ∷ None ∷ []
+known_are : map (with_known tax (at 7) (λ seal. None))
+    (tax ∷ record { octets = 4; sum = codes "ab" } ∷ record { octets = 3; sum = codes "ac" } ∷ [])
+    ≡ Some (at 7) ∷ None ∷ None ∷ []
 known_are = refl
 
 named_is : boxed_name (codes "old.mbox") 12 ≡ codes "old.mbox:" ++ decimal 12
@@ -41,11 +47,11 @@ name number = boxed_name (codes "old.mbox") number
 
 -- an mbox of three messages, of which the second is captured already and the third has too many octets; it has two lines without a date
 abbrev in_mbox : List Finding
-in_mbox = message (name 1) (boxed (codes "tax")) (captured 7 (Some 3)) ∷ message (name 2) (boxed (codes "tax")) (known 3)
+in_mbox = message (name 1) (boxed (codes "tax")) (captured 7 (Some (at 3))) ∷ message (name 2) (boxed (codes "tax")) (known (at 3))
     ∷ message (name 3) oversized (stays too_long) ∷ undated_lines (codes "old.mbox") 9 2 ∷ []
 
 calls_of_mbox : flat_map course in_mbox
-    ≡ capture (name 1) 7 (codes "tax") (taken (Some 3)) ∷ tell_known (name 2) 3
+    ≡ capture (name 1) 7 (codes "tax") (taken (Some (at 3))) ∷ tell_known (name 2) (at 3)
     ∷ tell (name 3) too_long ∷ tell_undated (codes "old.mbox") 9 2 ∷ []
 calls_of_mbox = refl
 
@@ -92,6 +98,7 @@ undated_are = refl
 abbrev mail : Mail
 mail = record {
   messages = λ path. Some (codes "tax") ∷ Some (codes "tax") ∷ None ∷ [];
+  first = λ path. 1;
   undated = λ path. 9 ∷ 12 ∷ [];
   paths = λ source. codes "old/a.eml" ∷ codes "old/b.eml" ∷ codes "old/c.eml" ∷ [];
   nameless = λ source. 2;
@@ -103,7 +110,7 @@ mail = record {
 are_of_mbox : AreOfMbox (codes "old.mbox") mail in_mbox
 unfolding AreOfBox
 are_of_mbox = (
-  message (name 1) (boxed (codes "tax")) (captured 7 (Some 3)) ∷ message (name 2) (boxed (codes "tax")) (known 3)
+  message (name 1) (boxed (codes "tax")) (captured 7 (Some (at 3))) ∷ message (name 2) (boxed (codes "tax")) (known (at 3))
       ∷ message (name 3) oversized (stays too_long) ∷ [],
   ((refl, refl), ((refl, refl), ((refl, refl), tt))),
   refl,
@@ -122,7 +129,7 @@ are_of_folder source = (
 -- ---- an end before the end
 
 last_are : map last_course (between ∷ at_message (name 1) (boxed (codes "tax")) 7 ended
-    ∷ at_message (codes "old/a.eml") (filed (codes "rent")) 8 (taken (Some 4)) ∷ [])
+    ∷ at_message (codes "old/a.eml") (filed (codes "rent")) 8 (taken (Some (at 4))) ∷ [])
     ≡ [] ∷ (capture (name 1) 7 (codes "tax") ended ∷ [])
-    ∷ (read (codes "old/a.eml") (Ok (codes "rent")) ∷ capture (codes "old/a.eml") 8 (codes "rent") (taken (Some 4)) ∷ []) ∷ []
+    ∷ (read (codes "old/a.eml") (Ok (codes "rent")) ∷ capture (codes "old/a.eml") 8 (codes "rent") (taken (Some (at 4))) ∷ []) ∷ []
 last_are = refl

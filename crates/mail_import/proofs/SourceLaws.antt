@@ -1,7 +1,7 @@
 -- The messages of mboxes, of files and of sources: some of them, and then others.
-use Rattle.std.proofs.Common.{◌≡◌, ◌<◌, ℕ, suc, ◌+◌, List, [], ◌∷◌, ◌++◌, Option, Some, None, take, drop, get_or, length, refl, sym, ap, ◌∙◌}
+use Rattle.std.proofs.Common.{◌≡◌, ◌<◌, ◌≤◌, ℕ, suc, ◌+◌, List, [], ◌∷◌, ◌++◌, Option, Some, None, take, drop, get_or, length, refl, sym, ap, ◌∙◌}
 use Rattle.std.proofs.Common.{subst, append_assoc, append-nil, length-append, arith}
-use Rattle.std.proofs.lemmas.List.{take_more}
+use Rattle.std.proofs.lemmas.List.{length-take-le, take-append-drop, take_more}
 use Rattle.std.proofs.Math.Seq.{split_at}
 use Rattle.mail_boxes.specs.Boxes.{message_view}
 use Rattle.mail_boxes.specs.Undated.{first_of}
@@ -13,7 +13,7 @@ use Rattle.mail_import.specs.Fates.{too_long}
 use Rattle.mail_import.specs.Findings.{AreOfBox, AreOfFiles, AreOfFolder, AreOfMbox, AreOfSource, AreOfSources, IsBoxed, IsFiled, IsOfBox}
 use Rattle.mail_import.specs.Findings.{IsOfFile, IsOne}
 use Rattle.mail_import.specs.Findings.{Finding, beside, boxed_name, end_of, filed, found_of, message, rest_of, stays, undated_lines, undated_of}
-use Rattle.mail_import.specs.Sources.{Mail, count_of}
+use Rattle.mail_import.specs.Sources.{IsWithout, Mail, count_of}
 
 -- ---- of an mbox
 
@@ -42,63 +42,82 @@ one_boxed path number x xs (s ∷ []) ts h k = (h, k)
 one_boxed path number x xs (s ∷ t ∷ ss) ts h k = absurd h
 
 -- the messages that were found, and then one, and then others
-boxed_split : (path : List ℕ) (found : List (Option (List ℕ))) (x : Option (List ℕ)) (xs : List (Option (List ℕ))) (seen ss ts : List Finding)
-    → AreOfBox path 1 found seen → IsOne (IsOfBox path (1 + length found) x) ss → AreOfBox path (1 + length found + 1) xs ts
-    → AreOfBox path 1 (found ++ x ∷ xs) (seen ++ (ss ++ ts))
-boxed_split path found x xs seen ss ts h is k =
-    boxed_then path 1 found (x ∷ xs) seen (ss ++ ts) h (one_boxed path (1 + length found) x xs ss ts is k)
+boxed_split : (path : List ℕ) (number : ℕ) (found : List (Option (List ℕ))) (x : Option (List ℕ)) (xs : List (Option (List ℕ)))
+    (seen ss ts : List Finding) → AreOfBox path number found seen → IsOne (IsOfBox path (number + length found) x) ss
+    → AreOfBox path (number + length found + 1) xs ts → AreOfBox path number (found ++ x ∷ xs) (seen ++ (ss ++ ts))
+boxed_split path number found x xs seen ss ts h is k =
+    boxed_then path number found (x ∷ xs) seen (ss ++ ts) h (one_boxed path (number + length found) x xs ss ts is k)
 
-pub boxed_none : (path : List ℕ) → AreOfBox path 1 [] []
+pub boxed_none : (path : List ℕ) (number : ℕ) → AreOfBox path number [] []
 unfolding AreOfBox
-boxed_none path = tt
+boxed_none path number = tt
 
-boxed_more : (path : List ℕ) (found : List (Option (List ℕ))) (x : Option (List ℕ)) (seen ss : List Finding) → AreOfBox path 1 found seen
-    → IsOne (IsOfBox path (1 + length found) x) ss → AreOfBox path 1 (found ++ x ∷ []) (seen ++ ss)
+boxed_more : (path : List ℕ) (number : ℕ) (found : List (Option (List ℕ))) (x : Option (List ℕ)) (seen ss : List Finding)
+    → AreOfBox path number found seen → IsOne (IsOfBox path (number + length found) x) ss → AreOfBox path number (found ++ x ∷ []) (seen ++ ss)
 unfolding AreOfBox
-boxed_more path found x seen ss h is =
-    subst (λ l. AreOfBox path 1 (found ++ x ∷ []) (seen ++ l)) (append-nil ss) (boxed_split path found x [] seen ss [] h is tt)
+boxed_more path number found x seen ss h is =
+    subst (λ l. AreOfBox path number (found ++ x ∷ []) (seen ++ l)) (append-nil ss) (boxed_split path number found x [] seen ss [] h is tt)
 
 -- where an import of an mbox ends before its end: after some messages
-mbox_from : (m : Mail) (path : List ℕ) (found rest : List (Option (List ℕ))) (seen : List Finding) → AreOfBox path 1 found seen
+mbox_from : (m : Mail) (path : List ℕ) (found rest : List (Option (List ℕ))) (seen : List Finding) → AreOfBox path (m.first path) found seen
     → m.messages path ≡ found ++ rest → (later : List Finding) × AreOfMbox path m (seen ++ later)
 mbox_from m path found rest seen h is =
-    let unseen = unseen_of_box path (1 + length found) rest in
+    let unseen = unseen_of_box path (m.first path + length found) rest in
     let last = undated_of path (m.undated path) in (
       unseen.0 ++ last,
       (
         seen ++ unseen.0,
-        subst (λ l. AreOfBox path 1 l (seen ++ unseen.0)) (sym is) (boxed_then path 1 found rest seen unseen.0 h unseen.1),
+        subst (λ l. AreOfBox path (m.first path) l (seen ++ unseen.0)) (sym is)
+            (boxed_then path (m.first path) found rest seen unseen.0 h unseen.1),
         sym (append_assoc seen unseen.0 last),
       ),
     )
 
 pub unseen_of_mbox : (path : List ℕ) (m : Mail) → (later : List Finding) × AreOfMbox path m later
-unseen_of_mbox path m = mbox_from m path [] (m.messages path) [] (boxed_none path) refl
+unseen_of_mbox path m = mbox_from m path [] (m.messages path) [] (boxed_none path (m.first path)) refl
 
 -- or at the one after these
 mbox_at : (m : Mail) (path : List ℕ) (found : List (Option (List ℕ))) (x : Option (List ℕ)) (rest : List (Option (List ℕ)))
-    (seen ss : List Finding) → AreOfBox path 1 found seen → m.messages path ≡ found ++ x ∷ rest → IsBoxed path (1 + length found) x m ss
+    (seen ss : List Finding) → AreOfBox path (m.first path) found seen → m.messages path ≡ found ++ x ∷ rest
+    → IsBoxed path (m.first path + length found) x m ss
     → (later : List Finding) × AreOfMbox path m (seen ++ (ss ++ later))
 mbox_at m path found x rest seen ss h is one =
-    let unseen = unseen_of_box path (1 + length found + 1) rest in
+    let unseen = unseen_of_box path (m.first path + length found + 1) rest in
     let last = undated_of path (m.undated path) in (
       unseen.0 ++ last,
       (
         seen ++ (ss ++ unseen.0),
-        subst (λ l. AreOfBox path 1 l (seen ++ (ss ++ unseen.0))) (sym is)
-            (boxed_split path found x rest seen ss unseen.0 h one unseen.1),
+        subst (λ l. AreOfBox path (m.first path) l (seen ++ (ss ++ unseen.0))) (sym is)
+            (boxed_split path (m.first path) found x rest seen ss unseen.0 h one unseen.1),
         ap (λ l. seen ++ l) (sym (append_assoc ss unseen.0 last)) ∙ sym (append_assoc seen (ss ++ unseen.0) last),
       ),
     )
 
 -- an mbox whose messages were all found
-mbox_whole : (m : Mail) (path : List ℕ) (found : List (Option (List ℕ))) (seen last : List Finding) → AreOfBox path 1 found seen
+mbox_whole : (m : Mail) (path : List ℕ) (found : List (Option (List ℕ))) (seen last : List Finding) → AreOfBox path (m.first path) found seen
     → m.messages path ≡ found ++ [] → last ≡ undated_of path (m.undated path) → AreOfMbox path m (seen ++ last)
 mbox_whole m path found seen last h is lines = (
   seen,
-  subst (λ l. AreOfBox path 1 l seen) (sym (is ∙ append-nil found)) h,
+  subst (λ l. AreOfBox path (m.first path) l seen) (sym (is ∙ append-nil found)) h,
   ap (λ l. seen ++ l) lines,
 )
+
+-- what was found of its first messages, and then of those that are left, is what is found of all
+pub mbox_joined : (path : List ℕ) (count : ℕ) (whole left : Mail) (xs ys : List Finding) → count ≤ length (whole.messages path)
+    → IsWithout path count whole left → AreOfBox path (whole.first path) (take count (whole.messages path)) xs → AreOfMbox path left ys
+    → AreOfMbox path whole (xs ++ ys)
+mbox_joined path count whole left xs ys low h found rest =
+    let all = whole.messages path in
+    let number = whole.first path in
+    let next : left.first path ≡ number + length (take count all) = h.first ∙ ap (λ n. number + n) (sym (length-take-le count all low)) in
+    let last = undated_of path (whole.undated path) in (
+      xs ++ rest.0,
+      subst (λ l. AreOfBox path number l (xs ++ rest.0)) (take-append-drop count all)
+          (boxed_then path number (take count all) (drop count all) xs rest.0 found
+          (subst (λ n. AreOfBox path n (drop count all) rest.0) next
+          (subst (λ l. AreOfBox path (left.first path) l rest.0) h.messages rest.1))),
+      ap (λ l. xs ++ l) (rest.2 ∙ ap (λ l. rest.0 ++ undated_of path l) h.undated) ∙ sym (append_assoc xs rest.0 last),
+    )
 
 -- ---- an mbox that is read
 
@@ -107,8 +126,8 @@ pub record IsFound {B : Type 0} (left : B → List ℕ → List (Option (List �
     (m : Mail) : Type 0 where
   pub found : List (Option (List ℕ))
   pub rest : List (Option (List ℕ))
-  pub are : AreOfBox path 1 found seen
-  pub counted : number ≡ 1 + length found
+  pub are : AreOfBox path (m.first path) found seen
+  pub counted : number ≡ m.first path + length found
   pub messages : m.messages path ≡ found ++ rest
   pub to_come : left mbox path rest
 
@@ -150,7 +169,7 @@ module _ {B : Type 0} (left : B → List ℕ → List (Option (List ℕ)) → Ty
         let next = next_some found box now.rest (left after path) is (to_next now.rest now.to_come) in record {
           found = now.found ++ message_view box ∷ [];
           rest = next.0;
-          are = boxed_more path now.found (message_view box) seen ss now.are
+          are = boxed_more path (m.first path) now.found (message_view box) seen ss now.are
               (subst (λ n. IsBoxed path n (message_view box) m ss) now.counted one);
           counted = omega (arith, length-append now.found (message_view box ∷ []), now.counted);
           messages = now.messages ∙ ap (λ l. now.found ++ l) next.1 ∙ sym (append_assoc now.found (message_view box ∷ []) next.0);
@@ -200,6 +219,12 @@ pub filed_more : (m : Mail) (xs : List (List ℕ)) (x : List ℕ) (seen ss : Lis
 filed_more m xs x seen ss h is =
     subst (λ l. AreOfFiles (xs ++ x ∷ []) m (seen ++ l)) (append-nil ss)
     (filed_then m xs (x ∷ []) seen (ss ++ []) h (one_filed m x [] ss [] is (filed_none m)))
+
+-- what was found of the first files, and then of the others, is what is found of all
+pub files_joined : (paths : List (List ℕ)) (count : ℕ) (m : Mail) (xs ys : List Finding) → AreOfFiles (take count paths) m xs
+    → AreOfFiles (drop count paths) m ys → AreOfFiles paths m (xs ++ ys)
+files_joined paths count m xs ys h k =
+    subst (λ l. AreOfFiles l m (xs ++ ys)) (take-append-drop count paths) (filed_then m (take count paths) (drop count paths) xs ys h k)
 
 -- where an import of files ends before its end: at one of them
 pub files_at : (m : Mail) (all xs : List (List ℕ)) (x : List ℕ) (rest : List (List ℕ)) (seen ss : List Finding) → AreOfFiles xs m seen

@@ -125,30 +125,32 @@ module _ {M : Type 0} (goes : M → List Call → M → Type 0) (has : M → Mai
   }
 
   -- an import that ends at a message of an mbox, or of a file
-  pub breaks_boxed : (a b : M) (p : Progress) (path : List ℕ) (number : ℕ) (name octets : List ℕ) → name ≡ boxed_name path number
-      → EndsAt goes has terms a p name octets b → Breaks goes has terms (IsBoxed path number (Some octets)) a p b
-  breaks_boxed a b p path number name octets named h = record {
+  pub breaks_boxed : (a b : M) (p q : Progress) (path : List ℕ) (number : ℕ) (name octets : List ℕ) → name ≡ boxed_name path number
+      → EndsAt goes has terms a p name octets b q → Breaks goes has terms (IsBoxed path number (Some octets)) a p b q
+  breaks_boxed a b p q path number name octets named h = record {
     findings = [];
     between_room = a;
     between_progress = p;
     ending = at_message name (boxed octets) h.moment h.answer;
+    ends = h.ends;
     does = does_none goes has none one_then terms a p;
     calls = h.calls;
-    right = λ first known. (h.ends, h.right first known);
+    right = h.right;
     beginning = λ m has_it. (message name (boxed octets) (stays too_long) ∷ [], (refl, refl), (named, refl));
   }
 
-  pub breaks_filed : (a b c : M) (p : Progress) (name octets : List ℕ) → OnlyMakes goes has a b (read name (Ok octets) ∷ [])
-      → ((m : Mail) → has a m → octets ≡ m.octets name) → EndsAt goes has terms b p name octets c
-      → Breaks goes has terms (IsFiled name) a p c
-  breaks_filed a b c p name octets looks found h = record {
+  pub breaks_filed : (a b c : M) (p q : Progress) (name octets : List ℕ) → OnlyMakes goes has a b (read name (Ok octets) ∷ [])
+      → ((m : Mail) → has a m → octets ≡ m.octets name) → EndsAt goes has terms b p name octets c q
+      → Breaks goes has terms (IsFiled name) a p c q
+  breaks_filed a b c p q name octets looks found h = record {
     findings = [];
     between_room = a;
     between_progress = p;
     ending = at_message name (filed octets) h.moment h.answer;
+    ends = h.ends;
     does = does_none goes has none one_then terms a p;
     calls = only_then goes has none one_then a b c _ _ looks h.calls;
-    right = λ first known. (h.ends, h.right first known);
+    right = h.right;
     beginning = λ m has_it. (message name (filed octets) (stays too_long) ∷ [], (refl, refl), (refl, found m has_it));
   }
 

@@ -7,16 +7,17 @@ use Rattle.mail_intake.specs.Calls.{Cause, cause_of}
 use Rattle.mail_intake.specs.declared.mailroom.Refusal.{Refusal}
 use Rattle.mail_intake.specs.declared.mailroom.Refusal.TheVariants.{Stays, Ends}
 use Rattle.mail_intake.specs.declared.reason.Reason.{Reason}
+use Rattle.mail_import.specs.declared.known.FirstRecord.{FirstRecord}
 use Rattle.mail_import.specs.Fates.{Why}
 
 -- what the archive answers to a message: it is captured, with its first record unless its rules discarded it; it stays for a
 -- reason; or nothing more can be captured
 pub data Answer : Type 0 where
-  taken : (first : Option ℕ) → Answer
+  taken : (first : Option FirstRecord) → Answer
   refused : Cause → Answer
   ended : Answer
 
-abbrev pub answer_of : {F : Type 0} → Result (Option ℕ) (Refusal F) → Answer
+abbrev pub answer_of : {F : Type 0} → Result (Option FirstRecord) (Refusal F) → Answer
 answer_of (Ok first) = taken first
 answer_of (Err (Stays why)) = refused (cause_of why)
 answer_of (Err (Ends fault)) = ended
@@ -35,7 +36,7 @@ pub data Call : Type 0 where
   -- It is told that a message stays, and why.
   tell : (name : List ℕ) (why : Why) → Call
   -- It is told that a message is captured already, and its first record.
-  tell_known : (name : List ℕ) (first : ℕ) → Call
+  tell_known : (name : List ℕ) (first : FirstRecord) → Call
   -- It is told how many messages stay since their names are no UTF-8.
   tell_nameless : (count : ℕ) → Call
   -- It is told that a folder has no message.

@@ -9,8 +9,10 @@ use Rattle.mail_dates.specs.declared.dating.Dated.TheVariants as moment
 use Rattle.mail_intake.specs.Calls.{Cause, cause_of}
 use Rattle.record_history.specs.Events.{Seal}
 use Rattle.record_history.specs.Replay.{seal}
-use Rattle.record_known.specs.Known.{Key, record_of}
-use Rattle.record_known.specs.declared.known.Known.{Known as KnownMail}
+use Rattle.record_known.specs.Known.{Key}
+use Rattle.mail_import.specs.Known.{first_record}
+use Rattle.mail_import.specs.declared.known.AllKnown.{AllKnown}
+use Rattle.mail_import.specs.declared.known.FirstRecord.{FirstRecord}
 use Rattle.mail_import.specs.declared.message.Terms.{Terms}
 use Rattle.mail_import.specs.declared.fate.Fate.{Fate}
 use Rattle.mail_import.specs.declared.fate.Fate.TheVariants as fate
@@ -38,7 +40,7 @@ by_moment moment.NoDate = fate.Undated moment.NoDate
 by_moment (moment.ToCome m) = fate.Undated (moment.ToCome m)
 
 -- A MESSAGE THAT IS CAPTURED ALREADY, as this record, is passed over, unless it is to be captured again
-abbrev pub fate_by : Option ℕ → (is_again : Bool) → Dated → Fate
+abbrev pub fate_by : Option FirstRecord → (is_again : Bool) → Dated → Fate
 fate_by None is_again dated = by_moment dated
 fate_by (Some first) is_again dated = if is_again then by_moment dated else fate.Known first
 
@@ -48,13 +50,13 @@ unless (Some why) f = fate.NoMail why
 
 -- which messages are captured already: the first record of the one with a seal, if it is
 abbrev pub FirstRecords : Type 0
-FirstRecords = Seal → Option ℕ
+FirstRecords = Seal → Option FirstRecord
 
 abbrev pub seal_in : Key → Seal
 seal_in k = record { octets = k.1; sum = k.0.items }
 
-abbrev pub Knows : KnownMail → FirstRecords → Type 0
-Knows known first = (k : Key) → record_of known k ≡ first (seal_in k)
+abbrev pub Knows : AllKnown → FirstRecords → Type 0
+Knows known first = (k : Key) → first_record known k ≡ first (seal_in k)
 
 -- WHAT BECOMES OF A MESSAGE of these octets: it stays if they are no message; it is passed over if one of its length and SHA-256 is
 -- captured already; and else it is captured at the moment that it gets, or stays where it gets none
@@ -67,5 +69,5 @@ abbrev pub is_seal : Seal → Seal → Bool
 is_seal s t = bytes_eq s.sum t.sum && (s.octets == t.octets)
 
 -- what is known with one more message, of this seal, whose first record is this one
-abbrev pub with_known : Seal → ℕ → FirstRecords → FirstRecords
+abbrev pub with_known : Seal → FirstRecord → FirstRecords → FirstRecords
 with_known s n first = λ t. if is_seal s t then Some n else first t

@@ -6,6 +6,7 @@ use Rattle.mail_intake.specs.Calls.{Cause, no_memory}
 use Rattle.mail_sources.specs.declared.sources.Source.{Source}
 use Rattle.mail_sources.specs.declared.sources.Source.TheVariants.{Mbox, Folder, Maildir}
 use Rattle.record_history.specs.Replay.{seal}
+use Rattle.mail_import.specs.declared.known.FirstRecord.{FirstRecord}
 use Rattle.mail_import.specs.Calls.{Call, read, capture, tell, tell_known, tell_nameless, tell_empty, tell_undated, taken, refused}
 use Rattle.mail_import.specs.Fates.{FirstRecords, Why, no_mail, undated, too_long, because, decided, with_known}
 use Rattle.mail_import.specs.Sources.{Mail, count_of}
@@ -31,9 +32,9 @@ pub data Outcome : Type 0 where
   -- It stays, and is not handed to the archive.
   stays : (why : Why) → Outcome
   -- It is passed over, since it is captured already as this record.
-  known : (first : ℕ) → Outcome
+  known : (first : FirstRecord) → Outcome
   -- It is captured at this moment, with this first record unless its rules discarded it.
-  captured : (moment : ℕ) (first : Option ℕ) → Outcome
+  captured : (moment : ℕ) (first : Option FirstRecord) → Outcome
   -- It is handed to the archive to be captured at this moment, which did not take it.
   turned_away : (moment : ℕ) (why : Cause) → Outcome
 
@@ -171,7 +172,7 @@ rest_of path paths count =
 -- ---- of the mail that the files have
 
 abbrev pub AreOfMbox : (path : List ℕ) → Mail → List Finding → Type 0
-AreOfMbox path m ss = (messages : List Finding) × AreOfBox path 1 (m.messages path) messages
+AreOfMbox path m ss = (messages : List Finding) × AreOfBox path (m.first path) (m.messages path) messages
     × (ss ≡ messages ++ undated_of path (m.undated path))
 
 abbrev pub IsOfFile : (path : List ℕ) → Mail → Finding → Type 0

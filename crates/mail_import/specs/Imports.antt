@@ -10,13 +10,6 @@ use Rattle.mail_import.specs.declared.fate.Fate.TheVariants as fate
 use Rattle.mail_import.specs.declared.message.Progress.{Progress}
 use Rattle.mail_import.specs.declared.message.Terms.{Terms}
 
--- an answer to a capture after which an import cannot go on: nothing more can be captured, or there is no memory to know what was
-abbrev pub IsEnd : Answer → Type 0
-IsEnd ended = Unit {0}
-IsEnd (taken (Some first)) = Unit {0}
-IsEnd (taken None) = ⊥
-IsEnd (refused why) = ⊥
-
 -- where an import ends before its end: between two messages, or as a message was to be captured
 pub data Ending : Type 0 where
   between : Ending
@@ -36,11 +29,24 @@ EndsBefore (at_message name found moment answer) [] = ⊥
 EndsBefore (at_message name found moment answer) (message n f o ∷ rest) = (n ≡ name) × (f ≡ found)
 EndsBefore (at_message name found moment answer) (_ ∷ rest) = ⊥
 
+-- AN ANSWER TO A CAPTURE ENDS AN IMPORT: nothing more can be captured, and what is known and counted is what was before this message, so
+-- that the import can be gone on with; or there is no memory to know what was captured
+abbrev pub EndsBy : Answer → (before after : Progress) → Type 0
+EndsBy ended before after = after ≡ before
+EndsBy (taken (Some first)) before after = Unit {0}
+EndsBy (taken None) before after = ⊥
+EndsBy (refused why) before after = ⊥
+
+-- the same of an end between two messages, or at one
+abbrev pub EndsSo : Ending → (before after : Progress) → Type 0
+EndsSo between before after = after ≡ before
+EndsSo (at_message name found moment answer) before after = EndsBy answer before after
+
 module _ (terms : Terms) where
   abbrev pub IsEnding : FirstRecords → Ending → Type 0
   IsEnding first between = Unit {0}
-  IsEnding first (at_message name (filed octets) moment answer) = IsEnd answer × (decided terms first octets ≡ fate.Taken moment)
-  IsEnding first (at_message name (boxed octets) moment answer) = IsEnd answer × (decided terms first octets ≡ fate.Taken moment)
+  IsEnding first (at_message name (filed octets) moment answer) = decided terms first octets ≡ fate.Taken moment
+  IsEnding first (at_message name (boxed octets) moment answer) = decided terms first octets ≡ fate.Taken moment
   IsEnding first (at_message name found moment answer) = ⊥
 
 module _ {M : Type 0} (goes : M → List Call → M → Type 0) (has : M → Mail → Type 0) (terms : Terms) where
@@ -51,10 +57,10 @@ module _ {M : Type 0} (goes : M → List Call → M → Type 0) (has : M → Mai
     pub right : (first : FirstRecords) → Knows p.known first → Agrees (decided terms first octets) o × Knows q.known (known_by octets o first)
 
   -- or the import ends at it
-  pub record EndsAt (room : M) (p : Progress) (name octets : List ℕ) (after : M) : Type 0 where
+  pub record EndsAt (room : M) (p : Progress) (name octets : List ℕ) (after : M) (q : Progress) : Type 0 where
     pub moment : ℕ
     pub answer : Answer
-    pub ends : IsEnd answer
+    pub ends : EndsBy answer p q
     pub calls : OnlyMakes goes has room after (capture name moment octets answer ∷ [])
     pub right : (first : FirstRecords) → Knows p.known first → decided terms first octets ≡ fate.Taken moment
 
@@ -73,11 +79,12 @@ module _ {M : Type 0} (goes : M → List Call → M → Type 0) (has : M → Mai
 
   -- AN IMPORT ENDS BEFORE ITS END: this was found and done, and it stays done. It is a beginning of all of which this holds, so nothing was
   -- left out, and what comes next is the message at which it ended
-  pub record Breaks (Are : Mail → List Finding → Type 0) (room : M) (p : Progress) (after : M) : Type 0 where
+  pub record Breaks (Are : Mail → List Finding → Type 0) (room : M) (p : Progress) (after : M) (q : Progress) : Type 0 where
     pub findings : List Finding
     pub between_room : M
     pub between_progress : Progress
     pub ending : Ending
+    pub ends : EndsSo ending between_progress q
     pub does : Does room p findings between_room between_progress
     pub calls : OnlyMakes goes has between_room after (last_course ending)
     pub right : (first : FirstRecords) → Knows between_progress.known first → IsEnding terms first ending

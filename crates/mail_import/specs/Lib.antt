@@ -1,3 +1,4 @@
+pub mod Known
 pub mod Fates
 pub mod Tallies
 pub mod Calls

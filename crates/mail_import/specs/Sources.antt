@@ -1,5 +1,5 @@
 -- Which mail the files have.
-use Rattle.std.specs.Prelude.{◌≡◌, ◌-◌, ◌^◌, ℕ, min, length, List, map, Option, string_bytes}
+use Rattle.std.specs.Prelude.{◌≡◌, ◌+◌, ◌-◌, ◌^◌, ℕ, min, length, List, drop, map, Option, string_bytes}
 use Rattle.mail_boxes.specs.Undated.{first_of}
 use Rattle.mail_boxes.specs.declared.undated.UndatedLines.{UndatedLines}
 use Rattle.mail_sources.specs.declared.files.MailFiles.{MailFiles}
@@ -9,8 +9,10 @@ use Rattle.mail_import.specs.Calls.{Call}
 
 -- old mail in files
 pub record Mail : Type 0 where
-  -- the messages of the mbox at a path, in order; none for one that is too long
+  -- the messages of the mbox at a path that are to be taken, in order; none for one that is too long
   pub messages : (path : List ℕ) → List (Option (List ℕ))
+  -- the number of the first one of these
+  pub first : (path : List ℕ) → ℕ
   -- the numbers of those of its lines that look like separators and have no date, in order
   pub undated : (path : List ℕ) → List ℕ
   -- the paths of the files of a folder or Maildir that have a message each, in order
@@ -22,6 +24,12 @@ pub record Mail : Type 0 where
   pub folders : Source → ℕ
   -- the octets of the file at a path
   pub octets : (path : List ℕ) → List ℕ
+
+-- THE MBOX AT A PATH GIVES THE MESSAGES THAT ARE LEFT after the first so many, under their numbers
+pub record IsWithout (path : List ℕ) (count : ℕ) (whole left : Mail) : Type 0 where
+  pub messages : left.messages path ≡ drop count (whole.messages path)
+  pub first : left.first path ≡ whole.first path + count
+  pub undated : left.undated path ≡ whole.undated path
 
 pub record IsListing (m : Mail) (source : Source) (files : MailFiles) : Type 0 where
   pub paths : map string_bytes files.paths.items ≡ m.paths source

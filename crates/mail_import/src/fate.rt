@@ -4,12 +4,13 @@ ghost use Rattle.std.specs.Prelude.{◌≡◌, IfOk};
 ghost use Rattle.record_history.specs.Replay.{seal};
 ghost use Rattle.mail_import.specs.Fates.{FirstRecords, Knows, decided, fate_by, seal_in};
 
+use crate::known::{AllKnown, FirstRecord};
 use crate::message::Terms;
 use mail_boxes::{NoMail, judge_message};
 use mail_dates::{Dated, date_message};
 use mail_intake::Reason;
 use record_history::seal_of;
-use record_known::{Known, SealKey, key_of};
+use record_known::{SealKey, key_of};
 use std::alloc::{AllocError, Global};
 
 /// Why a message stays.
@@ -29,7 +30,7 @@ pub enum Stay {
 #[derive(Drop)]
 pub(crate) enum Fate {
     /// It is captured already, and this is its first record.
-    Known(u32),
+    Known(FirstRecord),
     /// It stays, since its octets are none of a message.
     NoMail(NoMail),
     /// It stays, since it has no moment.
@@ -40,7 +41,7 @@ pub(crate) enum Fate {
 
 /// What becomes of a message that is captured already as the record `first`, or not yet, and has this moment or none. One that is
 /// captured already is passed over, unless it is to be captured again.
-fn fate_by(first: Option<u32>, is_again: bool, dated: Dated) -> Fate
+fn fate_by(first: Option<FirstRecord>, is_again: bool, dated: Dated) -> Fate
     ensures { result ≡ fate_by first is_again dated }
 {
     match first {
@@ -63,7 +64,7 @@ fn key_in(alloc: Global, octets: &[u8]) -> Result<SealKey, AllocError>
 pub(crate) fn judge(
     alloc: Global,
     terms: &Terms,
-    known: &Known,
+    known: &AllKnown,
     octets: &[u8],
 ) -> Result<(SealKey, Fate), AllocError>
     ensures seal { IfOk result (λ found. seal_in found.0 ≡ seal octets.now) }

@@ -34,7 +34,8 @@ fn take_boxed<M: OldMailroom>(
         (IsBoxed path.now number (message_view message))
         room.old progress.old room.new progress.new) }
     ensures ended { OnErr result (Breaks M.goes M.has terms.now
-        (IsBoxed path.now number (message_view message)) room.old progress.old room.new) }
+        (IsBoxed path.now number (message_view message))
+        room.old progress.old room.new progress.new) }
 {
     let name = boxed_name(alloc, path, number)?;
     match message {
@@ -57,7 +58,7 @@ fn take_file<M: OldMailroom>(
     ensures taken { OnOk result (TakesAll M.goes M.has terms.now (IsFiled path.now)
         room.old progress.old room.new progress.new) }
     ensures ended { OnErr result (Breaks M.goes M.has terms.now (IsFiled path.now)
-        room.old progress.old room.new) }
+        room.old progress.old room.new progress.new) }
 {
     match room.read(path) {
         Ok(octets) => take(alloc, room, terms, progress, path, octets),
@@ -92,10 +93,11 @@ fn take_mbox<M: OldMailroom>(
     ensures taken { OnOk result (TakesAll M.goes M.has terms.now (AreOfMbox path.now)
         room.old progress.old room.new progress.new) }
     ensures ended { OnErr result (Breaks M.goes M.has terms.now (AreOfMbox path.now)
-        room.old progress.old room.new) }
+        room.old progress.old room.new progress.new) }
 {
     let mut mbox = room.open(path)?;
-    for number in 1..u64::MAX {
+    let first = room.first_number(&mbox, path);
+    for number in first..u64::MAX {
         let Some(message) = room.next_message(&mut mbox, path)? else {
             tell_undated(room, &mbox, path);
             return Ok(());
@@ -116,7 +118,7 @@ fn take_files<M: OldMailroom>(
     ensures taken { OnOk result (TakesAll M.goes M.has terms.now
         (AreOfFiles (map string_bytes paths.now)) room.old progress.old room.new progress.new) }
     ensures ended { OnErr result (Breaks M.goes M.has terms.now
-        (AreOfFiles (map string_bytes paths.now)) room.old progress.old room.new) }
+        (AreOfFiles (map string_bytes paths.now)) room.old progress.old room.new progress.new) }
 {
     for path in paths {
         take_file(alloc, room, terms, progress, path.as_str())?;
@@ -151,7 +153,7 @@ fn take_folder<M: OldMailroom>(
     ensures taken { OnOk result (TakesAll M.goes M.has terms.now (AreOfFolder source.entry path.now)
         room.old progress.old room.new progress.new) }
     ensures ended { OnErr result (Breaks M.goes M.has terms.now (AreOfFolder source.entry path.now)
-        room.old progress.old room.new) }
+        room.old progress.old room.new progress.new) }
 {
     let files = room.files(source)?;
     take_files(alloc, room, terms, progress, files.paths.as_slice())?;
@@ -172,13 +174,12 @@ fn take_source<M: OldMailroom>(
     ensures taken { OnOk result (TakesAll M.goes M.has terms.now (AreOfSource source.entry)
         room.old progress.old room.new progress.new) }
     ensures ended { OnErr result (Breaks M.goes M.has terms.now (AreOfSource source.entry)
-        room.old progress.old room.new) }
+        room.old progress.old room.new progress.new) }
 {
     match source {
         Source::Mbox(path) => take_mbox(alloc, room, terms, progress, path),
-        Source::Folder(path) | Source::Maildir(path) => {
-            take_folder(alloc, room, terms, progress, source, path)
-        }
+        Source::Folder(path) => take_folder(alloc, room, terms, progress, source, path),
+        Source::Maildir(path) => take_folder(alloc, room, terms, progress, source, path),
     }
 }
 
@@ -198,7 +199,7 @@ pub fn import_sources<M: OldMailroom>(
     ensures taken { OnOk result (TakesAll M.goes M.has terms.now (AreOfSources sources.now)
         room.old progress.old room.new progress.new) }
     ensures ended { OnErr result (Breaks M.goes M.has terms.now (AreOfSources sources.now)
-        room.old progress.old room.new) }
+        room.old progress.old room.new progress.new) }
 {
     for source in sources {
         take_source(alloc, room, terms, progress, *source)?;

@@ -5,18 +5,19 @@ ghost use Rattle.record_history.specs.Replay.{seal};
 ghost use Rattle.mail_import.specs.Calls as call;
 ghost use Rattle.mail_import.specs.Calls.{Answer};
 ghost use Rattle.mail_import.specs.Fates.{FirstRecords, Knows, decided, seal_in, why_of};
-ghost use Rattle.mail_import.specs.Imports.{EndsAt, IsEnd, Takes};
+ghost use Rattle.mail_import.specs.Imports.{EndsAt, EndsBy, Takes};
 ghost use Rattle.mail_import.specs.Findings.{Agrees, Outcome, acts, captured, counted, known_by};
 ghost use Rattle.mail_import.specs.Sources.{OnlyMakes};
 ghost use Rattle.mail_import.specs.Tallies.{one_more, with_staying};
 ghost use Rattle.mail_import.specs.declared.fate.Fate.TheVariants as fate;
 
 use crate::fate::{Fate, Stay, judge};
+use crate::known::{AllKnown, FirstRecord};
 use crate::room::OldMailroom;
 use crate::tally::ImportTally;
 use mail_dates::Dating;
 use mail_intake::{Reason, Refusal};
-use record_known::{Known, SealKey};
+use record_known::SealKey;
 use std::alloc::{AllocError, Global};
 
 /// How it is decided what becomes of messages.
@@ -33,7 +34,7 @@ pub struct Terms {
 #[derive(Drop)]
 pub struct Progress {
     /// What is captured already.
-    pub known: Known,
+    pub known: AllKnown,
     /// What became of the messages so far.
     pub tally: ImportTally,
 }
@@ -50,7 +51,7 @@ pub(crate) fn leave<M: OldMailroom>(room: &mut M, progress: &mut Progress, name:
 }
 
 /// Passes over a message that is captured already.
-fn pass_over<M: OldMailroom>(room: &mut M, progress: &mut Progress, name: &str, first: u32)
+fn pass_over<M: OldMailroom>(room: &mut M, progress: &mut Progress, name: &str, first: FirstRecord)
     ensures calls { OnlyMakes M.goes M.has room.old room.new
         (call.tell_known name.now first ∷ []) }
     ensures tally { progress.new.tally ≡
@@ -62,13 +63,13 @@ fn pass_over<M: OldMailroom>(room: &mut M, progress: &mut Progress, name: &str, 
 }
 
 /// Notes that a message with this seal is captured, and its first record; none where its rules discarded it.
-fn note(progress: &mut Progress, key: SealKey, first: Option<u32>) -> Result<(), AllocError>
+fn note(progress: &mut Progress, key: SealKey, first: Option<FirstRecord>) -> Result<(), AllocError>
     ensures known { (octets : List ℕ) (before : FirstRecords) → seal_in key ≡ seal octets
         → Knows progress.old.known before → OnOk result (Knows progress.new.known
         (known_by octets (captured 0 first) before)) }
     ensures tally { OnOk result (progress.new.tally ≡
         record progress.old.tally { taken = one_more progress.old.tally.taken }) }
-    ensures refused { OnErr result (IsEnd (call.taken first)) }
+    ensures refused { OnErr result (EndsBy (call.taken first) progress.old progress.new) }
 {
     progress.tally.count_taken();
     match first {
@@ -91,7 +92,7 @@ fn hand_over<M: OldMailroom>(
         × (progress.new.tally ≡ counted o progress.old.tally)
         × ((first : FirstRecords) → seal_in key ≡ seal octets.items → Knows progress.old.known first
         → Knows progress.new.known (known_by octets.items o first))) }
-    ensures ended { OnErr result ((answer : Answer) × IsEnd answer
+    ensures ended { OnErr result ((answer : Answer) × EndsBy answer progress.old progress.new
         × OnlyMakes M.goes M.has room.old room.new
         (call.capture name.now moment octets.items answer ∷ [])) }
 {
@@ -119,7 +120,8 @@ pub(crate) fn take<M: OldMailroom>(
         × Takes M.goes M.has terms.now room.old progress.old name.now octets.items o
         room.new progress.new) }
     ensures ended { OnErr result
-        (EndsAt M.goes M.has terms.now room.old progress.old name.now octets.items room.new) }
+        (EndsAt M.goes M.has terms.now room.old progress.old name.now octets.items
+        room.new progress.new) }
 {
     let Ok((key, fate)) = judge(alloc, terms, &progress.known, octets.as_slice()) else {
         leave(room, progress, name, Stay::For(Reason::NoMemory));

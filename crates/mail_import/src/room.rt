@@ -7,6 +7,7 @@ ghost use Rattle.mail_import.specs.Fates.{why_of};
 ghost use Rattle.mail_import.specs.Sources.{AreLines, IsBeside, IsListing, Mail, OnlyMakes};
 
 use crate::fate::Stay;
+use crate::known::FirstRecord;
 use mail_boxes::{BoxMessage, UndatedLines};
 use mail_intake::{Reason, Refusal};
 use mail_sources::{MailFiles, PassedOver, Source};
@@ -34,6 +35,10 @@ pub trait OldMailroom {
     fn open(&self, path: &str) -> Result<Self::Mbox, Self::Fault>
         ensures opened { IfOk result (λ mbox. (m : Mail) → has self.now m
             → left mbox path.now (m.messages path.now)) };
+
+    /// The number of the first message that an mbox which was opened at a path gives. It is 1, unless those before it are taken.
+    fn first_number(&self, mbox: &Self::Mbox, path: &str) -> u64
+        ensures { (m : Mail) → has self.now m → result ≡ m.first path.now };
 
     /// The next message of the mbox that was opened at a path; none at its end.
     fn next_message(
@@ -74,7 +79,7 @@ pub trait OldMailroom {
         name: &str,
         moment: u64,
         octets: Vec<u8>,
-    ) -> Result<Option<u32>, Refusal<Self::Fault>>
+    ) -> Result<Option<FirstRecord>, Refusal<Self::Fault>>
         ensures call { OnlyMakes goes has self.old self.new
             (call.capture name.now moment octets.items (answer_of result) ∷ []) };
 
@@ -84,7 +89,7 @@ pub trait OldMailroom {
             (call.tell name.now (why_of why.now) ∷ []) };
 
     /// Tells that a message is captured already, and its first record.
-    fn tell_known(&mut self, name: &str, first: u32)
+    fn tell_known(&mut self, name: &str, first: FirstRecord)
         ensures call { OnlyMakes goes has self.old self.new
             (call.tell_known name.now first ∷ []) };
 

@@ -29,7 +29,7 @@ returns-in_err-take_source-clause-ended g c =
     let all = c.args.sources.now in
     let i = c.loop-source.source-index in
     on_err _ _ (takes_break goes has none and_then terms (AreOfSources (take i all)) (AreOfSource (get_or all i _)) (AreOfSources all) c.args.room.now
-    c.loop-source.room c.take_source.new.room c.args.progress.now c.loop-source.progress c.loop-source.invariant
+    c.loop-source.room c.take_source.new.room c.args.progress.now c.loop-source.progress c.take_source.new.progress c.loop-source.invariant
     c.in_err-take_source.ensures.ended (source_last all i _ c.loop-source-test.true))
 
 pub loop-source-preserved : goal.loop-source-preserved

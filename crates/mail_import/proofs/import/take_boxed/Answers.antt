@@ -49,8 +49,9 @@ returns-in-Whole-clause-ended g c =
     let named : c.as_str.result.now ≡ boxed_name path number = c.as_str.ensures.value ∙ c.in_ok-name.ensures in
     on_err_by _ _ c.take.result (λ h.
     subst (λ (w : BoxMessage). Breaks goes has terms (IsBoxed path number (message_view w)) c.args.room.now c.args.progress.now
-    c.take.new.room) (sym c.in-Whole.is)
-    (breaks_boxed goes has none and_then terms c.args.room.now c.take.new.room c.args.progress.now path number c.as_str.result.now
+    c.take.new.room c.take.new.progress) (sym c.in-Whole.is)
+    (breaks_boxed goes has none and_then terms c.args.room.now c.take.new.room c.args.progress.now c.take.new.progress path number
+    c.as_str.result.now
     c.in-Whole.octets.items
     named h)) c.take.ensures.ended
 

@@ -21,8 +21,8 @@ returns-in-Ok-clause-ended g c =
     let and_then = g.met.M.OldMailroom.goes_then in
     let terms = c.args.terms.now in
     on_err_by _ _ c.take.result (λ h.
-    breaks_filed goes has none and_then terms c.args.room.now c.read.new.self c.take.new.room c.args.progress.now c.args.path.now c.in-Ok.octets.items
-    c.in-Ok.ensures.call c.in-Ok.ensures.found h) c.take.ensures.ended
+    breaks_filed goes has none and_then terms c.args.room.now c.read.new.self c.take.new.room c.args.progress.now c.take.new.progress
+    c.args.path.now c.in-Ok.octets.items c.in-Ok.ensures.call c.in-Ok.ensures.found h) c.take.ensures.ended
 
 pub returns-in-Err-clause-taken : goal.returns-in-Err-clause-taken
 returns-in-Err-clause-taken g c =

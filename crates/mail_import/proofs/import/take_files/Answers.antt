@@ -32,7 +32,7 @@ returns-in_err-take_file-clause-ended g c =
     let name = c.as_str.result.now in
     on_err _ _ (takes_break goes has none and_then terms (AreOfFiles before) (IsFiled name) (AreOfFiles (map string_bytes paths)) c.args.room.now
     c.loop-path.room
-    c.take_file.new.room c.args.progress.now c.loop-path.progress c.loop-path.invariant c.in_err-take_file.ensures.ended
+    c.take_file.new.room c.args.progress.now c.loop-path.progress c.take_file.new.progress c.loop-path.invariant c.in_err-take_file.ensures.ended
     (λ (m : Mail) (xs ys : List Finding) are one.
     files_at m (map string_bytes paths) before name (map string_bytes (drop (suc i) paths)) xs ys are
     (names_split string_bytes paths i c.path-item.result name c.path-item.is c.as_str.ensures.value c.loop-path-test.true) one))

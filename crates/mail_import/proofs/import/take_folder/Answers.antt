@@ -25,7 +25,7 @@ returns-in_err-take_files-clause-ended g c =
     let terms = c.args.terms.now in
     on_err _ _ (then_breaks goes has none and_then terms (AreOfFiles (map string_bytes c.as_slice.result.now)) (AreOfFolder c.args.source
     c.args.path.now)
-    c.args.room.now c.args.room.now c.take_files.new.room c.args.progress.now c.args.progress.now []
+    c.args.room.now c.args.room.now c.take_files.new.room c.args.progress.now c.args.progress.now c.take_files.new.progress []
     (does_none goes has none and_then terms c.args.room.now c.args.progress.now) c.in_err-take_files.ensures.ended (λ (m : Mail) h (ys : List Finding)
     are.
     let listed = c.in_ok-files.ensures.listed m h in (

@@ -1,4 +1,4 @@
-use Rattle.std.proofs.Common.{[], ◌++◌, List, refl}
+use Rattle.std.proofs.Common.{[], ◌++◌, List, refl, arith}
 use Rattle.mail_boxes.specs.Boxes.{message_view}
 use Rattle.mail_import.specs.Findings.{AreOfMbox, Finding, IsBoxed}
 use Rattle.mail_import.specs.Sources.{Mail}
@@ -29,8 +29,8 @@ loop-number-init g c =
       λ (m : Mail) h. record {
         found = [];
         rest = m.messages c.args.path.now;
-        are = boxed_none c.args.path.now;
-        counted = refl;
+        are = boxed_none c.args.path.now (m.first c.args.path.now);
+        counted = omega (arith, c.first_number-first.ensures m h);
         messages = refl;
         to_come = c.in_ok-mbox.ensures.opened m h;
       },
@@ -79,7 +79,8 @@ returns-in_err-take_boxed-clause-ended g c =
     let octets = message_view c.in-Some.message in
     on_err _ _ (then_breaks goes has none and_then terms (IsBoxed c.args.path.now c.loop-number.number octets) (AreOfMbox c.args.path.now)
     c.args.room.now
-    c.loop-number.room c.take_boxed.new.room c.args.progress.now c.loop-number.progress inv.0 inv.1 c.in_err-take_boxed.ensures.ended
+    c.loop-number.room c.take_boxed.new.room c.args.progress.now c.loop-number.progress c.take_boxed.new.progress inv.0 inv.1
+    c.in_err-take_boxed.ensures.ended
     (λ (m : Mail) h (ys : List Finding) one.
     found_at g.M.OldMailroom.left c.args.path.now c.loop-number.number inv.0 c.loop-number.mbox m (inv.2 m h) c.next_message.new.mbox
     c.in_ok-message.field-0 c.in_ok-message.ensures.next c.in-Some.message ys c.in-Some.is one))

@@ -1,6 +1,9 @@
-use Rattle.std.proofs.Common.{refl}
-use Rattle.cli_changes.proofs.ImportLaws.{makes_one}
+use Rattle.cli_changes.proofs.ImportLaws.{captures_one}
+use Rattle.cli_changes.specs.Spaces.{is_full}
 use Rattle.cli_changes.proofs.import_room.ImportRoomOldMailroom.capture.Goals as goal
 
 pub returns : goal.returns
-returns g c = record { call = makes_one g.A.Records.keeper _ _ _ c.hand_over.ensures.job (c.hand_over.result, refl, c.hand_over.ensures.desk) }
+returns g c = record {
+  call = captures_one g.A.Records.keeper _ _ _ _ _ c.capture_while_space.result (is_full c.args.self.now.place.space)
+      c.capture_while_space.ensures.full c.capture_while_space.ensures.taken;
+}

@@ -1,0 +1,8 @@
+use Rattle.std.proofs.Common.{ap, Some}
+use Rattle.cli_tasks.specs.Places.{place_with}
+use Rattle.cli_tasks.proofs.rolling.place_in.Goals as goal
+
+pub returns : goal.returns
+returns c =
+    let measured = c.in_ok-measured.measured in
+    (measured.0, measured.1, ap (place_with (Some c.args.volume)) c.of.ensures.space)
