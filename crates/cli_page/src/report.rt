@@ -23,6 +23,8 @@ use std::alloc::{AllocError, Global};
 /// A record, as a report reads it.
 #[derive(Clone, Copy)]
 pub struct Record<'a> {
+    /// The number of its volume, in an archive of volumes.
+    pub volume: Option<u32>,
     pub number: u32,
     /// The path of its class.
     pub path: &'a [u8],

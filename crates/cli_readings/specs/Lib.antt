@@ -9,4 +9,5 @@ pub mod Parts
 pub mod Reports
 pub mod Shows
 pub mod Twice
+pub mod VolumeExports
 pub mod VolumeLists

@@ -1,6 +1,6 @@
 //! `report`: one page of HTML on what is kept, what is due and what is held.
 
-ghost use Rattle.std.specs.Prelude.{◌≡◌, IfOk, IfSome, OnOk, is_none, not, refl};
+ghost use Rattle.std.specs.Prelude.{◌≡◌, IfOk, IfSome, None, OnOk, is_none, not, refl};
 ghost use Rattle.record_archive.specs.Archive.{Archive};
 ghost use Rattle.record_choice.specs.Reads.{OnlyReads};
 ghost use Rattle.cli_console.specs.Finds.{IsBounded, TakesThese, found_ahead};
@@ -32,11 +32,12 @@ fn report_failure(rt: &HostRuntime, fault: ReportFault) -> Failure {
     Failure::told(rt.alloc(), Status::BadData, words)
 }
 
-/// A record as a page reads it.
-pub fn record_of(entry: &RecordEntry) -> Record<'_>
-    ensures { IsRecordOf entry.now result }
+/// A record as a page reads it: one of a volume, in an archive of volumes.
+pub fn record_of(volume: Option<u32>, entry: &RecordEntry) -> Record<'_>
+    ensures { IsRecordOf volume entry.now result }
 {
     Record {
+        volume,
         number: entry.number,
         path: entry.path.as_slice(),
         day: entry.day,
@@ -73,7 +74,7 @@ struct Reporting<'a> {
 }
 
 impl Reader for Reporting<'_> {
-    ghost takes = { λ old a es new. Reports a.plan old.report es new.report };
+    ghost takes = { λ old a es new. Reports None a.plan old.report es new.report };
 
     fn take<R: Repository<Fault = StoreFault>>(
         &mut self,
@@ -84,7 +85,7 @@ impl Reader for Reporting<'_> {
         let headers = headers_of_due(self.rt, archive, entry, self.day)?;
         match self
             .report
-            .add(archive.plan(), &record_of(entry), headers.as_ref())
+            .add(archive.plan(), &record_of(None, entry), headers.as_ref())
         {
             Ok(()) => Ok(()),
             Err(fault) => Err(report_failure(self.rt, fault)),
@@ -94,7 +95,7 @@ impl Reader for Reporting<'_> {
     ghost takes_none = { λ reporting a. refl };
 
     ghost takes_more = { λ x y z a es fs one other.
-        more_reported a.plan x.report y.report z.report es fs one other };
+        more_reported None a.plan x.report y.report z.report es fs one other };
 }
 
 /// Adds the records that are found to a report by a day.
@@ -107,8 +108,8 @@ fn report_of<R: Repository<Fault = StoreFault>>(
     requires { IsBounded search.old }
     ensures reads { OnlyReads R.clean R.stands archive.old archive.new }
     ensures reported { OnOk result (R.clean archive.new → (a : Archive) → R.stands archive.old a
-        → TakesThese (λ old b es new. Reports b.plan old.report es new.report) reporting.old a
-        (found_ahead search.old a) reporting.new) }
+        → TakesThese (λ old b es new. Reports None b.plan old.report es new.report)
+        reporting.old a (found_ahead search.old a) reporting.new) }
 {
     search.read_found(rt, archive, reporting)
 }
