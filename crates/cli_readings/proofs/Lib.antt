@@ -5,3 +5,4 @@ pub mod Pieces
 mod Rows
 pub mod VolumeExportLaws
 pub mod VolumeListLaws
+pub mod VolumeReportLaws

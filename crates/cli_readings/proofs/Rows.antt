@@ -12,7 +12,9 @@ use Rattle.record_archive.specs.Archive.{Archive}
 use Rattle.record_choice.specs.Entries.{RecordEntry as Entry}
 use Rattle.record_choice.specs.declared.entry.RecordEntry.{RecordEntry}
 use Rattle.cli_history.specs.declared.seals.Seals.{Seals}
+use Rattle.class_plan.specs.Plans.{Listing}
 use Rattle.cli_page.specs.Names.{file_name}
+use Rattle.cli_page.specs.declared.report.Report.{Report}
 use Rattle.cli_readings.specs.Altered.{altered_words, one_words, several_words}
 use Rattle.cli_readings.specs.Exports.{altered_for, count_of, sealed_fields, subject_for, sum_line, without_again}
 use Rattle.cli_readings.specs.Groups.{Added, is_twice, with_key}
@@ -25,6 +27,7 @@ use Rattle.cli_console.specs.Sequences.{AreTexts, between, more_for}
 use Rattle.cli_readings.specs.Twice.{before_group, beside_record, head_beside}
 use Rattle.cli_readings.specs.VolumeExports.{AreExportsOf, IsBegunBy, out_of, share_of}
 use Rattle.cli_readings.specs.VolumeLists.{head_unless}
+use Rattle.cli_readings.specs.VolumeReports.{ReportsAll, reported_of}
 use Rattle.cli_readings.specs.declared.groups.Sealed.{Sealed}
 use Rattle.cli_readings.specs.declared.judge.Totals.{Totals}
 use Rattle.cli_readings.specs.declared.volume_exports.ExportOfVolumes.{ExportOfVolumes}
@@ -184,6 +187,10 @@ of_record_of_a_volume e = refl
 -- none of these is out where nothing was found
 out_of_none : {D : Type 0} (x : ExportOfVolumes D) → out_of (record x { is_begun = false }) ≡ None
 out_of_none x = refl
+
+-- and without records a report stays as it is
+nothing_reported : (x : Report) (p q : Listing) → ReportsAll (reported_of 1 p [] ∷ reported_of 2 q [] ∷ []) x x
+nothing_reported x p q = (x, refl, x, refl, refl)
 
 found_is_begun : {D : Type 0} (x : ExportOfVolumes D) (e : Entry) → IsBegunBy (e ∷ []) x (record x { is_begun = true })
 found_is_begun x e = refl

@@ -11,3 +11,4 @@ pub mod Shows
 pub mod Twice
 pub mod VolumeExports
 pub mod VolumeLists
+pub mod VolumeReports

@@ -12,6 +12,7 @@ use crate::volume_exports::export;
 use crate::volume_histories::{print_certificates, print_histories, write_holds};
 use crate::volume_lists::list;
 use crate::volume_refilings::refile;
+use crate::volume_reports::report;
 use crate::volume_row::Volumes;
 use choice_words::TypedChoice;
 use cli_choice::Change;
@@ -54,7 +55,7 @@ fn check_rules<A: Archives>(
     lend(rt, archives, path.as_str(), CheckRules(asked))
 }
 
-/// Does something with the records of a choice in the volumes of a folder. `Usage` for a report.
+/// Does something with the records of a choice in the volumes of a folder.
 #[tactic(auto, using(crate::proofs::DoneLemmas::nothing_said))]
 fn on_volumes<'a, A: Archives>(
     rt: &HostRuntime,
@@ -77,7 +78,7 @@ fn on_volumes<'a, A: Archives>(
         }
         ChosenTask::Refile(refiling) => refile(rt, archives, volumes, typed, *refiling, told),
         ChosenTask::Export(target) => export(rt, archives, volumes, typed, *target),
-        ChosenTask::Report { .. } => Err(not_over(rt, volumes.folder)),
+        ChosenTask::Report { day } => report(rt, archives, volumes, typed, *day),
     }
 }
 
