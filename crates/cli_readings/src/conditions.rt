@@ -135,8 +135,8 @@ fn push_numbers_of_volumes(
     if let Some(first) = typed.from {
         push_from(alloc, text, Some(first.volume), first.number)?;
     }
-    for typed in typed.of_volumes.as_slice() {
-        push_numbers(alloc, text, Some(typed.volume), typed.numbers)?;
+    for numbers in typed.of_volumes.as_slice() {
+        push_numbers(alloc, text, Some(numbers.volume), numbers.numbers)?;
     }
     Ok(())
 }

@@ -1,4 +1,5 @@
-use Rattle.std.proofs.Common.{◌++◌, ◌∷◌, ◌∙◌, ◌≡◌, [], IfSome, subst, sym}
+use Rattle.std.proofs.Common.{◌++◌, ◌∷◌, ◌∙◌, ◌≡◌, [], subst, sym}
+use Rattle.std.specs.Prelude.{IfSome}
 use Rattle.cli_page.specs.KeptNumbers.{numbers_in}
 use Rattle.cli_page.proofs.KeptLemmas.{same_volume}
 use Rattle.cli_page.proofs.holds.Stretch.with.Goals as goal
