@@ -25,7 +25,7 @@ use Rattle.cli_readings.specs.Parts.{Part, altered_in, files_in, rows_in, subjec
 use Rattle.cli_readings.specs.Parts as part
 use Rattle.cli_console.specs.Sequences.{AreTexts, between, more_for}
 use Rattle.cli_readings.specs.Twice.{before_group, beside_record, head_beside}
-use Rattle.cli_readings.specs.VolumeExports.{AreExportsOf, IsBegunBy, out_of, share_of}
+use Rattle.cli_readings.specs.VolumeExports.{IsBegunBy, IsExportOfVolumes, out_of, share_of}
 use Rattle.cli_readings.specs.VolumeLists.{head_unless}
 use Rattle.cli_readings.specs.VolumeReports.{ReportsAll, reported_of}
 use Rattle.cli_readings.specs.declared.groups.Sealed.{Sealed}
@@ -177,8 +177,9 @@ several_told = refl
 -- ---- the exports of volumes
 
 -- without records nothing is exported of two volumes
-nothing_of_two : (a b : Archive) (s t : Seals) → AreExportsOf (share_of 1 a s [] ∷ share_of 2 b t [] ∷ []) []
-nothing_of_two a b s t = ([], none_of 1 a s, [], ([], none_of 2 b t, [], refl, refl), refl)
+nothing_of_two : (a b : Archive) (s t : Seals) → IsExportOfVolumes (share_of 1 a s [] ∷ share_of 2 b t [] ∷ []) []
+nothing_of_two a b s t =
+    record { each = ([], none_of 1 a s, [], ([], none_of 2 b t, [], refl, refl), refl); files = refl; sums = refl }
 
 of_record_of_a_volume : (e : RecordEntry) → (subject_for (Some 3) (of_message e 5 4), altered_for (Some 3) (of_message e 5 4))
     ≡ ((Some 3, (5, 4)), (Some 3, 5))

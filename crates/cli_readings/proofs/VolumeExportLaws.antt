@@ -11,11 +11,11 @@ use Rattle.cli_choice.specs.declared.questions.Questions.{Questions}
 use Rattle.cli_console.specs.Finds.{found_in}
 use Rattle.cli_console.specs.Sinks.{Writes, more_written, nothing_written}
 use Rattle.cli_history.specs.declared.seals.Seals.{Seals}
-use Rattle.cli_readings.specs.Exporting.{Exports, HandsOver, TurnsTo, more_over, no_count, parts_joined, with_parts}
+use Rattle.cli_readings.specs.Exporting.{Exports, HandsOver, TurnsTo, more_over, no_count, nothing_over, parts_joined, with_parts}
 use Rattle.cli_readings.specs.Exports.{IsExportOf, count_of}
 use Rattle.cli_readings.specs.Parts.{Part, file_of, files_in, sum_of, sums_in}
-use Rattle.cli_readings.specs.VolumeExports.{AreExportsOf, Begins, ExportsVolume, HasExported, IsBegunBy, IsExportOfVolume, Share}
-use Rattle.cli_readings.specs.VolumeExports.{files_of, share_of, sums_of}
+use Rattle.cli_readings.specs.VolumeExports.{AreExportsOf, Begins, ExportsVolume, HasExported, IsBegunBy, IsExportOfVolume, IsExportOfVolumes}
+use Rattle.cli_readings.specs.VolumeExports.{Share, files_of, share_of, sums_of}
 use Rattle.cli_readings.specs.declared.exporting.Exporting.{Exporting}
 use Rattle.cli_readings.specs.declared.volume_exports.ExportOfVolumes.{ExportOfVolumes}
 use Rattle.cli_readings.proofs.Exported.{all_counted, exported_parts}
@@ -23,7 +23,7 @@ use Rattle.cli_readings.proofs.Exported.{all_counted, exported_parts}
 -- ---- what is exported of volumes
 
 -- a volume more, behind the others
-pub exports_joined : (vs : List Share) (v : Share) (parts one : List Part) → AreExportsOf vs parts → IsExportOfVolume v one
+exports_joined : (vs : List Share) (v : Share) (parts one : List Part) → AreExportsOf vs parts → IsExportOfVolume v one
     → AreExportsOf (vs ++ v ∷ []) (parts ++ one)
 exports_joined [] v parts one are is = (one, is, [], refl, ap (λ ps. ps ++ one) are ∙ sym (append-nil one))
 exports_joined (w ∷ vs) v parts one are is = (
@@ -34,19 +34,29 @@ exports_joined (w ∷ vs) v parts one are is = (
   ap (λ ps. ps ++ one) are.4 ∙ append_assoc are.0 are.2 one,
 )
 
--- THE FILES ARE THOSE OF ALL VOLUMES
-pub files_joined : (vs : List Share) (parts : List Part) → AreExportsOf vs parts → files_in parts ≡ flat_map files_of vs
+-- the files are those of all volumes
+files_joined : (vs : List Share) (parts : List Part) → AreExportsOf vs parts → files_in parts ≡ flat_map files_of vs
 files_joined [] parts are = ap files_in are
 files_joined (v ∷ vs) parts are =
     ap files_in are.4 ∙ flat_map-append file_of are.0 are.2 ∙ ap (λ fs. fs ++ files_in are.2) are.1.files
     ∙ ap (λ fs. files_of v ++ fs) (files_joined vs are.2 are.3)
 
 -- and so are their lines in the list of sums
-pub sums_joined : (vs : List Share) (parts : List Part) → AreExportsOf vs parts → sums_in parts ≡ flat_map sums_of vs
+sums_joined : (vs : List Share) (parts : List Part) → AreExportsOf vs parts → sums_in parts ≡ flat_map sums_of vs
 sums_joined [] parts are = ap sums_in are
 sums_joined (v ∷ vs) parts are =
     ap sums_in are.4 ∙ flat_map-append sum_of are.0 are.2 ∙ ap (λ ls. ls ++ sums_in are.2) are.1.sums
     ∙ ap (λ ls. sums_of v ++ ls) (sums_joined vs are.2 are.3)
+
+-- the export of volumes with one more
+with_volume : (vs : List Share) (v : Share) (parts one : List Part) → IsExportOfVolumes vs parts → IsExportOfVolume v one
+    → IsExportOfVolumes (vs ++ v ∷ []) (parts ++ one)
+with_volume vs v parts one are is =
+    let each = exports_joined vs v parts one are.each is in record {
+      each = each;
+      files = files_joined (vs ++ v ∷ []) (parts ++ one) each;
+      sums = sums_joined (vs ++ v ∷ []) (parts ++ one) each;
+    }
 
 -- the export of no record of a volume
 pub none_of : (v : ℕ) (a : Archive) (s : Seals) → IsExportOfVolume (share_of v a s []) []
@@ -66,7 +76,7 @@ module _ {D : Type 0} (made : D → List Part → Type 0) where
       → HasExported made [] before x
   nothing_exported before x at none = record {
     parts = [];
-    are = refl;
+    are = record { each = refl; files = refl; sums = refl };
     writes = subst (λ d. Writes made before d []) (sym at) (nothing_written made before);
     count = none ∙ all_counted [];
   }
@@ -76,7 +86,7 @@ module _ {D : Type 0} (made : D → List Part → Type 0) where
       → HandsOver made x.exporting.out one y.exporting.out → ExportsVolume made v x y
   one_handed v x y one is over = λ vs before has. record {
     parts = has.parts ++ one;
-    are = exports_joined vs v has.parts one has.are is;
+    are = with_volume vs v has.parts one has.are is;
     writes = more_written made before x.exporting.out.destination y.exporting.out.destination has.parts one has.writes over.handed;
     count = over.count ∙ ap (with_parts one) has.count ∙ counted has.parts one;
   }
@@ -84,8 +94,7 @@ module _ {D : Type 0} (made : D → List Part → Type 0) where
   -- no record of a volume is exported
   pub none_exported : (v : ℕ) (a : Archive) (s : Seals) (x : ExportOfVolumes D) → ExportsVolume made (share_of v a s []) x x
   none_exported v a s x =
-      one_handed (share_of v a s []) x x [] (none_of v a s)
-      (record { handed = nothing_written made x.exporting.out.destination; count = refl })
+      one_handed (share_of v a s []) x x [] (none_of v a s) (nothing_over made x.exporting.out)
 
   -- the records of a volume are exported that were found in it
   pub volume_exported : (typed : words.Choice) (questions : Questions) (v : ℕ) (s : Seals) (x begun : ExportOfVolumes D)

@@ -1,5 +1,5 @@
 -- The export of an archive of volumes: the exports of the records of each volume, one after another, to one destination.
-use Rattle.std.specs.Prelude.{◌≡◌, ℕ, true, List, [], ◌∷◌, ◌++◌, map, Option, Some, None, if◌then◌else◌}
+use Rattle.std.specs.Prelude.{◌≡◌, ℕ, true, List, [], ◌∷◌, ◌++◌, flat_map, map, Option, Some, None, if◌then◌else◌}
 use Rattle.record_archive.specs.Archive.{Archive}
 use Rattle.record_choice.specs.Entries.{RecordEntry as Entry}
 use Rattle.record_choice.specs.declared.entry.RecordEntry.{RecordEntry}
@@ -7,7 +7,7 @@ use Rattle.cli_console.specs.Sinks.{Writes}
 use Rattle.cli_history.specs.declared.seals.Seals.{Seals}
 use Rattle.cli_readings.specs.Exporting.{HandsOver}
 use Rattle.cli_readings.specs.Exports.{IsExportOf, count_of, file_for, filed, sum_for}
-use Rattle.cli_readings.specs.Parts.{Part}
+use Rattle.cli_readings.specs.Parts.{Part, files_in, sums_in}
 use Rattle.cli_readings.specs.declared.outgoing.Outgoing.{Outgoing}
 use Rattle.cli_readings.specs.declared.volume_exports.ExportOfVolumes.{ExportOfVolumes}
 
@@ -25,7 +25,7 @@ share_of v a s es = record { volume = v; archive = a; seals = s; records = es }
 abbrev pub IsExportOfVolume : Share → List Part → Type 0
 IsExportOfVolume v parts = IsExportOf (Some v.volume) v.archive v.seals v.records parts
 
--- THE EXPORT OF VOLUMES: the exports of each, one after another, and nothing else
+-- the exports of volumes, one after another, and nothing else
 abbrev pub AreExportsOf : List Share → List Part → Type 0
 AreExportsOf [] parts = parts ≡ []
 AreExportsOf (v ∷ vs) parts =
@@ -38,12 +38,18 @@ files_of v = map (file_for (Some v.volume) v.archive) (filed v.archive v.seals v
 abbrev pub sums_of : Share → List (List ℕ)
 sums_of v = map (sum_for (Some v.volume) v.archive) (filed v.archive v.seals v.records)
 
+-- THE EXPORT OF VOLUMES: the exports of each, one after another. Its files, and their lines in the list of sums, are those of all of them
+pub record IsExportOfVolumes (vs : List Share) (parts : List Part) : Type 0 where
+  pub each : AreExportsOf vs parts
+  pub files : files_in parts ≡ flat_map files_of vs
+  pub sums : sums_in parts ≡ flat_map sums_of vs
+
 -- ---- as it is made
 
 -- THE EXPORT OF THESE VOLUMES WENT TO A DESTINATION, and nothing else, and all of it is counted
 pub record HasExported {D : Type 0} (made : D → List Part → Type 0) (vs : List Share) (before : D) (x : ExportOfVolumes D) : Type 0 where
   pub parts : List Part
-  pub are : AreExportsOf vs parts
+  pub are : IsExportOfVolumes vs parts
   pub writes : Writes made before x.exporting.out.destination parts
   pub count : x.exporting.out.count ≡ count_of parts
 
