@@ -1,5 +1,9 @@
 //! `export` over an archive of volumes.
 
+ghost use Rattle.std.specs.Prelude.{◌≡◌, None, OnOk, false};
+ghost use Rattle.choice_words.specs.Readings.{reads_as_any_numbers};
+ghost use Rattle.choice_words.specs.Typed.{first_above, first_alone};
+
 use crate::archives::{Archives, Work};
 use crate::volume_numbers::{judge_folder_name, judge_numbers};
 use crate::volume_row::Volumes;
@@ -72,7 +76,11 @@ pub fn export<'a, A: Archives>(
     volumes: Volumes<'_>,
     typed: &TypedChoice<'_>,
     target: Target<'a>,
-) -> Result<(), Failure> {
+) -> Result<(), Failure>
+    ensures named { OnOk result (reads_as_any_numbers target.entry.folder.now ≡ false) }
+    ensures none { OnOk result (first_alone typed.now ≡ None) }
+    ensures within { OnOk result (first_above volumes.entry.last typed.now ≡ None) }
+{
     judge_folder_name(rt, target.folder)?;
     judge_numbers(rt, volumes.last, typed)?;
     let questions = judge_choice(rt, &typed.alone)?;
@@ -90,5 +98,6 @@ pub fn export<'a, A: Archives>(
         );
         joined.add(exported)?;
     }
-    export.end(rt, volumes.folder, typed, joined)
+    export.end(rt, volumes.folder, typed, joined)?;
+    Ok(())
 }

@@ -1,5 +1,9 @@
 //! `report` over an archive of volumes.
 
+ghost use Rattle.std.specs.Prelude.{◌≡◌, None, OnOk};
+ghost use Rattle.choice_words.specs.Typed.{first_above, first_alone};
+ghost use Rattle.cli_tasks.specs.Plans.{HaveOnePlan};
+
 use crate::archives::{Archives, Work};
 use crate::volume_numbers::judge_numbers;
 use crate::volume_plans::judge_plans;
@@ -100,7 +104,12 @@ pub fn report<A: Archives>(
     volumes: Volumes<'_>,
     typed: &TypedChoice<'_>,
     day: Option<Date>,
-) -> Result<(), Failure> {
+) -> Result<(), Failure>
+    ensures none { OnOk result (first_alone typed.now ≡ None) }
+    ensures within { OnOk result (first_above volumes.entry.last typed.now ≡ None) }
+    ensures one_plan { OnOk result (HaveOnePlan (A.is_at archives.now) volumes.entry.folder.now
+        volumes.entry.last) }
+{
     judge_numbers(rt, volumes.last, typed)?;
     let questions = judge_choice(rt, &typed.alone)?;
     let day = day_or_today(rt, day)?;
@@ -119,5 +128,6 @@ pub fn report<A: Archives>(
             &mut report,
         )?;
     }
-    report.write(rt, &plan, volumes.folder, typed, &titles)
+    report.write(rt, &plan, volumes.folder, typed, &titles)?;
+    Ok(())
 }
