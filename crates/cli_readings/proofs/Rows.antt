@@ -191,7 +191,7 @@ out_of_none x = refl
 
 -- and without records a report stays as it is
 nothing_reported : (x : Report) (p q : Listing) → ReportsAll (reported_of 1 p [] ∷ reported_of 2 q [] ∷ []) x x
-nothing_reported x p q = (x, refl, x, refl, refl)
+nothing_reported x p q = (x, refl, (x, refl, refl))
 
 found_is_begun : {D : Type 0} (x : ExportOfVolumes D) (e : Entry) → IsBegunBy (e ∷ []) x (record x { is_begun = true })
 found_is_begun x e = refl
