@@ -1,6 +1,6 @@
 -- The numbers that words are.
 use Rattle.std.proofs.Common.{◌≡◌, ◌==◌, ◌&&◌, ◌||◌, ◌++◌, ◌∷◌, [], ℕ, Bool, true, false, List, length, flat_map, Option, Some, None}
-use Rattle.std.proofs.Common.{ap, ap₂, arith, refl, subst, sym, true≢false, ◌∙◌}
+use Rattle.std.proofs.Common.{ap, ap₂, arith, refl, sym, true≢false, ◌∙◌}
 use Rattle.std.proofs.lemmas.Bool.Decides.{nat_tests}
 use Rattle.std.specs.List.{list_all}
 use Rattle.std.specs.Prelude.{is_some}

@@ -549,8 +549,8 @@ fn movers_of<R: Repository<Fault = StoreFault>>(
     Ok(numbers)
 }
 
-/// Gives the records of a volume that are found another class of the plan, which are those that were listed. `TryAgain` where they are
-/// others by now; else it is refused and ends as `refile_records` does.
+/// Gives the class to the records of a volume that are found and lack it. These have to be the ones that were listed: else `TryAgain`.
+/// In all else it is refused and ends as `refile_records` is.
 pub fn refile_listed<S: Alter>(
     ledger: &mut StoreLedger<'_, S>,
     refiling: &RefilingTo<'_>,

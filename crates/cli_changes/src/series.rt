@@ -7,7 +7,7 @@ ghost use Rattle.record_archive.specs.Faults.{is_trouble};
 ghost use Rattle.cli_changes.specs.Series.{Command, IsDoneOn, IsTried, IsTriedOn, StopsIn, changed_in_both};
 
 use cli_console::{Failure, Status, refusal_words, tell};
-use cli_texts::put_number;
+use cli_texts::{number_text, put_number};
 use record_store::{ArchiveRefusal, StoreFault};
 use std::alloc::{AllocError, Global};
 use tool_texts::{Shown, put};
@@ -143,7 +143,7 @@ pub(crate) fn refusal_told(
             Ok(false)
         }
         trouble => {
-            let word = format!(in rt.alloc(); "{number}")?;
+            let word = number_text(rt.alloc(), volume, number)?;
             Err(Failure::of_store(rt.alloc(), word.as_str(), trouble))
         }
     }
@@ -159,8 +159,8 @@ pub fn judge_refused(is_refused: bool) -> Result<(), Failure>
     Ok(())
 }
 
-/// Finds that the records which are to be changed are those that were listed before. Else `TryAgain`: another program has changed them
-/// in between.
+/// Finds that the records which are to be changed are those that were listed before. Else `TryAgain`: another program has changed the
+/// archive in between.
 pub(crate) fn judge_listed(rt: &HostRuntime, numbers: &[u32], listed: &[u32]) -> Result<(), Failure>
     ensures { OnOk result (numbers.now ≡ listed.now) }
 {
@@ -170,6 +170,6 @@ pub(crate) fn judge_listed(rt: &HostRuntime, numbers: &[u32], listed: &[u32]) ->
     Err(Failure::told(
         rt.alloc(),
         Status::TryAgain,
-        "another program has changed these records since they were listed; they stay as they are",
+        "another program has changed which records these are since they were listed; nothing is changed here",
     ))
 }

@@ -145,7 +145,7 @@ pub fn judge_release(
     ))
 }
 
-/// Ends the hold of a name on each live record of a volume that has it, which are those that were listed. `TryAgain` where they are
+/// Ends the hold of a name on each live record of a volume that has it; these have to be the ones that were listed. `TryAgain` where they are
 /// others by now, and `BadData` where the archive refuses one, which is told.
 ///
 /// Where it succeeds, the hold is ended on each of them, and nothing else of the archive has changed. Where it fails, it is so for the

@@ -1,5 +1,5 @@
 -- The case of a name in several stores.
-use Rattle.std.proofs.Common.{◌≡◌, ◌∙◌, ◌++◌, ◌∷◌, [], Bool, true, false, ℕ, List, Option, Some, None, cond, option_map, refl, ap, subst, sym}
+use Rattle.std.proofs.Common.{◌≡◌, ◌∙◌, ◌++◌, ◌∷◌, [], Bool, true, false, ℕ, List, Option, Some, cond, option_map, refl, ap, subst, sym}
 use Rattle.std.proofs.lemmas.List.{append_assoc, append-nil}
 use Rattle.std.specs.Str.{bytes_eq}
 use Rattle.std.proofs.lemmas.Slice.Eq.{bytes_eq-Decides}
@@ -81,6 +81,5 @@ module _ {K : Type 0} (written : K → List ℕ → Type 0) (is_json : Bool) (en
   all_written mid after is_first so_far ends = (
     so_far.text,
     subst (λ es. AreTexts (IsEntryText is_json) true es so_far.text) (sym (append-nil so_far.done) ∙ so_far.split) so_far.are,
-    subst (λ t. Writes written before after t) (append_assoc (head_of is_json) so_far.text (end_of is_json))
-        (more_written written before mid after (head_of is_json ++ so_far.text) (end_of is_json) so_far.added ends),
+    more_written written before mid after (head_of is_json ++ so_far.text) (end_of is_json) so_far.added ends,
   )

@@ -1,7 +1,7 @@
 -- Certificates that are written, a row at a time and a page at a time.
 use Rattle.std.proofs.Common.{◌≡◌, ◌+◌, ◌<◌, ◌≤◌, ◌++◌, ◌∷◌, ◌∙◌, [], ℕ, List, Bool, true, false, Option, Some, None, cond, map, take, get_or}
 use Rattle.std.proofs.Common.{length, refl, ap, sym, subst}
-use Rattle.std.proofs.lemmas.List.{append_assoc, append-nil}
+use Rattle.std.proofs.lemmas.List.{append_assoc}
 use Rattle.std.specs.Borrow.{Bor}
 use Rattle.std.specs.Prelude.{is_some}
 use Rattle.choice_words.specs.declared.numbers.TypedNumbers.{TypedNumbers}
@@ -15,7 +15,8 @@ use Rattle.record_history.specs.declared.events.Deed.{Deed}
 use Rattle.record_history.specs.declared.events.Deed.TheVariants.{Destroyed}
 use Rattle.cli_console.specs.Sequences.{AreTexts, first_after, one_text, only, texts_joined}
 use Rattle.cli_console.specs.Sinks.{Writes, more_written, nothing_written}
-use Rattle.cli_history.specs.Certified.{Certifies, IsCertificateOf, IsLineOf, WritesCertificates, certified, certified_at, certified_rows, destroyed_by}
+use Rattle.cli_history.specs.Certified.{Certifies, IsCertificateOf, IsLineOf, WritesCertificates}
+use Rattle.cli_history.specs.Certified.{certified, certified_at, certified_rows, destroyed_by}
 use Rattle.cli_history.specs.Chosen.{is_about}
 use Rattle.cli_history.specs.Tellings.{TellEach, TellsRow}
 use Rattle.cli_history.specs.declared.certificates.PrintedCertificates.{PrintedCertificates}

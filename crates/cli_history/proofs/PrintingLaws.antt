@@ -1,6 +1,7 @@
 -- A history that is printed, a row at a time, a page at a time, and behind those of other stores.
-use Rattle.std.proofs.Common.{◌≡◌, ◌+◌, ◌<◌, ◌≤◌, ◌==◌, ◌&&◌, not, ◌++◌, ◌∷◌, ◌∙◌, [], ℕ, List, Bool, true, false, Option, Some, None}
-use Rattle.std.proofs.Common.{map, take, get_or, length, refl, ap, sym, subst}
+use Rattle.std.proofs.Common.{◌≡◌, ◌+◌, ◌<◌, ◌≤◌, ◌==◌, ◌&&◌, not, ◌++◌, ◌∷◌, ◌∙◌, [], ℕ, List, Bool, true, false, Option, None}
+use Rattle.std.proofs.Common.{map, take, get_or, length, refl, ap, sym, subst, Result, Ok, Err}
+use Rattle.std.specs.Prelude.{OnOk}
 use Rattle.std.proofs.lemmas.List.{append_assoc, append-nil}
 use Rattle.std.specs.Borrow.{Bor}
 use Rattle.choice_words.specs.declared.numbers.TypedNumbers.{TypedNumbers}
@@ -18,7 +19,12 @@ use Rattle.cli_history.specs.Printed.{is_printed, no_places, printed, there_last
 use Rattle.cli_history.specs.Tellings.{TellEach, TellsRow}
 use Rattle.cli_history.specs.declared.printing.HistoryText.{HistoryText}
 use Rattle.cli_history.specs.declared.printing.PrintedHistory.{PrintedHistory}
-use Rattle.cli_history.proofs.WalkLemmas.{all_of_page, more_of_page, none_of_page}
+use Rattle.cli_history.proofs.WalkLemmas.{all_of_page, more_of_page}
+
+-- what follows from two facts of what ends well
+pub on_ok_both : {T E P Q R : Type 0} (r : Result T E) → OnOk r P → OnOk r Q → (P → Q → R) → OnOk r R
+on_ok_both (Ok x) p q to = to p q
+on_ok_both (Err e) p q to = tt
 
 -- ---- rows one behind the other
 

@@ -1,5 +1,5 @@
 -- What a person changes in an archive.
-use Rattle.std.specs.Prelude.{◌≡◌, ℕ, Bool, true, false, List, None, Result, IfOk, OnOk, OnErr, is_ok}
+use Rattle.std.specs.Prelude.{◌≡◌, ℕ, Bool, true, false, List, length, None, Result, IfOk, OnOk, OnErr, is_ok}
 use Rattle.std.specs.declared.prelude.LibcRuntime.{LibcRuntime}
 use Rattle.jiff.specs.Words.{epoch_day}
 use Rattle.jiff_core.specs.declared.civil.date.Date.{Date}
@@ -129,12 +129,13 @@ abbrev pub ListsHeld : {S : Type 0} → Ghosts S → (name : List ℕ) → (befo
 ListsHeld g name before after listed =
     HasCleanDisk (state g after) → (a : Archive) → StandsFor g before a → listed ≡ numbers_of (held_by name a)
 
--- the records of a choice that get another class in a store of which this is left, and what that changes. Where none is refused, each
--- number that is typed by itself is found, and none of these is destroyed.
+-- the records of a choice that get another class in a store of which this is left, and how many they are. Where none is refused, each number
+-- that is typed by itself is found, and none of these is destroyed.
 pub record ShowsMoves {S : Type 0} (g : Ghosts S) (to : List ℕ) (choice : Choice) (questions : Questions) (before : Store S) (after : Held S)
     (moved : Moved) : Type 0 where
   pub moves : HasCleanDisk (state g after) → (a : Archive) → StandsFor g before a
       → moved.numbers.items ≡ moving_numbers to (found_in choice questions a)
+  pub counted : moved.tally.count ≡ length moved.numbers.items
   pub well : moved.tally.is_refused ≡ false → HasCleanDisk (state g after) → (a : Archive) → StandsFor g before a
       → RefilesWell to choice.numbers.items (found_in choice questions a) a
 

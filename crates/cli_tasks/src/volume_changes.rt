@@ -262,7 +262,7 @@ impl Work for ListHeld<'_> {
     }
 }
 
-/// Ends the hold of a name on the records of a volume, which are those of these numbers.
+/// Ends the hold of a name on the records of these numbers in a volume. They have to be all of its records that have it.
 #[derive(Drop)]
 struct ReleaseListed<'t> {
     volume: u32,
@@ -311,7 +311,7 @@ fn list_in_each<A: Archives>(
     Ok(listed)
 }
 
-/// Ends the hold of a name on the records of a volume, which are those of these numbers.
+/// Ends the hold of a name on the records of these numbers in a volume. They have to be all of its records that have it.
 fn release_in<A: Archives>(
     rt: &HostRuntime,
     archives: &A,

@@ -135,7 +135,7 @@ fn judge_in<A: Archives>(
     volumes.lend(rt, archives, volume, ChangeBy { author, change })
 }
 
-/// The same by what is typed of all volumes. One of which nothing is asked is not opened.
+/// Judges the disposal in a volume, if anything is asked of it; else the volume is not opened.
 fn judge_typed<A: Archives>(
     rt: &HostRuntime,
     archives: &A,
@@ -173,7 +173,7 @@ fn judge_all<A: Archives>(
     Ok(())
 }
 
-/// The same where records are to be destroyed; nothing is asked of a list.
+/// Judges all volumes where records are to be destroyed. Before a list nothing is judged.
 fn judge_before<A: Archives>(
     rt: &HostRuntime,
     archives: &A,
@@ -211,7 +211,7 @@ fn dispose_in<A: Archives>(
     volumes.lend(rt, archives, volume, ChangeBy { author, change })
 }
 
-/// The same by what is typed of all volumes. One of which nothing is asked is not opened.
+/// Disposes of what is asked of a volume, if anything is; else the volume is not opened.
 fn dispose_typed<A: Archives>(
     rt: &HostRuntime,
     archives: &A,
@@ -242,7 +242,7 @@ fn dispose_in_each<A: Archives>(
     tally: &mut DisposalTally,
 ) -> Result<(), Failure>
     requires { typed.now.alone.destroys ≡ true → JudgesAll A.Kept.Store (A.is_at archives.now)
-        volumes.entry.folder.now told.now typed.now day volumes.entry.last }
+        volumes.folder.now told.now typed.now day volumes.last }
     ensures { OnOk result (EachVolume volumes.entry.last (λ v. WhereAsked typed.now v
         (DisposesIn A.Kept.Store (A.is_at archives.now) volumes.entry.folder.now told.now day
         v))) }
@@ -258,8 +258,8 @@ fn dispose_in_each<A: Archives>(
 
 /// Lists what is due in each volume and may be destroyed, or destroys it, volume by volume, each in its own ledger. Nothing is destroyed in
 /// any before it is found of each that it has the plan of the archive, and that its disposal may begin: else it fails as that does, with
-/// `BadData` for another plan. Another program may change a volume after that; each is judged once more before anything is destroyed in it,
-/// and where it fails then, those before it are done. What is told once is told of all volumes. `Usage` where a number is typed without its
+/// `BadData` for another plan. Another program may change a volume after that; each is judged once more, but for its plan, before anything is
+/// destroyed in it, and where it fails then, those before it are done. What is told once is told of all volumes. `Usage` where a number is typed without its
 /// volume, and `BadData` where there is no such volume.
 pub fn dispose<A: Archives>(
     rt: &HostRuntime,

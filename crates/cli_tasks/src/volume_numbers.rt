@@ -40,7 +40,8 @@ fn no_number_words(alloc: Global, typed: TypedNumbers) -> Result<Shown, AllocErr
 fn no_volume_words(alloc: Global, typed: VolumeNumbers, last: u32) -> Result<Shown, AllocError> {
     let mut text = Shown::new(alloc);
     put_typed(&mut text, Some(typed.volume), typed.numbers)?;
-    put!(text; ": no volume " value(&typed.volume) " in the archive; its last one is " value(&last))?;
+    put!(text; ": no volume " value(&typed.volume)
+        " in the archive; its last one is " value(&last))?;
     Ok(text)
 }
 
@@ -212,7 +213,7 @@ pub fn judge_numbers(rt: &HostRuntime, last: u32, typed: &TypedChoice<'_>) -> Re
     judge_found(rt, last, typed.first_alone(), typed.first_above(last))
 }
 
-/// The same of numbers that are typed by themselves: those without a volume, and those with one.
+/// The same of numbers, single ones and ranges, that are typed without conditions: those without a volume, and those with one.
 pub fn judge_typed(
     rt: &HostRuntime,
     last: u32,

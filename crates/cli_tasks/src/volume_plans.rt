@@ -2,6 +2,7 @@
 
 ghost use Rattle.std.specs.Prelude.{◌≡◌, ◌↔◌, IfOk, IsTrue, OnOk};
 ghost use Rattle.cli_tasks.specs.Plans.{HaveOnePlan};
+ghost use Rattle.cli_tasks.specs.Works.{EachVolume, InVolume};
 
 use crate::archives::{Archives, Work};
 use crate::volume_checks::behind_words;
@@ -42,6 +43,40 @@ impl Work for LookForPlan<'_> {
     }
 }
 
+/// Finds that a volume has a plan. Else `BadData`.
+fn judge_plan<A: Archives>(
+    rt: &HostRuntime,
+    archives: &A,
+    volumes: Volumes<'_>,
+    volume: u32,
+    plan: &Plan,
+) -> Result<(), Failure>
+    ensures { OnOk result (InVolume (A.is_at archives.now) volumes.entry.folder.now volume
+        (λ before after. before.plan ≡ plan.now)) }
+{
+    let is_same = volumes.lend(rt, archives, volume, LookForPlan { plan })?;
+    if !is_same {
+        return Err(Failure::shown(Status::BadData, behind_words(rt.alloc(), volume)));
+    }
+    Ok(())
+}
+
+/// Finds that each volume has a plan. Else `BadData`.
+fn judge_each<A: Archives>(
+    rt: &HostRuntime,
+    archives: &A,
+    volumes: Volumes<'_>,
+    plan: &Plan,
+) -> Result<(), Failure>
+    ensures { OnOk result (EachVolume volumes.entry.last (λ v. InVolume (A.is_at archives.now)
+        volumes.entry.folder.now v (λ before after. before.plan ≡ plan.now))) }
+{
+    for below in 0..volumes.last {
+        judge_plan(rt, archives, volumes, below + 1, plan)?;
+    }
+    Ok(())
+}
+
 /// Finds that each volume has the plan of the archive, which is that of the last. Else `BadData`.
 pub fn judge_plans<A: Archives>(
     rt: &HostRuntime,
@@ -52,12 +87,5 @@ pub fn judge_plans<A: Archives>(
         volumes.entry.last) }
 {
     let plan = volumes.plan(rt, archives)?;
-    for below in 0..volumes.last {
-        let volume = below + 1;
-        let is_same = volumes.lend(rt, archives, volume, LookForPlan { plan: &plan })?;
-        if !is_same {
-            return Err(Failure::shown(Status::BadData, behind_words(rt.alloc(), volume)));
-        }
-    }
-    Ok(())
+    judge_each(rt, archives, volumes, &plan)
 }

@@ -96,7 +96,7 @@ impl Work for FindMoves<'_, '_> {
     }
 }
 
-/// Gives the records of a volume another class, which are those of these numbers.
+/// Gives the records of these numbers in a volume another class. They have to be all of its chosen records that get it.
 #[derive(Drop)]
 struct RefileListed<'a, 't> {
     asked: AskedIn<'a, 't>,
@@ -212,7 +212,7 @@ fn moves_in_each<A: Archives>(
     Ok(AllMoved { tally, listed })
 }
 
-/// Gives the records of a volume another class, which are those of these numbers.
+/// Gives the records of these numbers in a volume another class. They have to be all of its chosen records that get it.
 fn refile_in<A: Archives>(
     rt: &HostRuntime,
     archives: &A,

@@ -21,8 +21,8 @@ returns-in-Refused-clause-unaltered g c =
     (sym (c.as_slice.ensures.value ∙ c.in_ok-altered.ensures.altered)
     ∙ none_refused c.as_slice.result.now c.args.damage refused goes) (c.in_ok-altered.ensures.told clean a s))
 
-pub returns-in-Destroyed-clause-may_go : goal.returns-in-Destroyed-clause-may_go
-returns-in-Destroyed-clause-may_go g c = λ clean (a : Archive) s. (c.in_ok-altered.ensures.told clean a s).may_go
+pub returns-clause-may_go : goal.returns-clause-may_go
+returns-clause-may_go g c = λ clean (a : Archive) s. (c.in_ok-altered.ensures.told clean a s).may_go
 
-pub returns-in-Destroyed-clause-unaltered : goal.returns-in-Destroyed-clause-unaltered
-returns-in-Destroyed-clause-unaltered g c = λ clean (a : Archive) s refused. absurd cc
+pub returns-clause-unaltered : goal.returns-clause-unaltered
+returns-clause-unaltered g c = λ clean (a : Archive) s refused. absurd cc

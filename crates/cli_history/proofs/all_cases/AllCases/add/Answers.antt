@@ -25,7 +25,7 @@ returns-in-None c =
     let name = c.args.next.name in
     let own = c.as_slice.ensures.value in
     let before = ap (case_named old) (sym own) ∙ sym c.take.ensures.taken ∙ ap (option_map kept_view) c.in-None.is in
-    on_ok_weaker c.keep.result (λ kept (n : Name).
-    added name old c.take.new.self c.keep.new.self next next n (bytes_eq name.items n.items) refl (same_name old name n)
+    on_ok_weaker c.keep-in-None.result (λ kept (n : Name).
+    added name old c.take.new.self c.keep-in-None.new.self next next n (bytes_eq name.items n.items) refl (same_name old name n)
     (ap (λ o. with_next o next) (sym before))
-    (λ other. c.take.ensures.others n (subst (λ (l : List ℕ). bytes_eq l n.items ≡ false) (sym own) other)) (kept n)) c.keep.ensures
+    (λ other. c.take.ensures.others n (subst (λ (l : List ℕ). bytes_eq l n.items ≡ false) (sym own) other)) (kept n)) c.keep-in-None.ensures

@@ -1,4 +1,4 @@
-use Rattle.std.proofs.Common.{◌≡◌, ◌∙◌, List, [], rules, string_bytes, subst}
+use Rattle.std.proofs.Common.{◌≡◌, ◌∙◌, List, rules, string_bytes, subst, sym, true}
 use Rattle.std.proofs.lemmas.Map.Iter.{rest_all, rest_more}
 use Rattle.std.specs.Map.Iter.{deref_pair}
 use Rattle.cli_console.specs.Sinks.{Writes}
@@ -9,11 +9,13 @@ use Rattle.cli_history.proofs.all_cases.AllCases.write_to.Goals as goal
 pub loop-name-init : goal.loop-name-init
 loop-name-init g c =
     let written = g.K.Sink.written in
+    let gives : c.into_iter-name-iterator.result ≡ c.args.self.now.cases.entries = c.into_iter-name-iterator.ensures.into_iter_gives.0 in
     record {
       can = search rules;
       finite = search rules;
-      so_far = none_written written c.args.is_json c.args.self.now.cases.entries c.args.sink c.write.new.self
-          (subst (λ t. Writes written c.args.sink c.write.new.self t) (c.as_bytes.ensures.value ∙ c.text_ahead.ensures) c.in_ok-write.ensures);
+      so_far = subst (λ (left : List Entry). AreBegun written c.args.is_json c.args.self.now.cases.entries left c.args.sink c.write.new.self true)
+          (sym gives) (none_written written c.args.is_json c.args.self.now.cases.entries c.args.sink c.write.new.self
+          (subst (λ t. Writes written c.args.sink c.write.new.self t) (c.as_bytes.ensures.value ∙ c.text_ahead.ensures) c.in_ok-write.ensures));
     }
 
 pub loop-name-preserved : goal.loop-name-preserved
@@ -38,7 +40,7 @@ loop-name-preserved g c =
           (subst (λ name. IsCaseText is_json c.loop-name.is_first name (kept_view c.in-Some.kept.now) text) c.as_slice.ensures.value
           c.in_ok-text.ensures)
           (subst (λ t. Writes written c.loop-name.sink c.write-in-loop-name.new.self t) c.as_bytes-in-loop-name.ensures.value
-          c.in_ok-write-in-loop-name.ensures);
+          c.in_ok-write-2.ensures);
     }
 
 pub returns : goal.returns
@@ -51,4 +53,4 @@ returns g c =
     (subst (λ (left : List Entry). AreBegun written is_json entries left c.args.sink c.loop-name.sink c.loop-name.is_first) rest
     c.loop-name.invariant.so_far)
     (subst (λ t. Writes written c.loop-name.sink c.write-2.new.self t) (c.as_bytes-2.ensures.value ∙ c.text_behind.ensures)
-    c.in_ok-write-2.ensures)
+    c.in_ok-write-3.ensures)

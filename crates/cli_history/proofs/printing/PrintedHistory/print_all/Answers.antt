@@ -1,4 +1,4 @@
-use Rattle.std.proofs.Common.{◌++◌, ℕ, List, map, sym, subst, arith}
+use Rattle.std.proofs.Common.{ℕ, List, map, sym, subst, arith}
 use Rattle.record_archive.specs.Archive.{Archive}
 use Rattle.record_noted.specs.Histories.{rows_of}
 use Rattle.record_reads.specs.Events.{event_of}

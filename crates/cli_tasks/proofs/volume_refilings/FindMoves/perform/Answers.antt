@@ -1,4 +1,5 @@
-use Rattle.std.proofs.Common.{◌≡◌, ◌∙◌, ap, subst, sym, true}
+use Rattle.std.specs.Prelude.{length}
+use Rattle.std.proofs.Common.{◌≡◌, ◌∙◌, ℕ, List, ap, subst, sym, true}
 use Rattle.class_plan.specs.Plans.{Listing, has}
 use Rattle.record_archive.specs.Archive.{Archive}
 use Rattle.cli_changes.specs.declared.refile.MoveTally.{MoveTally}
@@ -7,6 +8,7 @@ use Rattle.cli_tasks.proofs.volume_refilings.FindMoves.perform.Goals as goal
 pub returns : goal.returns
 returns g c = record {
   moves = λ clean (a : Archive) s. c.into_numbers.ensures ∙ c.in_ok-moves.ensures.moves clean a s;
+  counted = ap (λ (t : MoveTally). t.count) c.tally.ensures ∙ ap (λ (ns : List ℕ). length ns) (sym c.into_numbers.ensures);
   well = λ none clean (a : Archive) s.
       let accepted = sym (ap (λ (t : MoveTally). t.is_refused) c.tally.ensures) ∙ none in
       record {
