@@ -12,7 +12,7 @@ use Rattle.std.specs.Map.{lookup, set_value}
 use Rattle.std.specs.BTreeMap.{is_at, insert_entry}
 use Rattle.std.specs.Ordering.{is_eq, match_ordering}
 use Rattle.cli_page.specs.declared.holds.Stretch.{Stretch}
-use Rattle.cli_page.specs.KeptNumbers.{Entry, count_up, numbers_in, numbers_of, kept_by, number_for, numbers_for, KeepsOneMore}
+use Rattle.cli_page.specs.KeptNumbers.{Entry, Number, count_up, numbers_in, numbers_of, kept_by, number_for, numbers_for, KeepsOneMore}
 
 -- how a look-up by a name compares it to a key
 abbrev pub compare : (name : List ℕ) → Vec ℕ Global → Ordering
@@ -26,7 +26,7 @@ same_name : (a b : List ℕ) → bytes_eq a b ≡ true → a ≡ b
 same_name a b h = (bytes_eq-Decides a b).0 h
 
 module _ (hold : List ℕ) where
-  none_or : (b : Bool) (x : Vec Stretch Global) (rest : Option (Vec Stretch Global)) (old : List ℕ) → (rest ≡ None → old ≡ [])
+  none_or : (b : Bool) (x : Vec Stretch Global) (rest : Option (Vec Stretch Global)) (old : List Number) → (rest ≡ None → old ≡ [])
       → cond b (Some x) rest ≡ None → cond b (numbers_of x.items) old ≡ []
   none_or true x rest old ih h = absurd (cc h)
   none_or false x rest old ih h = ih h
@@ -43,12 +43,12 @@ module _ (hold : List ℕ) where
   none_after true x rest h = absurd (cc h)
   none_after false x rest h = h
 
-module _ (hold name : List ℕ) (n : ℕ) where
+module _ (hold name : List ℕ) (n : Number) where
   -- one number more, where the test says so
-  abbrev More : Bool → List ℕ → List ℕ
+  abbrev More : Bool → List Number → List Number
   More b old = old ++ cond b (n ∷ []) []
 
-  other_stays : (t : Bool) (x new old : List ℕ) → new ≡ old ++ [] → cond t x new ≡ cond t x old ++ []
+  other_stays : (t : Bool) (x new old : List Number) → new ≡ old ++ [] → cond t x new ≡ cond t x old ++ []
   other_stays true x new old h = sym (append-nil x)
   other_stays false x new old h = h
 
@@ -83,12 +83,12 @@ module _ (hold name : List ℕ) (n : ℕ) where
       (subst (λ (a : Bool). cond a (Some e.1) (lookup (is_at (compare hold)) es) ≡ Some p) at h))
 
   -- a new hold before the others
-  in_front : (c : Bool) (x old : List ℕ) → x ≡ n ∷ [] → (c ≡ true → old ≡ []) → cond c x old ≡ More c old
-  in_front true x old is none = is ∙ ap (λ (o : List ℕ). o ++ n ∷ []) (sym (none refl))
+  in_front : (c : Bool) (x old : List Number) → x ≡ n ∷ [] → (c ≡ true → old ≡ []) → cond c x old ≡ More c old
+  in_front true x old is none = is ∙ ap (λ (o : List Number). o ++ n ∷ []) (sym (none refl))
   in_front false x old is none = sym (append-nil old)
 
   -- a new hold after this one: the first test says whether the entry has the name, the second whether the two names are equal
-  behind : (a b : Bool) (x new old : List ℕ) → (a ≡ true → b ≡ false) → new ≡ More b old → cond a x new ≡ More b (cond a x old)
+  behind : (a b : Bool) (x new old : List Number) → (a ≡ true → b ≡ false) → new ≡ More b old → cond a x new ≡ More b (cond a x old)
   behind true true x new old apart h = absurd (cc (apart refl))
   behind true false x new old apart h = sym (append-nil x)
   behind false b x new old apart h = h
@@ -131,27 +131,27 @@ module _ (hold name : List ℕ) (n : ℕ) where
       (insert_gives es k v key one (none_after hold (is_at (compare hold) e.0) e.1 (lookup (is_at (compare hold)) es) none))
 
 -- the hold that was found keeps one more
-pub kept_there : (hold : List ℕ) (n : ℕ) (es new : List Entry) (p w : Vec Stretch Global) → lookup (is_at (compare hold)) es ≡ Some p
+pub kept_there : (hold : List ℕ) (n : Number) (es new : List Entry) (p w : Vec Stretch Global) → lookup (is_at (compare hold)) es ≡ Some p
     → new ≡ set_value (is_at (compare hold)) es w → numbers_of w.items ≡ numbers_of p.items ++ n ∷ [] → KeepsOneMore hold n es new
 kept_there hold n es new p w found is more = λ name. ap (kept_by name) is ∙ set_gives hold name n es p w found more
 
 -- a hold is added
-pub kept_new : (hold : List ℕ) (n : ℕ) (es new : List Entry) (k : Vec ℕ Global) (v : Vec Stretch Global)
+pub kept_new : (hold : List ℕ) (n : Number) (es new : List Entry) (k : Vec ℕ Global) (v : Vec Stretch Global)
     → lookup (is_at (compare hold)) es ≡ None → new ≡ insert_entry cmp_names es k v → k.items ≡ hold
     → numbers_of v.items ≡ n ∷ [] → KeepsOneMore hold n es new
 kept_new hold n es new k v none is key one = λ name. ap (kept_by name) is ∙ insert_gives hold name n es k v key one none
 
 -- ---- one hold after the other
 
-pub held_next : (name hold : List ℕ) (rest : List (List ℕ)) (n : ℕ) (old new : List Entry) → KeepsOneMore hold n old new
+pub held_next : (name hold : List ℕ) (rest : List (List ℕ)) (n : Number) (old new : List Entry) → KeepsOneMore hold n old new
     → kept_by name new ++ numbers_for name rest n ≡ kept_by name old ++ numbers_for name (hold ∷ rest) n
 held_next name hold rest n old new h = rw (h name) (append_assoc (kept_by name old) (number_for name hold n) (numbers_for name rest n))
 
 -- ---- how many numbers
 
-length_count_up : (f n : ℕ) → length (count_up f n) ≡ n
-length_count_up f zero = refl
-length_count_up f (suc n) = ap suc (length_count_up (f + 1) n)
+length_count_up : (v : Option ℕ) (f n : ℕ) → length (count_up v f n) ≡ n
+length_count_up v f zero = refl
+length_count_up v f (suc n) = ap suc (length_count_up v (f + 1) n)
 
 -- a stretch more
 pub count_next : (count more next : ℕ) (s : Stretch) (rest : List Stretch) → more ≡ s.more → next ≡ min (count + (more + 1)) (2 ^ 64 - 1)
@@ -159,7 +159,7 @@ pub count_next : (count more next : ℕ) (s : Stretch) (rest : List Stretch) →
 count_next count more next s rest is e =
     let one : length (numbers_of (s ∷ rest)) ≡ suc more + length (numbers_of rest) =
     length-append (numbers_in s) (numbers_of rest)
-    ∙ ap (λ (k : ℕ). k + length (numbers_of rest)) (length_count_up s.first (suc s.more) ∙ ap suc (sym is)) in
+    ∙ ap (λ (k : ℕ). k + length (numbers_of rest)) (length_count_up s.volume s.first (suc s.more) ∙ ap suc (sym is)) in
     omega (arith, one, e)
 
 -- the stretch at a place
@@ -177,5 +177,5 @@ pub count_end : (xs : List Stretch) (i count all : ℕ) → length xs ≤ i → 
     → min (count + length (numbers_of (drop i xs))) (2 ^ 64 - 1) ≡ all → count ≡ all
 count_end xs i count all end fits h =
     let none : numbers_of (drop i xs) ≡ [] = ap numbers_of (drop_of_length-le xs end) in
-    let last : min (count + 0) (2 ^ 64 - 1) ≡ all = ap (λ (ns : List ℕ). min (count + length ns) (2 ^ 64 - 1)) (sym none) ∙ h in
+    let last : min (count + 0) (2 ^ 64 - 1) ≡ all = ap (λ (ns : List Number). min (count + length ns) (2 ^ 64 - 1)) (sym none) ∙ h in
     omega (arith, fits, last)

@@ -1,15 +1,17 @@
 -- Examples of the definitions.
 use Rattle.std.specs.Fmt.{digits}
-use Rattle.std.proofs.Common.{◌≡◌, ◌∷◌, ◌++◌, ℕ, List, [], codes, refl, false, true, Some, None}
+use Rattle.std.proofs.Common.{◌≡◌, ◌∷◌, ◌++◌, ℕ, List, [], codes, map, refl, false, true, Option, Some, None}
 use Rattle.jiff_core.specs.declared.civil.date.Date.{Date}
 use Rattle.cli_page.specs.Marks.{read_all}
 use Rattle.class_plan.specs.declared.schedules.Action.TheVariants as action
 use Rattle.class_plan.specs.declared.schedules.Schedule.TheVariants.{After}
 use Rattle.class_plan.specs.declared.schedules.Unit.TheVariants.{Years}
-use Rattle.cli_page.specs.DueLists.{ruling_by, ruling_words}
+use Rattle.cli_page.specs.DueLists.{number_head, ruling_by, ruling_words}
 use Rattle.cli_page.specs.declared.due_list.Ruling.TheVariants as ruling
-use Rattle.cli_page.specs.KeptNumbers.{numbers_of}
-use Rattle.cli_page.specs.Indexes.{condition_words, due_words, history_link, last_moment, letter_cells, moment_key, order_words}
+use Rattle.cli_page.specs.KeptNumbers.{dash, is_same_volume, numbers_of, stretch_text}
+use Rattle.cli_page.specs.declared.holds.Stretch.{Stretch}
+use Rattle.cli_page.specs.Indexes.{condition_words, due_words, history_link, history_links, last_moment, letter_cells, moment_key, order_words}
+use Rattle.cli_page.specs.Names.{file_name}
 use Rattle.cli_page.specs.Timelines.{no_dates, timeline_head, timeline_of, total_shown, years_words}
 use Rattle.cli_page.specs.declared.index.Order.TheVariants.{Sender}
 use Rattle.cli_page.specs.Columns.{no_year, breadth_of, span_of, no_column, columns_from, columns_of}
@@ -49,9 +51,25 @@ its_words = refl
 free : ruling_words (ruling_by (Some (After 7 Years action.Destroy false))) false ≡ codes "May be destroyed"
 free = refl
 
+abbrev stretch : Option ℕ → ℕ → ℕ → Stretch
+stretch v n more = record { volume = v; first = n; more = more }
+
 -- two records apart
-one_and_seven : numbers_of (record { first = 1; more = 0 } ∷ record { first = 7; more = 0 } ∷ []) ≡ 1 ∷ 7 ∷ []
+one_and_seven : numbers_of (stretch None 1 0 ∷ stretch None 7 0 ∷ []) ≡ (None, 1) ∷ (None, 7) ∷ []
 one_and_seven = refl
+
+-- three records of a volume
+five_to_seven : numbers_of (stretch (Some 3) 5 2 ∷ []) ≡ (Some 3, 5) ∷ (Some 3, 6) ∷ (Some 3, 7) ∷ []
+five_to_seven = refl
+
+their_texts : map stretch_text (stretch None 7 0 ∷ stretch (Some 3) 7 0 ∷ stretch (Some 3) 5 2 ∷ [])
+    ≡ codes "7" ∷ codes "3/7" ∷ (codes "3/5" ++ dash ++ codes "7") ∷ []
+unfolding digits
+their_texts = refl
+
+-- no stretch goes on in another volume
+in_one_volume : map (is_same_volume (Some 3)) (Some 3 ∷ Some 4 ∷ None ∷ []) ≡ true ∷ false ∷ false ∷ []
+in_one_volume = refl
 
 -- ---- the index of an export
 
@@ -62,14 +80,32 @@ never_due : due_words false None ≡ codes "never"
 never_due = refl
 
 -- a message that was altered has no link
-not_exported : letter_cells false None ≡ codes "<td></td><td></td><td></td><td>message altered, not exported</td></tr>\n"
+not_exported : letter_cells None false None ≡ codes "<td></td><td></td><td></td><td>message altered, not exported</td></tr>\n"
 not_exported = refl
 
 of_all_records : condition_words None ≡ codes "none: all records of the store"
 of_all_records = refl
 
-without_a_history : history_link false ≡ []
+without_a_history : history_links [] ≡ []
 without_a_history = refl
+
+with_a_history : history_links (None ∷ []) ≡ codes " <a href=\"history.txt\">history.txt</a> has the events of the records."
+unfolding history_link
+with_a_history = refl
+
+-- those of two volumes
+with_two_histories : history_links (Some 3 ∷ Some 12 ∷ [])
+    ≡ codes " <a href=\"history-3.txt\">history-3.txt</a>, <a href=\"history-12.txt\">history-12.txt</a> have the events of the records."
+unfolding history_link digits
+with_two_histories = refl
+
+names_of_files : file_name None 17 ∷ file_name (Some 3) 17 ∷ [] ≡ codes "17.eml" ∷ codes "3-17.eml" ∷ []
+unfolding digits
+names_of_files = refl
+
+number_of_a_volume : number_head (Some 3) 17 ≡ codes "<th scope=\"row\" class=\"n\">3/17</th><td>"
+unfolding number_head digits
+number_of_a_volume = refl
 
 in_order_of_senders : order_words Sender ≡ codes "by sender"
 in_order_of_senders = refl

@@ -7,6 +7,7 @@ use Rattle.class_plan.specs.Plans.{Listing, schedule_at}
 use Rattle.class_plan.specs.declared.schedules.Action.TheVariants as action
 use Rattle.class_plan.specs.declared.schedules.Schedule.{Schedule}
 use Rattle.class_plan.specs.declared.schedules.Schedule.TheVariants.{Permanent, After}
+use Rattle.cli_texts.specs.Rows.{number_field}
 use Rattle.cli_texts.specs.declared.headers.Headers.{Headers}
 use Rattle.cli_texts.specs.declared.titles.ListedTitle.{ListedTitle}
 use Rattle.cli_page.specs.declared.report.Record.{Record}
@@ -26,6 +27,7 @@ ruling_by (Some (After n u action.Transfer y)) = Transfer
 
 -- what is listed of a record that is due, but for the texts of its header
 pub record DueRecord : Type 0 where
+  pub volume : Option ℕ
   pub number : ℕ
   pub path : List ℕ
   pub day : Date
@@ -34,11 +36,27 @@ pub record DueRecord : Type 0 where
   pub holds : List (List ℕ)
 
 abbrev pub due_view : Item → DueRecord
-due_view i = record { number = i.number; path = i.path.items; day = i.day; due = i.due; ruling = i.ruling; holds = map (λ h. h.items) i.holds.items }
+due_view i = record {
+  volume = i.volume;
+  number = i.number;
+  path = i.path.items;
+  day = i.day;
+  due = i.due;
+  ruling = i.ruling;
+  holds = map (λ h. h.items) i.holds.items;
+}
 
 -- A RECORD AS IT IS LISTED, by the plan
 abbrev pub due_record : Listing → Record → Date → DueRecord
-due_record plan r due = record { number = r.number; path = r.path.now; day = r.day; due = due; ruling = ruling_by (schedule_at plan r.path.now); holds = map (λ h. h.items) r.holds.now }
+due_record plan r due = record {
+  volume = r.volume;
+  number = r.number;
+  path = r.path.now;
+  day = r.day;
+  due = due;
+  ruling = ruling_by (schedule_at plan r.path.now);
+  holds = map (λ h. h.items) r.holds.now;
+}
 
 abbrev pub is_held : Item → Bool
 is_held i = not (length i.holds.items == 0)
@@ -82,15 +100,16 @@ texts_shown (Some h) = text_piece (string_bytes h.sender) ++ codes "<br>" ++ tex
 abbrev pub row_tag : (is_free : Bool) → List ℕ
 row_tag is_free = if is_free then codes "<tr>" else codes "<tr class=\"barred\">"
 
-unfoldable pub number_head : ℕ → List ℕ
-number_head n = codes "<th scope=\"row\" class=\"n\">" ++ decimal n ++ codes "</th><td>"
+-- the number of a record, after that of its volume where it has one
+unfoldable pub number_head : (volume : Option ℕ) → ℕ → List ℕ
+number_head volume n = codes "<th scope=\"row\" class=\"n\">" ++ number_field volume n ++ codes "</th><td>"
 
 unfoldable pub day_cell : Date → List ℕ
 day_cell day = codes "</td><td class=\"d\">" ++ date_text day
 
 -- its number, its class with the title, the day of its capture and its due date
 unfoldable pub first_cells : List ListedTitle → Item → List ℕ
-first_cells titles i = number_head i.number ++ class_text titles i.path.items ++ day_cell i.day ++ day_cell i.due
+first_cells titles i = number_head i.volume i.number ++ class_text titles i.path.items ++ day_cell i.day ++ day_cell i.due
 
 -- THE ROW of a record
 unfoldable pub row : List ListedTitle → Item → List ℕ

@@ -1,5 +1,5 @@
 -- The index of an export: a row for each record.
-use Rattle.std.specs.Prelude.{◌≡◌, ◌-◌, ◌^◌, ℕ, ℤ, pos, Bool, true, false, if◌then◌else◌, List, [], ◌++◌, map, flat_map, length}
+use Rattle.std.specs.Prelude.{◌≡◌, ◌==◌, ◌-◌, ◌^◌, ℕ, ℤ, pos, Bool, true, false, if◌then◌else◌, List, [], ◌∷◌, ◌++◌, map, flat_map, length}
 use Rattle.std.specs.Prelude.{Option, Some, None, is_some, option_map, unwrap_or, codes, decimal, string_bytes, chars}
 use Rattle.std.specs.List.Sorted.{IsPermutation, IsSortedBy, IsStableBy}
 use Rattle.std.specs.Cmp.Lexicographic.{slice_cmp}
@@ -19,6 +19,7 @@ use Rattle.cli_page.specs.declared.report.Record.{Record}
 use Rattle.cli_page.specs.DueLists.{row_tag, number_head, day_cell}
 use Rattle.cli_page.specs.Heads.{head_start, head_end}
 use Rattle.cli_page.specs.Marks.{read_all}
+use Rattle.cli_page.specs.Names.{file_name, history_name}
 use Rattle.cli_page.specs.Pages.{path_piece, text_piece}
 
 -- ---- what an index has of a record
@@ -33,6 +34,7 @@ pub record IndexLetter : Type 0 where
   pub key : List ℕ
 
 pub record IndexRow : Type 0 where
+  pub volume : Option ℕ
   pub number : ℕ
   pub path : List ℕ
   pub day : Date
@@ -51,6 +53,7 @@ letter_view l = record {
 
 abbrev pub row_view : Row → IndexRow
 row_view r = record {
+  volume = r.volume;
   number = r.number;
   path = r.path.items;
   day = r.day;
@@ -72,6 +75,7 @@ letter_for file h = record {
 -- A RECORD AS IT IS LISTED, with its message, if that is exported
 abbrev pub row_for : Record → Option (ℕ × Headers) → IndexRow
 row_for r letter = record {
+  volume = r.volume;
   number = r.number;
   path = r.path.now;
   day = r.day;
@@ -87,14 +91,15 @@ letter_texts l =
     codes "<td>" ++ text_piece l.sender ++ codes "</td><td>" ++ text_piece l.subject ++ codes "</td><td>" ++ text_piece l.date
 
 -- a link to the file of the message
-unfoldable pub file_link : (file : ℕ) → List ℕ
-file_link n = codes "</td><td class=\"d\"><a href=\"" ++ decimal n ++ codes ".eml\">" ++ decimal n ++ codes ".eml</a></td></tr>\n"
+unfoldable pub file_link : (volume : Option ℕ) → (file : ℕ) → List ℕ
+file_link volume n =
+    codes "</td><td class=\"d\"><a href=\"" ++ file_name volume n ++ codes "\">" ++ file_name volume n ++ codes "</a></td></tr>\n"
 
 -- the cells of the message, or why there is none, and the end of the row
-abbrev pub letter_cells : (is_destroyed : Bool) → Option IndexLetter → List ℕ
-letter_cells is_destroyed (Some l) = letter_texts l ++ file_link l.file
-letter_cells true None = codes "<td></td><td></td><td></td><td></td></tr>\n"
-letter_cells false None = codes "<td></td><td></td><td></td><td>message altered, not exported</td></tr>\n"
+abbrev pub letter_cells : (volume : Option ℕ) → (is_destroyed : Bool) → Option IndexLetter → List ℕ
+letter_cells volume is_destroyed (Some l) = letter_texts l ++ file_link volume l.file
+letter_cells volume true None = codes "<td></td><td></td><td></td><td></td></tr>\n"
+letter_cells volume false None = codes "<td></td><td></td><td></td><td>message altered, not exported</td></tr>\n"
 
 -- the due date, or what stands in its place
 abbrev pub due_words : (is_destroyed : Bool) → Option Date → List ℕ
@@ -108,8 +113,8 @@ due_cell is_destroyed due = codes "</td><td class=\"d\">" ++ due_words is_destro
 -- THE ROW of a record: its number, its class, the day of its capture, its due date, and its message
 unfoldable pub index_row : IndexRow → List ℕ
 index_row r =
-    row_tag (is_some r.letter) ++ number_head r.number ++ path_piece r.path ++ day_cell r.day ++ due_cell r.is_destroyed r.due
-    ++ letter_cells r.is_destroyed r.letter
+    row_tag (is_some r.letter) ++ number_head r.volume r.number ++ path_piece r.path ++ day_cell r.day ++ due_cell r.is_destroyed r.due
+    ++ letter_cells r.volume r.is_destroyed r.letter
 
 -- ---- the whole index
 
@@ -136,13 +141,25 @@ choice_facts conditions order =
     ++ codes "</dd>\n<dt>Order</dt><dd>" ++ order_words order
     ++ codes "</dd>\n</dl>\n</header>\n<main>\n"
 
-abbrev pub history_link : (has_history : Bool) → List ℕ
-history_link has_history = if has_history then codes " <a href=\"history.txt\">history.txt</a> has the events of the records." else []
+-- a link to the file of the events of a store, or of a volume
+unfoldable pub history_link : (volume : Option ℕ) → List ℕ
+history_link volume = codes "<a href=\"" ++ history_name volume ++ codes "\">" ++ history_name volume ++ codes "</a>"
 
-unfoldable pub index_table_head : (has_history : Bool) → List ℕ
-index_table_head has_history =
+abbrev pub more_link : (volume : Option ℕ) → List ℕ
+more_link volume = codes ", " ++ history_link volume
+
+abbrev pub have_events : (others : ℕ) → List ℕ
+have_events others = if others == 0 then codes " has the events of the records." else codes " have the events of the records."
+
+-- THE LINKS TO THE EVENTS of the records: to those of a store, or of each of some volumes; none where none are beside the index
+abbrev pub history_links : (volumes : List (Option ℕ)) → List ℕ
+history_links [] = []
+history_links (v ∷ vs) = codes " " ++ history_link v ++ flat_map more_link vs ++ have_events (length vs)
+
+unfoldable pub index_table_head : (histories : List (Option ℕ)) → List ℕ
+index_table_head histories =
     codes "<table>\n<caption>Long texts are cut here; manifest.csv has them whole. SHA256SUMS has the sums of the files."
-    ++ history_link has_history
+    ++ history_links histories
     ++ codes "</caption>\n<thead><tr><th scope=\"col\" class=\"n\">Record</th><th scope=\"col\" class=\"k\">Class</th><th scope=\"col\" class=\"d\">Captured</th><th scope=\"col\" class=\"d\">Due</th><th scope=\"col\">Sender</th><th scope=\"col\">Subject</th><th scope=\"col\" class=\"h\">Date in the header</th><th scope=\"col\" class=\"d\">File</th></tr></thead>\n<tbody>\n"
 
 unfoldable pub index_end : List ℕ
@@ -156,7 +173,7 @@ index_title = codes "Exported records"
 unfoldable pub index_text : IndexHeading → List IndexRow → List ℕ
 index_text about rows =
     head_start ++ index_title ++ head_end ++ facts about.file.now about.moment.now (length rows)
-    ++ choice_facts (option_map (λ c. c.now) about.conditions) about.order ++ index_table_head about.has_history ++ flat_map index_row rows
+    ++ choice_facts (option_map (λ c. c.now) about.conditions) about.order ++ index_table_head about.histories.now ++ flat_map index_row rows
     ++ index_end
 
 -- ---- the order of the rows

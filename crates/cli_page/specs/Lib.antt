@@ -10,6 +10,7 @@ pub mod DueLists
 pub mod KeptNumbers
 pub mod Seeing
 pub mod Heads
+pub mod Names
 pub mod Indexes
 pub mod Timelines
 pub mod Reports

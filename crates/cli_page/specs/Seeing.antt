@@ -31,7 +31,7 @@ listed_if is_due plan r (Some due) = if is_due then due_record plan r due ∷ []
 pub record AddsRecord (plan : Listing) (r : Record) (old new : Report) : Type 0 where
   pub counted : CountsOne r.path.now (seen_for r) old.tally new.tally
   pub listed : map due_view new.due.items.items ≡ map due_view old.due.items.items ++ listed_if (is_due old.day_number (seen_for r)) plan r r.due
-  pub held : KeepAlso (map (λ h. h.items) r.holds.now) r.number old.holds.holds.entries new.holds.holds.entries
+  pub held : KeepAlso (map (λ h. h.items) r.holds.now) (r.volume, r.number) old.holds.holds.entries new.holds.holds.entries
   pub day : new.day_number ≡ old.day_number
 
 -- ---- by numbers alone, for those who add records

@@ -26,6 +26,8 @@ enum Ruling {
 /// A record that is due.
 #[derive(Drop)]
 struct Item {
+    /// The number of its volume, in an archive of volumes.
+    volume: Option<u32>,
     number: u32,
     path: Vec<u8>,
     day: Date,
@@ -136,14 +138,18 @@ pub(crate) fn row_tag(is_free: bool) -> &'static str
     }
 }
 
-/// Adds the cell of a record's number, and the tag of the next one.
+/// Adds the cell of a record's number, after that of its volume where it has one, and the tag of the next cell.
 #[tactic(auto, unfolding(crate::specs::DueLists::number_head))]
-pub(crate) fn push_number(page: &mut Page, number: u64) -> Result<(), AllocError>
-    ensures { OnOk result (page.new ≡ page.old ++ number_head number) }
+pub(crate) fn push_number(
+    page: &mut Page,
+    volume: Option<u32>,
+    number: u32,
+) -> Result<(), AllocError>
+    ensures { OnOk result (page.new ≡ page.old ++ number_head volume number) }
 {
-    put!(page;
-        "<th scope=\"row\" class=\"n\">" number(number) "</th><td>"
-    )
+    page.markup("<th scope=\"row\" class=\"n\">")?;
+    page.record_number(volume, number)?;
+    put!(page; "</th><td>")
 }
 
 /// Adds a day in a cell, after the end of the one before.
@@ -182,7 +188,7 @@ impl Item {
     fn first_cells(&self, page: &mut Page, titles: &[ListedTitle<'_>]) -> Result<(), AllocError>
         ensures { OnOk result (page.new ≡ page.old ++ first_cells_of titles.now self.now) }
     {
-        push_number(page, u64::from(self.number))?;
+        push_number(page, self.volume, self.number)?;
         push_class(page, self.path.as_slice(), titles)?;
         push_day(page, self.day)?;
         push_day(page, self.due)
@@ -331,6 +337,7 @@ impl DueList {
             None => None,
         };
         let item = Item {
+            volume: record.volume,
             number: record.number,
             path,
             day: record.day,

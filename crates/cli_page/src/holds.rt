@@ -1,7 +1,7 @@
 //! The holds of an archive, by name, and the records that each keeps.
 
 ghost use Rattle.std.specs.Prelude.{◌≡◌, ◌++◌, ◌∷◌, [], ◌+◌, flat_map, IfSome, OnOk};
-ghost use Rattle.cli_page.specs.KeptNumbers.{numbers_in, numbers_of, stretch_text, more_stretch, stretches_text, hold_head, numbers_cell, hold_row, KeepsOneMore, AreInOrder, count_shown, entry_row, holds_head, no_holds, holds_table_head, holds_table_end, holds_section};
+ghost use Rattle.cli_page.specs.KeptNumbers.{numbers_in, numbers_of, stretch_text, more_stretch, stretches_text, hold_head, numbers_cell, hold_row, KeepsOneMore, AreInOrder, count_shown, entry_row, holds_head, is_same_volume, no_holds, holds_table_head, holds_table_end, holds_section};
 
 use crate::fault::ReportFault;
 use crate::page::{Page, put};
@@ -11,6 +11,8 @@ use std::collections::BTreeMap;
 /// Records with consecutive numbers: a first one, and so many more.
 #[derive(Clone, Copy)]
 struct Stretch {
+    /// The number of their volume, in an archive of volumes.
+    volume: Option<u32>,
     first: u32,
     more: u32,
 }
@@ -24,10 +26,11 @@ pub struct Holds {
 
 impl Stretch {
     /// One record.
-    fn of(number: u32) -> Stretch
-        ensures { numbers_in result ≡ number ∷ [] }
+    fn of(volume: Option<u32>, number: u32) -> Stretch
+        ensures { numbers_in result ≡ (volume, number) ∷ [] }
     {
         Stretch {
+            volume,
             first: number,
             more: 0,
         }
@@ -40,36 +43,63 @@ impl Stretch {
         u64::from(self.first) + u64::from(self.more)
     }
 
-    /// With the record right after its last one. None where a number is another one's.
+    /// Whether the records are those of a volume, or of a store that is one file.
+    fn is_of(self, volume: Option<u32>) -> bool
+        ensures { result ≡ is_same_volume self.volume volume }
+    {
+        match (self.volume, volume) {
+            (Some(own), Some(other)) => own == other,
+            (None, None) => true,
+            _ => false,
+        }
+    }
+
+    /// With the record of the same volume right after its last one. None where a number is another one's.
     #[tactic(auto, using(crate::proofs::KeptLemmas::count_up_next))]
-    fn with(self, number: u32) -> Option<Stretch>
-        ensures { IfSome result (λ s. numbers_in s ≡ numbers_in self ++ number ∷ []) }
+    fn next(self, number: u32) -> Option<Stretch>
+        ensures { IfSome result
+            (λ s. numbers_in s ≡ numbers_in self ++ (self.volume, number) ∷ []) }
     {
         if u64::from(number) != self.last() + 1 {
             return None;
         }
         let more = self.more.checked_add(1)?;
         Some(Stretch {
+            volume: self.volume,
             first: self.first,
             more,
         })
     }
+
+    /// With the record right after its last one. None where a number is that of another record, or of another volume.
+    fn with(self, volume: Option<u32>, number: u32) -> Option<Stretch>
+        ensures { IfSome result (λ s. numbers_in s ≡ numbers_in self ++ (volume, number) ∷ []) }
+    {
+        if !self.is_of(volume) {
+            return None;
+        }
+        self.next(number)
+    }
 }
 
-/// Adds a record to those of a hold, after those with smaller numbers.
-fn push_number(stretches: &mut Vec<Stretch>, number: u32) -> Result<(), ReportFault>
+/// Adds a record to those of a hold, after those of earlier volumes and those with smaller numbers.
+fn push_number(
+    stretches: &mut Vec<Stretch>,
+    volume: Option<u32>,
+    number: u32,
+) -> Result<(), ReportFault>
     ensures { OnOk result
-        (numbers_of stretches.new.items ≡ numbers_of stretches.old.items ++ number ∷ []) }
+        (numbers_of stretches.new.items ≡ numbers_of stretches.old.items ++ (volume, number) ∷ []) }
 {
     let Some(last) = stretches.pop() else {
-        stretches.push(Stretch::of(number))?;
+        stretches.push(Stretch::of(volume, number))?;
         return Ok(());
     };
-    match last.with(number) {
+    match last.with(volume, number) {
         Some(longer) => stretches.push(longer)?,
         None => {
             stretches.push(last)?;
-            stretches.push(Stretch::of(number))?;
+            stretches.push(Stretch::of(volume, number))?;
         }
     }
     Ok(())
@@ -86,11 +116,11 @@ fn count_of(stretches: &[Stretch]) -> u64
     count
 }
 
-/// Adds the numbers of a stretch, as `7` or `1-3`.
+/// Adds the numbers of a stretch, as `7` or `1-3`, and as `3/7` or `3/1-3` in volume 3.
 fn push_stretch(page: &mut Page, stretch: Stretch) -> Result<(), AllocError>
     ensures { OnOk result (page.new ≡ page.old ++ stretch_text stretch) }
 {
-    page.number(u64::from(stretch.first))?;
+    page.record_number(stretch.volume, stretch.first)?;
     if stretch.more == 0 {
         return Ok(());
     }
@@ -199,16 +229,16 @@ impl Holds {
         Holds { alloc, holds }
     }
 
-    /// Adds a record that a hold keeps.
-    pub fn add(&mut self, name: &[u8], number: u32) -> Result<(), ReportFault>
-        ensures { OnOk result
-            (KeepsOneMore name.now number self.old.holds.entries self.new.holds.entries) }
+    /// Adds a record that a hold keeps, of a volume in an archive of volumes.
+    pub fn add(&mut self, name: &[u8], volume: Option<u32>, number: u32) -> Result<(), ReportFault>
+        ensures { OnOk result (KeepsOneMore name.now (volume, number) self.old.holds.entries
+            self.new.holds.entries) }
     {
         if let Some(stretches) = self.holds.get_mut(name) {
-            return push_number(stretches, number);
+            return push_number(stretches, volume, number);
         }
         let mut stretches = Vec::new(self.alloc);
-        push_number(&mut stretches, number)?;
+        push_number(&mut stretches, volume, number)?;
         let name = Vec::from_slice(self.alloc, name)?;
         self.holds.insert(name, stretches)?;
         Ok(())

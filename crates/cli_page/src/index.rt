@@ -1,7 +1,7 @@
 //! The index of an export: a table of its records, with a link to the file of each message.
 
 ghost use Rattle.std.specs.Prelude.{◌≡◌, ◌++◌, ◌∷◌, [], ℕ, List, map, flat_map, option_map, IfOk, OnOk, OnErr};
-ghost use Rattle.cli_page.specs.Indexes.{IsIndex, IsOrdered, IsOrderedBy, has_lower_sender, is_earlier, moment_key, sender_key, choice_facts, condition_words as condition_words_of, due_cell, due_words as due_words_of, facts as facts_of, file_link, history_link as history_link_of, index_row, index_end, index_table_head, index_title, letter_cells, letter_for, letter_texts, letter_view, order_words as order_words_of, row_for, row_view};
+ghost use Rattle.cli_page.specs.Indexes.{IsIndex, IsOrdered, IsOrderedBy, has_lower_sender, is_earlier, moment_key, sender_key, choice_facts, condition_words as condition_words_of, due_cell, due_words as due_words_of, facts as facts_of, file_link, have_events, history_link, history_links, index_row, index_end, index_table_head, index_title, letter_cells, letter_for, letter_texts, letter_view, more_link, order_words as order_words_of, row_for, row_view};
 
 use crate::due_list::{push_day, push_number, row_tag};
 use crate::head::{close_head, open_head};
@@ -36,14 +36,14 @@ pub struct IndexHeading<'a> {
     /// The conditions that its records meet, and their numbers, as they are typed. None where it is of all records.
     pub conditions: Option<&'a str>,
     pub order: Order,
-    /// Whether the events of its records are beside it, in `history.txt`.
-    pub has_history: bool,
+    /// The events of its records that are beside it: those of a store, which has no volume, or of each of these volumes.
+    pub histories: &'a [Option<u32>],
 }
 
 /// What an index has of a message.
 #[derive(Drop)]
 struct Letter {
-    /// The number of the file `N.eml`.
+    /// The number of its file.
     file: u32,
     /// Each text cut to 80 columns.
     headers: Headers,
@@ -56,6 +56,8 @@ struct Letter {
 /// A record in an index.
 #[derive(Drop)]
 struct Row {
+    /// The number of its volume, in an archive of volumes.
+    volume: Option<u32>,
     number: u32,
     path: Vec<u8>,
     day: Date,
@@ -110,30 +112,31 @@ impl Letter {
 
     /// Adds a link to the file of the message, and the end of the row.
     #[tactic(auto, unfolding(crate::specs::Indexes::file_link))]
-    fn link(&self, page: &mut Page) -> Result<(), AllocError>
-        ensures { OnOk result (page.new ≡ page.old ++ file_link self.now.file) }
+    fn link(&self, page: &mut Page, volume: Option<u32>) -> Result<(), AllocError>
+        ensures { OnOk result (page.new ≡ page.old ++ file_link volume self.now.file) }
     {
-        let file = u64::from(self.file);
-        put!(page;
-            "</td><td class=\"d\"><a href=\"" number(file) ".eml\">" number(file)
-            ".eml</a></td></tr>\n"
-        )
+        page.markup("</td><td class=\"d\"><a href=\"")?;
+        page.file_name(volume, self.file)?;
+        page.markup("\">")?;
+        page.file_name(volume, self.file)?;
+        put!(page; "</a></td></tr>\n")
     }
 }
 
 /// Adds the cells of a message, or why there is none, and the end of the row.
 fn push_letter(
     page: &mut Page,
+    volume: Option<u32>,
     letter: Option<&Letter>,
     is_destroyed: bool,
 ) -> Result<(), AllocError>
     ensures { OnOk result (page.new ≡ page.old
-        ++ letter_cells is_destroyed (option_map (λ l. letter_view l.now) letter.entry)) }
+        ++ letter_cells volume is_destroyed (option_map (λ l. letter_view l.now) letter.entry)) }
 {
     match letter {
         Some(letter) => {
             letter.texts(page)?;
-            letter.link(page)
+            letter.link(page, volume)
         }
         None if is_destroyed => page.markup("<td></td><td></td><td></td><td></td></tr>\n"),
         None => page.markup(
@@ -190,11 +193,11 @@ impl Row {
         ensures { OnOk result (page.new ≡ page.old ++ index_row (row_view self.now)) }
     {
         page.markup(row_tag(self.letter.is_some()))?;
-        push_number(page, u64::from(self.number))?;
+        push_number(page, self.volume, self.number)?;
         page.path(self.path.as_slice())?;
         push_day(page, self.day)?;
         push_due(page, self.is_destroyed, self.due)?;
-        push_letter(page, self.letter.as_ref(), self.is_destroyed)
+        push_letter(page, self.volume, self.letter.as_ref(), self.is_destroyed)
     }
 }
 
@@ -282,27 +285,65 @@ fn push_choice(page: &mut Page, conditions: Option<&str>, order: Order) -> Resul
     )
 }
 
-/// Adds a link to the events of the records, where they are beside the index.
-fn push_history(page: &mut Page, has_history: bool) -> Result<(), AllocError>
-    ensures { OnOk result (page.new ≡ page.old ++ history_link_of has_history) }
+/// Adds a link to the events of a store, or of a volume.
+#[tactic(auto, unfolding(crate::specs::Indexes::history_link))]
+fn push_history(page: &mut Page, volume: Option<u32>) -> Result<(), AllocError>
+    ensures { OnOk result (page.new ≡ page.old ++ history_link volume) }
 {
-    if has_history {
-        page.markup(" <a href=\"history.txt\">history.txt</a> has the events of the records.")
+    page.markup("<a href=\"")?;
+    page.history_name(volume)?;
+    page.markup("\">")?;
+    page.history_name(volume)?;
+    put!(page; "</a>")
+}
+
+/// Adds links to the events of volumes, each after a comma.
+fn push_more_histories(page: &mut Page, volumes: &[Option<u32>]) -> Result<(), AllocError>
+    ensures { OnOk result (page.new ≡ page.old ++ flat_map more_link volumes.now) }
+{
+    for volume in volumes {
+        page.markup(", ")?;
+        push_history(page, *volume)?;
+    }
+    Ok(())
+}
+
+/// What comes after a link to events, and so many more.
+fn events_words(others: usize) -> &'static str
+    ensures { result.now ≡ have_events others }
+{
+    if others == 0 {
+        " has the events of the records."
     } else {
-        Ok(())
+        " have the events of the records."
+    }
+}
+
+/// Adds links to the events of the records, where they are beside the index.
+fn push_histories(page: &mut Page, volumes: &[Option<u32>]) -> Result<(), AllocError>
+    ensures { OnOk result (page.new ≡ page.old ++ history_links volumes.now) }
+{
+    match volumes {
+        [] => Ok(()),
+        [first, others @ ..] => {
+            page.markup(" ")?;
+            push_history(page, *first)?;
+            push_more_histories(page, others)?;
+            page.markup(events_words(others.len()))
+        }
     }
 }
 
 /// Adds the head of the table.
 #[tactic(auto, unfolding(crate::specs::Indexes::index_table_head))]
-fn open_table(page: &mut Page, has_history: bool) -> Result<(), AllocError>
-    ensures { OnOk result (page.new ≡ page.old ++ index_table_head has_history) }
+fn open_table(page: &mut Page, histories: &[Option<u32>]) -> Result<(), AllocError>
+    ensures { OnOk result (page.new ≡ page.old ++ index_table_head histories.now) }
 {
     page.markup(
         "<table>\n<caption>Long texts are cut here; manifest.csv has them whole. SHA256SUMS has \
         the sums of the files.",
     )?;
-    push_history(page, has_history)?;
+    push_histories(page, histories)?;
     page.markup(
         "</caption>\n<thead><tr><th scope=\"col\" class=\"n\">Record</th>\
         <th scope=\"col\" class=\"k\">Class</th>\
@@ -341,8 +382,8 @@ impl Index {
         Index { alloc, rows }
     }
 
-    /// Adds a record, after those with smaller numbers: with the number of its message's file `N.eml` and what its header
-    /// says, or with none where it is destroyed, and where its message is not the one that was captured.
+    /// Adds a record, after those of earlier volumes and those with smaller numbers: with the number of its message's file and
+    /// what its header says, or with none where it is destroyed, and where its message is not the one that was captured.
     pub fn add(
         &mut self,
         record: &Record<'_>,
@@ -358,6 +399,7 @@ impl Index {
             None => None,
         };
         let row = Row {
+            volume: record.volume,
             number: record.number,
             path: Vec::from_slice(self.alloc, record.path)?,
             day: record.day,
@@ -381,7 +423,7 @@ impl Index {
         close_head(page)?;
         push_facts(page, about.file, about.moment, rows.len())?;
         push_choice(page, about.conditions, about.order)?;
-        open_table(page, about.has_history)?;
+        open_table(page, about.histories)?;
         push_rows(page, rows)?;
         close_table(page)
     }

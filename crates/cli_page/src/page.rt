@@ -1,11 +1,15 @@
 //! The text of a page, which grows piece by piece.
 
 ghost use Rattle.std.specs.Prelude.{◌≡◌, ◌++◌, [], OnOk, decimal, string_bytes};
+ghost use Rattle.cli_texts.specs.Rows.{number_field};
 ghost use Rattle.jiff.specs.Words.{date_text};
+ghost use Rattle.cli_page.specs.Names.{file_name as file_name_of, history_name as history_name_of};
 ghost use Rattle.cli_page.specs.Pages.{text_piece, name_piece, path_piece, time_piece, number_cell_piece};
 
 use crate::escaping::{push_escaped, push_path};
+use crate::names::{file_name, history_name};
 use class_plan::Date;
+use cli_texts::number_text;
 use std::alloc::{AllocError, Global};
 use std::marker::Model;
 
@@ -89,6 +93,34 @@ impl Page {
         ensures { OnOk result (self.new ≡ self.old ++ decimal number) }
     {
         write!(self.html, "{number}")
+    }
+
+    /// Adds the number of a record, after that of its volume where it has one: `17`, or `3/17`.
+    pub(crate) fn record_number(
+        &mut self,
+        volume: Option<u32>,
+        number: u32,
+    ) -> Result<(), AllocError>
+        ensures { OnOk result (self.new ≡ self.old ++ number_field volume number) }
+    {
+        let text = number_text(self.alloc, volume, number)?;
+        self.html.push_str(text.as_str())
+    }
+
+    /// Adds the name of the file of a message.
+    pub(crate) fn file_name(&mut self, volume: Option<u32>, message: u32) -> Result<(), AllocError>
+        ensures { OnOk result (self.new ≡ self.old ++ file_name_of volume message) }
+    {
+        let name = file_name(self.alloc, volume, message)?;
+        self.html.push_str(name.as_str())
+    }
+
+    /// Adds the name of the file of the events of a store, or of a volume.
+    pub(crate) fn history_name(&mut self, volume: Option<u32>) -> Result<(), AllocError>
+        ensures { OnOk result (self.new ≡ self.old ++ history_name_of volume) }
+    {
+        let name = history_name(self.alloc, volume)?;
+        self.html.push_str(name.as_str())
     }
 
     /// Adds a date as `2030-11-14`, which has digits and hyphens alone.

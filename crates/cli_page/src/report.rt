@@ -23,6 +23,8 @@ use std::alloc::{AllocError, Global};
 /// A record, as a report reads it.
 #[derive(Clone, Copy)]
 pub struct Record<'a> {
+    /// The number of its volume, in an archive of volumes.
+    pub volume: Option<u32>,
     pub number: u32,
     /// The path of its class.
     pub path: &'a [u8],
@@ -92,11 +94,12 @@ fn seen_of(record: &Record<'_>) -> Result<Seen, ReportFault>
 /// Adds a record to those of each of its holds.
 #[tactic(auto, using(crate::proofs::HoldLemmas::held_next))]
 fn add_holds(holds: &mut Holds, record: &Record<'_>) -> Result<(), ReportFault>
-    ensures { OnOk result (KeepAlso (map (λ h. h.items) «record».now.holds.now) «record».now.number
-        holds.old.holds.entries holds.new.holds.entries) }
+    ensures { OnOk result (KeepAlso (map (λ h. h.items) «record».now.holds.now)
+        («record».now.volume, «record».now.number) holds.old.holds.entries
+        holds.new.holds.entries) }
 {
     for name in record.holds {
-        holds.add(name.as_slice(), record.number)?;
+        holds.add(name.as_slice(), record.volume, record.number)?;
     }
     Ok(())
 }
@@ -151,8 +154,8 @@ impl Report {
         })
     }
 
-    /// Adds a record, after those with smaller numbers, and what its message's header says, which is listed where the record
-    /// is due.
+    /// Adds a record, after those of earlier volumes and those with smaller numbers, and what its message's header says, which is
+    /// listed where the record is due.
     pub fn add(
         &mut self,
         plan: &Plan,

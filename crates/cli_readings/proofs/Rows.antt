@@ -8,9 +8,15 @@ use Rattle.cli_texts.specs.declared.headers.ListedHeaders.TheVariants.{Unasked}
 use Rattle.cli_texts.specs.declared.records.Row.{Row}
 use Rattle.command_lines.specs.declared.archives.Format.TheVariants.{Lines, Csv, Json, Numbers, Count}
 use Rattle.jiff_core.specs.declared.civil.date.Date.{Date}
+use Rattle.record_archive.specs.Archive.{Archive}
+use Rattle.record_choice.specs.Entries.{RecordEntry as Entry}
 use Rattle.record_choice.specs.declared.entry.RecordEntry.{RecordEntry}
+use Rattle.cli_history.specs.declared.seals.Seals.{Seals}
+use Rattle.class_plan.specs.Plans.{Listing}
+use Rattle.cli_page.specs.Names.{file_name}
+use Rattle.cli_page.specs.declared.report.Report.{Report}
 use Rattle.cli_readings.specs.Altered.{altered_words, one_words, several_words}
-use Rattle.cli_readings.specs.Exports.{count_of, file_name, sealed_fields, sum_line, without_again}
+use Rattle.cli_readings.specs.Exports.{altered_for, count_of, sealed_fields, subject_for, sum_line, without_again}
 use Rattle.cli_readings.specs.Groups.{Added, is_twice, with_key}
 use Rattle.cli_console.specs.Counts.{greatest, one_more}
 use Rattle.cli_readings.specs.Checks.{figures_of, no_figures, together}
@@ -19,9 +25,13 @@ use Rattle.cli_readings.specs.Parts.{Part, altered_in, files_in, rows_in, subjec
 use Rattle.cli_readings.specs.Parts as part
 use Rattle.cli_console.specs.Sequences.{AreTexts, between, more_for}
 use Rattle.cli_readings.specs.Twice.{before_group, beside_record, head_beside}
+use Rattle.cli_readings.specs.VolumeExports.{IsBegunBy, IsExportOfVolumes, out_of, share_of}
 use Rattle.cli_readings.specs.VolumeLists.{head_unless}
+use Rattle.cli_readings.specs.VolumeReports.{ReportsAll, reported_of}
 use Rattle.cli_readings.specs.declared.groups.Sealed.{Sealed}
 use Rattle.cli_readings.specs.declared.judge.Totals.{Totals}
+use Rattle.cli_readings.specs.declared.volume_exports.ExportOfVolumes.{ExportOfVolumes}
+use Rattle.cli_readings.proofs.VolumeExportLaws.{none_of}
 
 -- ---- what was captured twice
 
@@ -109,13 +119,13 @@ no_more_octets x = refl
 
 -- ---- exports
 
-name_is : file_name 12 ≡ codes "12.eml"
-unfolding digits
-name_is = refl
-
-line_is : sum_line (codes "ab") (file_name 12) ≡ codes "ab  12.eml\n"
+line_is : sum_line (codes "ab") (file_name None 12) ≡ codes "ab  12.eml\n"
 unfolding digits
 line_is = refl
+
+line_of_a_volume : sum_line (codes "ab") (file_name (Some 3) 12) ≡ codes "ab  3-12.eml\n"
+unfolding digits
+line_of_a_volume = refl
 
 -- the length and the sum of a message that was captured, where these are known
 sealed_are : map sealed_fields (None ∷ Some (12, codes "ab") ∷ [])
@@ -131,16 +141,16 @@ firsts_are : (e : RecordEntry) → map (λ (x : RecordEntry). x.number)
     (without_again None (of_message e 1 1 ∷ of_message e 2 1 ∷ of_message e 3 3 ∷ of_message e 4 1 ∷ [])) ≡ 1 ∷ 3 ∷ 4 ∷ []
 firsts_are e = refl
 
--- a message of three octets, of which two records are listed; that of the second one is another one
+-- a message of three octets in volume 3, of which two records are listed; that of the second one is another one
 abbrev parts : List Part
 parts =
-    part.file (file_name 1) (codes "abc") ∷ part.sum (codes "x") ∷ part.subject 1 1 ∷ part.row (codes "a" ∷ []) ∷ part.altered 2
-    ∷ part.subject 2 2 ∷ part.row [] ∷ []
+    part.file (file_name (Some 3) 1) (codes "abc") ∷ part.sum (codes "x") ∷ part.subject (Some 3) 1 1 ∷ part.row (codes "a" ∷ [])
+    ∷ part.altered (Some 3) 2 ∷ part.subject (Some 3) 2 2 ∷ part.row [] ∷ []
 
 count_is : count_of parts ≡ record { records = 2; messages = 1; octets = 3 }
 count_is = refl
 
-files_are : files_in parts ≡ (codes "1.eml", codes "abc") ∷ []
+files_are : files_in parts ≡ (codes "3-1.eml", codes "abc") ∷ []
 unfolding digits
 files_are = refl
 
@@ -150,16 +160,38 @@ sums_are = refl
 rows_are : rows_in parts ≡ (codes "a" ∷ []) ∷ [] ∷ []
 rows_are = refl
 
-subjects_are : subjects_in parts ≡ (1, 1) ∷ (2, 2) ∷ []
+subjects_are : subjects_in parts ≡ (Some 3, (1, 1)) ∷ (Some 3, (2, 2)) ∷ []
 subjects_are = refl
 
-altered_are : altered_in parts ≡ 2 ∷ []
+altered_are : altered_in parts ≡ (Some 3, 2) ∷ []
 altered_are = refl
 
 -- ---- records whose messages are others
 
-one_told : altered_words (One 3 ∷ []) ≡ one_words 3
+one_told : altered_words None (One 3 ∷ []) ≡ one_words None 3
 one_told = refl
 
-several_told : altered_words (One 3 ∷ Range 5 9 ∷ []) ≡ several_words (One 3 ∷ Range 5 9 ∷ [])
+several_told : altered_words (Some 2) (One 3 ∷ Range 5 9 ∷ []) ≡ several_words (Some 2) (One 3 ∷ Range 5 9 ∷ [])
 several_told = refl
+
+-- ---- the exports of volumes
+
+-- without records nothing is exported of two volumes
+nothing_of_two : (a b : Archive) (s t : Seals) → IsExportOfVolumes (share_of 1 a s [] ∷ share_of 2 b t [] ∷ []) []
+nothing_of_two a b s t =
+    record { each = ([], none_of 1 a s, [], ([], none_of 2 b t, [], refl, refl), refl); files = refl; sums = refl }
+
+of_record_of_a_volume : (e : RecordEntry) → (subject_for (Some 3) (of_message e 5 4), altered_for (Some 3) (of_message e 5 4))
+    ≡ ((Some 3, (5, 4)), (Some 3, 5))
+of_record_of_a_volume e = refl
+
+-- none of these is out where nothing was found
+out_of_none : {D : Type 0} (x : ExportOfVolumes D) → out_of (record x { is_begun = false }) ≡ None
+out_of_none x = refl
+
+-- and without records a report stays as it is
+nothing_reported : (x : Report) (p q : Listing) → ReportsAll (reported_of 1 p [] ∷ reported_of 2 q [] ∷ []) x x
+nothing_reported x p q = (x, refl, (x, refl, refl))
+
+found_is_begun : {D : Type 0} (x : ExportOfVolumes D) (e : Entry) → IsBegunBy (e ∷ []) x (record x { is_begun = true })
+found_is_begun x e = refl

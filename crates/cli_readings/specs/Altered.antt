@@ -1,10 +1,11 @@
 -- Records whose messages are not the ones that were captured, and what is told of them.
-use Rattle.std.specs.Prelude.{◌≡◌, ℕ, Bool, true, false, List, [], ◌∷◌, ◌++◌, flat_map, codes, Result, Ok, Err}
+use Rattle.std.specs.Prelude.{◌≡◌, ℕ, Bool, true, false, List, [], ◌∷◌, ◌++◌, flat_map, codes, Option, Result, Ok, Err}
 use Rattle.choice_words.specs.Ranges.{is_meant_by}
 use Rattle.choice_words.specs.declared.numbers.TypedNumbers.{TypedNumbers}
 use Rattle.choice_words.specs.declared.numbers.TypedNumbers.TheVariants.{One, Range}
-use Rattle.cli_texts.specs.Words.{number, words}
-use Rattle.cli_console.specs.Numbers.{typed_words}
+use Rattle.cli_texts.specs.Lines.{record_number}
+use Rattle.cli_texts.specs.Words.{words}
+use Rattle.cli_console.specs.Numbers.{numbers_typed}
 use Rattle.cli_console.specs.declared.failure.Failure.{Failure}
 use Rattle.cli_console.specs.declared.failure.Failure.TheVariants.{Reported}
 use Rattle.cli_console.specs.declared.failure.Status.TheVariants.{BadData}
@@ -22,16 +23,21 @@ IsEnd false (Ok done) = ⊥
 IsEnd false (Err failure) = failure ≡ Reported BadData
 
 -- what is told of one
-unfoldable pub one_words : ℕ → List ℕ
-one_words n = words (codes "record ") ++ number n ++ words (codes ": its message is not the one that was captured")
+unfoldable pub one_words : (volume : Option ℕ) → ℕ → List ℕ
+one_words volume n = words (codes "record ") ++ record_number volume n ++ words (codes ": its message is not the one that was captured")
+
+-- one number, or a range, as it is typed, after a blank
+abbrev pub typed_in : (volume : Option ℕ) → TypedNumbers → List ℕ
+typed_in volume numbers = words (codes " ") ++ numbers_typed volume numbers
 
 -- what is told of several, by their numbers as they are typed
-unfoldable pub several_words : List TypedNumbers → List ℕ
-several_words ts = words (codes "records") ++ flat_map typed_words ts ++ words (codes ": the message of each is not the one that was captured")
+unfoldable pub several_words : (volume : Option ℕ) → List TypedNumbers → List ℕ
+several_words volume ts =
+    words (codes "records") ++ flat_map (typed_in volume) ts ++ words (codes ": the message of each is not the one that was captured")
 
--- WHAT IS TOLD of the records of these numbers
-abbrev pub altered_words : List TypedNumbers → List ℕ
-altered_words [] = several_words []
-altered_words (One n ∷ []) = one_words n
-altered_words (One n ∷ t ∷ ts) = several_words (One n ∷ t ∷ ts)
-altered_words (Range first last ∷ ts) = several_words (Range first last ∷ ts)
+-- WHAT IS TOLD of the records of these numbers, of a volume in an archive of volumes
+abbrev pub altered_words : (volume : Option ℕ) → List TypedNumbers → List ℕ
+altered_words volume [] = several_words volume []
+altered_words volume (One n ∷ []) = one_words volume n
+altered_words volume (One n ∷ t ∷ ts) = several_words volume (One n ∷ t ∷ ts)
+altered_words volume (Range first last ∷ ts) = several_words volume (Range first last ∷ ts)

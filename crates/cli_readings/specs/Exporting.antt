@@ -7,6 +7,7 @@ use Rattle.record_archive.specs.Archive.{Archive, message}
 use Rattle.record_choice.specs.declared.entry.RecordEntry.{RecordEntry}
 use Rattle.cli_history.specs.Seals.{known, length_and_sum}
 use Rattle.cli_history.specs.declared.seals.Seals.{Seals}
+use Rattle.cli_page.specs.Names.{file_name}
 use Rattle.cli_page.specs.declared.report.Record.{Record}
 use Rattle.cli_texts.specs.declared.headers.Headers.{Headers}
 use Rattle.cli_texts.specs.declared.records.Row.{Row}
@@ -15,7 +16,7 @@ use Rattle.cli_texts.specs.Rows.{header_fields, record_fields}
 use Rattle.cli_texts.specs.Sums.{shown_sum}
 use Rattle.cli_console.specs.Counts.{greatest, one_more}
 use Rattle.cli_console.specs.Sinks.{Writes, more_written, nothing_written}
-use Rattle.cli_readings.specs.Exports.{are_captured, file_name, sealed_fields, sum_line}
+use Rattle.cli_readings.specs.Exports.{are_captured, sealed_fields, sum_line}
 use Rattle.cli_readings.specs.Lists.{IsRowOf}
 use Rattle.cli_readings.specs.Parts.{Part}
 use Rattle.cli_readings.specs.Parts as part
@@ -30,9 +31,9 @@ use Rattle.cli_readings.specs.declared.exporting.Written.{Written}
 -- ---- of a message
 
 -- what is told of a message of a number with these octets: the name of its file, its length, its sum and its header
-pub record IsOf (number : ℕ) (octets : List ℕ) (w : Written) : Type 0 where
+pub record IsOf (volume : Option ℕ) (number : ℕ) (octets : List ℕ) (w : Written) : Type 0 where
   pub message : w.message ≡ number
-  pub file : string_bytes w.file ≡ file_name number
+  pub file : string_bytes w.file ≡ file_name volume number
   pub length : w.octets ≡ length octets
   pub sum : string_bytes w.sum ≡ shown_sum octets
   pub sender : string_bytes w.headers.sender ≡ sender_of octets
@@ -40,21 +41,21 @@ pub record IsOf (number : ℕ) (octets : List ℕ) (w : Written) : Type 0 where
   pub date : string_bytes w.headers.date ≡ date_of octets
 
 -- its file, and the line of this in the list of sums
-abbrev pub file_parts : (number : ℕ) → (octets : List ℕ) → List Part
-file_parts number octets =
-    part.file (file_name number) octets ∷ part.sum (sum_line (shown_sum octets) (file_name number)) ∷ []
+abbrev pub file_parts : (volume : Option ℕ) → (number : ℕ) → (octets : List ℕ) → List Part
+file_parts volume number octets =
+    part.file (file_name volume number) octets ∷ part.sum (sum_line (shown_sum octets) (file_name volume number)) ∷ []
 
 -- it goes to its file
-pub record IsFiled (number : ℕ) (octets : List ℕ) (parts : List Part) (last : Option Met) : Type 0 where
+pub record IsFiled (volume : Option ℕ) (number : ℕ) (octets : List ℕ) (parts : List Part) (last : Option Met) : Type 0 where
   pub told : Written
-  pub told_is : IsOf number octets told
+  pub told_is : IsOf volume number octets told
   pub last_is : last ≡ Some (met.Written told)
-  pub parts_are : parts ≡ file_parts number octets
+  pub parts_are : parts ≡ file_parts volume number octets
 
 -- unless it is not the one that was captured
-abbrev pub IsMet : (are_captured : Bool) → (number : ℕ) → (octets : List ℕ) → List Part → Option Met → Type 0
-IsMet true number octets parts last = IsFiled number octets parts last
-IsMet false number octets parts last = (parts ≡ []) × (last ≡ Some (met.Altered number))
+abbrev pub IsMet : (volume : Option ℕ) → (are_captured : Bool) → (number : ℕ) → (octets : List ℕ) → List Part → Option Met → Type 0
+IsMet volume true number octets parts last = IsFiled volume number octets parts last
+IsMet volume false number octets parts last = (parts ≡ []) × (last ≡ Some (met.Altered number))
 
 -- ---- of a record
 
@@ -84,47 +85,50 @@ abbrev pub letter_of : Option Written → Option (ℕ × Headers)
 letter_of written = option_map (λ (w : Written). (w.message, w.headers)) written
 
 -- that the message of a record is another one is noted, where it was not written
-abbrev pub noted_for : Option Written → (number : ℕ) → List Part
-noted_for (Some told) number = []
-noted_for None number = part.altered number ∷ []
+abbrev pub noted_for : (volume : Option ℕ) → Option Written → (number : ℕ) → List Part
+noted_for volume (Some told) number = []
+noted_for volume None number = part.altered volume number ∷ []
 
 -- a record goes to the index, to the history and to the manifest, with these fields of its message
-pub record IsListed (e : RecordEntry) (fields : List (List ℕ)) (letter : Option (ℕ × Headers)) (parts : List Part) : Type 0 where
+pub record IsListed (volume : Option ℕ) (e : RecordEntry) (fields : List (List ℕ)) (letter : Option (ℕ × Headers)) (parts : List Part)
+    : Type 0 where
   pub shown : Record
-  pub shown_is : IsRecordOf e shown
+  pub shown_is : IsRecordOf volume e shown
   pub line : Row
-  pub line_is : IsRowOf None e line
+  pub line_is : IsRowOf volume e line
   pub parts_are : parts
-      ≡ part.listed shown letter ∷ part.subject e.number e.message ∷ part.row (record_fields line ++ fields) ∷ []
+      ≡ part.listed shown letter ∷ part.subject volume e.number e.message ∷ part.row (record_fields line ++ fields) ∷ []
 
 -- a live record with the message that was met last
-pub record IsListedAs (s : Seals) (e : RecordEntry) (last : Option Met) (parts : List Part) : Type 0 where
+pub record IsListedAs (volume : Option ℕ) (s : Seals) (e : RecordEntry) (last : Option Met) (parts : List Part) : Type 0 where
   pub lists : List Part
-  pub are : IsListed e (met_fields s (written_of last) e.message) (letter_of (written_of last)) lists
-  pub parts_are : parts ≡ noted_for (written_of last) e.number ++ lists
+  pub are : IsListed volume e (met_fields s (written_of last) e.message) (letter_of (written_of last)) lists
+  pub parts_are : parts ≡ noted_for volume (written_of last) e.number ++ lists
 
 -- a live record whose message was not met at the one before: it is read, and met with its octets
-pub record IsNew (a : Archive) (s : Seals) (e : RecordEntry) (new : Option Met) (parts : List Part) : Type 0 where
+pub record IsNew (volume : Option ℕ) (a : Archive) (s : Seals) (e : RecordEntry) (new : Option Met) (parts : List Part) : Type 0 where
   pub octets : List ℕ
   pub of_it : message a e.number ≡ Ok (Some octets)
   pub files : List Part
-  pub met_as : IsMet (are_captured s e.message octets) e.message octets files new
+  pub met_as : IsMet volume (are_captured s e.message octets) e.message octets files new
   pub rest : List Part
-  pub listed_as : IsListedAs s e new rest
+  pub listed_as : IsListedAs volume s e new rest
   pub parts_are : parts ≡ files ++ rest
 
 -- a record is exported: its message goes to a file, unless it is destroyed or was met at the record before, and it goes to the lists
-abbrev pub IsExported : (is_destroyed is_met : Bool) → Archive → Seals → RecordEntry → (old new : Option Met) → List Part → Type 0
-IsExported true is_met a s e old new parts = (new ≡ old) × IsListed e (sealed_fields None) None parts
-IsExported false true a s e old new parts = (new ≡ old) × IsListedAs s e old parts
-IsExported false false a s e old new parts = IsNew a s e new parts
+abbrev pub IsExported : (volume : Option ℕ) → (is_destroyed is_met : Bool) → Archive → Seals → RecordEntry → (old new : Option Met)
+    → List Part → Type 0
+IsExported volume true is_met a s e old new parts = (new ≡ old) × IsListed volume e (sealed_fields None) None parts
+IsExported volume false true a s e old new parts = (new ≡ old) × IsListedAs volume s e old parts
+IsExported volume false false a s e old new parts = IsNew volume a s e new parts
 
 -- records are exported, each once, in this order, and nothing else
-abbrev pub AreExported : Archive → Seals → (old : Option Met) → List RecordEntry → List Part → (new : Option Met) → Type 0
-AreExported a s old [] parts new = (parts ≡ []) × (new ≡ old)
-AreExported a s old (e ∷ es) parts new =
-    (next : Option Met) × (one : List Part) × IsExported e.destroyed (is_met old e.message) a s e old next one
-    × (rest : List Part) × AreExported a s next es rest new × (parts ≡ one ++ rest)
+abbrev pub AreExported : (volume : Option ℕ) → Archive → Seals → (old : Option Met) → List RecordEntry → List Part → (new : Option Met)
+    → Type 0
+AreExported volume a s old [] parts new = (parts ≡ []) × (new ≡ old)
+AreExported volume a s old (e ∷ es) parts new =
+    (next : Option Met) × (one : List Part) × IsExported volume e.destroyed (is_met old e.message) a s e old next one
+    × (rest : List Part) × AreExported volume a s next es rest new × (parts ≡ one ++ rest)
 
 -- ---- as it is counted
 
@@ -158,28 +162,36 @@ pub record HandsOver {D : Type 0} (made : D → List Part → Type 0) (old : Out
 abbrev pub HandsOverSome : {D : Type 0} (made : D → List Part → Type 0) → Outgoing D → (List Part → Type 0) → Outgoing D → Type 0
 HandsOverSome made old Are new = (parts : List Part) × Are parts × HandsOver made old parts new
 
+-- an export goes on with the records of a volume, whose messages are judged by these seals; none of them was met
+pub record TurnsTo {D : Type 0} (volume : ℕ) (seals : Seals) (old new : Exporting D) : Type 0 where
+  pub out : new.out ≡ old.out
+  pub volume_is : new.volume ≡ Some volume
+  pub seals_are : new.seals ≡ seals
+  pub last : new.last ≡ None
+
 -- the parts of these records are handed over, and nothing else
 pub record Exports {D : Type 0} (made : D → List Part → Type 0) (old : Exporting D) (a : Archive) (es : List RecordEntry)
     (new : Exporting D) : Type 0 where
-  pub over : HandsOverSome made old.out (λ parts. AreExported a old.seals old.last es parts new.last) new.out
+  pub over : HandsOverSome made old.out (λ parts. AreExported old.volume a old.seals old.last es parts new.last) new.out
   pub seals : new.seals ≡ old.seals
+  pub volume : new.volume ≡ old.volume
 
 -- ---- its laws
 
-parts_joined : (ps qs : List Part) (c : Count) → with_parts qs (with_parts ps c) ≡ with_parts (ps ++ qs) c
+pub parts_joined : (ps qs : List Part) (c : Count) → with_parts qs (with_parts ps c) ≡ with_parts (ps ++ qs) c
 parts_joined [] qs c = refl
 parts_joined (p ∷ ps) qs c = parts_joined ps qs (with_part p c)
 
-exported_joined : (a : Archive) (s : Seals) (x y z : Option Met) (es fs : List RecordEntry) (t u : List Part) → AreExported a s x es t y
-    → AreExported a s y fs u z → AreExported a s x (es ++ fs) (t ++ u) z
-exported_joined a s x y z [] fs t u one other =
-    subst (λ p. AreExported a s x fs (p ++ u) z) (sym one.0) (subst (λ m. AreExported a s m fs u z) one.1 other)
-exported_joined a s x y z (e ∷ es) fs t u one other = (
+exported_joined : (v : Option ℕ) (a : Archive) (s : Seals) (x y z : Option Met) (es fs : List RecordEntry) (t u : List Part)
+    → AreExported v a s x es t y → AreExported v a s y fs u z → AreExported v a s x (es ++ fs) (t ++ u) z
+exported_joined v a s x y z [] fs t u one other =
+    subst (λ p. AreExported v a s x fs (p ++ u) z) (sym one.0) (subst (λ m. AreExported v a s m fs u z) one.1 other)
+exported_joined v a s x y z (e ∷ es) fs t u one other = (
   one.0,
   one.1,
   one.2,
   one.3 ++ u,
-  exported_joined a s one.0 y z es fs one.3 u one.4 other,
+  exported_joined v a s one.0 y z es fs one.3 u one.4 other,
   ap (λ p. p ++ u) one.5 ∙ append_assoc one.1 one.3 u,
 )
 
@@ -193,17 +205,17 @@ module _ {D : Type 0} (made : D → List Part → Type 0) where
     count = other.count ∙ ap (with_parts qs) one.count ∙ parts_joined ps qs x.count;
   }
 
-  -- one record is exported, and the seals stay
+  -- one record is exported, and the seals and the volume stay
   pub one_exported : (x y : Exporting D) (a : Archive) (e : RecordEntry) (is_destroyed : Bool) → e.destroyed ≡ is_destroyed
-      → HandsOverSome made x.out (λ parts. IsExported is_destroyed (is_met x.last e.message) a x.seals e x.last y.last parts) y.out
-      → y.seals ≡ x.seals → Exports made x a (e ∷ []) y
-  one_exported x y a e is_destroyed is over same = record {
+      → HandsOverSome made x.out (λ parts. IsExported x.volume is_destroyed (is_met x.last e.message) a x.seals e x.last y.last parts) y.out
+      → y.seals ≡ x.seals → y.volume ≡ x.volume → Exports made x a (e ∷ []) y
+  one_exported x y a e is_destroyed is over same stays = record {
     over = (
       over.0,
       (
         y.last,
         over.0,
-        subst (λ b. IsExported b (is_met x.last e.message) a x.seals e x.last y.last over.0) (sym is) over.1,
+        subst (λ b. IsExported x.volume b (is_met x.last e.message) a x.seals e x.last y.last over.0) (sym is) over.1,
         [],
         (refl, refl),
         sym (append-nil over.0),
@@ -211,19 +223,22 @@ module _ {D : Type 0} (made : D → List Part → Type 0) where
       over.2,
     );
     seals = same;
+    volume = stays;
   }
 
   pub none_exported : (x : Exporting D) (a : Archive) → Exports made x a [] x
-  none_exported x a = record { over = ([], (refl, refl), nothing_over x.out); seals = refl }
+  none_exported x a = record { over = ([], (refl, refl), nothing_over x.out); seals = refl; volume = refl }
 
   pub more_exported : (x y z : Exporting D) (a : Archive) (es fs : List RecordEntry) → Exports made x a es y → Exports made y a fs z
       → Exports made x a (es ++ fs) z
   more_exported x y z a es fs one other = record {
     over = (
       one.over.0 ++ other.over.0,
-      exported_joined a x.seals x.last y.last z.last es fs one.over.0 other.over.0 one.over.1
-          (subst (λ s. AreExported a s y.last fs other.over.0 z.last) one.seals other.over.1),
+      exported_joined x.volume a x.seals x.last y.last z.last es fs one.over.0 other.over.0 one.over.1
+          (subst (λ v. AreExported v a x.seals y.last fs other.over.0 z.last) one.volume
+          (subst (λ s. AreExported y.volume a s y.last fs other.over.0 z.last) one.seals other.over.1)),
       more_over x.out y.out z.out one.over.0 other.over.0 one.over.2 other.over.2,
     );
     seals = other.seals ∙ one.seals;
+    volume = other.volume ∙ one.volume;
   }

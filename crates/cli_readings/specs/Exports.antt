@@ -10,6 +10,7 @@ use Rattle.record_choice.specs.declared.entry.RecordEntry.{RecordEntry}
 use Rattle.record_history.specs.Replay.{seal}
 use Rattle.cli_history.specs.Seals.{fidelity, known, length_and_sum}
 use Rattle.cli_history.specs.declared.seals.Seals.{Seals}
+use Rattle.cli_page.specs.Names.{file_name}
 use Rattle.cli_page.specs.declared.report.Record.{Record}
 use Rattle.cli_texts.specs.declared.headers.Headers.{Headers}
 use Rattle.cli_texts.specs.declared.records.Row.{Row}
@@ -54,21 +55,17 @@ is_altered a s e = is_live e && not (are_captured s e.message (octets_of a e))
 
 -- ---- files
 
--- the name of the file of a message
-abbrev pub file_name : (message : ℕ) → List ℕ
-file_name message = decimal message ++ codes ".eml"
-
 -- the line of a file in the list of sums
 abbrev pub sum_line : (digits name : List ℕ) → List ℕ
 sum_line digits name = digits ++ codes "  " ++ name ++ 10 ∷ []
 
--- THE FILE OF A MESSAGE, which has exactly its octets
-abbrev pub file_for : Archive → RecordEntry → List ℕ × List ℕ
-file_for a e = (file_name e.message, octets_of a e)
+-- THE FILE OF A MESSAGE, which has exactly its octets. In an archive of volumes its name has the number of the volume
+abbrev pub file_for : (volume : Option ℕ) → Archive → RecordEntry → List ℕ × List ℕ
+file_for volume a e = (file_name volume e.message, octets_of a e)
 
 -- and its line in the list of sums
-abbrev pub sum_for : Archive → RecordEntry → List ℕ
-sum_for a e = sum_line (shown_sum (octets_of a e)) (file_name e.message)
+abbrev pub sum_for : (volume : Option ℕ) → Archive → RecordEntry → List ℕ
+sum_for volume a e = sum_line (shown_sum (octets_of a e)) (file_name volume e.message)
 
 -- it is the message that came last
 abbrev pub is_again : (last : Option ℕ) → (message : ℕ) → Bool
@@ -88,9 +85,9 @@ filed a s es = filter (has_file a s) (without_again None (filter is_live es))
 -- ---- lists
 
 -- the fields of a message that goes to a file: the name of this file, how many octets it has, its sum, and what its header says
-abbrev pub file_fields : (message : ℕ) → (octets : List ℕ) → List (List ℕ)
-file_fields message octets =
-    file_name message ∷ decimal (length octets) ∷ shown_sum octets ∷ words (sender_of octets) ∷ words (subject_of octets)
+abbrev pub file_fields : (volume : Option ℕ) → (message : ℕ) → (octets : List ℕ) → List (List ℕ)
+file_fields volume message octets =
+    file_name volume message ∷ decimal (length octets) ∷ shown_sum octets ∷ words (sender_of octets) ∷ words (subject_of octets)
     ∷ words (date_of octets) ∷ []
 
 -- the fields of one that does not: the length and the sum of the one that was captured, where these are known
@@ -103,14 +100,15 @@ abbrev pub told_of : Seals → RecordEntry → Option (ℕ × List ℕ)
 told_of s e = if e.destroyed then None else option_map length_and_sum (known s e.message)
 
 -- THE FIELDS OF THE MESSAGE OF A RECORD in the manifest
-abbrev pub message_fields : Archive → Seals → RecordEntry → List (List ℕ)
-message_fields a s e = if has_file a s e then file_fields e.message (octets_of a e) else sealed_fields (told_of s e)
+abbrev pub message_fields : (volume : Option ℕ) → Archive → Seals → RecordEntry → List (List ℕ)
+message_fields volume a s e =
+    if has_file a s e then file_fields volume e.message (octets_of a e) else sealed_fields (told_of s e)
 
 -- a row of the manifest is that of a record: its fields, and behind these those of its message
-pub record IsInManifest (a : Archive) (s : Seals) (e : RecordEntry) (fields : List (List ℕ)) : Type 0 where
+pub record IsInManifest (volume : Option ℕ) (a : Archive) (s : Seals) (e : RecordEntry) (fields : List (List ℕ)) : Type 0 where
   pub line : Row
-  pub line_is : IsRowOf None e line
-  pub are : fields ≡ record_fields line ++ message_fields a s e
+  pub line_is : IsRowOf volume e line
+  pub are : fields ≡ record_fields line ++ message_fields volume a s e
 
 -- what an index has of the message of a record: where it goes to a file, the number of this file, and what its header says
 abbrev pub IsLetterOf : Archive → RecordEntry → (has_file : Bool) → Option (ℕ × Headers) → Type 0
@@ -118,21 +116,30 @@ IsLetterOf a e false letter = letter ≡ None
 IsLetterOf a e true letter = (headers : Headers) × AreTextsOf a e.number headers × (letter ≡ Some (e.message, headers))
 
 -- an entry of the index is that of a record
-pub record IsInIndex (a : Archive) (s : Seals) (e : RecordEntry) (x : Record × Option (ℕ × Headers)) : Type 0 where
-  pub shown : IsRecordOf e x.0
+pub record IsInIndex (volume : Option ℕ) (a : Archive) (s : Seals) (e : RecordEntry) (x : Record × Option (ℕ × Headers)) : Type 0 where
+  pub shown : IsRecordOf volume e x.0
   pub letter : IsLetterOf a e (has_file a s e) x.1
 
 -- ---- all of it
 
--- THE EXPORT OF THESE RECORDS, and nothing else. A file has a line in the list of sums; each record is in the manifest, in the index and
--- among those whose events are in the history, once; and those are noted whose messages are not the ones that were captured
-pub record IsExportOf (a : Archive) (s : Seals) (es : List RecordEntry) (parts : List Part) : Type 0 where
-  pub files : files_in parts ≡ map (file_for a) (filed a s es)
-  pub sums : sums_in parts ≡ map (sum_for a) (filed a s es)
-  pub manifest : AllZip (IsInManifest a s) es (rows_in parts)
-  pub index : AllZip (IsInIndex a s) es (index_in parts)
-  pub subjects : subjects_in parts ≡ map (λ (e : RecordEntry). (e.number, e.message)) es
-  pub altered : altered_in parts ≡ map (λ (e : RecordEntry). e.number) (filter (is_altered a s) es)
+-- a record whose events are in the history, with its volume and the number of its message
+abbrev pub subject_for : (volume : Option ℕ) → RecordEntry → Option ℕ × (ℕ × ℕ)
+subject_for volume e = (volume, (e.number, e.message))
+
+-- a record whose message is another one, with its volume
+abbrev pub altered_for : (volume : Option ℕ) → RecordEntry → Option ℕ × ℕ
+altered_for volume e = (volume, e.number)
+
+-- THE EXPORT OF THESE RECORDS, of a store or of a volume, and nothing else. A file has a line in the list of sums; each record is in the
+-- manifest, in the index and among those whose events are in the history, once; and those are noted whose messages are not the ones that were
+-- captured
+pub record IsExportOf (volume : Option ℕ) (a : Archive) (s : Seals) (es : List RecordEntry) (parts : List Part) : Type 0 where
+  pub files : files_in parts ≡ map (file_for volume a) (filed a s es)
+  pub sums : sums_in parts ≡ map (sum_for volume a) (filed a s es)
+  pub manifest : AllZip (IsInManifest volume a s) es (rows_in parts)
+  pub index : AllZip (IsInIndex volume a s) es (index_in parts)
+  pub subjects : subjects_in parts ≡ map (subject_for volume) es
+  pub altered : altered_in parts ≡ map (altered_for volume) (filter (is_altered a s) es)
 
 -- how many octets files have
 abbrev pub octets_in_all : List (List ℕ × List ℕ) → ℕ
@@ -154,11 +161,11 @@ exported_text c folder =
     words (codes "exported records ") ++ shown_number c.records ++ words (codes " messages ") ++ shown_number c.messages
     ++ words (codes " octets ") ++ shown_number c.octets ++ words (codes " to ") ++ shown_name folder ++ 10 ∷ []
 
--- THE EXPORT OF THESE RECORDS GOES TO A DESTINATION, and nothing else
+-- THE EXPORT OF THESE RECORDS OF A STORE GOES TO A DESTINATION, and nothing else
 pub record WritesExport {D : Type 0} (made : D → List Part → Type 0) (seals : Seals) (before : D) (a : Archive) (es : List RecordEntry)
     (after : Outgoing D) : Type 0 where
   pub parts : List Part
-  pub are : IsExportOf a seals es parts
+  pub are : IsExportOf None a seals es parts
   pub writes : Writes made before after.destination parts
   pub count : after.count ≡ count_of parts
 

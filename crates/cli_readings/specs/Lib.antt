@@ -9,4 +9,6 @@ pub mod Parts
 pub mod Reports
 pub mod Shows
 pub mod Twice
+pub mod VolumeExports
 pub mod VolumeLists
+pub mod VolumeReports

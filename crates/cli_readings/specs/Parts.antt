@@ -8,12 +8,12 @@ pub data Part : Type 0 where
   file : (name octets : List ℕ) → Part
   -- the list of sums has this line more
   sum : (line : List ℕ) → Part
-  -- it is noted that the message of a record is not the one that was captured
-  altered : (number : ℕ) → Part
+  -- it is noted that the message of a record, of a volume in an archive of volumes, is not the one that was captured
+  altered : (volume : Option ℕ) (number : ℕ) → Part
   -- the index has this record more, with the number of its message's file and what its header says, where it has one
   listed : (shown : Record) (letter : Option (ℕ × Headers)) → Part
-  -- the history has the events of this record and of its message
-  subject : (number message : ℕ) → Part
+  -- the history of its store, or of its volume, has the events of this record and of its message
+  subject : (volume : Option ℕ) (number message : ℕ) → Part
   -- the manifest has a row of these fields more
   row : (fields : List (List ℕ)) → Part
 
@@ -34,11 +34,12 @@ sum_of p = []
 abbrev pub sums_in : List Part → List (List ℕ)
 sums_in ps = flat_map sum_of ps
 
-abbrev pub altered_of : Part → List ℕ
-altered_of (altered number) = number ∷ []
+abbrev pub altered_of : Part → List (Option ℕ × ℕ)
+altered_of (altered volume number) = (volume, number) ∷ []
 altered_of p = []
 
-abbrev pub altered_in : List Part → List ℕ
+-- the volume of each record whose message is another one, and its number
+abbrev pub altered_in : List Part → List (Option ℕ × ℕ)
 altered_in ps = flat_map altered_of ps
 
 abbrev pub listed_of : Part → List (Record × Option (ℕ × Headers))
@@ -48,12 +49,12 @@ listed_of p = []
 abbrev pub index_in : List Part → List (Record × Option (ℕ × Headers))
 index_in ps = flat_map listed_of ps
 
-abbrev pub subject_of : Part → List (ℕ × ℕ)
-subject_of (subject number message) = (number, message) ∷ []
+abbrev pub subject_of : Part → List (Option ℕ × (ℕ × ℕ))
+subject_of (subject volume number message) = (volume, (number, message)) ∷ []
 subject_of p = []
 
--- the number of each record whose events are in the history, and that of its message
-abbrev pub subjects_in : List Part → List (ℕ × ℕ)
+-- the volume of each record whose events are in a history, its number, and that of its message
+abbrev pub subjects_in : List Part → List (Option ℕ × (ℕ × ℕ))
 subjects_in ps = flat_map subject_of ps
 
 abbrev pub row_of : Part → List (List (List ℕ))

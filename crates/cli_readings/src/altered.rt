@@ -1,13 +1,13 @@
 //! Records whose messages are not the ones that were captured.
 
 ghost use Rattle.std.specs.Prelude.{◌≡◌, ◌++◌, ◌==◌, ◌||◌, ℕ, false, flat_map, length, IfOk, IsOk, OnOk};
-ghost use Rattle.cli_console.specs.Numbers.{typed_words};
-ghost use Rattle.cli_readings.specs.Altered.{IsEnd, altered_words, is_noted, one_words, several_words};
+ghost use Rattle.cli_readings.specs.Altered.{IsEnd, altered_words, is_noted, one_words, several_words, typed_in};
 
 use choice_words::{TypedNumbers, add_number};
-use cli_console::{Failure, Status, put_numbers, tell};
+use cli_console::{Failure, Status, put_typed, tell};
+use cli_texts::put_number;
 use std::alloc::{AllocError, Global};
-use tool_texts::{Shown, put};
+use tool_texts::Shown;
 
 /// Records whose messages are not the ones that were captured, by number.
 #[derive(Drop)]
@@ -16,45 +16,68 @@ pub struct Altered {
     numbers: Vec<TypedNumbers>,
 }
 
+/// Adds numbers of records as they are typed, of a volume in an archive of volumes, after a blank.
+fn put_one(line: &mut Shown, volume: Option<u32>, numbers: TypedNumbers) -> Result<(), AllocError>
+    ensures { OnOk result (line.new ≡ line.old ++ typed_in volume numbers) }
+{
+    line.words(" ")?;
+    put_typed(line, volume, numbers)
+}
+
 /// Adds numbers of records as they are typed, each after a blank.
-fn put_all(line: &mut Shown, numbers: &[TypedNumbers]) -> Result<(), AllocError>
-    ensures { OnOk result (line.new ≡ line.old ++ flat_map typed_words numbers.now) }
+fn put_all(
+    line: &mut Shown,
+    volume: Option<u32>,
+    numbers: &[TypedNumbers],
+) -> Result<(), AllocError>
+    ensures { OnOk result (line.new ≡ line.old ++ flat_map (typed_in volume) numbers.now) }
 {
     for typed in numbers {
-        put_numbers(line, *typed)?;
+        put_one(line, volume, *typed)?;
     }
     Ok(())
 }
 
 /// That the message of a record is not the one that was captured.
 #[tactic(auto, unfolding(crate::specs::Altered::one_words))]
-fn one_line(alloc: Global, number: u32) -> Result<Shown, AllocError>
-    ensures { IfOk result (λ line. line ≡ one_words number) }
+fn one_line(alloc: Global, volume: Option<u32>, number: u32) -> Result<Shown, AllocError>
+    ensures { IfOk result (λ line. line ≡ one_words volume number) }
 {
     let mut line = Shown::new(alloc);
-    put!(line; "record " value(&number) ": its message is not the one that was captured")?;
+    line.words("record ")?;
+    put_number(&mut line, volume, number)?;
+    line.words(": its message is not the one that was captured")?;
     Ok(line)
 }
 
 /// That the messages of some records are not the ones that were captured.
 #[tactic(auto, unfolding(crate::specs::Altered::several_words))]
-fn several_line(alloc: Global, numbers: &[TypedNumbers]) -> Result<Shown, AllocError>
-    ensures { IfOk result (λ line. line ≡ several_words numbers.now) }
+fn several_line(
+    alloc: Global,
+    volume: Option<u32>,
+    numbers: &[TypedNumbers],
+) -> Result<Shown, AllocError>
+    ensures { IfOk result (λ line. line ≡ several_words volume numbers.now) }
 {
     let mut line = Shown::new(alloc);
     line.words("records")?;
-    put_all(&mut line, numbers)?;
+    put_all(&mut line, volume, numbers)?;
     line.words(": the message of each is not the one that was captured")?;
     Ok(line)
 }
 
-/// That the messages of some records are not the ones that were captured. The numbers can be typed as they stand there.
-fn altered_line(alloc: Global, numbers: &[TypedNumbers]) -> Result<Shown, AllocError>
-    ensures { IfOk result (λ line. line ≡ altered_words numbers.now) }
+/// That the messages of some records, of a volume in an archive of volumes, are not the ones that were captured. The numbers can
+/// be typed as they stand there.
+fn altered_line(
+    alloc: Global,
+    volume: Option<u32>,
+    numbers: &[TypedNumbers],
+) -> Result<Shown, AllocError>
+    ensures { IfOk result (λ line. line ≡ altered_words volume numbers.now) }
 {
     match numbers {
-        [TypedNumbers::One(number)] => one_line(alloc, *number),
-        _ => several_line(alloc, numbers),
+        [TypedNumbers::One(number)] => one_line(alloc, volume, *number),
+        _ => several_line(alloc, volume, numbers),
     }
 }
 
@@ -85,8 +108,16 @@ impl Altered {
 
     /// Tells which records these are, in one line, where there is one.
     pub fn tell(&self, rt: &HostRuntime) -> Result<(), AllocError> {
+        self.tell_in(rt, None)
+    }
+
+    /// The same of records of a volume, which is named.
+    pub(crate) fn tell_in(&self, rt: &HostRuntime, volume: Option<u32>) -> Result<(), AllocError> {
         if !self.is_empty() {
-            tell(rt, &altered_line(rt.alloc(), self.numbers.as_slice())?);
+            tell(
+                rt,
+                &altered_line(rt.alloc(), volume, self.numbers.as_slice())?,
+            );
         }
         Ok(())
     }

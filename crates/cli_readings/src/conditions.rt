@@ -1,8 +1,11 @@
 //! Which records a command is about, as it can be typed.
 
 use class_plan::Date;
-use command_lines::archives::{Choice, TypedNumbers};
+use cli_console::put_typed;
+use cli_texts::number_text;
+use command_lines::archives::{Choice, TypedChoice, TypedNumbers};
 use std::alloc::{AllocError, Global};
+use tool_texts::Shown;
 
 /// Whether a character means nothing but itself to a shell.
 fn is_plain(c: char) -> bool {
@@ -66,13 +69,46 @@ fn push_flag(text: &mut String, flag: &str, is_typed: bool) -> Result<(), AllocE
     Ok(())
 }
 
-/// Adds numbers of records, or a range of them.
-fn push_numbers(alloc: Global, text: &mut String, numbers: TypedNumbers) -> Result<(), AllocError> {
-    let word = match numbers {
-        TypedNumbers::One(number) => format!(in alloc; "{number}")?,
-        TypedNumbers::Range { first, last } => format!(in alloc; "{first}-{last}")?,
-    };
+/// Adds numbers of records as they are typed; those of a volume after its number.
+fn push_numbers(
+    alloc: Global,
+    text: &mut String,
+    volume: Option<u32>,
+    numbers: TypedNumbers,
+) -> Result<(), AllocError> {
+    let mut word = Shown::new(alloc);
+    put_typed(&mut word, volume, numbers)?;
     push_word(text, word.as_str())
+}
+
+/// Adds the number from which on records are looked at, after that of its volume where it has one.
+fn push_from(
+    alloc: Global,
+    text: &mut String,
+    volume: Option<u32>,
+    number: u32,
+) -> Result<(), AllocError> {
+    let from = number_text(alloc, volume, number)?;
+    push_typed(text, "--from", Some(from.as_str()))
+}
+
+/// Adds the conditions of a choice.
+fn push_conditions(
+    alloc: Global,
+    text: &mut String,
+    choice: &Choice<'_>,
+) -> Result<(), AllocError> {
+    push_typed(text, "--sender", choice.sender)?;
+    push_typed(text, "--recipient", choice.recipient)?;
+    push_typed(text, "--subject", choice.subject)?;
+    push_typed(text, "--where", choice.test)?;
+    push_typed(text, "--class", choice.class)?;
+    push_day(alloc, text, "--since", choice.since)?;
+    push_day(alloc, text, "--until", choice.until)?;
+    push_day(alloc, text, "--due", choice.due)?;
+    push_flag(text, "--held", choice.is_held)?;
+    push_flag(text, "--live", choice.is_live)?;
+    push_flag(text, "--destroyed", choice.is_destroyed)
 }
 
 /// Adds the numbers of a choice, and that from which on records are looked at.
@@ -82,11 +118,25 @@ fn push_all_numbers(
     choice: &Choice<'_>,
 ) -> Result<(), AllocError> {
     if choice.from > 1 {
-        let from = format!(in alloc; "{}", choice.from)?;
-        push_typed(text, "--from", Some(from.as_str()))?;
+        push_from(alloc, text, None, choice.from)?;
     }
     for numbers in choice.numbers.as_slice() {
-        push_numbers(alloc, text, *numbers)?;
+        push_numbers(alloc, text, None, *numbers)?;
+    }
+    Ok(())
+}
+
+/// The same of a choice over an archive of volumes.
+fn push_numbers_of_volumes(
+    alloc: Global,
+    text: &mut String,
+    typed: &TypedChoice<'_>,
+) -> Result<(), AllocError> {
+    if let Some(first) = typed.from {
+        push_from(alloc, text, Some(first.volume), first.number)?;
+    }
+    for numbers in typed.of_volumes.as_slice() {
+        push_numbers(alloc, text, Some(numbers.volume), numbers.numbers)?;
     }
     Ok(())
 }
@@ -97,17 +147,21 @@ pub fn conditions_of(alloc: Global, choice: &Choice<'_>) -> Result<Option<String
         return Ok(None);
     }
     let mut text = String::new(alloc);
-    push_typed(&mut text, "--sender", choice.sender)?;
-    push_typed(&mut text, "--recipient", choice.recipient)?;
-    push_typed(&mut text, "--subject", choice.subject)?;
-    push_typed(&mut text, "--where", choice.test)?;
-    push_typed(&mut text, "--class", choice.class)?;
-    push_day(alloc, &mut text, "--since", choice.since)?;
-    push_day(alloc, &mut text, "--until", choice.until)?;
-    push_day(alloc, &mut text, "--due", choice.due)?;
-    push_flag(&mut text, "--held", choice.is_held)?;
-    push_flag(&mut text, "--live", choice.is_live)?;
-    push_flag(&mut text, "--destroyed", choice.is_destroyed)?;
+    push_conditions(alloc, &mut text, choice)?;
     push_all_numbers(alloc, &mut text, choice)?;
+    Ok(Some(text))
+}
+
+/// The same of a choice over an archive of volumes, in which a number has its volume.
+pub fn conditions_over(
+    alloc: Global,
+    typed: &TypedChoice<'_>,
+) -> Result<Option<String>, AllocError> {
+    if typed.is_empty() {
+        return Ok(None);
+    }
+    let mut text = String::new(alloc);
+    push_conditions(alloc, &mut text, &typed.alone)?;
+    push_numbers_of_volumes(alloc, &mut text, typed)?;
     Ok(Some(text))
 }

@@ -10,9 +10,10 @@ use crate::altered::Altered;
 use crate::folder::{ListFile, judge_free, make_file, make_folder, write_to};
 use cli_console::Failure;
 use cli_history::Subjects;
-use cli_page::{Index, Record};
+use cli_page::{Index, Record, history_name};
 use cli_texts::{Exported, Headers, MANIFEST_HEADER, Row, manifest_row};
 use record_store::RecordEntry;
+use std::alloc::Global;
 
 /// The file of an export that lists its records.
 const MANIFEST: &str = "manifest.csv";
@@ -22,9 +23,6 @@ const SUMS: &str = "SHA256SUMS";
 
 /// The file of an export that lists its records for people.
 pub(crate) const INDEX: &str = "index.html";
-
-/// The file of an export that has the events of its records, where the store keeps a history.
-pub(crate) const HISTORY: &str = "history.txt";
 
 /// Where an export goes: files, and the lists that tell of them and of the records. An export reaches these by such calls alone.
 pub(crate) trait Destination {
@@ -44,19 +42,19 @@ pub(crate) trait Destination {
     fn write_sum(&mut self, line: &str) -> Result<(), Failure>
         ensures { OnOk result (Writes made self.old self.new (part.sum line.now ∷ [])) };
 
-    /// Notes that the message of a record is not the one that was captured.
-    fn note_altered(&mut self, number: u32) -> Result<(), Failure>
-        ensures { OnOk result (Writes made self.old self.new (part.altered number ∷ [])) };
+    /// Notes that the message of a record, of a volume in an archive of volumes, is not the one that was captured.
+    fn note_altered(&mut self, volume: Option<u32>, number: u32) -> Result<(), Failure>
+        ensures { OnOk result (Writes made self.old self.new (part.altered volume number ∷ [])) };
 
     /// Adds a record to the index, with the number of its message's file and what its header says, where it has one.
     fn list(&mut self, shown: &Record<'_>, letter: Option<(u32, &Headers)>) -> Result<(), Failure>
         ensures { OnOk result (Writes made self.old self.new
             (part.listed shown.now (option_map (λ l. (l.0, l.1.now)) letter.entry) ∷ [])) };
 
-    /// Notes that the history is to have the events of a record and of its message.
-    fn follow(&mut self, entry: &RecordEntry) -> Result<(), Failure>
+    /// Notes that the history of a store, or of a volume, is to have the events of a record and of its message.
+    fn follow(&mut self, volume: Option<u32>, entry: &RecordEntry) -> Result<(), Failure>
         ensures { OnOk result (Writes made self.old self.new
-            (part.subject entry.now.number entry.now.message ∷ [])) };
+            (part.subject volume entry.now.number entry.now.message ∷ [])) };
 
     /// Adds the row of a record to the manifest.
     fn write_row(&mut self, row: &Row<'_>, message: Exported<'_>) -> Result<(), Failure>
@@ -64,32 +62,77 @@ pub(crate) trait Destination {
             (part.row (record_fields row.now ++ last_fields message.entry) ∷ [])) };
 }
 
-/// A folder to which records are exported, of which nothing is claimed.
+/// What is noted of the records of a store, or of a volume, while they are exported.
 #[derive(Drop)]
-pub(crate) struct Folder<'a> {
-    pub(crate) rt: &'a HostRuntime,
-    pub(crate) path: &'a str,
-    pub(crate) manifest: ListFile,
-    pub(crate) sums: ListFile,
-    pub(crate) index: Index,
+pub(crate) struct Noted {
+    /// The number of the volume, in an archive of volumes.
+    pub(crate) volume: Option<u32>,
     /// Whose events are written.
     pub(crate) subjects: Subjects,
     /// Those whose messages are not written, since they are not the ones that were captured.
     pub(crate) altered: Altered,
 }
 
+impl Noted {
+    /// Nothing of a store, or of a volume.
+    fn nothing(alloc: Global, volume: Option<u32>) -> Noted {
+        Noted {
+            volume,
+            subjects: Subjects::new(alloc),
+            altered: Altered::none(alloc),
+        }
+    }
+}
+
+/// A folder to which records are exported, of which nothing is claimed.
+#[derive(Drop)]
+pub(crate) struct Folder<'a> {
+    pub(crate) rt: &'a HostRuntime,
+    pub(crate) path: &'a str,
+    /// The number of the last volume, in an archive of volumes.
+    last: Option<u32>,
+    pub(crate) manifest: ListFile,
+    pub(crate) sums: ListFile,
+    pub(crate) index: Index,
+    /// What is noted of the store, or of the volume, whose records were exported last.
+    pub(crate) noted: Noted,
+    /// The volumes whose events are written; the store has none.
+    pub(crate) histories: Vec<Option<u32>>,
+}
+
 impl<'a> Folder<'a> {
-    /// A folder without files of an export.
-    pub(crate) fn new(rt: &'a HostRuntime, path: &'a str) -> Folder<'a> {
+    /// A folder without files of an export, for the records of a store, or of an archive whose last volume has this number.
+    pub(crate) fn new(rt: &'a HostRuntime, path: &'a str, last: Option<u32>) -> Folder<'a> {
         let alloc = rt.alloc();
         Folder {
             rt,
             path,
+            last,
             manifest: ListFile::new(MANIFEST, MANIFEST_HEADER),
             sums: ListFile::new(SUMS, ""),
             index: Index::new(alloc),
-            subjects: Subjects::new(alloc),
-            altered: Altered::none(alloc),
+            noted: Noted::nothing(alloc, None),
+            histories: Vec::new(alloc),
+        }
+    }
+
+    /// Finds that the file of the events of the store, or of each volume, is not there yet.
+    fn judge_histories(&self) -> Result<(), Failure> {
+        let Some(last) = self.last else {
+            let name = history_name(self.rt.alloc(), None)?;
+            return judge_free(self.rt, self.path, name.as_str());
+        };
+        for volume in 1..=last {
+            let name = history_name(self.rt.alloc(), Some(volume))?;
+            judge_free(self.rt, self.path, name.as_str())?;
+        }
+        Ok(())
+    }
+
+    /// Turns to a store, or to a volume, of which is noted what follows.
+    fn turn_to(&mut self, volume: Option<u32>) {
+        if self.noted.volume != volume {
+            self.noted = Noted::nothing(self.rt.alloc(), volume);
         }
     }
 
@@ -105,10 +148,10 @@ impl Destination for Folder<'_> {
 
     fn prepare(&mut self) -> Result<(), Failure> {
         make_folder(self.rt, self.path)?;
-        for name in [MANIFEST, SUMS, INDEX, HISTORY] {
+        for name in [MANIFEST, SUMS, INDEX] {
             judge_free(self.rt, self.path, name)?;
         }
-        Ok(())
+        self.judge_histories()
     }
 
     fn write_file(&mut self, name: &str, octets: &[u8]) -> Result<(), Failure> {
@@ -120,16 +163,18 @@ impl Destination for Folder<'_> {
         self.sums.write(self.rt, self.path, line.as_bytes())
     }
 
-    fn note_altered(&mut self, number: u32) -> Result<(), Failure> {
-        Ok(self.altered.add(number)?)
+    fn note_altered(&mut self, volume: Option<u32>, number: u32) -> Result<(), Failure> {
+        self.turn_to(volume);
+        Ok(self.noted.altered.add(number)?)
     }
 
     fn list(&mut self, shown: &Record<'_>, letter: Option<(u32, &Headers)>) -> Result<(), Failure> {
         Ok(self.index.add(shown, letter)?)
     }
 
-    fn follow(&mut self, entry: &RecordEntry) -> Result<(), Failure> {
-        Ok(self.subjects.add(entry)?)
+    fn follow(&mut self, volume: Option<u32>, entry: &RecordEntry) -> Result<(), Failure> {
+        self.turn_to(volume);
+        Ok(self.noted.subjects.add(entry)?)
     }
 
     fn write_row(&mut self, row: &Row<'_>, message: Exported<'_>) -> Result<(), Failure> {

@@ -3,19 +3,21 @@
 ghost use Rattle.std.specs.Prelude.{◌≡◌, [], IfOk, MatchOption};
 ghost use Rattle.record_archive.specs.Archive.{Archive};
 ghost use Rattle.record_choice.specs.Reads.{OnlyReads};
+ghost use Rattle.cli_console.specs.Failures.{IsToldAs};
 ghost use Rattle.cli_console.specs.Finds.{found_in};
+ghost use Rattle.cli_console.specs.declared.failure.Status.TheVariants.{BadData};
 ghost use Rattle.cli_readings.specs.Ends.{IsEnded};
 ghost use Rattle.cli_readings.specs.Exports.{ExportsFound, exported_text};
 
 use crate::conditions::conditions_of;
-use crate::destination::{Destination, Folder, HISTORY, INDEX};
+use crate::destination::{Destination, Folder, INDEX, Noted};
 use crate::exporting::{Exporting, line_of};
 use crate::folder::{make_file, write_to};
 use crate::outgoing::{Count, Outgoing};
 use cli_choice::Questions;
 use cli_console::{Failure, Search, Status, now, write_text};
-use cli_history::{Extract, Seals, Subjects};
-use cli_page::{Index, IndexHeading, Order, Page};
+use cli_history::{Extract, Seals};
+use cli_page::{Index, IndexHeading, Order, Page, history_name};
 use cli_texts::{moment_text, sum_text};
 use command_lines::archives::{Choice, Sorting, Target};
 use record_choice::Repository;
@@ -55,6 +57,17 @@ fn export_records<'s, 'a, R: Repository<Fault = StoreFault>, D: Destination + Dr
     Ok((search, Some(exporting.into_outgoing())))
 }
 
+/// The failure of an export for which no record is found: `BadData`.
+pub(crate) fn nothing_exported(alloc: Global) -> Failure
+    ensures { IsToldAs BadData result }
+{
+    Failure::told(
+        alloc,
+        Status::BadData,
+        "no record is found; nothing is exported",
+    )
+}
+
 /// The end of a search that has found no record: `BadData`, and nothing is exported.
 fn end_of_none<S: Alter>(
     rt: &HostRuntime,
@@ -62,11 +75,7 @@ fn end_of_none<S: Alter>(
     search: Search<'_, '_>,
 ) -> Failure {
     match search.end(rt, archive) {
-        Ok(()) => Failure::told(
-            rt.alloc(),
-            Status::BadData,
-            "no record is found; nothing is exported",
-        ),
+        Ok(()) => nothing_exported(rt.alloc()),
         Err(failure) => failure,
     }
 }
@@ -76,9 +85,10 @@ fn write_events<S: Alter>(
     rt: &HostRuntime,
     archive: &mut Store<S>,
     folder: &str,
+    name: &str,
     extract: &mut Extract<'_>,
 ) -> Result<[u8; 32], Failure> {
-    let mut file = make_file(rt, folder, HISTORY)?;
+    let mut file = make_file(rt, folder, name)?;
     let mut hasher = Sha256::new();
     for _ in 0..u64::MAX {
         let Some(lines) = extract.next_lines(rt, archive)? else {
@@ -99,37 +109,45 @@ struct HistoryFile {
     told: Result<(), Failure>,
 }
 
-/// Writes the events of some records to a new file of a folder, where the store keeps a history.
+/// Writes the events of the records that are noted to a new file of a folder, where the store keeps a history.
 fn write_history<S: Alter>(
     rt: &HostRuntime,
     archive: &mut Store<S>,
     folder: &str,
-    subjects: &Subjects,
+    name: &str,
+    noted: &Noted,
 ) -> Result<Option<HistoryFile>, Failure> {
-    let Some(extract) = Extract::of(rt.alloc(), archive, subjects)? else {
+    let extract = Extract::of(rt.alloc(), archive, noted.volume, &noted.subjects)?;
+    let Some(extract) = extract else {
         return Ok(None);
     };
     let mut extract = extract;
-    let sum = write_events(rt, archive, folder, &mut extract)?;
+    let sum = write_events(rt, archive, folder, name, &mut extract)?;
     let told = extract.end(rt.alloc());
     Ok(Some(HistoryFile { sum, told }))
 }
 
-/// Writes the events of the records to a file, where the store keeps a history, and its sum to the list of sums. Answers then
-/// what stands against the history: `BadData` where something stands against an event, which is told.
-fn export_history<S: Alter>(
+/// Writes the events of the records of a store, or of a volume, that were exported last to a file, where the store keeps a history,
+/// and its sum to the list of sums. Answers what stands against the history: `BadData` where something stands against an event,
+/// which is told.
+pub(crate) fn export_history<S: Alter>(
     rt: &HostRuntime,
     archive: &mut Store<S>,
     folder: &mut Folder<'_>,
-) -> Result<Option<Result<(), Failure>>, Failure> {
-    let Some(written) = write_history(rt, archive, folder.path, &folder.subjects)? else {
-        return Ok(None);
+) -> Result<Result<(), Failure>, Failure> {
+    let volume = folder.noted.volume;
+    let name = history_name(rt.alloc(), volume)?;
+    let name = name.as_str();
+    let written = write_history(rt, archive, folder.path, name, &folder.noted)?;
+    let Some(written) = written else {
+        return Ok(Ok(()));
     };
     let HistoryFile { sum, told } = written;
     let sum = sum_text(rt.alloc(), sum.as_slice())?;
-    let line = line_of(rt.alloc(), sum.as_str(), HISTORY)?;
+    let line = line_of(rt.alloc(), sum.as_str(), name)?;
     folder.write_sum(line.as_str())?;
-    Ok(Some(told))
+    folder.histories.push(volume)?;
+    Ok(told)
 }
 
 /// The order of an index.
@@ -141,44 +159,57 @@ fn order_of(sorting: Sorting) -> Order {
     }
 }
 
-/// Writes an index to its file.
+/// Writes an index to its file in a folder.
 fn write_index(
     rt: &HostRuntime,
+    folder: &str,
     index: Index,
-    has_history: bool,
-    file: &str,
-    choice: &Choice<'_>,
-    target: Target<'_>,
+    heading: &IndexHeading<'_>,
 ) -> Result<(), Failure> {
+    let mut page = Page::new(rt.alloc());
+    index.write(&mut page, heading)?;
+    let mut file = make_file(rt, folder, INDEX)?;
+    write_to(rt, folder, &mut file, page.as_str().as_bytes())
+}
+
+/// Writes what lists the records of an export, of a store or an archive of this name, that meet these conditions.
+fn write_lists(
+    rt: &HostRuntime,
+    folder: Folder<'_>,
+    file: &str,
+    conditions: Option<&str>,
+    sorting: Sorting,
+) -> Result<(), Failure> {
+    let mut folder = folder;
+    folder.end()?;
+    let Folder {
+        path,
+        index,
+        histories,
+        ..
+    } = folder;
     let moment = moment_text(rt.alloc(), now(rt)?)?;
-    let conditions = conditions_of(rt.alloc(), choice)?;
-    let conditions = conditions.as_deref();
     let heading = IndexHeading {
         file,
         moment: moment.as_str(),
         conditions,
-        order: order_of(target.sorting),
-        has_history,
+        order: order_of(sorting),
+        histories: histories.as_slice(),
     };
-    let mut page = Page::new(rt.alloc());
-    index.write(&mut page, &heading)?;
-    let mut file = make_file(rt, target.folder, INDEX)?;
-    write_to(rt, target.folder, &mut file, page.as_str().as_bytes())
+    write_index(rt, path, index, &heading)
 }
 
-/// Writes what lists the records of an export.
-fn finish(
+/// Ends an export: writes what lists its records, and then how much it is.
+pub(crate) fn finish(
     rt: &HostRuntime,
-    folder: Folder<'_>,
-    has_history: bool,
+    out: Outgoing<Folder<'_>>,
     file: &str,
-    choice: &Choice<'_>,
+    conditions: Option<&str>,
     target: Target<'_>,
 ) -> Result<(), Failure> {
-    let mut folder = folder;
-    folder.end()?;
-    let Folder { index, .. } = folder;
-    write_index(rt, index, has_history, file, choice, target)
+    let Outgoing { destination, count } = out;
+    write_lists(rt, destination, file, conditions, target.sorting)?;
+    write_text(rt, &exported_line(rt.alloc(), count, target.folder)?)
 }
 
 /// What an export comes to, in a line.
@@ -207,20 +238,18 @@ pub fn export_to<S: Alter>(
     target: Target<'_>,
 ) -> Result<(), Failure> {
     let seals = Seals::of(rt, archive)?;
-    let folder = Folder::new(rt, target.folder);
+    let folder = Folder::new(rt, target.folder, None);
     let (search, out) = export_records(rt, archive, choice, questions, seals, folder)?;
-    let Some(out) = out else {
+    let Some(mut out) = out else {
         return Err(end_of_none(rt, archive, search));
     };
     let ended = search.end(rt, archive);
-    let Outgoing { destination, count } = out;
-    let mut folder = destination;
-    folder.altered.tell(rt)?;
-    let judged = folder.altered.end();
-    let told = export_history(rt, archive, &mut folder)?;
-    finish(rt, folder, told.is_some(), file, choice, target)?;
-    write_text(rt, &exported_line(rt.alloc(), count, target.folder)?)?;
+    out.destination.noted.altered.tell(rt)?;
+    let judged = out.destination.noted.altered.end();
+    let told = export_history(rt, archive, &mut out.destination)?;
+    let conditions = conditions_of(rt.alloc(), choice)?;
+    finish(rt, out, file, conditions.as_deref(), target)?;
     ended?;
-    told.unwrap_or(Ok(()))?;
+    told?;
     judged
 }

@@ -6,8 +6,8 @@ ghost use Rattle.record_archive.specs.Archive.{Archive};
 ghost use Rattle.record_choice.specs.Reads.{OnlyReads};
 ghost use Rattle.cli_texts.specs.Rows.{last_fields};
 ghost use Rattle.cli_readings.specs.Shows.{is_unaltered};
-ghost use Rattle.cli_readings.specs.Exports.{are_captured, file_name, sum_line};
-ghost use Rattle.cli_readings.specs.Exporting.{Exports, HandsOver, HandsOverSome, IsExported, IsListed, IsListedAs, IsMet, IsNew, IsOf, file_parts, is_met, letter_of, met_fields, more_exported, no_count, none_exported, noted_for, written_fields, written_of};
+ghost use Rattle.cli_readings.specs.Exports.{are_captured, sum_line};
+ghost use Rattle.cli_readings.specs.Exporting.{Exports, HandsOver, HandsOverSome, IsExported, IsListed, IsListedAs, IsMet, IsNew, IsOf, TurnsTo, file_parts, is_met, letter_of, met_fields, more_exported, no_count, none_exported, noted_for, written_fields, written_of};
 
 use crate::destination::Destination;
 use crate::list::row_of;
@@ -15,6 +15,7 @@ use crate::outgoing::Outgoing;
 use crate::report::record_of;
 use cli_console::{Failure, Reader, message_of};
 use cli_history::{Fidelity, Seals};
+use cli_page::file_name;
 use cli_texts::{Exported, Headers, Kept, headers_of, sum_of};
 use record_choice::Repository;
 use record_store::{RecordEntry, StoreFault};
@@ -100,24 +101,20 @@ pub(crate) fn line_of(alloc: Global, sum: &str, name: &str) -> Result<String, Al
     format!(in alloc; "{sum}  {name}\n")
 }
 
-/// The name of the file of a message.
-fn name_of(alloc: Global, number: u32) -> Result<String, AllocError>
-    ensures { IfOk result (λ name. string_bytes name ≡ file_name number) }
-{
-    format!(in alloc; "{number}.eml")
-}
-
-/// Writes a message to a new file that is named by its number, and its sum to the list of sums.
+/// Writes a message to a new file that is named by its number, and by that of its volume where it has one, and its sum to the list
+/// of sums.
 fn write_message<D: Destination + Drop>(
     alloc: Global,
     out: &mut Outgoing<D>,
+    volume: Option<u32>,
     number: u32,
     octets: &[u8],
 ) -> Result<Written, Failure>
-    ensures told { IfOk result (λ w. IsOf number octets.now w) }
-    ensures handed { OnOk result (HandsOver D.made out.old (file_parts number octets.now) out.new) }
+    ensures told { IfOk result (λ w. IsOf volume number octets.now w) }
+    ensures handed { OnOk result
+        (HandsOver D.made out.old (file_parts volume number octets.now) out.new) }
 {
-    let name = name_of(alloc, number)?;
+    let name = file_name(alloc, volume, number)?;
     out.write_file(name.as_str(), octets)?;
     let sum = sum_of(alloc, octets)?;
     let line = line_of(alloc, sum.as_str(), name.as_str())?;
@@ -145,74 +142,86 @@ fn is_unaltered(fidelity: Fidelity) -> bool
 fn meet<D: Destination + Drop>(
     alloc: Global,
     out: &mut Outgoing<D>,
+    volume: Option<u32>,
     seals: &Seals,
     number: u32,
     octets: &[u8],
 ) -> Result<Met, Failure>
-    ensures { IfOk result (λ met. HandsOverSome D.made out.old (λ files. IsMet
+    ensures { IfOk result (λ met. HandsOverSome D.made out.old (λ files. IsMet volume
         (are_captured seals.now number octets.now) number octets.now files (Some met)) out.new) }
 {
     let fidelity = seals.is_captured(alloc, number, octets)?;
     if !is_unaltered(fidelity) {
         return Ok(Met::Altered(number));
     }
-    let written = write_message(alloc, out, number, octets)?;
+    let written = write_message(alloc, out, volume, number, octets)?;
     Ok(Met::Written(written))
 }
 
 /// Adds a record to the lists, with what these have of its message.
 fn list_record<D: Destination + Drop>(
     out: &mut Outgoing<D>,
+    volume: Option<u32>,
     entry: &RecordEntry,
     letter: Option<(u32, &Headers)>,
     message: Exported<'_>,
 ) -> Result<(), Failure>
     ensures { OnOk result (HandsOverSome D.made out.old (λ parts.
-        IsListed entry.now (last_fields message.entry)
+        IsListed volume entry.now (last_fields message.entry)
         (option_map (λ l. (l.0, l.1.now)) letter.entry) parts) out.new) }
 {
-    out.list(&record_of(entry), letter)?;
-    out.follow(entry)?;
-    out.write_row(&row_of(None, entry), message)?;
+    out.list(&record_of(volume, entry), letter)?;
+    out.follow(volume, entry)?;
+    out.write_row(&row_of(volume, entry), message)?;
     Ok(())
 }
 
 /// Notes that the message of a record is another one, where it was not written.
 fn note_unless_written<D: Destination + Drop>(
     out: &mut Outgoing<D>,
+    volume: Option<u32>,
     written: Option<&Written>,
     number: u32,
 ) -> Result<(), Failure>
-    ensures { OnOk result (HandsOver D.made out.old (noted_for (option_copied written.entry) number)
-        out.new) }
+    ensures { OnOk result (HandsOver D.made out.old
+        (noted_for volume (option_copied written.entry) number) out.new) }
 {
     match written {
         Some(_) => Ok(()),
-        None => out.note_altered(number),
+        None => out.note_altered(volume, number),
     }
 }
 
 /// Adds a record to the lists whose message is the one that was met last.
 fn list_met<D: Destination + Drop>(
     out: &mut Outgoing<D>,
+    volume: Option<u32>,
     seals: &Seals,
     last: &Option<Met>,
     entry: &RecordEntry,
 ) -> Result<(), Failure>
     ensures { OnOk result (HandsOverSome D.made out.old
-        (λ parts. IsListedAs seals.now entry.now last.now parts) out.new) }
+        (λ parts. IsListedAs volume seals.now entry.now last.now parts) out.new) }
 {
     let written = written_in(last);
-    note_unless_written(out, written, entry.number)?;
+    note_unless_written(out, volume, written, entry.number)?;
     let letter = letter_of_written(written);
-    list_record(out, entry, letter, exported(seals, written, entry.message))
+    list_record(
+        out,
+        volume,
+        entry,
+        letter,
+        exported(seals, written, entry.message),
+    )
 }
 
 /// An export to which records are added.
 #[derive(Drop)]
 pub(crate) struct Exporting<'a, D> {
     rt: &'a HostRuntime,
-    out: Outgoing<D>,
+    pub(crate) out: Outgoing<D>,
+    /// The number of the volume whose records are added, in an archive of volumes.
+    volume: Option<u32>,
     /// By which messages are judged.
     seals: Seals,
     /// The message that was met last.
@@ -224,15 +233,26 @@ impl<'a, D: Destination + Drop> Exporting<'a, D> {
     pub(crate) fn new(rt: &'a HostRuntime, seals: Seals, destination: D) -> Exporting<'a, D>
         ensures destination { result.out.destination ≡ destination }
         ensures count { result.out.count ≡ no_count }
+        ensures volume { result.volume ≡ None }
         ensures seals { result.seals ≡ seals }
         ensures last { result.last ≡ None }
     {
         Exporting {
             rt,
             out: Outgoing::new(destination),
+            volume: None,
             seals,
             last: None,
         }
+    }
+
+    /// Goes on with the records of a volume, whose messages are judged by these seals. None of them was met yet.
+    pub(crate) fn turn_to(&mut self, volume: u32, seals: Seals)
+        ensures { TurnsTo volume seals self.old self.new }
+    {
+        self.volume = Some(volume);
+        self.seals = seals;
+        self.last = None;
     }
 
     /// What went out of it.
@@ -251,19 +271,22 @@ impl<'a, D: Destination + Drop> Exporting<'a, D> {
         ensures reads { OnlyReads R.clean R.stands archive.old archive.new }
         ensures exported { OnOk result (R.clean archive.new → (a : Archive)
             → R.stands archive.old a → HandsOverSome D.made self.old.out
-            (λ parts. IsNew a self.old.seals entry.now self.new.last parts) self.new.out) }
+            (λ parts. IsNew self.old.volume a self.old.seals entry.now self.new.last parts)
+            self.new.out) }
         ensures seals { self.new.seals ≡ self.old.seals }
+        ensures volume { self.new.volume ≡ self.old.volume }
     {
         let octets = message_of(self.rt, archive, entry)?;
         let met = meet(
             self.rt.alloc(),
             &mut self.out,
+            self.volume,
             &self.seals,
             entry.message,
             octets.as_slice(),
         )?;
         self.last = Some(met);
-        list_met(&mut self.out, &self.seals, &self.last, entry)?;
+        list_met(&mut self.out, self.volume, &self.seals, &self.last, entry)?;
         Ok(())
     }
 
@@ -276,12 +299,13 @@ impl<'a, D: Destination + Drop> Exporting<'a, D> {
         ensures reads { OnlyReads R.clean R.stands archive.old archive.new }
         ensures exported { OnOk result (R.clean archive.new → (a : Archive)
             → R.stands archive.old a → HandsOverSome D.made self.old.out
-            (λ parts. IsExported false (is_met self.old.last entry.now.message) a self.old.seals
-            entry.now self.old.last self.new.last parts) self.new.out) }
+            (λ parts. IsExported self.old.volume false (is_met self.old.last entry.now.message) a
+            self.old.seals entry.now self.old.last self.new.last parts) self.new.out) }
         ensures seals { self.new.seals ≡ self.old.seals }
+        ensures volume { self.new.volume ≡ self.old.volume }
     {
         if is_last(&self.last, entry.message) {
-            list_met(&mut self.out, &self.seals, &self.last, entry)?;
+            list_met(&mut self.out, self.volume, &self.seals, &self.last, entry)?;
             return Ok(());
         }
         self.export_new(archive, entry)?;
@@ -299,7 +323,7 @@ impl<D: Destination + Drop> Reader for Exporting<'_, D> {
         _headers: Option<&Headers>,
     ) -> Result<(), Failure> {
         if entry.destroyed {
-            list_record(&mut self.out, entry, None, Exported::Destroyed)?;
+            list_record(&mut self.out, self.volume, entry, None, Exported::Destroyed)?;
             return Ok(());
         }
         self.export_live(archive, entry)?;

@@ -7,7 +7,8 @@
 //! - `altered`: records whose messages are not the ones that were captured;
 //! - `folder`: the files of an export;
 //! - `sums`: what a copy is compared by;
-//! - `volume_lists`: what `list` lists of an archive of volumes.
+//! - `volume_lists`, `volume_exports` and `volume_reports`: what `list` lists, `export` exports and `report` reports of an archive of
+//!   volumes.
 //!
 //! Each works on a store that is lent to it. What a list, a check, a report and an export hand over, contracts say; that it
 //! comes to a terminal or a file, tests of the program show.
@@ -28,7 +29,9 @@ mod report;
 mod show;
 mod sums;
 mod twice;
+mod volume_exports;
 mod volume_lists;
+mod volume_reports;
 mod why;
 
 pub use altered::Altered;
@@ -40,5 +43,7 @@ pub use report::write_report;
 pub use show::{message_of_record, write_message};
 pub use sums::{Judged, Summary, judged_summary, summary_of};
 pub use twice::write_twice;
+pub use volume_exports::VolumeExport;
 pub use volume_lists::VolumeList;
+pub use volume_reports::VolumeReport;
 pub use why::{Captured, read_captured, write_why};

@@ -77,11 +77,12 @@ impl<D: Destination + Drop> Outgoing<D> {
         Ok(())
     }
 
-    /// Notes that the message of a record is not the one that was captured.
-    pub(crate) fn note_altered(&mut self, number: u32) -> Result<(), Failure>
-        ensures { OnOk result (HandsOver D.made self.old (part.altered number ∷ []) self.new) }
+    /// Notes that the message of a record, of a volume in an archive of volumes, is not the one that was captured.
+    pub(crate) fn note_altered(&mut self, volume: Option<u32>, number: u32) -> Result<(), Failure>
+        ensures { OnOk result
+            (HandsOver D.made self.old (part.altered volume number ∷ []) self.new) }
     {
-        self.destination.note_altered(number)?;
+        self.destination.note_altered(volume, number)?;
         Ok(())
     }
 
@@ -99,12 +100,12 @@ impl<D: Destination + Drop> Outgoing<D> {
         Ok(())
     }
 
-    /// Notes that the history is to have the events of a record and of its message.
-    pub(crate) fn follow(&mut self, entry: &RecordEntry) -> Result<(), Failure>
+    /// Notes that the history of a store, or of a volume, is to have the events of a record and of its message.
+    pub(crate) fn follow(&mut self, volume: Option<u32>, entry: &RecordEntry) -> Result<(), Failure>
         ensures { OnOk result (HandsOver D.made self.old
-            (part.subject entry.now.number entry.now.message ∷ []) self.new) }
+            (part.subject volume entry.now.number entry.now.message ∷ []) self.new) }
     {
-        self.destination.follow(entry)?;
+        self.destination.follow(volume, entry)?;
         Ok(())
     }
 

@@ -1,12 +1,12 @@
 //! `report`: one page of HTML on what is kept, what is due and what is held.
 
-ghost use Rattle.std.specs.Prelude.{◌≡◌, IfOk, IfSome, OnOk, is_none, not, refl};
+ghost use Rattle.std.specs.Prelude.{◌≡◌, IfOk, IfSome, OnOk, is_none, not};
 ghost use Rattle.record_archive.specs.Archive.{Archive};
 ghost use Rattle.record_choice.specs.Reads.{OnlyReads};
-ghost use Rattle.cli_console.specs.Finds.{IsBounded, TakesThese, found_ahead};
+ghost use Rattle.cli_console.specs.Finds.{IsAtEnd, IsBounded, TakesThese, found_ahead};
 ghost use Rattle.cli_console.specs.Headers.{AreTextsOf};
 ghost use Rattle.cli_readings.specs.Checks.{is_live_and_due};
-ghost use Rattle.cli_readings.specs.Reports.{IsRecordOf, Reports, more_reported};
+ghost use Rattle.cli_readings.specs.Reports.{IsRecordOf, IsReportBy, ReportsMore, more_reports, none_reports};
 
 use crate::conditions::conditions_of;
 use crate::list::headers_of_record;
@@ -32,11 +32,12 @@ fn report_failure(rt: &HostRuntime, fault: ReportFault) -> Failure {
     Failure::told(rt.alloc(), Status::BadData, words)
 }
 
-/// A record as a page reads it.
-pub fn record_of(entry: &RecordEntry) -> Record<'_>
-    ensures { IsRecordOf entry.now result }
+/// A record as a page reads it: one of a volume, in an archive of volumes.
+pub fn record_of(volume: Option<u32>, entry: &RecordEntry) -> Record<'_>
+    ensures { IsRecordOf volume entry.now result }
 {
     Record {
+        volume,
         number: entry.number,
         path: entry.path.as_slice(),
         day: entry.day,
@@ -66,14 +67,31 @@ fn headers_of_due<R: Repository<Fault = StoreFault>>(
 
 /// A report by a day to which records are added.
 #[derive(Drop)]
-struct Reporting<'a> {
+pub(crate) struct Reporting<'a> {
     rt: &'a HostRuntime,
     report: Report,
     day: Date,
+    /// The number of the volume whose records are added, in an archive of volumes.
+    pub(crate) volume: Option<u32>,
+}
+
+impl<'a> Reporting<'a> {
+    /// A report by a day, without records, on the classes of a plan. `BadData` where the day is before 1970.
+    pub(crate) fn new(rt: &'a HostRuntime, plan: &Plan, day: Date) -> Result<Reporting<'a>, Failure>
+        ensures { IfOk result (λ r. IsReportBy day r) }
+    {
+        let report = Report::new(rt.alloc(), plan, day).map_err(|fault| report_failure(rt, fault))?;
+        Ok(Reporting {
+            rt,
+            report,
+            day,
+            volume: None,
+        })
+    }
 }
 
 impl Reader for Reporting<'_> {
-    ghost takes = { λ old a es new. Reports a.plan old.report es new.report };
+    ghost takes = { λ old a es new. ReportsMore old a es new };
 
     fn take<R: Repository<Fault = StoreFault>>(
         &mut self,
@@ -82,23 +100,23 @@ impl Reader for Reporting<'_> {
         _headers: Option<&Headers>,
     ) -> Result<(), Failure> {
         let headers = headers_of_due(self.rt, archive, entry, self.day)?;
-        match self
-            .report
-            .add(archive.plan(), &record_of(entry), headers.as_ref())
-        {
+        match self.report.add(
+            archive.plan(),
+            &record_of(self.volume, entry),
+            headers.as_ref(),
+        ) {
             Ok(()) => Ok(()),
             Err(fault) => Err(report_failure(self.rt, fault)),
         }
     }
 
-    ghost takes_none = { λ reporting a. refl };
+    ghost takes_none = { λ reporting a. none_reports reporting a };
 
-    ghost takes_more = { λ x y z a es fs one other.
-        more_reported a.plan x.report y.report z.report es fs one other };
+    ghost takes_more = { λ x y z a es fs one other. more_reports x y z a es fs one other };
 }
 
 /// Adds the records that are found to a report by a day.
-fn report_of<R: Repository<Fault = StoreFault>>(
+pub(crate) fn report_of<R: Repository<Fault = StoreFault>>(
     rt: &HostRuntime,
     archive: &mut R,
     search: &mut Search<'_, '_>,
@@ -107,8 +125,10 @@ fn report_of<R: Repository<Fault = StoreFault>>(
     requires { IsBounded search.old }
     ensures reads { OnlyReads R.clean R.stands archive.old archive.new }
     ensures reported { OnOk result (R.clean archive.new → (a : Archive) → R.stands archive.old a
-        → TakesThese (λ old b es new. Reports b.plan old.report es new.report) reporting.old a
+        → TakesThese (λ old b es new. ReportsMore old b es new) reporting.old a
         (found_ahead search.old a) reporting.new) }
+    ensures ended { OnOk result (R.clean archive.new → (a : Archive) → R.stands archive.old a
+        → IsAtEnd search.old a search.new) }
 {
     search.read_found(rt, archive, reporting)
 }
@@ -132,29 +152,28 @@ fn heading_of<'a>(
     }
 }
 
-/// Writes the page of a report on the records of a choice.
-fn write_page(
+/// Writes the page of a report on the records of a store, or an archive, of this name that meet these conditions.
+pub(crate) fn write_page(
     rt: &HostRuntime,
     plan: &Plan,
-    report: &Report,
+    reporting: &Reporting<'_>,
     file: &str,
-    day: Date,
-    choice: &Choice<'_>,
+    conditions: Option<&str>,
     titles: &Titles,
 ) -> Result<(), Failure> {
     let titles = titles.listed()?;
     let moment = moment_text(rt.alloc(), now(rt)?)?;
-    let typed = conditions_of(rt.alloc(), choice)?;
     let heading = heading_of(
         file,
-        day,
+        reporting.day,
         today(rt)?,
         moment.as_str(),
-        typed.as_deref(),
+        conditions,
         titles.as_slice(),
     );
     let mut page = Page::new(rt.alloc());
-    report
+    reporting
+        .report
         .write(&mut page, plan, &heading)
         .map_err(|fault| report_failure(rt, fault))?;
     write_data(rt, page.as_str().as_bytes())
@@ -171,19 +190,16 @@ pub fn write_report<S: Alter>(
     questions: &Questions,
 ) -> Result<(), Failure> {
     let mut search = Search::new(rt, archive, choice, questions)?;
-    let report = Report::new(rt.alloc(), archive.plan(), day).map_err(|fault| report_failure(
-        rt, fault,
-    ))?;
-    let mut reporting = Reporting { rt, report, day };
+    let mut reporting = Reporting::new(rt, archive.plan(), day)?;
     report_of(rt, archive, &mut search, &mut reporting)?;
     let titles = Titles::of(rt, archive)?;
+    let conditions = conditions_of(rt.alloc(), choice)?;
     write_page(
         rt,
         archive.plan(),
-        &reporting.report,
+        &reporting,
         file,
-        day,
-        choice,
+        conditions.as_deref(),
         &titles,
     )?;
     search.end(rt, archive)

@@ -7,9 +7,10 @@
 //! - `titles`: those of classes;
 //! - `drafts`: new archives, which get their places once they are found whole;
 //! - `volumes`: what is done over an archive of volumes; `volume_row`: these, one after another; `volume_numbers`: numbers that are
-//!   typed with a volume, or without; `volume_plans`: the plan that each has; `volume_lists`, `volume_histories`, `volume_checks`,
-//!   `volume_changes`, `volume_refilings`, `volume_disposals` and `volume_settings`: subcommands over them; `volume_days`: by which days the
-//!   clock is judged where the last one has no record; `rolling`: archives of volumes, and volumes, that begin;
+//!   typed with a volume, or without; `volume_plans`: the plan that each has; `volume_lists`, `volume_exports`, `volume_reports`,
+//!   `volume_histories`, `volume_checks`, `volume_changes`, `volume_refilings`, `volume_disposals` and `volume_settings`: subcommands over
+//!   them; `volume_days`: by which days the clock is judged where the last one has no record; `rolling`: archives of volumes, and volumes,
+//!   that begin;
 //! - `copy`: a new archive with all that another one has;
 //! - `reports`: why something was not done, for a person and as a status;
 //! - `program`: the command line, and what it asks for.
@@ -38,11 +39,13 @@ mod volume_changes;
 mod volume_checks;
 mod volume_days;
 mod volume_disposals;
+mod volume_exports;
 mod volume_histories;
 mod volume_lists;
 mod volume_numbers;
 mod volume_plans;
 mod volume_refilings;
+mod volume_reports;
 mod volume_row;
 mod volume_settings;
 mod volumes;

@@ -45,25 +45,48 @@ fn no_volume_words(alloc: Global, typed: VolumeNumbers, last: u32) -> Result<Sho
     Ok(text)
 }
 
-/// That numbers of records stand where the name of a hold belongs.
-fn name_forgotten_words(alloc: Global, word: &str) -> Result<Shown, AllocError> {
+/// What is said of numbers of records where the name of a hold belongs.
+const NAME_FORGOTTEN: &str =
+    ": numbers of records, where the name of the hold belongs; type it before them, as audit 3/17";
+
+/// What is said of numbers of records where the folder of an export belongs.
+const FOLDER_FORGOTTEN: &str =
+    ": numbers of records, where the folder of the export belongs; type it before them, as for-court 3/17; type ./ before a folder of this name";
+
+/// That numbers of records stand where something else belongs.
+fn forgotten_words(alloc: Global, word: &str, said: &'static str) -> Result<Shown, AllocError> {
     let mut text = Shown::new(alloc);
-    put!(text; named(word.as_bytes())
-        ": numbers of records, where the name of the hold belongs; type it before them, as audit 3/17")?;
+    put!(text; named(word.as_bytes()) words(said))?;
     Ok(text)
 }
 
-/// Finds that the name of a hold does not read as numbers of records, with a volume or without, before which it was more likely
-/// forgotten. `Usage` where it does.
+/// Finds that a word does not read as numbers of records, with a volume or without, before which it was more likely forgotten.
+/// `Usage`, with what is said of them, where it does.
+fn judge_forgotten(rt: &HostRuntime, word: &str, said: &'static str) -> Result<(), Failure>
+    ensures named { OnOk result (reads_as_any_numbers word.now ≡ false) }
+    ensures refused { IfErr result (IsToldAs Usage) }
+{
+    if reads_as_any_numbers(word.as_bytes()) {
+        let words = forgotten_words(rt.alloc(), word, said);
+        return Err(Failure::shown(Status::Usage, words));
+    }
+    Ok(())
+}
+
+/// Finds that the name of a hold does not read as numbers of records. `Usage` where it does.
 pub fn judge_hold_name(rt: &HostRuntime, name: &str) -> Result<(), Failure>
     ensures named { OnOk result (reads_as_any_numbers name.now ≡ false) }
     ensures refused { IfErr result (IsToldAs Usage) }
 {
-    if reads_as_any_numbers(name.as_bytes()) {
-        let words = name_forgotten_words(rt.alloc(), name);
-        return Err(Failure::shown(Status::Usage, words));
-    }
-    Ok(())
+    judge_forgotten(rt, name, NAME_FORGOTTEN)
+}
+
+/// Finds that the folder of an export does not read as numbers of records. `Usage` where it does.
+pub fn judge_folder_name(rt: &HostRuntime, folder: &str) -> Result<(), Failure>
+    ensures named { OnOk result (reads_as_any_numbers folder.now ≡ false) }
+    ensures refused { IfErr result (IsToldAs Usage) }
+{
+    judge_forgotten(rt, folder, FOLDER_FORGOTTEN)
 }
 
 /// A choice that is typed, in a store that is one file. `Usage` where a number is typed with a volume.

@@ -8,9 +8,11 @@ use crate::subcommands::{CheckRules, Survey, WritePlan, show, why};
 use crate::volume_changes::{change_holds, release_all};
 use crate::volume_checks::check;
 use crate::volume_disposals::dispose;
+use crate::volume_exports::export;
 use crate::volume_histories::{print_certificates, print_histories, write_holds};
 use crate::volume_lists::list;
 use crate::volume_refilings::refile;
+use crate::volume_reports::report;
 use crate::volume_row::Volumes;
 use crate::volume_settings::{set_plan, set_titles};
 use choice_words::TypedChoice;
@@ -57,7 +59,7 @@ fn check_rules<A: Archives>(
     lend(rt, archives, path.as_str(), CheckRules(asked))
 }
 
-/// Does something with the records of a choice in the volumes of a folder. `Usage` for an export and a report.
+/// Does something with the records of a choice in the volumes of a folder.
 #[tactic(auto, using(crate::proofs::DoneLemmas::nothing_said))]
 fn on_volumes<'a, A: Archives>(
     rt: &HostRuntime,
@@ -79,7 +81,8 @@ fn on_volumes<'a, A: Archives>(
             change_holds(rt, archives, volumes, typed, Change::End, *name, told)
         }
         ChosenTask::Refile(refiling) => refile(rt, archives, volumes, typed, *refiling, told),
-        ChosenTask::Export(_) | ChosenTask::Report { .. } => Err(not_over(rt, volumes.folder)),
+        ChosenTask::Export(target) => export(rt, archives, volumes, typed, *target),
+        ChosenTask::Report { day } => report(rt, archives, volumes, typed, *day),
     }
 }
 

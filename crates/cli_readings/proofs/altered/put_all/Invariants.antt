@@ -1,7 +1,7 @@
 use Rattle.std.proofs.Common.{◌≡◌, ◌++◌, drop, flat_map}
-use Rattle.cli_console.specs.Numbers.{typed_words}
+use Rattle.cli_readings.specs.Altered.{typed_in}
 use Rattle.cli_readings.proofs.altered.put_all.Given as goal
 
 abbrev pub invariant-loop-typed : goal.invariant-loop-typed
 invariant-loop-typed l =
-    l.line ++ flat_map typed_words (drop l.typed-index l.numbers) ≡ l.initial.line ++ flat_map typed_words l.numbers
+    l.line ++ flat_map (typed_in l.volume) (drop l.typed-index l.numbers) ≡ l.initial.line ++ flat_map (typed_in l.volume) l.numbers

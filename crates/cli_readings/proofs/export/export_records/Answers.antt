@@ -31,7 +31,7 @@ returns-clause-exported g c = λ clean (a : Archive) s.
       subst (λ out. WritesExport made c.args.seals c.args.destination a took.0 out) (sym c.into_outgoing.ensures)
           (whole_export made c.args.choice.now c.args.questions.now c.args.seals c.args.destination c.prepare.new.self c.new-exporting.result
           c.read_on.new.reader a took.0 is found c.in_ok-prepare.ensures c.new-exporting.ensures.destination c.new-exporting.ensures.count
-          c.new-exporting.ensures.seals c.new-exporting.ensures.last took.2),
+          c.new-exporting.ensures.seals c.new-exporting.ensures.last c.new-exporting.ensures.volume took.2),
     )
 
 pub returns-in_default-clause-ended : goal.returns-in_default-clause-ended

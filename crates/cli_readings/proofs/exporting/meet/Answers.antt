@@ -8,18 +8,21 @@ pub returns-then-not-is_unaltered : goal.returns-then-not-is_unaltered
 returns-then-not-is_unaltered g c =
     let number = c.args.number in
     let octets = c.args.octets.now in
-    let other = ap is_unaltered (sym c.in_ok-fidelity.ensures) ∙ sym c.is_unaltered.ensures ∙ c.if-not-is_unaltered.true in
-    ([], subst (λ b. IsMet b number octets [] (Some (met.Altered number))) (sym other) (refl, refl), nothing_over g.D.Destination.made c.args.out.now)
+    let other = ap is_unaltered (sym c.in_ok-fidelity.ensures) ∙ sym c.is_unaltered.ensures ∙ c.if-not-is_unaltered.true in (
+      [],
+      subst (λ b. IsMet c.args.volume b number octets [] (Some (met.Altered number))) (sym other) (refl, refl),
+      nothing_over g.D.Destination.made c.args.out.now,
+    )
 
 pub returns : goal.returns
 returns g c =
     let number = c.args.number in
     let octets = c.args.octets.now in
-    let files = file_parts number octets in
+    let files = file_parts c.args.volume number octets in
     let written = c.in_ok-written.written in
     let same = ap is_unaltered (sym c.in_ok-fidelity.ensures) ∙ sym c.is_unaltered.ensures ∙ c.if-not-is_unaltered.false in (
       files,
-      subst (λ b. IsMet b number octets files (Some (met.Written written))) (sym same)
+      subst (λ b. IsMet c.args.volume b number octets files (Some (met.Written written))) (sym same)
           (record { told = written; told_is = c.in_ok-written.ensures.told; last_is = refl; parts_are = refl }),
       c.in_ok-written.ensures.handed,
     )

@@ -7,12 +7,13 @@ use Rattle.cli_readings.proofs.exporting.note_unless_written.Goals as goal
 pub returns-in-Some : goal.returns-in-Some
 returns-in-Some g c =
     let made = g.D.Destination.made in
-    subst (λ o. HandsOver made c.args.out.now (noted_for (option_copied o) c.args.number) c.args.out.now) (sym c.in-Some.is)
+    subst (λ o. HandsOver made c.args.out.now (noted_for c.args.volume (option_copied o) c.args.number) c.args.out.now) (sym c.in-Some.is)
     (nothing_over made c.args.out.now)
 
 pub returns-in-None : goal.returns-in-None
 returns-in-None g c =
     let made = g.D.Destination.made in
     on_ok_weaker c.note_altered.result (λ over.
-    subst (λ o. HandsOver made c.args.out.now (noted_for (option_copied o) c.args.number) c.note_altered.new.self) (sym c.in-None.is) over)
+    subst (λ o. HandsOver made c.args.out.now (noted_for c.args.volume (option_copied o) c.args.number) c.note_altered.new.self) (sym c.in-None.is)
+    over)
     c.note_altered.ensures

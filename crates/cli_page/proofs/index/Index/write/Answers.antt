@@ -20,7 +20,7 @@ returns c =
     let pushed = pushed_8 c.args.page.now c.open_head.new.page c.push_title.new.page c.close_head.new.page c.push_facts.new.page
     c.push_choice.new.page c.open_table.new.page c.push_rows.new.page c.close_table.new.page
     head_start index_title head_end (facts about.file.now about.moment.now (length (map row_view rows)))
-    (choice_facts (option_map (λ b. b.now) about.conditions) about.order) (index_table_head about.has_history)
+    (choice_facts (option_map (λ b. b.now) about.conditions) about.order) (index_table_head about.histories.now)
     (flat_map index_row (map row_view rows)) index_end
     c.in_ok-open_head.ensures c.in_ok-push_title.ensures c.in_ok-close_head.ensures told c.in_ok-push_choice.ensures
     c.in_ok-open_table.ensures listed in
