@@ -5,7 +5,7 @@ ghost use Rattle.std.specs.Prelude.{◌≡◌, ◌&&◌, is_none, is_ok, not};
 use crate::chosen::records_of;
 use crate::pages::{PAGE, event_of};
 use crate::watching::Watch;
-use cli_console::{Failure, Status};
+use cli_console::{Failure, Status, tell};
 use record_history::Deed;
 use record_store::{EventLayout, EventRow, RecordEntry, Store};
 use sqlite::Alter;
@@ -72,18 +72,17 @@ fn push_taken(lines: &mut Vec<u8>, before: &[u8], row: &EventRow) -> Result<(), 
 }
 
 impl<'s> Extract<'s> {
-    /// The walk over the events of some records from the first event on; none where the store keeps no history. What is told of the
-    /// history of a volume begins with the number of the volume. The only refusal is no memory.
+    /// The walk over the events of some records from the first event on; none where the store keeps no history. The only
+    /// refusal is no memory.
     pub fn of<S: Alter>(
         alloc: Global,
         archive: &Store<S>,
-        volume: Option<u32>,
         subjects: &'s Subjects,
     ) -> Result<Option<Extract<'s>>, AllocError> {
         match archive.event_layout() {
             EventLayout::Present => Ok(Some(Extract {
                 subjects,
-                watch: Watch::new(alloc, volume)?,
+                watch: Watch::new(alloc, None)?,
                 from: Some(1),
                 before: Vec::new(alloc),
                 is_any_unread: false,
@@ -96,7 +95,7 @@ impl<'s> Extract<'s> {
     fn tell_unread(&mut self, rt: &HostRuntime, row: &EventRow, words: &Shown) {
         self.is_any_unread = true;
         if !self.watch.is_told(row.number) {
-            self.watch.tell(rt, words);
+            tell(rt, words);
         }
     }
 

@@ -10,13 +10,13 @@ ghost use Rattle.cli_readings.specs.Ends.{IsEnded};
 ghost use Rattle.cli_readings.specs.Exports.{ExportsFound, exported_text};
 
 use crate::conditions::conditions_of;
-use crate::destination::{Destination, Folder, INDEX, Noted};
+use crate::destination::{Destination, Folder, INDEX};
 use crate::exporting::{Exporting, line_of};
 use crate::folder::{make_file, write_to};
 use crate::outgoing::{Count, Outgoing};
 use cli_choice::Questions;
 use cli_console::{Failure, Search, Status, now, write_text};
-use cli_history::{Extract, Seals};
+use cli_history::{Extract, Seals, Subjects};
 use cli_page::{Index, IndexHeading, Order, Page, history_name};
 use cli_texts::{moment_text, sum_text};
 use command_lines::archives::{Choice, Sorting, Target};
@@ -109,16 +109,15 @@ struct HistoryFile {
     told: Result<(), Failure>,
 }
 
-/// Writes the events of the records that are noted to a new file of a folder, where the store keeps a history.
+/// Writes the events of some records to a new file of a folder, where the store keeps a history.
 fn write_history<S: Alter>(
     rt: &HostRuntime,
     archive: &mut Store<S>,
     folder: &str,
     name: &str,
-    noted: &Noted,
+    subjects: &Subjects,
 ) -> Result<Option<HistoryFile>, Failure> {
-    let extract = Extract::of(rt.alloc(), archive, noted.volume, &noted.subjects)?;
-    let Some(extract) = extract else {
+    let Some(extract) = Extract::of(rt.alloc(), archive, subjects)? else {
         return Ok(None);
     };
     let mut extract = extract;
@@ -138,7 +137,7 @@ pub(crate) fn export_history<S: Alter>(
     let volume = folder.noted.volume;
     let name = history_name(rt.alloc(), volume)?;
     let name = name.as_str();
-    let written = write_history(rt, archive, folder.path, name, &folder.noted)?;
+    let written = write_history(rt, archive, folder.path, name, &folder.noted.subjects)?;
     let Some(written) = written else {
         return Ok(Ok(()));
     };
