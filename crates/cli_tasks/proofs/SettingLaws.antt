@@ -1,5 +1,5 @@
 -- A plan that is judged before it replaces the present one.
-use Rattle.std.specs.Prelude.{MatchResult}
+use Rattle.std.specs.Prelude.{IfOk, MatchResult}
 use Rattle.std.proofs.Common.{◌≡◌, ◌∙◌, Bool, true, false, Result, Ok, Err, OnOk, is_ok, subst, sym, true≢false}
 use Rattle.sqlite.specs.Store.{Ghosts}
 use Rattle.class_plan.specs.Plans.{Listing, keeps}
@@ -16,6 +16,11 @@ pub succeeds_if : {X Y : Type 0} {P : X → Type 0} {Q : Y → Type 0} (b : Bool
     → ((x : X) → P x → b ≡ true) → ((y : Y) → Q y → b ≡ false) → is_ok r ≡ b
 succeeds_if b (Ok x) m well bad = sym (well x m)
 succeeds_if b (Err y) m well bad = sym (bad y m)
+
+-- what is so of what was done is so of it where it is handed on
+pub handed_on : {X F P : Type 0} (done result : Result X F) → IfOk result (λ x. done ≡ Ok x) → OnOk done P → OnOk result P
+handed_on {X} {F} {P} done (Ok x) same p = subst (λ (r : Result X F). OnOk r P) same p
+handed_on done (Err failure) same p = tt
 
 module _ {S K : Type 0} (g : Ghosts S) where
   pub kept_as_it_is : (ledger : Ledger S K) → KeepsAll (keeper_of g) ledger ledger

@@ -5,7 +5,7 @@
 //! each volume that is begun. After a kill the last volume has each class of all others, so a plan that may replace that of the archive may
 //! replace that of each.
 
-ghost use Rattle.std.specs.Prelude.{◌≡◌, IfOk, OnErr, OnOk};
+ghost use Rattle.std.specs.Prelude.{◌≡◌, IfOk, Ok, OnErr, OnOk};
 ghost use Rattle.class_plan.specs.Plans.{keeps};
 ghost use Rattle.record_ledger.specs.Ledgers.{keeper_of};
 ghost use Rattle.cli_changes.specs.Series.{KeepsAll, WasClean};
@@ -29,7 +29,7 @@ use crate::volume_plans::judge_plans;
 use crate::volume_row::{Volumes, author_in, volume_line};
 use class_plan::Plan;
 use cli_changes::{read_plan, read_titles, replace_plan};
-use cli_console::{Failure, write_text};
+use cli_console::{Failure, Status, write_text};
 use cli_history::{Author, Purpose, Seals, StoreLedger, open_noted};
 use cli_volumes::lock_folder;
 use command_lines::archives::Attribution;
@@ -177,10 +177,29 @@ fn replace_in_each<A: Archives>(
     Ok(())
 }
 
+/// The same failure, but that the output cannot be written, where its reader has gone.
+fn failure_cut_off(rt: &HostRuntime, failure: Failure) -> Failure {
+    match failure {
+        Failure::Closed => Failure::told(
+            rt.alloc(),
+            Status::NotWritten,
+            "the reader of the output has gone before this was done in all volumes; do it once more",
+        ),
+        failure => failure,
+    }
+}
+
+/// What was done in the volumes. It fails with `NotWritten` where the reader of the output has gone before it was done in all of them.
+fn not_cut_off<T: Drop>(rt: &HostRuntime, done: Result<T, Failure>) -> Result<T, Failure>
+    ensures { IfOk result (λ x. done ≡ Ok x) }
+{
+    done.map_err(|failure| failure_cut_off(rt, failure))
+}
+
 /// Replaces the plan of each volume of the archive in a folder by that of the file at a path. It is asked once, behind what that changes in
 /// the last volume; what it changes in each other one is printed before it is set there. `BadData` where the new plan leaves out a class of a
 /// volume, and `Usage` where nobody agrees, or a volume requires a reason and none is given: then it is set in none. `TryAgain` where another
-/// program begins a volume, or sets a plan or titles. Another program may change a volume once it was judged; where the plan is refused there
+/// program begins a volume, or sets a plan or titles, and `NotWritten` where the reader of the output goes away. Another program may change a volume once it was judged; where the plan is refused there
 /// then, the volumes after it have the new plan.
 pub fn set_plan<A: Archives>(
     rt: &HostRuntime,
@@ -197,7 +216,8 @@ pub fn set_plan<A: Archives>(
     let _lock = lock_folder(rt, folder).map_err(|cause| no_volumes(rt, folder, cause))?;
     let volumes = Volumes::of(rt, folder)?;
     judge_plan_in_each(rt, archives, volumes, &plan, path, told)?;
-    replace_in_each(rt, archives, volumes, &plan, path, is_agreed, told)
+    let replaced = replace_in_each(rt, archives, volumes, &plan, path, is_agreed, told);
+    not_cut_off(rt, replaced)
 }
 
 /// Opens the history of a store. `BadData` where it has none, or where it is damaged.
@@ -295,7 +315,8 @@ pub fn set_titles<A: Archives>(
     let volumes = Volumes::of(rt, folder)?;
     judge_plans(rt, archives, volumes)?;
     judge_histories(rt, archives, volumes)?;
-    let is_any = give_titles_in_each(rt, archives, volumes, path, text.as_slice(), told)?;
+    let given = give_titles_in_each(rt, archives, volumes, path, text.as_slice(), told);
+    let is_any = not_cut_off(rt, given)?;
     tell_none(rt, is_any);
     Ok(())
 }

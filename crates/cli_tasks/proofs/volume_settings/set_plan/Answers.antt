@@ -1,6 +1,7 @@
 use Rattle.std.proofs.Common.{List, subst, ℕ}
 use Rattle.std.proofs.lemmas.Result.{on_ok_weaker}
 use Rattle.cli_tasks.specs.Settings.{ReplacesPlanOver}
+use Rattle.cli_tasks.proofs.SettingLaws.{handed_on}
 use Rattle.cli_tasks.proofs.volume_settings.set_plan.Goals as goal
 
 pub returns : goal.returns
@@ -9,10 +10,11 @@ returns g c =
     let IsAt = g.A.Archives.is_at c.args.archives.now in
     let told = c.args.told.now in
     let volumes = c.in_ok-volumes.volumes in
-    on_ok_weaker c.replace_in_each.result (λ each.
+    handed_on c.replace_in_each-replaced.result c.not_cut_off.result c.not_cut_off.ensures
+    (on_ok_weaker c.replace_in_each-replaced.result (λ each.
     let over : ReplacesPlanOver store IsAt volumes.folder.now told volumes.last =
     record { plan = c.in_ok-plan.plan; judged = c.in_ok-judge_plan_in_each.ensures; each = each } in (
       volumes.last,
       c.in_ok-volumes.ensures.some,
       subst (λ (f : List ℕ). ReplacesPlanOver store IsAt f told volumes.last) c.in_ok-volumes.ensures.folder over,
-    )) c.replace_in_each.ensures
+    )) c.replace_in_each-replaced.ensures)
