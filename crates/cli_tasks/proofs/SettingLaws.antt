@@ -18,9 +18,9 @@ succeeds_if b (Ok x) m well bad = sym (well x m)
 succeeds_if b (Err y) m well bad = sym (bad y m)
 
 -- what is so of what was done is so of it where it is handed on
-pub handed_on : {X F P : Type 0} (done result : Result X F) → IfOk result (λ x. done ≡ Ok x) → OnOk done P → OnOk result P
-handed_on {X} {F} {P} done (Ok x) same p = subst (λ (r : Result X F). OnOk r P) same p
-handed_on done (Err failure) same p = tt
+pub handed_on : {X F : Type 0} (P : Type 0) (done result : Result X F) → IfOk result (λ x. done ≡ Ok x) → OnOk done P → OnOk result P
+handed_on {X} {F} P done (Ok x) same p = subst (λ (r : Result X F). OnOk r P) same p
+handed_on P done (Err failure) same p = tt
 
 module _ {S K : Type 0} (g : Ghosts S) where
   pub kept_as_it_is : (ledger : Ledger S K) → KeepsAll (keeper_of g) ledger ledger
