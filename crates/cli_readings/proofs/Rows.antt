@@ -181,9 +181,11 @@ nothing_of_two : (a b : Archive) (s t : Seals) → IsExportOfVolumes (share_of 1
 nothing_of_two a b s t =
     record { each = ([], none_of 1 a s, [], ([], none_of 2 b t, [], refl, refl), refl); files = refl; sums = refl }
 
-of_record_of_a_volume : (e : RecordEntry) → (subject_for (Some 3) (of_message e 5 4), altered_for (Some 3) (of_message e 5 4))
-    ≡ ((Some 3, (5, 4)), (Some 3, 5))
-of_record_of_a_volume e = refl
+subject_of_a_volume : (e : RecordEntry) → subject_for (Some 3) (of_message e 5 4) ≡ (Some 3, (5, 4))
+subject_of_a_volume e = refl
+
+altered_of_a_volume : (e : RecordEntry) → altered_for (Some 3) (of_message e 5 4) ≡ (Some 3, 5)
+altered_of_a_volume e = refl
 
 -- none of these is out where nothing was found
 out_of_none : {D : Type 0} (x : ExportOfVolumes D) → out_of (record x { is_begun = false }) ≡ None

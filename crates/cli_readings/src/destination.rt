@@ -122,8 +122,8 @@ impl<'a> Folder<'a> {
             let name = history_name(self.rt.alloc(), None)?;
             return judge_free(self.rt, self.path, name.as_str());
         };
-        for volume in 1..=last {
-            let name = history_name(self.rt.alloc(), Some(volume))?;
+        for below in 0..last {
+            let name = history_name(self.rt.alloc(), Some(below + 1))?;
             judge_free(self.rt, self.path, name.as_str())?;
         }
         Ok(())
