@@ -11,7 +11,8 @@ returns g c =
     let IsAt = g.A.Archives.is_at c.args.archives.now in
     let told = c.args.told.now in
     let volumes = c.in_ok-volumes.volumes in
-    handed_on (OverVolumes (ReplacesPlanOver store IsAt c.args.folder.now told)) c.replace_in_each-replaced.result c.not_cut_off.result c.not_cut_off.ensures
+    handed_on (OverVolumes (ReplacesPlanOver store IsAt c.args.folder.now told)) c.replace_in_each-replaced.result c.not_cut_off.result
+    c.not_cut_off.ensures
     (on_ok_weaker c.replace_in_each-replaced.result (λ each.
     let over : ReplacesPlanOver store IsAt volumes.folder.now told volumes.last =
     record { plan = c.in_ok-plan.plan; judged = c.in_ok-judge_plan_in_each.ensures; each = each } in (
