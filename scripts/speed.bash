@@ -5,6 +5,9 @@
 #                            its own statements, run by the kit's library and by the system's sqlite3
 #     ./test speed store     ./mailfile-store: an intake beside a session of ./mailfile, lists beside the opening of the store, and
 #                            exports and copies beside `cp`
+#     ./test speed volumes   ./mailfile-store over an archive of volumes of 1,000,000 records, which it makes first: it takes up to 5 GB
+#                            of the disk, and half an hour
+#     ./test speed captures  sessions of ./mailfile and intakes beside libsqlite3, called from C by prepared statements
 #
 # With `--write` as the last word, the table in docs/PERFORMANCE.md is replaced too.
 set -uo pipefail
@@ -105,6 +108,32 @@ speed_of_store() {
     show "$folder/table" "./test speed store" "$1"
 }
 
+# The table of ./mailfile-store over volumes.
+speed_of_volumes() {
+    folder=$(mktemp -d) || give_up "no folder could be made for the volumes"
+    here=$(mktemp -d -p /dev/shm 2> /dev/null) || here=$folder/here
+    trap 'rm -rf -- "$folder" "$here"' EXIT
+    # shellcheck source=scripts/store_figures.bash
+    . "$root/scripts/store_figures.bash" || exit 125
+    # shellcheck source=scripts/volume_figures.bash
+    . "$root/scripts/volume_figures.bash" || exit 125
+    { machine && echo && volume_figures; } > "$folder/table" || give_up "the table was not made"
+    show "$folder/table" "./test speed volumes" "$1"
+}
+
+# The table of captures beside libsqlite3.
+speed_of_captures() {
+    folder=$(mktemp -d) || give_up "no folder could be made for the files of the store"
+    memory=$(mktemp -d -p /dev/shm 2> /dev/null) || memory=
+    trap 'rm -rf -- "$folder" ${memory:+"$memory"}' EXIT
+    # shellcheck source=scripts/store_figures.bash
+    . "$root/scripts/store_figures.bash" || exit 125
+    # shellcheck source=scripts/capture_figures.bash
+    . "$root/scripts/capture_figures.bash" || exit 125
+    { machine && echo && capture_figures; } > "$folder/table" || give_up "the table was not made"
+    show "$folder/table" "./test speed captures" "$1"
+}
+
 # The rows of the store, on an archive with a number of holds and with its databases in a folder.
 store_rows() {
     "$(trial_program measures)" store "$records" "$2" "$store_rounds" "$1/store" "$3" > "$folder/rows" || return
@@ -119,8 +148,16 @@ case $#${1-}${2-} in
         speed_of_store "${2-}"
         exit
         ;;
+    1volumes | 2volumes--write)
+        speed_of_volumes "${2-}"
+        exit
+        ;;
+    1captures | 2captures--write)
+        speed_of_captures "${2-}"
+        exit
+        ;;
     1--help) print_help ;;
-    *) usage "./test speed [store] [--write]" ;;
+    *) usage "./test speed [store | volumes | captures] [--write]" ;;
 esac
 trap end_lanes EXIT
 trap 'kill $(jobs -p) 2> /dev/null; exit 143' HUP INT TERM

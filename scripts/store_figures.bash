@@ -9,18 +9,18 @@
 readonly RUNS=3 SMALL=2048 MIDDLE=10240 LARGE=51200
 
 # Writes a number of messages of a length: each to a file of a folder, or, without one, as the commands that capture them. All are
-# different.
+# different, also from those of another first number.
 write_messages() {
-    awk -v count="$1" -v octets="$2" -v to="${3-}" -v moment="$(date +%s)" '
+    awk -v count="$1" -v octets="$2" -v to="${3-}" -v first="${4:-1}" -v moment="$(date +%s)" '
         BEGIN {
             for (line = 0; line < 70; line++) filler = filler "x"
             filler = filler "\n"
             while (length(body) < octets) body = body filler
-            for (number = 1; number <= count; number++) {
+            for (number = first; number < first + count; number++) {
                 head = sprintf("Message-Id: <%d@sender.example>\nFrom: sender@sender.example\nTo: ann@records.example\nSubject: mail %d\n\n", number, number)
                 text = head substr(body, 1, octets - length(head) - 1) "\n"
                 if (to != "") {
-                    file = sprintf("%s/%06d", to, number)
+                    file = sprintf("%s/%07d", to, number)
                     printf "%s", text > file
                     close(file)
                 } else {
