@@ -13,8 +13,6 @@ mod numbers;
 mod plans;
 mod records;
 mod rows;
-#[cfg(test)]
-mod tests;
 mod titles;
 
 pub use cases::{CaseBeginning, ListedCase, case_line, case_object};

@@ -17,8 +17,6 @@ mod names;
 mod rolling;
 mod row;
 mod sheet;
-#[cfg(test)]
-mod tests;
 
 pub use fault::NoVolumes;
 pub use making::{clear_draft, create_folder, note_begun, place_volume, remove_folder};

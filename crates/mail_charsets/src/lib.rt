@@ -8,8 +8,6 @@ mod charset;
 mod decoding;
 mod names;
 mod tables;
-#[cfg(test)]
-mod tests;
 
 pub use charset::Charset;
 pub use decoding::{Decoded, decode};

@@ -11,8 +11,6 @@
 mod comments;
 mod dating;
 mod moments;
-#[cfg(test)]
-mod tests;
 
 pub use dating::{Dated, Dating, date_message};
 pub use moments::moment_of;

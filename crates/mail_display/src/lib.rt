@@ -16,8 +16,6 @@ mod groups;
 mod question;
 mod quoted;
 mod showing;
-#[cfg(test)]
-mod tests;
 mod undecoded;
 mod unfolding;
 mod words;

@@ -16,8 +16,6 @@ mod mailroom;
 mod memory;
 mod reason;
 mod tally;
-#[cfg(test)]
-mod tests;
 
 pub use intake::{End, Taking, calls_are_in_order, take_in};
 pub use mailroom::{Listing, Mailroom, Refusal, Taken};

@@ -20,8 +20,6 @@ mod readable;
 mod readers;
 mod reading;
 mod seals;
-#[cfg(test)]
-mod tests;
 mod texts;
 mod words;
 

@@ -22,8 +22,6 @@ mod record_index;
 mod refilings;
 mod replays;
 mod sealed;
-#[cfg(test)]
-mod tests;
 mod truth;
 
 pub use faults::Misdeed;

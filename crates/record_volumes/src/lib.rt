@@ -11,8 +11,6 @@
 mod laws;
 mod rolling;
 mod rows;
-#[cfg(test)]
-mod tests;
 
 pub use laws::{
     captures_roll, choices_join, counts_join, unasked_volumes_answer_nothing, volumes_answer_alone,

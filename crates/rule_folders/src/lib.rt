@@ -16,8 +16,6 @@ mod includes;
 mod laws;
 mod names;
 mod reached;
-#[cfg(test)]
-mod tests;
 
 pub use includes::{Included, includes_in, tokens_of};
 pub use laws::reached_are_exactly;

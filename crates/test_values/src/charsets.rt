@@ -1,7 +1,10 @@
-use super::*;
+//! Octets of a charset, as text.
+
+use mail_charsets::{Charset, decode};
+use std::alloc::AllocError;
 
 #[test]
-fn decodes_by_table(rt: HostRuntime) -> Result<(), std::alloc::AllocError> {
+fn decodes_by_table(rt: HostRuntime) -> Result<(), AllocError> {
     let alloc = rt.alloc();
     let Some(charset) = Charset::named(b"Windows-1252*de") else {
         return Ok(());

@@ -1,4 +1,8 @@
-use super::*;
+//! Fields of headers as people read them, and texts that are looked for in them.
+
+use mail_display::{
+    FieldGroup, FieldQuestion, FieldQuestionFault, date, display, sender, subject, undecoded_words,
+};
 use std::alloc::{AllocError, Global};
 
 /// A body of a field is shown as people read it.

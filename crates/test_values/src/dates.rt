@@ -1,6 +1,6 @@
 //! The dates of RFC 5322, appendix A, whose moments are those of `date -u`, and dates of messages.
 
-use crate::{Dated, Dating, date_message, moment_of};
+use mail_dates::{Dated, Dating, date_message, moment_of};
 use std::test::Fail;
 
 #[test]
@@ -34,20 +34,14 @@ fn dates_a_message(rt: HostRuntime) -> Result<(), Fail> {
         b"Received: from a; by b; 21 Nov 97 09:55:06 GMT\nRECEIVED: no\nDate: none\n\nDate: 1 Jan 2003\n";
     let now = 880_106_106;
     let dated = date_message(alloc, message, Dating::Received, now)?;
-    assert_eq!(rt; dated, Dated::Moment(now));
+    assert!(rt; matches!(dated, Dated::Moment(moment) if moment == now));
     let dated = date_message(alloc, message, Dating::Received, now - 1)?;
-    assert_eq!(rt; dated, Dated::ToCome(now));
-    assert_eq!(rt;
-        date_message(alloc, message, Dating::Date, now)?,
-        Dated::NoDate
-    );
-    assert_eq!(rt;
-        date_message(alloc, b"A: b\n", Dating::Date, now)?,
-        Dated::NoField
-    );
-    assert_eq!(rt;
-        date_message(alloc, message, Dating::At(7), now)?,
-        Dated::Moment(7)
-    );
+    assert!(rt; matches!(dated, Dated::ToCome(moment) if moment == now));
+    let dated = date_message(alloc, message, Dating::Date, now)?;
+    assert!(rt; matches!(dated, Dated::NoDate));
+    let dated = date_message(alloc, b"A: b\n", Dating::Date, now)?;
+    assert!(rt; matches!(dated, Dated::NoField));
+    let dated = date_message(alloc, message, Dating::At(7), now)?;
+    assert!(rt; matches!(dated, Dated::Moment(7)));
     Ok(())
 }

@@ -1,6 +1,6 @@
 //! Marks and seals as `sha256sum` gives them, and lines whose moments are those of `date -u`.
 
-use crate::{Deed, Event, LineFault, event_line, next_mark, read_line, seal_of};
+use record_history::{Deed, Event, LineFault, event_line, next_mark, read_line, seal_of};
 use std::alloc::{AllocError, Global};
 use std::test::Fail;
 

@@ -1,7 +1,6 @@
 //! Rows of volumes, and where messages go.
 
-use crate::rolling::{Target, target_of};
-use crate::rows::{RowFault, judge_row};
+use record_volumes::{RowFault, Target, judge_row, target_of};
 
 /// The missing volumes of a row; none where it is whole, or for want of memory.
 fn gaps(rt: &HostRuntime, begun: u32, found: &[u32]) -> Vec<u32> {

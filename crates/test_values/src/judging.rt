@@ -1,6 +1,6 @@
 //! Histories whose marks are those of `sha256sum`.
 
-use crate::{Flaw, Judge};
+use record_judge::{Flaw, Judge};
 use std::alloc::Global;
 
 /// A judge who has taken two rows: a class is added, and a message is captured in it and in `unfiled`.

@@ -1,7 +1,9 @@
+//! Which scripts a program reaches by its includes, and which names are those of recipients.
+
 ghost use Rattle.std.specs.Prelude.{◌≡◌, codes, if◌then◌else◌};
 ghost use Rattle.rule_folders.specs.Paths.{path_of_name};
 
-use super::*;
+use rule_folders::{Found, Included, Reached, Script, Scripts, is_recipient, path_in};
 use std::alloc::{AllocError, Global};
 
 /// Scripts by their paths: `main` includes `a`, `a` includes a global `b` and `main`, and nothing includes `c`.

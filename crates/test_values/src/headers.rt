@@ -1,4 +1,6 @@
-use super::*;
+//! Texts of headers that are too long for a list.
+
+use cli_texts::headers_of;
 use std::alloc::AllocError;
 
 #[test]

@@ -1,4 +1,6 @@
-use super::*;
+//! Intakes of a Maildir in memory.
+
+use mail_intake::{Listing, Mailroom, Memory, Reason, Refusal, Taken, Told, take_in};
 use std::alloc::{AllocError, Global};
 
 /// Why a disk takes nothing more.

@@ -1,8 +1,8 @@
 //! Names and sheets that are read back, and volumes that are begun.
 
-use crate::names::{volume_name, volume_of};
-use crate::rolling::{Seen, VolumeFolder, volume_for_capture};
-use crate::sheet::{Sheet, read_sheet, sheet_text};
+use cli_volumes::{
+    Seen, Sheet, VolumeFolder, read_sheet, sheet_text, volume_for_capture, volume_name, volume_of,
+};
 use std::alloc::AllocError;
 
 #[test]
